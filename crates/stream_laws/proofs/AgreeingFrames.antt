@@ -30,7 +30,7 @@ use Rattle.plan_runs.proofs.Contents.{Laws}
 use Rattle.plan_runs.proofs.Knowing.{InFrame, knows_after}
 use Rattle.plan_runs.proofs.HeardFrame.{zero_or_not, enters_untuned}
 use Rattle.plan_runs.proofs.HeardFrames.{Nothing, enters_known}
-use Rattle.stream_laws.proofs.Noting.{ensemble_flags, flags_are, begun_flagged}
+use Rattle.stream_laws.proofs.Kept.{ensemble_flags, flags_are, begun_flagged}
 use Rattle.stream_laws.proofs.Framing.{read_frame}
 use Rattle.stream_laws.proofs.Sending.{IsHeadOf, IsFrameSaid, frame_said}
 use Rattle.stream_laws.proofs.Agreeing.{IsInside, members_fine}

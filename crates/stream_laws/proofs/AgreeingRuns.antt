@@ -1,7 +1,7 @@
 -- The entries and the announcements of a run are as the checker requires, frame by frame.
-use Rattle.std.proofs.Common.{◌≡◌, ℕ, zero, suc, ◌+◌, ◌-◌, ◌<◌, ◌≤◌, ◌%◌, ◌==◌, ◌&&◌, ◌||◌, Bool, true, false, not, List, Option, Some, None, is_some, refl, sym, ap, ◌∙◌, subst, arith, inl, inr, ◌⊎◌, lt-ltb}
+use Rattle.std.proofs.Common.{◌≡◌, ℕ, zero, suc, ◌+◌, ◌-◌, ◌<◌, ◌≤◌, ◌%◌, ◌==◌, ◌&&◌, ◌||◌, Bool, true, false, not, List, Option, Some, None, is_some, refl, sym, ap, ◌∙◌, subst, arith, inl, inr, ◌⊎◌, lt-ltb, ◌≢◌}
 use Rattle.std.specs.Prelude.{unwrap_or}
-use Rattle.std.proofs.lemmas.Bool.{false≢true, eq-eqb, ne_eqb}
+use Rattle.std.proofs.lemmas.Bool.{false≢true, eq-eqb, ne_eqb, or_right, eqb-true}
 use Rattle.fib_codec.specs.Layouts.{layout_mode}
 use Rattle.mux_config.specs.Configuration.{Configuration}
 use Rattle.mux_config.specs.Change.{change_of, bits_of}
@@ -31,6 +31,8 @@ use Rattle.plan_runs.proofs.HeardFrames.{KnowsAt, Nothing}
 use Rattle.stream_laws.proofs.Units.{units_fine}
 use Rattle.stream_laws.proofs.Agreeing.{none_or_some}
 use Rattle.stream_laws.proofs.Tracking.{no_some}
+use Rattle.stream_check.proofs.Members.{or_true}
+use Rattle.plan_runs.proofs.Passing.{some_is}
 
 -- ---- between two frames
 
@@ -64,9 +66,7 @@ awaits_by plan (Some k) c n count l low h e = elim (split_le plan.notice k) [
 
 long_notice : (m : Mode) (notice count : ℕ) → 12 ≤ notice → notice - 0 ≤ (count + (count_step m - 1)) % count_step m → ⊥
 long_notice I notice count long h = omega (arith, long, h)
-long_notice II notice count long h = omega (arith, long, h)
-long_notice III notice count long h = omega (arith, long, h)
-long_notice IV notice count long h = omega (arith, long, h)
+long_notice m notice count long h = omega (arith, long, h)
 
 -- a swap that is due is awaited
 pub due_awaits : (plan : Plan) (left : Option ℕ) (c n : Configuration) (count : ℕ) (l : Listening) → 12 ≤ plan.notice → left ≡ Some 0 → KnowsBy plan left c n count Nothing Nothing l → l.awaited ≡ None → ⊥
@@ -120,18 +120,10 @@ falls_by I x e =
     ap (λ b. b && ((x % 5000 % 250) % 2 == 0 || false)) (lt-ltb (x % 5000 % 250) 250 below) ∙ ap (λ b. b || false) (eq-eqb (x % 5000 % 250 % 2) 0 even)
 falls_by II x e =
     let below : x % 5000 % 250 < 250 = omega arith in
-    ap (λ b. b && ((x % 5000 % 250) % 2 == 0 || true)) (lt-ltb (x % 5000 % 250) 250 below) ∙ last ((x % 5000 % 250) % 2 == 0)
-  where
-    last : (b : Bool) → (b || true) ≡ true
-    last true = refl
-    last false = refl
+    ap (λ b. b && ((x % 5000 % 250) % 2 == 0 || true)) (lt-ltb (x % 5000 % 250) 250 below) ∙ or_true ((x % 5000 % 250) % 2 == 0)
 falls_by III x e =
     let below : x % 5000 % 250 < 250 = omega arith in
-    ap (λ b. b && ((x % 5000 % 250) % 2 == 0 || true)) (lt-ltb (x % 5000 % 250) 250 below) ∙ last ((x % 5000 % 250) % 2 == 0)
-  where
-    last : (b : Bool) → (b || true) ≡ true
-    last true = refl
-    last false = refl
+    ap (λ b. b && ((x % 5000 % 250) % 2 == 0 || true)) (lt-ltb (x % 5000 % 250) 250 below) ∙ or_true ((x % 5000 % 250) % 2 == 0)
 falls_by IV x e =
     let below : x % 5000 % 250 < 250 = omega arith in
     let even : x % 5000 % 250 % 2 ≡ 0 = omega (arith, e) in
@@ -155,26 +147,10 @@ head_falls plan u a flags = by (on_air plan u) refl
         let none : (ensemble_of plan u).change ≡ 0 = ((ensemble_right plan u).unflagged off).0 in
         absurd (false≢true (sym (ap not (eq-eqb (ensemble_of plan u).change 0 none)) ∙ flags))
 
--- ---- a FIG 0/0 of the frame, given what was heard before
-
-pub record IsHeadOk (plan : Plan) (u : State) (l : Listening) (flags : ℕ) (early : Bool) : Type 0 where
-  pub made : is_made l.awaited (ensemble_of plan u) ≡ true → ((ensemble_of plan u).count % 250 == unwrap_or l.awaited 0) ≡ true
-  pub again : is_made l.awaited (ensemble_of plan u) ≡ false → (has_low l.awaited && (not ((ensemble_of plan u).change == flags) || not (occurrence_of (ensemble_of plan u) == unwrap_or l.awaited 0))) ≡ false
-  pub flagged : early ≡ true → has_flags (ensemble_of plan u) ≡ true
-  pub units : is_made l.awaited (ensemble_of plan u) ≡ true → (overlap l.next.subs ≡ None) × (past_end l.next.subs ≡ None)
-
-or_second : (a b : Bool) → a ≡ false → (a || b) ≡ true → b ≡ true
-or_second true b e h = absurd (false≢true (sym e))
-or_second false b e h = h
-
 both_not : (a b : Bool) → a ≡ true → b ≡ true → (not a || not b) ≡ false
 both_not true true x y = refl
 both_not true false x y = absurd (false≢true y)
 both_not false b x y = absurd (false≢true x)
-
-neither : (a b : Bool) → (a || b) ≡ false → b ≡ false
-neither true b h = absurd (false≢true (sym h))
-neither false b h = h
 
 pub zero_or_some : (k : ℕ) → (k ≡ 0) ⊎ (1 ≤ k)
 zero_or_some zero = inl refl
@@ -183,49 +159,83 @@ zero_or_some (suc k) = inr (omega arith)
 pub due_low : (count low k : ℕ) → count < 5000 → k ≡ 0 → low ≡ (count + k) % 5000 % 250 → count % 250 ≡ low
 due_low count low k below none is = omega (arith, below, none, is)
 
-pub head_ok : (p : Program) (ts : List Known) → IsCode p ts → (s : State) → Holds p ts s → (past : List Moment) → (h : IsBetween p.plan past s) → IsHeadOk p.plan (shown p s) h.heard (last_flags past) (began_early past)
-head_ok p ts c s holds past h =
-    let plan : Plan = p.plan in
-    let u : State = shown p s in
-    let e : EnsembleInformation = ensemble_of plan u in
-    let a = airs p ts c s holds in
-    let link = links p ts c s holds in
-    let count : e.count ≡ s.count = (ensemble_right plan u).count ∙ link.count in
-    let long : 12 ≤ plan.notice = omega (arith, c.program.planned.notice_from) in
-    record {
-      made = λ is. made_by a link count (none_or_some h.heard.awaited) is;
-      again = λ is. again_by a link count (none_or_some h.heard.awaited) is;
-      units = λ is. units_by (none_or_some h.heard.awaited) is;
-      flagged = λ early.
-          let there = h.early early in
-          elim (zero_or_some there.1) [
-            | inl none ↦ absurd (due_awaits plan s.left s.current s.next s.count h.heard long (there.2 ∙ ap Some none) h.knows there.0)
-            | inr some ↦ flags_on plan u a (on_by plan u there.1 (still plan s u there.1 link there.2 some).left some (omega (arith, there.3)))
-          ];
-    }
+-- ---- a swap is made exactly where it is due
+
+not_now : (count low k : ℕ) → count < 5000 → 1 ≤ k → k < 250 → low ≡ (count + k) % 5000 % 250 → count % 250 ≢ low
+not_now count low k below some short is e = omega (arith, below, some, short, is, e)
+
+-- a swap is made exactly where it is due
+pub made_where_due : (p : Program) (ts : List Known) → IsCode p ts → (s : State) → Holds p ts s → (past : List Moment) → (h : IsBetween p.plan past s) → is_made h.heard.awaited (ensemble_of p.plan (shown p s)) ≡ is_due s.left
+made_where_due p ts c s holds past h = by (none_or_some h.heard.awaited) (due_or_not s.left)
   where
-    made_by : Airs p.plan (shown p s) → Links p.plan s (shown p s) → (ensemble_of p.plan (shown p s)).count ≡ s.count → (h.heard.awaited ≡ None) ⊎ ((low : ℕ) × (h.heard.awaited ≡ Some low))
-        → is_made h.heard.awaited (ensemble_of p.plan (shown p s)) ≡ true → ((ensemble_of p.plan (shown p s)).count % 250 == unwrap_or h.heard.awaited 0) ≡ true
-    made_by a link count (inl none) is = absurd (false≢true (sym (ap (λ o. is_made o (ensemble_of p.plan (shown p s))) none) ∙ is))
-    made_by a link count (inr (low, some)) is =
-        let plan : Plan = p.plan in
-        let u : State = shown p s in
-        let e : EnsembleInformation = ensemble_of plan u in
-        let w = awaits_by plan s.left s.current s.next s.count h.heard low h.knows some in
-        let made : (e.change == 0 || e.count % 250 == low) ≡ true = sym (ap (λ o. is_made o e) some) ∙ is in
-        let low_now : (e.count % 250 == low) ≡ true = elim (zero_or_some w.k) [
-          | inl none ↦ (let at : s.count % 250 ≡ low = due_low s.count low w.k holds.tracked.count none w.low_is in eq-eqb (e.count % 250) low (ap (λ n. n % 250) count ∙ at))
-          | inr more ↦ (
-              let on = on_by plan u w.k (still plan s u w.k link w.is more).left more (omega (arith, w.below)) in
-              let flags = flags_on plan u a on in
-              or_second (e.change == 0) (e.count % 250 == low) (flagged_zero (e.change == 0) flags) made
-              )
+    due_or_not : (left : Option ℕ) → (left ≡ Some 0) ⊎ (is_due left ≡ false)
+    due_or_not None = inr refl
+    due_or_not (Some zero) = inl refl
+    due_or_not (Some (suc k)) = inr (ne_eqb (suc k) 0 (λ e. omega (arith, e)))
+
+    made_low : (low : ℕ) → h.heard.awaited ≡ Some low → is_made h.heard.awaited (ensemble_of p.plan (shown p s)) ≡ ((ensemble_of p.plan (shown p s)).change == 0 || (ensemble_of p.plan (shown p s)).count % 250 == low)
+    made_low low some = ap (λ o. is_made o (ensemble_of p.plan (shown p s))) some
+
+    count : (ensemble_of p.plan (shown p s)).count ≡ s.count
+    count = (ensemble_right p.plan (shown p s)).count ∙ (links p ts c s holds).count
+
+    both_false : (a b : Bool) → not a ≡ true → b ≡ false → (a || b) ≡ false
+    both_false true b x y = absurd (false≢true x)
+    both_false false b x y = y
+
+    by : (h.heard.awaited ≡ None) ⊎ ((low : ℕ) × (h.heard.awaited ≡ Some low)) → (s.left ≡ Some 0) ⊎ (is_due s.left ≡ false) → is_made h.heard.awaited (ensemble_of p.plan (shown p s)) ≡ is_due s.left
+    by (inl none) (inl now) = absurd (due_awaits p.plan s.left s.current s.next s.count h.heard (omega (arith, c.program.planned.notice_from)) now h.knows none)
+    by (inl none) (inr apart) = ap (λ o. is_made o (ensemble_of p.plan (shown p s))) none ∙ sym apart
+    by (inr (low, some)) (inl now) =
+        let w = awaits_by p.plan s.left s.current s.next s.count h.heard low h.knows some in
+        let zero_left : w.k ≡ 0 = some_is w.k 0 (sym w.is ∙ now) in
+        let at : s.count % 250 ≡ low = due_low s.count low w.k holds.tracked.count zero_left w.low_is in
+        made_low low some ∙ or_right ((ensemble_of p.plan (shown p s)).change == 0) _ (eq-eqb ((ensemble_of p.plan (shown p s)).count % 250) low (ap (λ n. n % 250) count ∙ at)) ∙ sym (ap is_due now)
+    by (inr (low, some)) (inr apart) =
+        let w = awaits_by p.plan s.left s.current s.next s.count h.heard low h.knows some in
+        let more : 1 ≤ w.k = elim (zero_or_some w.k) [
+          | inl none ↦ absurd (false≢true (sym (sym (ap is_due w.is ∙ eq-eqb w.k 0 none) ∙ apart)))
+          | inr some_left ↦ some_left
         ] in
-        ap (λ o. e.count % 250 == unwrap_or o 0) some ∙ low_now
-      where
-        flagged_zero : (b : Bool) → not b ≡ true → b ≡ false
-        flagged_zero true f = absurd (false≢true f)
-        flagged_zero false f = refl
+        let on = on_by p.plan (shown p s) w.k (still p.plan s (shown p s) w.k (links p ts c s holds) w.is more).left more (omega (arith, w.below)) in
+        let flags = flags_on p.plan (shown p s) (airs p ts c s holds) on in
+        let short : w.k < 250 = omega (arith, w.below, c.program.planned.notice_to) in
+        let other : s.count % 250 ≢ low = not_now s.count low w.k holds.tracked.count more short w.low_is in
+        made_low low some ∙ both_false ((ensemble_of p.plan (shown p s)).change == 0) _ flags (ne_eqb ((ensemble_of p.plan (shown p s)).count % 250) low (λ e. other (sym (ap (λ n. n % 250) count) ∙ e))) ∙ sym apart
+
+-- ---- a FIG 0/0 of the frame, given what was heard before
+
+pub record IsHeadOk (plan : Plan) (u : State) (l : Listening) (flags : ℕ) (early : Bool) : Type 0 where
+  pub made : is_made l.awaited (ensemble_of plan u) ≡ true → ((ensemble_of plan u).count % 250 == unwrap_or l.awaited 0) ≡ true
+  pub again : is_made l.awaited (ensemble_of plan u) ≡ false → (has_low l.awaited && (not ((ensemble_of plan u).change == flags) || not (occurrence_of (ensemble_of plan u) == unwrap_or l.awaited 0))) ≡ false
+  pub flagged : early ≡ true → has_flags (ensemble_of plan u) ≡ true
+  pub units : is_made l.awaited (ensemble_of plan u) ≡ true → (overlap l.next.subs ≡ None) × (past_end l.next.subs ≡ None)
+
+pub head_ok : (p : Program) (ts : List Known) → IsCode p ts → (s : State) → Holds p ts s → (past : List Moment) → (h : IsBetween p.plan past s) → IsHeadOk p.plan (shown p s) h.heard (last_flags past) (began_early past)
+head_ok p ts c s holds past h = record {
+  made = λ is. made_by (none_or_some h.heard.awaited) is;
+  again = λ is. again_by (none_or_some h.heard.awaited) is;
+  units = λ is. units_by (none_or_some h.heard.awaited) is;
+  flagged = λ early.
+      let there = h.early early in
+      elim (zero_or_some there.1) [
+        | inl none ↦ absurd (due_awaits p.plan s.left s.current s.next s.count h.heard (omega (arith, c.program.planned.notice_from)) (there.2 ∙ ap Some none) h.knows there.0)
+        | inr some ↦ flags_on p.plan (shown p s) (airs p ts c s holds) (on_by p.plan (shown p s) there.1 (still p.plan s (shown p s) there.1 (links p ts c s holds) there.2 some).left some (omega (arith, there.3)))
+      ];
+}
+  where
+    count : (ensemble_of p.plan (shown p s)).count ≡ s.count
+    count = (ensemble_right p.plan (shown p s)).count ∙ (links p ts c s holds).count
+
+    made_by : (h.heard.awaited ≡ None) ⊎ ((low : ℕ) × (h.heard.awaited ≡ Some low)) → is_made h.heard.awaited (ensemble_of p.plan (shown p s)) ≡ true
+        → ((ensemble_of p.plan (shown p s)).count % 250 == unwrap_or h.heard.awaited 0) ≡ true
+    made_by (inl none) is = absurd (false≢true (sym (ap (λ o. is_made o (ensemble_of p.plan (shown p s))) none) ∙ is))
+    made_by (inr (low, some)) is =
+        let e : EnsembleInformation = ensemble_of p.plan (shown p s) in
+        let w = awaits_by p.plan s.left s.current s.next s.count h.heard low h.knows some in
+        let now : w.k ≡ 0 = eqb-true w.k 0 (sym (ap is_due w.is) ∙ sym (made_where_due p ts c s holds past h) ∙ is) in
+        let at : s.count % 250 ≡ low = due_low s.count low w.k holds.tracked.count now w.low_is in
+        ap (λ o. e.count % 250 == unwrap_or o 0) some ∙ eq-eqb (e.count % 250) low (ap (λ n. n % 250) count ∙ at)
 
     committed : (left : Option ℕ) (k : ℕ) → left ≡ Some k → CommittedBy p.plan left s.current s.next → IsSound s.next
     committed None k is at = absurd cc
@@ -238,31 +248,23 @@ head_ok p ts c s holds past h =
         let w = awaits_by p.plan s.left s.current s.next s.count h.heard low h.knows some in
         units_fine s.next Nothing h.heard.next.subs (committed s.left w.k w.is holds.between.kept.committed) holds.tracked.next w.next.subs
 
-    again_by : Airs p.plan (shown p s) → Links p.plan s (shown p s) → (ensemble_of p.plan (shown p s)).count ≡ s.count → (h.heard.awaited ≡ None) ⊎ ((low : ℕ) × (h.heard.awaited ≡ Some low))
-        → is_made h.heard.awaited (ensemble_of p.plan (shown p s)) ≡ false
+    again_by : (h.heard.awaited ≡ None) ⊎ ((low : ℕ) × (h.heard.awaited ≡ Some low)) → is_made h.heard.awaited (ensemble_of p.plan (shown p s)) ≡ false
         → (has_low h.heard.awaited && (not ((ensemble_of p.plan (shown p s)).change == last_flags past) || not (occurrence_of (ensemble_of p.plan (shown p s)) == unwrap_or h.heard.awaited 0))) ≡ false
-    again_by a link count (inl none) is =
+    again_by (inl none) is =
         ap (λ o. has_low o && (not ((ensemble_of p.plan (shown p s)).change == last_flags past) || not (occurrence_of (ensemble_of p.plan (shown p s)) == unwrap_or o 0))) none
-    again_by a link count (inr (low, some)) is =
+    again_by (inr (low, some)) is =
         let plan : Plan = p.plan in
         let u : State = shown p s in
         let e : EnsembleInformation = ensemble_of plan u in
+        let link = links p ts c s holds in
         let w = awaits_by plan s.left s.current s.next s.count h.heard low h.knows some in
-        let made : (e.change == 0 || e.count % 250 == low) ≡ false = sym (ap (λ o. is_made o e) some) ∙ is in
-        let apart : (e.count % 250 == low) ≡ false = neither (e.change == 0) (e.count % 250 == low) made in
-        let same : (not (e.change == last_flags past) || not (occurrence_of e == low)) ≡ false = elim (zero_or_some w.k) [
-          | inl none ↦ (
-              let at : s.count % 250 ≡ low = due_low s.count low w.k holds.tracked.count none w.low_is in
-              absurd (false≢true (sym apart ∙ eq-eqb (e.count % 250) low (ap (λ n. n % 250) count ∙ at)))
-              )
-          | inr more ↦ (
-              let stays = still plan s u w.k link w.is more in
-              let on = on_by plan u w.k stays.left more (omega (arith, w.below)) in
-              let info = noticed_information plan u on in
-              let change : e.change ≡ last_flags past = info.change ∙ ap (λ x. bits_of (change_of x u.next)) stays.current ∙ ap (λ x. bits_of (change_of s.current x)) stays.next ∙ sym (h.flags low some) in
-              let occurs : occurrence_of e ≡ low =
-              ap (λ o. unwrap_or o 0) info.occurrence ∙ ap (low_of_swap u.count) stays.left ∙ ap (λ n. (n + w.k) % 5000 % 250) link.count ∙ sym w.low_is in
-              both_not (e.change == last_flags past) (occurrence_of e == low) (eq-eqb e.change (last_flags past) change) (eq-eqb (occurrence_of e) low occurs)
-              )
+        let more : 1 ≤ w.k = elim (zero_or_some w.k) [
+          | inl none ↦ absurd (false≢true (sym is ∙ made_where_due p ts c s holds past h ∙ ap is_due w.is ∙ eq-eqb w.k 0 none))
+          | inr left ↦ left
         ] in
-        ap (λ o. has_low o && (not (e.change == last_flags past) || not (occurrence_of e == unwrap_or o 0))) some ∙ same
+        let stays = still plan s u w.k link w.is more in
+        let info = noticed_information plan u (on_by plan u w.k stays.left more (omega (arith, w.below))) in
+        let change : e.change ≡ last_flags past = info.change ∙ ap (λ x. bits_of (change_of x u.next)) stays.current ∙ ap (λ x. bits_of (change_of s.current x)) stays.next ∙ sym (h.flags low some) in
+        let occurs : occurrence_of e ≡ low = ap (λ o. unwrap_or o 0) info.occurrence ∙ ap (low_of_swap u.count) stays.left ∙ ap (λ n. (n + w.k) % 5000 % 250) link.count ∙ sym w.low_is in
+        ap (λ o. has_low o && (not (e.change == last_flags past) || not (occurrence_of e == unwrap_or o 0))) some
+        ∙ both_not (e.change == last_flags past) (occurrence_of e == low) (eq-eqb e.change (last_flags past) change) (eq-eqb (occurrence_of e) low occurs)

@@ -1,54 +1,46 @@
--- The bytes of a notice's frames announce its swap.
-use Rattle.std.proofs.Common.{◌≡◌, ℕ, zero, suc, ◌+◌, ◌-◌, ◌<◌, ◌≤◌, ◌%◌, ◌==◌, ◌||◌, true, false, cond, List, [], ◌∷◌, ◌++◌, length, take, drop, Contains, Option, Some, refl, sym, ap, ◌∙◌, subst, arith}
+-- The bytes of a notice's frames announce its swap, and the change of pictures.
+use Rattle.std.proofs.Common.{◌≡◌, ℕ, zero, suc, ◌+◌, ◌-◌, ◌<◌, ◌≤◌, ◌==◌, ◌||◌, true, false, cond, List, [], ◌∷◌, ◌++◌, length, take, drop, Contains, Option, Some, refl, sym, ap, ◌∙◌, subst, arith, ◌%◌, Bool, ◌&&◌}
 use Rattle.std.specs.Prelude.{map, slice_get}
 use Rattle.std.specs.List.{AllByRecursion, list_any}
-use Rattle.std.proofs.lemmas.Bool.{false≢true}
+use Rattle.std.proofs.lemmas.Bool.{false≢true, eqb-true, eq-eqb}
 use Rattle.std.proofs.lemmas.List.{map-append, length-map, length-append, take-map, drop-map}
 use Rattle.std.proofs.Math.Seq.{take-append_seam, drop-append_seam}
 use Rattle.mux_types.proofs.Elements.{contains_first, contains_later, each_contains}
-use Rattle.mux_config.specs.Configuration.{Configuration, IsConfiguration}
-use Rattle.mux_config.specs.Change.{ChangeIsUnique, change_of, bits_of}
 use Rattle.mux_config.specs.Tables.{entry_at}
-use Rattle.mux_types.specs.Entries.{EnsembleInformation}
-use Rattle.mux_types.specs.declared.entry.Entry.{Entry}
-use Rattle.mux_types.specs.Facts.{marked, sub_entries, service_entries}
-use Rattle.fib_codec.specs.Heard.{IsHeardInRow, IsEnsembleHeardInRow}
-use Rattle.fib_codec.specs.Spelling.{SpellingIdentifies}
-use Rattle.fib_reader.specs.Raw.{Raw, raw_entry}
+use Rattle.fib_reader.specs.Raw.{Raw, raw_of, entries_in, raw_entry}
 use Rattle.fib_reader.specs.Listening.{Pictured, identifier_of, all_entries}
-use Rattle.fib_reader.specs.Picture.{Shows}
-use Rattle.fib_reader.proofs.Shown.{ShowsEach}
 use Rattle.stream_check.specs.Frames.{Fib, Reading}
 use Rattle.stream_check.specs.Pictures.{key_of}
-use Rattle.stream_check.specs.Cutting.{HasAll}
-use Rattle.stream_check.specs.Parts.{IsTheMost}
-use Rattle.stream_check.specs.History.{Item, Moment, Said, said, frame_items, frames_ended, is_ensemble, ensemble_of, is_flagged, listener_after, last_flags, rows}
+use Rattle.stream_check.specs.History.{Item, Moment, said, frame_items, frames_ended, is_ensemble, ensemble_of, is_flagged, rows, Said, listener_after, last_flags}
 use Rattle.stream_check.specs.Stream.{after_frame, after_frames}
-use Rattle.plan_runs.specs.Announced.{IsAnnounced, IsHeardWhole, IsHeaded, HasThreeHeaders}
+use Rattle.plan_runs.specs.Announced.{IsHeaded, HasThreeHeaders, IsHeardWhole}
 use Rattle.stream_laws.specs.Faultless.{IsSaidIn}
 use Rattle.stream_laws.specs.Keeping.{entry_like}
 use Rattle.stream_laws.specs.Notices.{AreFibBytes, read_frames, row_of, last_of}
-use Rattle.stream_laws.specs.Announcing.{SwapsAreAnnounced}
-use Rattle.stream_laws.proofs.Clean.{all_left, all_right, IsHanded, after_entry, entry_clean, said_ended}
+use Rattle.stream_laws.proofs.Clean.{IsHanded, said_ended, all_left, all_right, after_entry, entry_clean}
 use Rattle.stream_laws.proofs.Kept.{first_holds}
 use Rattle.stream_laws.proofs.Rows.{at_hand, notice_rows, hand_after, as_many, EndsWith, ends_with, none_between}
-use Rattle.stream_laws.proofs.Tracking.{IsFormed, AllAnnounce, flagged_rows}
-use Rattle.stream_laws.proofs.Saying.{IsSaidAmong, RowsAreSaid}
-use Rattle.stream_laws.proofs.Formed.{all_formed}
-use Rattle.stream_laws.proofs.Headers.{FibLaws, header_heard, entry_heard, header_said}
-use Rattle.stream_laws.proofs.Swapping.{IsNoticed, swap_noticed, flagged_at, get_later, get_map, split_rows, in_part}
-use Rattle.stream_laws.proofs.PictureKinds.{all_kinds}
-use Rattle.stream_laws.proofs.Shown.{shows_kinds, entry_shown, flags_of_change}
+use Rattle.stream_laws.proofs.Tracking.{IsFormed, flagged_rows, AllAnnounce}
+use Rattle.stream_laws.proofs.Bytes.{FibLaws, header_heard, at_place, item_from, read_fib, each_take, header_said}
+use Rattle.stream_laws.proofs.Swapping.{flagged_at, get_later, get_map, IsSaidAmong, RowsAreSaid, IsNoticed, swap_noticed, split_rows, in_part}
 use Rattle.mux_types.proofs.Walking.{each_at}
+use Rattle.std.proofs.lemmas.List.Elements.{Contains-append_left, Contains-append_right}
+use Rattle.mux_types.specs.Entries.{EnsembleInformation}
+use Rattle.fib_codec.specs.Grammar.{Open, IsFib, is_long, is_next}
+use Rattle.fib_codec.specs.Heard.{fib_at, IsEnsembleHeardInRow, IsHeardInRow, IsSaid}
+use Rattle.stream_check.specs.Cutting.{HasAll}
+use Rattle.stream_check.specs.Parts.{IsTheMost}
+use Rattle.stream_laws.specs.Entries.{IsSent, IsSentWhole, AnnouncesChange, ChangesAreAnnounced}
+use Rattle.stream_laws.proofs.Formed.{all_formed}
+use Rattle.stream_laws.proofs.Shown.{HasKinds, all_kinds, shows_kinds, entry_shown, flags_of_change}
 use Rattle.mux_types.proofs.Members.{mapped_from, mapped_to}
-use Rattle.stream_laws.proofs.Bytes.{each_take}
-
--- the laws that are used
-pub record Laws : Type 0 where
-  pub fibs : FibLaws
-  pub tells : SpellingIdentifies
-  pub change : ChangeIsUnique
-  pub most : IsTheMost
+use Rattle.mux_config.specs.Configuration.{Configuration, IsConfiguration}
+use Rattle.mux_config.specs.Change.{ChangeIsUnique}
+use Rattle.mux_types.specs.Facts.{marked, sub_entries, service_entries, Marked}
+use Rattle.fib_codec.specs.Spelling.{SpellingIdentifies, ext_of}
+use Rattle.fib_reader.proofs.Shown.{ShowsEach}
+use Rattle.stream_laws.specs.Announcing.{SwapsAreAnnounced}
+use Rattle.fib_codec.specs.Ranges.{IsWithin}
 
 -- the entries of a frame
 abbrev pub items_in : Reading → List (List ℕ) → List Item
@@ -71,23 +63,6 @@ one_found x y p few small keys one two =
     inner : Some x ≡ Some y → x ≡ y
     inner e = cc
 
--- ---- parts
-
-part_whole : (r : Reading) (part : List (List (List ℕ))) (rs : List (List ℕ)) (p : Pictured) (c : Configuration) → AllByRecursion AreFibBytes part → IsConfiguration c → ShowsEach p c → Shows p c
-    → RowsAreSaid p (map (items_in r) part) rs → HasAll (map key_of (all_entries p)) rs → IsHeardWhole c true (map row_of part)
-part_whole r part rs p c bytes is each shows s all m inside =
-    let fact = mapped_to (marked true) (sub_entries c ++ service_entries c) m inside in
-    let e : Entry = fact.0 in
-    let shown = entry_shown p c is each e fact.1 in
-    let raw_in : Contains (all_entries p) (raw_entry e) = subst (λ (xs : List Raw). Contains xs (raw_entry e)) (sym shows) (mapped_from raw_entry (sub_entries c ++ service_entries c) e fact.1) in
-    let key_in : Contains (map key_of (all_entries p)) (key_of (raw_entry e)) = mapped_from key_of (all_entries p) (raw_entry e) raw_in in
-    let found = in_part (items_in r) p part rs (key_of (raw_entry e)) s (all (key_of (raw_entry e)) key_in) in
-    let among : IsSaidAmong p (items_in r found.0) (key_of (raw_entry e)) = found.2 in
-    let same : among.item.raw ≡ raw_entry e = one_found among.item.raw (raw_entry e) p among.small shown.small among.key among.found shown.found in
-    let fibs : AreFibBytes found.0 = each_contains AreFibBytes part found.0 bytes found.1 in
-    let heard : IsHeardInRow (row_of found.0) (marked true e) = entry_heard r found.0 among.item (marked true e) fibs among.inside same among.marked shown.some shown.within in
-    (row_of found.0, mapped_from row_of part found.0 found.1, subst (IsHeardInRow (row_of found.0)) fact.2 heard)
-
 -- ---- the frames of the notice
 
 pub frames_counted : (step : ℕ) (frames : List (List Fib)) (past : List Moment) → frames_ended (after_frames step past frames) ≡ frames_ended past + length frames
@@ -103,10 +78,6 @@ begins_frame step frames past i s hand =
     let front : s.front ≡ [] =
     ap (λ (xs : List Item). xs ++ s.front) (sym (none_between step s.before)) ∙ sym (hand_after s.front (after_frames step [] s.before)) ∙ ap at_hand (sym s.past_is) ∙ hand in
     s.past_is ∙ ap (λ (xs : List Item). said xs (after_frames step [] s.before)) front
-
--- these are the frames of the notice
-pub record AreNotice (r : Reading) (past : List Moment) (notice : List (List (List ℕ))) : Type 0 where
-  pub are : map (items_in r) notice ≡ notice_rows past
 
 map_twice : {X Y Z : Type 0} (f : Y → Z) (g : X → Y) (xs : List X) → map f (map g xs) ≡ map (λ x. f (g x)) xs
 map_twice f g [] = refl
@@ -184,10 +155,80 @@ three_parts notice xs ys zs e =
 pub formed_handed : IsHanded IsFormed
 formed_handed = record { by_entry = λ i past w. w.2; by_frame = λ count past w. w }
 
-announced : (laws : Laws) (r : Reading) (notice : List (List (List ℕ))) (past : List Moment) (count : ℕ) (now next : Configuration) → AllByRecursion AreFibBytes notice → IsNoticed past count
-    → map (items_in r) notice ≡ notice_rows past → IsConfiguration now → IsConfiguration next → ShowsEach (listener_after past).current now → ShowsEach (listener_after past).next next → Shows (listener_after past).next next
-    → IsAnnounced now next count (map row_of notice)
-announced laws r notice past count now next all n are is_now is_next shows_now shows_each shows =
+-- ---- an entry of a picture
+
+entry_in : (k : ℕ) (rs : List Raw) (raw : Raw) → entry_at identifier_of k rs ≡ Some raw → Contains rs raw
+entry_in k [] raw e = absurd cc
+entry_in k (x ∷ xs) raw e = elim (identifier_of x == k) as (λ t. cond t (Some x) (entry_at identifier_of k xs) ≡ Some raw → Contains (x ∷ xs) raw) [
+  | true ↦ λ is. (let same : x ≡ raw = cc in subst (λ (y : Raw). Contains (x ∷ xs) y) same (contains_first x xs))
+  | false ↦ λ is. contains_later x xs raw (entry_in k xs raw is)
+] e
+
+pub record IsThere (p : Pictured) (raw : Raw) : Type 0 where
+  pub inside : Contains (all_entries p) raw
+  pub small : raw.ext < 4
+
+pub there : (p : Pictured) (raw : Raw) → HasKinds p → entry_like raw p ≡ Some raw → IsThere p raw
+there p raw k found = elim (raw.ext == 1) as (λ t. (raw.ext == 1) ≡ t → entry_at identifier_of (identifier_of raw) (cond t p.subs (cond (raw.ext == 2) p.services p.packets)) ≡ Some raw → IsThere p raw) [
+  | true ↦ λ is f. record {
+    inside = Contains-append_left (p.subs ++ p.services) p.packets raw (Contains-append_left p.subs p.services raw (entry_in (identifier_of raw) p.subs raw f));
+    small = (let one = eqb-true raw.ext 1 is in omega (arith, one));
+  }
+  | false ↦ λ is. elim (raw.ext == 2) as (λ t. (raw.ext == 2) ≡ t → entry_at identifier_of (identifier_of raw) (cond t p.services p.packets) ≡ Some raw → IsThere p raw) [
+    | true ↦ λ two f. record {
+      inside = Contains-append_left (p.subs ++ p.services) p.packets raw (Contains-append_right p.subs p.services raw (entry_in (identifier_of raw) p.services raw f));
+      small = (let one = eqb-true raw.ext 2 two in omega (arith, one));
+    }
+    | false ↦ λ two f. (let last = entry_in (identifier_of raw) p.packets raw f in
+        record {
+          inside = Contains-append_right (p.subs ++ p.services) p.packets raw last;
+          small = (let three : raw.ext ≡ 3 = each_contains (λ (x : Raw). x.ext ≡ 3) p.packets raw k.packets last in omega (arith, three));
+        })
+  ] refl
+] refl found
+
+-- an entry of the frame is sent in its bytes
+pub sent : (r : Reading) (next : Bool) (fibs : List (List ℕ)) (i : Item) → AreFibBytes fibs → Contains (items_in r fibs) i → i.next ≡ next → IsSent next (row_of fibs) i.raw
+sent r next fibs i all h marked =
+    let from = item_from r fibs i h in
+    let here : fib_at (row_of fibs) from.inside.0 ≡ from.fib = at_place fibs from.inside.0 from.fib all from.inside.1 ∙ from.inside.2 in
+    record {
+      place = from.inside.0;
+      figs = from.figs;
+      second = from.second;
+      es = from.es;
+      is_fib = subst (λ (b : List ℕ). IsFib b from.figs) (sym here) (read_fib r from.fib from.figs from.read);
+      inside = from.fig_in;
+      tagged = from.next_is ∙ marked;
+      there = subst (λ (x : Raw). Contains (entries_in (Open from.second from.es)) x) from.raw_is (mapped_from (raw_of (from.second % 32) (is_long from.second)) from.es from.bytes from.entry_in);
+    }
+
+part_sent : (r : Reading) (part : List (List (List ℕ))) (rs : List (List ℕ)) (p : Pictured) → AllByRecursion AreFibBytes part → HasKinds p
+    → RowsAreSaid p (map (items_in r) part) rs → HasAll (map key_of (all_entries p)) rs → IsSentWhole p (map row_of part)
+part_sent r part rs p bytes k s all raw known =
+    let is = there p raw k known in
+    let found = in_part (items_in r) p part rs (key_of raw) s (all (key_of raw) (mapped_from key_of (all_entries p) raw is.inside)) in
+    let among : IsSaidAmong p (items_in r found.0) (key_of raw) = found.2 in
+    let same : among.item.raw ≡ raw = one_found among.item.raw raw p among.small is.small among.key among.found known in (
+      row_of found.0,
+      mapped_from row_of part found.0 found.1,
+      subst (IsSent true (row_of found.0)) same (sent r true found.0 among.item (each_contains AreFibBytes part found.0 bytes found.1) among.inside among.marked),
+    )
+
+-- what each FIG 0/0 in the notice's frames says
+pub notice_header : FibLaws → (r : Reading) (notice : List (List (List ℕ))) → AllByRecursion AreFibBytes notice → (flags low : ℕ) → AllByRecursion (AllAnnounce flags low) (map (items_in r) notice)
+    → (frame : List ℕ) (mark : Bool) (e : EnsembleInformation) → Contains (map row_of notice) frame → IsEnsembleHeardInRow frame mark e → (e.change ≡ flags) × (e.occurrence ≡ Some low)
+notice_header laws r notice all flags low rows frame mark e inside heard =
+    let here = mapped_to row_of notice frame inside in
+    let header = header_said laws r here.0 mark e (each_contains AreFibBytes notice here.0 all here.1) (subst (λ (b : List ℕ). IsEnsembleHeardInRow b mark e) (sym here.2) heard) in
+    let row : AllAnnounce flags low (items_in r here.0) = each_contains (AllAnnounce flags low) (map (items_in r) notice) (items_in r here.0) rows (mapped_from (items_in r) notice here.0 here.1) in
+    let says = each_contains (λ j. is_ensemble j ≡ true → ((ensemble_of j).change ≡ flags) × ((ensemble_of j).occurrence ≡ Some low)) (items_in r here.0) header.item row header.inside header.ensemble in
+    (ap (λ (x : EnsembleInformation). x.change) (sym header.says) ∙ says.0, ap (λ (x : EnsembleInformation). x.occurrence) (sym header.says) ∙ says.1)
+
+reported : (laws : FibLaws) (r : Reading) (notice : List (List (List ℕ))) (past : List Moment) (count : ℕ) → AllByRecursion AreFibBytes notice → IsNoticed past count
+    → map (items_in r) notice ≡ notice_rows past → HasKinds (listener_after past).next
+    → AnnouncesChange (listener_after past).current (listener_after past).next count (map row_of notice)
+reported laws r notice past count all n are kinds =
     let p : Pictured = (listener_after past).next in
     let three = n.right.heard in
     let said : RowsAreSaid p (map (items_in r) notice) ((three.first ++ three.second) ++ three.third) =
@@ -197,35 +238,80 @@ announced laws r notice past count now next all n are is_now is_next shows_now s
     let whole : notice ≡ (begins.left ++ begins.right) ++ ends.right = ends.whole ∙ ap (λ xs. xs ++ ends.right) begins.whole in
     let bytes : AllByRecursion AreFibBytes ((begins.left ++ begins.right) ++ ends.right) = subst (AllByRecursion AreFibBytes) whole all in
     let front = all_left AreFibBytes (begins.left ++ begins.right) ends.right bytes in
-    let flags : last_flags past ≡ bits_of (change_of now next) =
-    n.right.flags ∙ flags_of_change laws.tells laws.change (listener_after past).current p now next is_now is_next shows_now shows_each in
     record {
       first = map row_of begins.left;
       second = map row_of begins.right;
       third = map row_of ends.right;
       cut = three_parts notice begins.left begins.right ends.right whole;
-      whole_in_first = part_whole r begins.left three.first p next (all_left AreFibBytes begins.left begins.right front) is_next shows_each shows begins.first three.whole_in_first.1;
-      whole_in_second = part_whole r begins.right three.second p next (all_right AreFibBytes begins.left begins.right front) is_next shows_each shows begins.second three.whole_in_second.1;
-      whole_in_third = part_whole r ends.right three.third p next (all_right AreFibBytes (begins.left ++ begins.right) ends.right bytes) is_next shows_each shows ends.second three.whole_in_third.1;
-      headers = three_headers laws.fibs r notice all (subst (λ (is : List (List Item)). 3 ≤ flagged_rows is) (sym are) n.flagged);
+      whole_in_first = part_sent r begins.left three.first p (all_left AreFibBytes begins.left begins.right front) kinds begins.first three.whole_in_first.1;
+      whole_in_second = part_sent r begins.right three.second p (all_right AreFibBytes begins.left begins.right front) kinds begins.second three.whole_in_second.1;
+      whole_in_third = part_sent r ends.right three.third p (all_right AreFibBytes (begins.left ++ begins.right) ends.right bytes) kinds ends.second three.whole_in_third.1;
+      headers = three_headers laws r notice all (subst (λ (is : List (List Item)). 3 ≤ flagged_rows is) (sym are) n.flagged);
       flagged = λ frame mark e inside heard.
-          let here = mapped_to row_of notice frame inside in
-          let fibs : AreFibBytes here.0 = each_contains AreFibBytes notice here.0 all here.1 in
-          let header = header_said laws.fibs r here.0 mark e fibs (subst (λ (b : List ℕ). IsEnsembleHeardInRow b mark e) (sym here.2) heard) in
-          let row : AllAnnounce (last_flags past) (count % 250) (items_in r here.0) =
-          each_contains (AllAnnounce (last_flags past) (count % 250)) (map (items_in r) notice) (items_in r here.0)
-          (subst (AllByRecursion (AllAnnounce (last_flags past) (count % 250))) (sym are) n.announced) (mapped_from (items_in r) notice here.0 here.1) in
-          let says = each_contains (λ j. is_ensemble j ≡ true → ((ensemble_of j).change ≡ last_flags past) × ((ensemble_of j).occurrence ≡ Some (count % 250))) (items_in r here.0) header.item row header.inside header.ensemble in
-          (ap (λ (x : EnsembleInformation). x.change) (sym header.says) ∙ says.0 ∙ flags, ap (λ (x : EnsembleInformation). x.occurrence) (sym header.says) ∙ says.1);
+          let says = notice_header laws r notice all (last_flags past) (count % 250) (subst (AllByRecursion (AllAnnounce (last_flags past) (count % 250))) (sym are) n.announced) frame mark e inside heard in
+          (says.0 ∙ n.right.flags, says.1);
     }
+
+pub changes_are_announced : FibLaws → IsTheMost → ChangesAreAnnounced
+changes_are_announced laws most r size step period frames past i bytes faultless s sw whole =
+    let clean = entry_clean size step period (read_frames r frames) past i faultless s in
+    let formed : IsFormed (Said i ∷ past) = after_entry IsFormed formed_handed step (read_frames r frames) past i s (all_formed r step frames) in
+    let n = swap_noticed most step period past i clean formed sw whole in
+    let kinds = all_kinds step period past clean.2 formed.2 in
+    let notice : List (List (List ℕ)) = last_of (length (rows past)) (take (frames_ended past) frames) in
+    let all : AllByRecursion AreFibBytes notice = each_drop AreFibBytes _ (take (frames_ended past) frames) (each_take AreFibBytes (frames_ended past) frames bytes) in
+    reported laws r notice past (ensemble_of i).count all n (notice_is r step frames past i s n.alone) kinds.next
+
+-- ---- pictures that show configurations
+
+-- the laws that are used
+pub record Laws : Type 0 where
+  pub fibs : FibLaws
+  pub tells : SpellingIdentifies
+  pub change : ChangeIsUnique
+  pub most : IsTheMost
+
+long_by : (n : ℕ) (long : Bool) → n ≡ 2 → ((n == 2) && long) ≡ long
+long_by n long e = ap (λ t. t && long) (eq-eqb n 2 e)
+
+sent_heard : (row : List ℕ) (m : Marked) → 1 ≤ ext_of m.entry → IsWithin m.entry → IsSent m.next row (raw_entry m.entry) → IsHeardInRow row m
+sent_heard row m some within s =
+    let from = mapped_to (raw_of (s.second % 32) (is_long s.second)) s.es (raw_entry m.entry) s.there in
+    let ext : s.second % 32 ≡ ext_of m.entry = ap (λ (x : Raw). x.ext) from.2 in
+    let said : IsSaid s.second from.0 m = record {
+      ext = ext;
+      next = s.tagged;
+      long = λ two. sym (long_by (s.second % 32) (is_long s.second) (ext ∙ two)) ∙ ap (λ (x : Raw). x.long) from.2;
+      spelled = ap (λ (x : Raw). x.bytes) from.2;
+      within = within;
+    } in
+    (s.place, record { organization = some; inside = (s.figs, Open s.second s.es, s.is_fib, s.inside, (from.0, from.1, said)) })
+
+-- frames that send each entry of a picture send the configuration that it shows
+heard_whole : (p : Pictured) (c : Configuration) → IsConfiguration c → ShowsEach p c → (frames : List (List ℕ)) → IsSentWhole p frames → IsHeardWhole c true frames
+heard_whole p c is each frames sent m inside =
+    let fact = mapped_to (marked true) (sub_entries c ++ service_entries c) m inside in
+    let shown = entry_shown p c is each fact.0 fact.1 in
+    let there = sent (raw_entry fact.0) shown.found in
+    (there.0, there.1, subst (IsHeardInRow there.0) fact.2 (sent_heard there.0 (marked true fact.0) shown.some shown.within there.2))
 
 pub swaps_are_announced : Laws → SwapsAreAnnounced
 swaps_are_announced laws r size step period frames past i now next bytes faultless s sw whole is_now is_next shows_now shows_next =
     let clean = entry_clean size step period (read_frames r frames) past i faultless s in
     let formed : IsFormed (Said i ∷ past) = after_entry IsFormed formed_handed step (read_frames r frames) past i s (all_formed r step frames) in
-    let n = swap_noticed laws.most step period past i clean formed sw whole in
     let kinds = all_kinds step period past clean.2 formed.2 in
-    let notice : List (List (List ℕ)) = last_of (length (rows past)) (take (frames_ended past) frames) in
-    let all : AllByRecursion AreFibBytes notice = each_drop AreFibBytes _ (take (frames_ended past) frames) (each_take AreFibBytes (frames_ended past) frames bytes) in
-    announced laws r notice past (ensemble_of i).count now next all n (notice_is r step frames past i s n.alone) is_now is_next
-    (shows_kinds (listener_after past).current now kinds.current is_now shows_now) (shows_kinds (listener_after past).next next kinds.next is_next shows_next) shows_next
+    let each_now = shows_kinds (listener_after past).current now kinds.current is_now shows_now in
+    let each_next = shows_kinds (listener_after past).next next kinds.next is_next shows_next in
+    let a = changes_are_announced laws.fibs laws.most r size step period frames past i bytes faultless s sw whole in
+    let flags = flags_of_change laws.tells laws.change (listener_after past).current (listener_after past).next now next is_now is_next each_now each_next in
+    record {
+      first = a.first;
+      second = a.second;
+      third = a.third;
+      cut = a.cut;
+      whole_in_first = heard_whole (listener_after past).next next is_next each_next a.first a.whole_in_first;
+      whole_in_second = heard_whole (listener_after past).next next is_next each_next a.second a.whole_in_second;
+      whole_in_third = heard_whole (listener_after past).next next is_next each_next a.third a.whole_in_third;
+      headers = a.headers;
+      flagged = λ frame mark e inside heard. (let says = a.flagged frame mark e inside heard in (says.0 ∙ flags, says.1));
+    }

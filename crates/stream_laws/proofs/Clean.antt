@@ -1,14 +1,14 @@
 -- Streams without a fault, entry by entry.
-use Rattle.std.proofs.Common.{ℕ, true, false, cond, List, [], ◌∷◌, ◌++◌, subst, ◌≡◌, map, refl, sym}
+use Rattle.std.proofs.Common.{ℕ, true, false, cond, List, [], ◌∷◌, ◌++◌, subst, ◌≡◌, map, refl, sym, ◌+◌, Bool}
 use Rattle.std.specs.List.{AllByRecursion}
 use Rattle.stream_check.specs.declared.contradiction.Contradiction.{Contradiction}
 use Rattle.stream_check.specs.declared.finding.What.{What}
 use Rattle.stream_check.specs.Contradictions.{new_findings, noted_with}
 use Rattle.stream_check.specs.Frames.{Fib}
 use Rattle.stream_check.specs.History.{Item, Moment, Said, frame_items, Ended, said, due, frames_ended}
-use Rattle.stream_check.specs.Rules.{known_of, findings_at, has_no_room}
+use Rattle.stream_check.specs.Rules.{known_of, findings_at, has_no_room, silent_findings}
 use Rattle.stream_check.specs.Sent.{Sent, EntrySent, FigSent, frame_sent, items_in, contradictions_at, noted_at}
-use Rattle.stream_check.specs.Stream.{findings_at_items, findings_at_sent, runs_full, frame_findings, frame_at, findings_in, noted_in, after_frame, findings_from, after_frames, frames_full}
+use Rattle.stream_check.specs.Stream.{findings_at_items, findings_at_sent, runs_full, frame_findings, frame_at, findings_in, noted_in, after_frame, findings_from, after_frames, frames_full, last_findings}
 use Rattle.stream_check.proofs.Sending.{frame_has_items}
 use Rattle.stream_check.proofs.Framing.{all_append}
 use Rattle.std.proofs.lemmas.Bool.{false≢true}
@@ -17,6 +17,7 @@ use Rattle.stream_check.specs.declared.reporting.FrameAt.{FrameAt}
 use Rattle.stream_check.specs.Reporting.{in_frame}
 use Rattle.stream_laws.specs.Faultless.{IsNoFault, IsFaultless, IsSaidIn}
 use Rattle.stream_check.proofs.Saying.{said_append}
+use Rattle.stream_check.proofs.Fronts.{room_before}
 
 pub all_left : {X : Type 0} (P : X → Type 0) (xs ys : List X) → AllByRecursion P (xs ++ ys) → AllByRecursion P xs
 all_left P [] ys all = tt
@@ -74,20 +75,43 @@ pub told_alone : (at : FrameAt) (ws : List What) → AllByRecursion (λ (found :
 told_alone at [] all = tt
 told_alone at (w ∷ ws) all = (all.0, told_alone at ws all.1)
 
+-- one frame: its own findings, those at what is sent in it, those at its end, and the frames after it
+pub record IsFrameFree (size step period : ℕ) (past : List Moment) (noted : List Contradiction) (frame : List Fib) (frames : List (List Fib)) : Type 0 where
+  pub itself : AllByRecursion IsNoFault (frame_findings size step (due past) frame)
+  pub full : runs_full step period past (frame_items frame) ≡ false
+  pub sent : AllByRecursion IsNoFault (findings_at_sent step period past noted (frame_sent frame))
+  pub silent : AllByRecursion IsNoFault (silent_findings period (said (frame_items frame) past))
+  pub room : frames_full step period (after_frame step past frame) frames ≡ false
+  pub plain : AllByRecursion (λ (found : Finding). IsNoFault found.what) (findings_from size step period (after_frame step past frame) (noted_in period past noted frame) frames)
+
+pub frame_free : (size step period : ℕ) (past : List Moment) (noted : List Contradiction) (frame : List Fib) (frames : List (List Fib)) → frames_full step period past (frame ∷ frames) ≡ false
+    → AllByRecursion (λ (found : Finding). IsNoFault found.what) (findings_from size step period past noted (frame ∷ frames)) → IsFrameFree size step period past noted frame frames
+frame_free size step period past noted frame frames room plain =
+    let here = told_alone (frame_at step past frame) _ (all_left (λ (found : Finding). IsNoFault found.what) (findings_in size step period past noted frame) _ plain) in
+    let rest = all_right (λ (found : Finding). IsNoFault found.what) (findings_in size step period past noted frame) _ plain in
+    let sent = all_right IsNoFault (frame_findings size step (due past) frame) _ here in
+    let last = all_right IsNoFault (findings_at_sent step period past noted (frame_sent frame)) _ sent in
+    elim (runs_full step period past (frame_items frame)) as (λ t. runs_full step period past (frame_items frame) ≡ t → cond t true (frames_full step period (after_frame step past frame) frames) ≡ false
+    → AllByRecursion (λ (found : Finding). IsNoFault found.what) (cond t [] (findings_from size step period (after_frame step past frame) (noted_in period past noted frame) frames))
+    → AllByRecursion IsNoFault (last_findings t period (said (frame_items frame) past)) → IsFrameFree size step period past noted frame frames) [
+      | true ↦ λ e r p q. absurd (false≢true (sym r))
+      | false ↦ λ e r p q. record {
+        itself = all_left IsNoFault (frame_findings size step (due past) frame) _ here;
+        full = e;
+        sent = all_left IsNoFault (findings_at_sent step period past noted (frame_sent frame)) _ sent;
+        silent = q;
+        room = r;
+        plain = p;
+      }
+    ] refl room rest last
+
 frames_clean : (size step period : ℕ) (frames : List (List Fib)) (past : List Moment) (noted : List Contradiction) → frames_full step period past frames ≡ false
     → AllByRecursion (λ (found : Finding). IsNoFault found.what) (findings_from size step period past noted frames) → IsClean step period past → IsClean step period (after_frames step past frames)
 frames_clean size step period [] past noted room plain clean = clean
 frames_clean size step period (frame ∷ frames) past noted room plain clean =
-    let here = told_alone (frame_at step past frame) _ (all_left (λ (found : Finding). IsNoFault found.what) (findings_in size step period past noted frame) _ plain) in
-    let rest = all_right (λ (found : Finding). IsNoFault found.what) (findings_in size step period past noted frame) _ plain in
-    elim (runs_full step period past (frame_items frame)) as (λ t. runs_full step period past (frame_items frame) ≡ t → cond t true (frames_full step period (after_frame step past frame) frames) ≡ false
-    → AllByRecursion (λ (found : Finding). IsNoFault found.what) (cond t [] (findings_from size step period (after_frame step past frame) (noted_in period past noted frame) frames)) → IsClean step period (after_frames step (after_frame step past frame) frames)) [
-      | true ↦ λ e r p. absurd (false≢true (sym r))
-      | false ↦ λ e r p.
-          let sent = all_left IsNoFault (findings_at_sent step period past noted (frame_sent frame)) _ (all_right IsNoFault (frame_findings size step (due past) frame) _ here) in
-          let items = frame_holds IsNoFault step period frame past noted sent in
-          frames_clean size step period frames (after_frame step past frame) (noted_in period past noted frame) r p (items_clean step period (frame_items frame) past e items clean)
-    ] refl room rest
+    let f = frame_free size step period past noted frame frames room plain in
+    frames_clean size step period frames (after_frame step past frame) (noted_in period past noted frame) f.room f.plain
+    (items_clean step period (frame_items frame) past f.full (frame_holds IsNoFault step period frame past noted f.sent) clean)
 
 pub all_clean : (size step period : ℕ) (frames : List (List Fib)) → IsFaultless size step period frames → IsClean step period (after_frames step [] frames)
 all_clean size step period frames f = frames_clean size step period frames [] [] f.room f.plain tt
@@ -133,3 +157,25 @@ clean_handed step period = record { by_entry = λ i past c. c.2; by_frame = λ c
 pub entry_clean : (size step period : ℕ) (frames : List (List Fib)) (past : List Moment) (i : Item) → IsFaultless size step period frames → IsSaidIn step frames past i
     → IsClean step period (Said i ∷ past)
 entry_clean size step period frames past i f s = after_entry (IsClean step period) (clean_handed step period) step frames past i s (all_clean size step period frames f)
+
+-- ---- the first frames
+
+abbrev AreNoFaults : List Finding → Type 0
+AreNoFaults fs = AllByRecursion (λ found. IsNoFault found.what) fs
+
+plain_before : (size step period : ℕ) (past : List Moment) (noted : List Contradiction) (f more : List (List Fib)) → AreNoFaults (findings_from size step period past noted (f ++ more)) → AreNoFaults (findings_from size step period past noted f)
+plain_before size step period past noted [] more all = tt
+plain_before size step period past noted (g ∷ gs) more all =
+    let here = findings_in size step period past noted g in
+    let then = after_frame step past g in
+    let now = noted_in period past noted g in
+    all_append (λ found. IsNoFault found.what) here _
+    (all_left (λ found. IsNoFault found.what) here _ all)
+    (chosen (findings_from size step period then now (gs ++ more)) (findings_from size step period then now gs) (plain_before size step period then now gs more) (runs_full step period past (frame_items g)) (all_right (λ found. IsNoFault found.what) here _ all))
+  where
+    chosen : (whole front : List Finding) → (AreNoFaults whole → AreNoFaults front) → (t : Bool) → AreNoFaults (cond t [] whole) → AreNoFaults (cond t [] front)
+    chosen whole front rest true h = tt
+    chosen whole front rest false h = rest h
+
+pub faultless_before : (size step period : ℕ) (f more : List (List Fib)) → IsFaultless size step period (f ++ more) → IsFaultless size step period f
+faultless_before size step period f more h = record { room = room_before step period [] f more h.room; plain = plain_before size step period [] [] f more h.plain }

@@ -1,40 +1,137 @@
--- No fault is reported in any piece of the bytes of a run.
-use Rattle.std.proofs.Common.{◌≡◌, ◌≢◌, ℕ, ◌+◌, ◌*◌, ◌%◌, ◌≤◌, List, [], ◌∷◌, ◌++◌, flat_map, refl, sym, ap, ◌∙◌, subst, inl, inr, ◌⊎◌}
-use Rattle.std.specs.Prelude.{map}
-use Rattle.std.specs.List.{AllByRecursion}
-use Rattle.std.proofs.lemmas.Bool.{false≢true}
-use Rattle.std.proofs.lemmas.Bool.Decides.{eqb_tells}
-use Rattle.std.proofs.lemmas.List.{append_assoc, append-nil, map-append}
-use Rattle.fib_codec.specs.Grammar.{OneList}
+-- What is reported in the bytes of a run, and in any piece of them.
+use Rattle.std.proofs.Common.{◌≡◌, ℕ, zero, suc, ◌+◌, ◌-◌, ◌*◌, ◌/◌, ◌%◌, List, [], ◌∷◌, ◌++◌, length, drop, refl, sym, ap, ◌∙◌, arith, ◌≢◌, ◌≤◌, flat_map, subst, inl, inr, ◌⊎◌, Bool, false, cond}
+use Rattle.std.specs.List.{AllByRecursion, concat}
+use Rattle.std.proofs.lemmas.List.{append_assoc, append-nil, length-append, drop-append-le, drop_all, length-take-le, take-append-drop, length-drop, map-append, append_cancel_left, append_cancel_right, length-map}
+use Rattle.std.proofs.lemmas.List.Folds.{concat-append}
+use Rattle.std.proofs.Math.Seq.{drop-append_seam, drop-nil}
 use Rattle.fib_codec.specs.Heard.{fib_at}
-use Rattle.fib_codec.specs.Layouts.{layout_mode, frame_fibs}
-use Rattle.fib_codec.specs.Modes.{count_step}
-use Rattle.fib_reader.specs.Laws.{EnsembleIsHeard}
-use Rattle.stream_check.specs.declared.finding.Finding.{Finding}
-use Rattle.stream_check.specs.Frames.{Fib, Reading, IsFramed}
-use Rattle.stream_check.specs.Reported.{All}
+use Rattle.fib_codec.specs.Layouts.{frame_fibs, layout_mode}
+use Rattle.fib_codec.proofs.Uniqueness.{same_front}
 use Rattle.plan_code.specs.Program.{Program}
 use Rattle.plan_code.specs.Machine.{State}
 use Rattle.plan_runs.specs.declared.event.Event.{Event}
 use Rattle.plan_runs.specs.declared.event.Event.TheVariants.{Contact, Frame}
-use Rattle.plan_runs.specs.Frames.{shown, frame_bytes, after_frame}
-use Rattle.plan_runs.specs.Runs.{happens, run, run_frames}
-use Rattle.plan_runs.specs.RightBytes.{FramesAreRight}
+use Rattle.plan_runs.specs.Frames.{frame_bytes, after_frame, shown}
+use Rattle.plan_runs.specs.Runs.{happens, run_frames, run}
+use Rattle.plan_runs.specs.RightBytes.{FramesAreRight, IsRight}
+use Rattle.plan_runs.specs.Listening.{fibs_from, fibs_of}
+use Rattle.stream_laws.specs.Delivered.{IsPieceOf, RunsAreCleared, RunsAreHeardOut}
+use Rattle.stream_check.proofs.Fronts.{none_more, front_framing, same_skipped}
+use Rattle.stream_check.proofs.Framing.{all_append}
+use Rattle.std.specs.Prelude.{map}
+use Rattle.std.proofs.lemmas.Bool.{false≢true}
+use Rattle.std.proofs.lemmas.Bool.Decides.{eqb_tells}
+use Rattle.fib_codec.specs.Grammar.{OneList}
+use Rattle.fib_codec.specs.Modes.{count_step}
+use Rattle.fib_reader.specs.Laws.{EnsembleIsHeard}
+use Rattle.stream_check.specs.declared.finding.Finding.{Finding}
+use Rattle.stream_check.specs.Frames.{Fib, Reading, IsFramed, is_damaged, damaged_in}
+use Rattle.stream_check.specs.Reported.{All}
 use Rattle.plan_runs.specs.TypedRuns.{IsPlayed}
 use Rattle.plan_runs.specs.Headline.{HeadlineHolds}
-use Rattle.plan_runs.specs.Listening.{fibs_from, fibs_of}
 use Rattle.plan_runs.proofs.Clock.{shown_count}
 use Rattle.stream_laws.specs.Faultless.{IsNoFault, IsFaultless}
 use Rattle.stream_laws.specs.Faults.{RunsAreFaultless}
-use Rattle.stream_laws.specs.Framing.{frames_of}
+use Rattle.stream_laws.specs.Framing.{frames_of, RunsAreFramed}
 use Rattle.stream_laws.specs.Notices.{read_frames}
-use Rattle.stream_laws.specs.Delivered.{RunsAreCleared}
-use Rattle.stream_laws.proofs.Clean.{all_right}
-use Rattle.stream_laws.proofs.Framing.{IsQuiet, later_fibs, first_of_fibs, later_quiet, all_quiet, none_held, are_frames, begins, flat_read}
-use Rattle.stream_check.proofs.Fronts.{front_framing}
-use Rattle.stream_laws.proofs.Fronts.{faultless_before}
-use Rattle.stream_laws.proofs.Pieces.{piece_of_run}
-use Rattle.stream_check.proofs.Framing.{all_append}
+use Rattle.stream_laws.proofs.Clean.{all_right, faultless_before}
+use Rattle.stream_laws.proofs.Framing.{IsQuiet, later_fibs, first_of_fibs, later_quiet, all_quiet, none_held, are_frames, begins, flat_read, read_frame, quiet_fib, heading_fib, right_after}
+use Rattle.plan_code.specs.declared.plan.Plan.{Plan}
+use Rattle.stream_laws.proofs.InPlace.{none_damaged}
+
+abbrev AreWhole : List (List ℕ) → Type 0
+AreWhole fibs = AllByRecursion (λ fib. length fib ≡ 32) fibs
+
+-- ---- the FIBs of frames have the bytes of the frames
+
+record AreFibsOf (fibs : List (List ℕ)) (bytes : List ℕ) : Type 0 where
+  whole : AreWhole fibs
+  bytes_are : concat fibs ≡ bytes
+
+cut_from : (count n : ℕ) (frame : List ℕ) → length frame ≡ 32 * (n + count) → AreFibsOf (fibs_from count n frame) (drop (32 * n) frame)
+cut_from zero n frame len = record { whole = tt; bytes_are = sym (drop_all (32 * n) frame (omega (arith, len))) }
+cut_from (suc count) n frame len =
+    let rest = cut_from count (n + 1) frame (omega (arith, len)) in
+    let left : length (drop (32 * n) frame) ≡ length frame - 32 * n = length-drop (32 * n) frame in
+    let size : length (fib_at frame n) ≡ 32 = length-take-le 32 (drop (32 * n) frame) (omega (arith, left, len)) in
+    let twice : drop 32 (drop (32 * n) frame) ≡ drop (32 * (n + 1)) frame = drop_twice 32 (32 * n) frame ∙ (let same : 32 + 32 * n ≡ 32 * (n + 1) = omega arith in ap (λ k. drop k frame) same) in
+    record {
+      whole = (size, rest.whole);
+      bytes_are = ap (λ l. fib_at frame n ++ l) (rest.bytes_are ∙ sym twice) ∙ take-append-drop 32 (drop (32 * n) frame);
+    }
+  where
+    drop_twice : (a b : ℕ) (xs : List ℕ) → drop a (drop b xs) ≡ drop (a + b) xs
+    drop_twice a zero xs = (let same : a ≡ a + 0 = omega arith in ap (λ k. drop k xs) same)
+    drop_twice a (suc b) [] = ap (drop a) (drop-nil (suc b)) ∙ drop-nil a ∙ sym (drop-nil (a + suc b))
+    drop_twice a (suc b) (x ∷ xs) = drop_twice a b xs ∙ (let same : suc (a + b) ≡ a + suc b = omega arith in ap (λ k. drop k (x ∷ xs)) same)
+
+fibs_are : (p : Program) (s : State) (events : List Event) → FramesAreRight p s events → AreFibsOf (fibs_of p.plan.layout (run_frames p s events)) (concat (run_frames p s events))
+fibs_are p s [] all = record { whole = tt; bytes_are = refl }
+fibs_are p s (Contact c closed ∷ es) all = fibs_are p (happens p s (Contact c closed)) es all
+fibs_are p s (Frame ∷ es) all =
+    let size : length (frame_bytes p s) ≡ 32 * frame_fibs p.plan.layout = all.0.length_of_fibs in
+    let here = cut_from (frame_fibs p.plan.layout) 0 (frame_bytes p s) (omega (arith, size)) in
+    let rest = fibs_are p (after_frame p s) es all.1 in
+    record {
+      whole = all_append (λ fib. length fib ≡ 32) (fibs_from (frame_fibs p.plan.layout) 0 (frame_bytes p s)) (fibs_of p.plan.layout (run_frames p (after_frame p s) es)) here.whole rest.whole;
+      bytes_are = concat-append (fibs_from (frame_fibs p.plan.layout) 0 (frame_bytes p s)) (fibs_of p.plan.layout (run_frames p (after_frame p s) es))
+          ∙ ap (λ l. l ++ concat (fibs_of p.plan.layout (run_frames p (after_frame p s) es))) here.bytes_are ∙ ap (λ l. frame_bytes p s ++ l) rest.bytes_are;
+    }
+
+-- ---- pieces
+
+front_of : (xs fibs : List (List ℕ)) (after : List ℕ) → AreWhole xs → AreWhole fibs → concat xs ≡ concat fibs ++ after → (more : List (List ℕ)) × (xs ≡ fibs ++ more)
+front_of xs [] after whole sizes e = (xs, refl)
+front_of [] (f ∷ fs) after whole sizes e =
+    let len : 0 ≡ length f + (length (concat fs) + length after) = ap length e ∙ length-append (f ++ concat fs) after ∙ ap (λ n. n + length after) (length-append f (concat fs)) ∙ omega arith in
+    let size : length f ≡ 32 = sizes.0 in
+    absurd (omega (arith, len, size))
+front_of (x ∷ xs) (f ∷ fs) after whole sizes e =
+    let both = same_front x f (concat xs) (concat fs ++ after) (whole.0 ∙ sym sizes.0) (e ∙ append_assoc f (concat fs) after) in
+    let rest = front_of xs fs after whole.1 sizes.1 both.1 in
+    (rest.0, ap (λ z. z ∷ xs) both.0 ∙ ap (λ l. f ∷ l) rest.1)
+
+record IsAmong (xs fibs : List (List ℕ)) : Type 0 where
+  before : List (List ℕ)
+  after : List (List ℕ)
+  whole : xs ≡ before ++ (fibs ++ after)
+
+among : (q : ℕ) (xs fibs : List (List ℕ)) (before after : List ℕ) → AreWhole xs → AreWhole fibs → length before ≡ 32 * q → concat xs ≡ before ++ (concat fibs ++ after) → IsAmong xs fibs
+among zero xs fibs [] after whole sizes len e = (let front = front_of xs fibs after whole sizes e in record { before = []; after = front.0; whole = front.1 })
+among zero xs fibs (b ∷ bs) after whole sizes len e = absurd (omega (arith, len))
+among (suc q) [] fibs before after whole sizes len e =
+    let none : 0 ≡ length before + length (concat fibs ++ after) = ap length e ∙ length-append before (concat fibs ++ after) in
+    absurd (omega (arith, none, len))
+among (suc q) (x ∷ xs) fibs before after whole sizes len e =
+    let size : length x ≡ 32 = whole.0 in
+    let left : concat xs ≡ drop 32 (x ++ concat xs) = sym (drop-append_seam x (concat xs)) ∙ ap (λ n. drop n (x ++ concat xs)) size in
+    let right : drop 32 (before ++ (concat fibs ++ after)) ≡ drop 32 before ++ (concat fibs ++ after) = drop-append-le 32 before (concat fibs ++ after) (omega (arith, len)) in
+    let less : length (drop 32 before) ≡ length before - 32 = length-drop 32 before in
+    let rest = among q xs fibs (drop 32 before) after whole.1 sizes (omega (arith, less, len)) (left ∙ ap (drop 32) e ∙ right) in
+    record { before = x ∷ rest.before; after = rest.after; whole = ap (λ l. x ∷ l) rest.whole }
+
+-- of the FIBs of a run
+pub record IsPieceOfRun (p : Program) (s : State) (events : List Event) (fibs : List (List ℕ)) : Type 0 where
+  pub before : List (List ℕ)
+  pub after : List (List ℕ)
+  pub whole : fibs_of p.plan.layout (run_frames p s events) ≡ before ++ (fibs ++ after)
+
+pub piece_of_run : (p : Program) (s : State) (events : List Event) (fibs : List (List ℕ)) → FramesAreRight p s events → IsPieceOf (concat (run_frames p s events)) fibs → IsPieceOfRun p s events fibs
+piece_of_run p s events fibs right piece =
+    let cut = fibs_are p s events right in
+    let starts : length piece.before % 32 ≡ 0 = piece.starts in
+    let len : length piece.before ≡ 32 * (length piece.before / 32) = omega (arith, starts) in
+    let one = among (length piece.before / 32) (fibs_of p.plan.layout (run_frames p s events)) fibs piece.before piece.after cut.whole piece.sizes len (cut.bytes_are ∙ piece.whole) in
+    record { before = one.before; after = one.after; whole = one.whole }
+
+-- all FIBs of a run are those of its bytes
+pub all_of_run : (p : Program) (s : State) (events : List Event) (fibs : List (List ℕ)) → FramesAreRight p s events → AllByRecursion (λ fib. length fib ≡ 32) fibs → concat fibs ≡ concat (run_frames p s events)
+    → fibs ≡ fibs_of p.plan.layout (run_frames p s events)
+all_of_run p s events fibs right sizes bytes =
+    let cut = fibs_are p s events right in
+    let front = front_of (fibs_of p.plan.layout (run_frames p s events)) fibs [] cut.whole sizes (cut.bytes_are ∙ sym bytes ∙ sym (append-nil (concat fibs))) in
+    let back = front_of fibs (fibs_of p.plan.layout (run_frames p s events)) [] sizes cut.whole (bytes ∙ sym cut.bytes_are ∙ sym (append-nil (concat (fibs_of p.plan.layout (run_frames p s events))))) in
+    none_more fibs (fibs_of p.plan.layout (run_frames p s events)) front.0 back.0 front.1 back.1
 
 -- ---- a run, from any of its FIBs on
 
@@ -185,4 +282,73 @@ runs_are_cleared one heard headline plain r p s period events fibs played long g
       room = λ start reported e. false≢true (sym (front e.skipped e.frames e.rest e.framed).room ∙ e.full);
       events = λ start reported c f. (front f.skipped f.frames (map r.read c.held) f.framed).plain;
       plain = λ found c f. subst (AllByRecursion (λ one. IsNoFault one.what)) (sym (all_of found _ f.findings)) (front f.skipped f.frames (map r.read c.held) f.framed).plain;
+    }
+
+-- ---- a stream is cut in one way
+
+record AreCutAlike (skipped later : List Fib) (f g : List (List Fib)) (r s : List Fib) : Type 0 where
+  skips : skipped ≡ later
+  frames : f ≡ g
+  rests : r ≡ s
+
+one_framing : (size : ℕ) (stream skipped later : List Fib) (f g : List (List Fib)) (r s : List Fib) → IsFramed size stream skipped f r → IsFramed size stream later g s → AreCutAlike skipped later f g r s
+one_framing size stream skipped later f g r s a b =
+    let more = front_framing size stream [] skipped later f g r s a (subst (λ l. IsFramed size l later g s) (sym (append-nil stream)) b) in
+    let less = front_framing size stream [] later skipped g f s r b (subst (λ l. IsFramed size l skipped f r) (sym (append-nil stream)) a) in
+    let frames : f ≡ g = none_more f g more.0 less.0 more.1 less.1 in
+    let whole : skipped ++ (flat_map (λ x. x) f ++ r) ≡ later ++ (flat_map (λ x. x) g ++ s) = sym a.whole ∙ b.whole in
+    let same : flat_map (λ x. x) f ++ r ≡ flat_map (λ x. x) g ++ s = (same_skipped skipped later (flat_map (λ x. x) f ++ r) (flat_map (λ x. x) g ++ s) a.before b.before a.begun b.begun whole).rest in
+    record {
+      skips = append_cancel_right skipped later (flat_map (λ x. x) g ++ s) (ap (λ l. skipped ++ l) (sym same) ∙ whole);
+      frames = frames;
+      rests = append_cancel_left (flat_map (λ x. x) f) r s (same ∙ ap (λ fs. flat_map (λ x. x) fs ++ s) (sym frames));
+    }
+
+-- ---- no FIB of a run is damaged
+
+abbrev one_if : Bool → ℕ
+one_if b = cond b 1 0
+
+whole_more : (xs ys : List Fib) → damaged_in xs ≡ 0 → damaged_in ys ≡ 0 → damaged_in (xs ++ ys) ≡ 0
+whole_more [] ys a b = b
+whole_more (x ∷ xs) ys a b = (let rest = whole_more xs ys (omega (arith, a)) b in omega (arith, a, rest))
+
+first_whole : OneList → EnsembleIsHeard → (r : Reading) (plan : Plan) (u : State) (frame : List ℕ) → IsRight plan u frame → is_damaged (r.read (fib_at frame 0)) ≡ false
+first_whole one heard r plan u frame right = elim (eqb_tells (u.count % count_step (layout_mode plan.layout)) 0) [
+  | inl on ↦ (heading_fib one heard r plan u (fib_at frame 0) (right.headed on.1)).whole
+  | inr off ↦ (quiet_fib one r (fib_at frame 0) (right.unheaded off.1)).whole
+]
+
+frame_whole : OneList → EnsembleIsHeard → (r : Reading) (plan : Plan) (u : State) (frame : List ℕ) → IsRight plan u frame → damaged_in (read_frame r plan.layout frame) ≡ 0
+frame_whole one heard r plan u frame right =
+    let first : one_if (is_damaged (r.read (fib_at frame 0))) ≡ 0 = ap one_if (first_whole one heard r plan u frame right) in
+    let later = none_damaged (map r.read (later_fibs plan.layout frame)) (later_quiet one r plan u frame right) in
+    ap (λ fs. damaged_in (map r.read fs)) (first_of_fibs plan.layout frame) ∙ omega (arith, first, later)
+
+run_whole : OneList → EnsembleIsHeard → (r : Reading) (p : Program) (s : State) (events : List Event) → FramesAreRight p s events
+    → damaged_in (flat_map (λ f. f) (read_frames r (frames_of p.plan.layout (run_frames p s events)))) ≡ 0
+run_whole one heard r p s [] all = refl
+run_whole one heard r p s (Contact c closed ∷ es) all = run_whole one heard r p (happens p s (Contact c closed)) es all
+run_whole one heard r p s (Frame ∷ es) all =
+    whole_more (read_frame r p.plan.layout (frame_bytes p s)) (flat_map (λ f. f) (read_frames r (frames_of p.plan.layout (run_frames p (after_frame p s) es))))
+    (frame_whole one heard r p.plan (shown p s) (frame_bytes p s) all.0) (run_whole one heard r p (after_frame p s) es all.1)
+
+-- ---- the law
+
+no_rest : (r : Reading) (held : List (List ℕ)) → map r.read held ≡ [] → held ≡ []
+no_rest r [] e = refl
+no_rest r (h ∷ hs) e = absurd cc
+
+pub runs_are_heard_out : OneList → EnsembleIsHeard → HeadlineHolds → RunsAreFramed → RunsAreHeardOut
+runs_are_heard_out one heard headline framed r p s period waiting events fibs start reported c played off on sizes bytes f =
+    let right : FramesAreRight p s (waiting ++ events) = (headline p s (waiting ++ events) played).right in
+    let are : fibs ≡ fibs_of p.plan.layout (run_frames p s (waiting ++ events)) = all_of_run p s (waiting ++ events) fibs right sizes bytes in
+    let mine : IsFramed (frame_fibs p.plan.layout) (map r.read (fibs_of p.plan.layout (run_frames p s (waiting ++ events)))) f.skipped f.frames (map r.read c.held) =
+    subst (λ l. IsFramed (frame_fibs p.plan.layout) (map r.read l) f.skipped f.frames (map r.read c.held)) are f.framed in
+    let alike = one_framing (frame_fibs p.plan.layout) (map r.read (fibs_of p.plan.layout (run_frames p s (waiting ++ events)))) f.skipped _ f.frames _ (map r.read c.held) [] mine (framed r p s waiting events played off on) in
+    record {
+      skips = ap length alike.skips ∙ length-map (fibs_of p.plan.layout (run_frames p s waiting)) r.read;
+      frames_are = alike.frames;
+      undamaged = ap (λ fs. damaged_in (flat_map (λ x. x) fs)) alike.frames ∙ run_whole one heard r p (run p s waiting) events (right_after p s waiting events right);
+      none_left = no_rest r c.held alike.rests;
     }

@@ -24,7 +24,7 @@ use Rattle.stream_check.specs.Stream.{count_due, first_line, frame_findings, fin
 use Rattle.plan_runs.proofs.Parts.{In}
 use Rattle.stream_laws.specs.Sorts.{is_of_period, IsFreeUnlessShort}
 use Rattle.stream_laws.proofs.Kept.{first_holds}
-use Rattle.stream_laws.proofs.OpenFrames.{IsOpenFib, found_open}
+use Rattle.stream_laws.proofs.Sending.{IsOpenFib, found_open}
 use Rattle.stream_laws.proofs.Rows.{HasNone}
 use Rattle.stream_check.proofs.Framing.{all_append}
 

@@ -7,7 +7,6 @@ use Rattle.std.proofs.lemmas.List.{append_assoc, append-nil, map-append, length-
 use Rattle.std.proofs.lemmas.List.Concat.{flat_map-append}
 use Rattle.fib_codec.specs.Layouts.{layout_mode, frame_fibs}
 use Rattle.fib_codec.specs.declared.frame_layout.FrameLayout.{FrameLayout}
-use Rattle.fib_codec.specs.declared.frame_layout.FrameLayout.TheVariants.{Whole, ReserveOne, ReserveTwo}
 use Rattle.mux_types.proofs.Elements.{contains_cases, contains_none}
 use Rattle.mux_types.specs.Entries.{EnsembleInformation}
 use Rattle.mux_types.specs.Facts.{marked}
@@ -15,7 +14,7 @@ use Rattle.mux_types.specs.declared.entry.Entry.TheVariants.{Ensemble as Ensembl
 use Rattle.fib_codec.specs.Grammar.{Fig, Open, Other, IsFig, OneList, is_next, is_long}
 use Rattle.fib_codec.specs.Heard.{IsInFig, fib_at}
 use Rattle.fib_codec.specs.declared.modes.Mode.{Mode}
-use Rattle.fib_codec.specs.declared.modes.Mode.TheVariants.{I, II, III, IV}
+use Rattle.fib_codec.specs.declared.modes.Mode.TheVariants.{I}
 use Rattle.fib_codec.specs.Modes.{fib_count, count_step}
 use Rattle.fib_reader.specs.Raw.{raw_of, entries_in, ensemble_in}
 use Rattle.fib_reader.specs.Laws.{EnsembleIsHeard}
@@ -146,22 +145,16 @@ heading_fib one heard r plan u bytes h =
 abbrev pub later_fibs : FrameLayout → List ℕ → List (List ℕ)
 later_fibs layout frame = fibs_from (frame_fibs layout - 1) 1 frame
 
-pub first_of_fibs : (layout : FrameLayout) (frame : List ℕ) → fibs_from (frame_fibs layout) 0 frame ≡ fib_at frame 0 ∷ later_fibs layout frame
-first_of_fibs (Whole I) frame = refl
-first_of_fibs (Whole II) frame = refl
-first_of_fibs (Whole III) frame = refl
-first_of_fibs (Whole IV) frame = refl
-first_of_fibs (ReserveOne I) frame = refl
-first_of_fibs (ReserveOne II) frame = refl
-first_of_fibs (ReserveOne III) frame = refl
-first_of_fibs (ReserveOne IV) frame = refl
-first_of_fibs ReserveTwo frame = refl
-
 few_fibs : (mode : Mode) → 1 ≤ fib_count mode
 few_fibs I = omega arith
-few_fibs II = omega arith
-few_fibs III = omega arith
-few_fibs IV = omega arith
+few_fibs m = omega arith
+
+first_from : (count : ℕ) (frame : List ℕ) → 1 ≤ count → fibs_from count 0 frame ≡ fib_at frame 0 ∷ fibs_from (count - 1) 1 frame
+first_from zero frame some = absurd (omega (arith, some))
+first_from (suc count) frame some = (let less : count ≡ suc count - 1 = omega arith in ap (λ k. fib_at frame 0 ∷ fibs_from k 1 frame) less)
+
+pub first_of_fibs : (layout : FrameLayout) (frame : List ℕ) → fibs_from (frame_fibs layout) 0 frame ≡ fib_at frame 0 ∷ later_fibs layout frame
+first_of_fibs layout frame = first_from (frame_fibs layout) frame (few_fibs (layout_mode layout))
 
 fibs_length : (count n : ℕ) (frame : List ℕ) → length (fibs_from count n frame) ≡ count
 fibs_length zero n frame = refl

@@ -4,14 +4,11 @@ use Rattle.std.proofs.Common.{◌≡◌, ℕ, ◌+◌, ◌<◌, ◌%◌, ◌==�
 use Rattle.std.specs.Prelude.{map}
 use Rattle.std.specs.List.{AllByRecursion}
 use Rattle.std.proofs.lemmas.Bool.{false≢true, eqb-true, eq-eqb, not-false, not-true}
-use Rattle.mux_types.proofs.Elements.{each_contains}
 use Rattle.mux_types.specs.Entries.{EnsembleInformation}
 use Rattle.fib_codec.specs.Grammar.{Fig, Open, Other, is_next}
-use Rattle.fib_codec.specs.Heard.{IsEnsembleHeardInRow}
 use Rattle.fib_reader.specs.Raw.{Raw, entries_in, ensemble_in}
 use Rattle.fib_reader.specs.Listening.{Listening, is_made}
 use Rattle.stream_check.specs.declared.finding.Fault.TheVariants as faults
-use Rattle.stream_check.specs.Reporting.{when}
 use Rattle.stream_check.specs.Frames.{Fib, first_raw, first_or, first_in_figs, first_in, first_of_frame}
 use Rattle.stream_check.specs.Parts.{IsTheMost}
 use Rattle.stream_check.specs.History.{Item, Moment, Said, Ended, said, items_of, fig_items, figs_items, fib_items, fibs_items, frame_items, is_ensemble, ensemble_of, is_flagged, is_swap, listener_after, last_flags, is_cut_off, frames_ended, rows}
@@ -19,23 +16,19 @@ use Rattle.stream_check.specs.Rules.{Known, known_of, awaited_low, notice_faults
 use Rattle.stream_check.specs.Stream.{after_frame, after_frames}
 use Rattle.stream_check.proofs.Ensembles.{heard_as}
 use Rattle.stream_check.proofs.Members.{no_swap}
-use Rattle.stream_laws.specs.Notices.{AreFibBytes, read_frames, row_of, last_of}
+use Rattle.stream_laws.specs.Notices.{AreFibBytes, read_frames, last_of}
 use Rattle.stream_laws.specs.Faultless.{IsSaidIn}
 use Rattle.stream_laws.specs.Staying.{last_swap}
 use Rattle.stream_laws.specs.Held.{BeginsUnflagged, WholeNoticesAreHeld, CountsAreHeld}
-use Rattle.stream_laws.proofs.Clean.{all_left, IsClean, entry_clean, after_entry, frames_twice}
-use Rattle.stream_laws.proofs.Kept.{no_fault, first_holds, second_holds}
-use Rattle.stream_laws.proofs.Noting.{with_member, after_member, after_heard, ensemble_made, plain_ensemble}
+use Rattle.stream_laws.proofs.Clean.{IsClean, entry_clean, after_entry, frames_twice}
+use Rattle.stream_laws.proofs.Kept.{first_holds, second_holds, first_fine, with_member, after_member, after_heard, ensemble_made, plain_ensemble}
 use Rattle.stream_laws.proofs.Rows.{notice_rows}
 use Rattle.stream_laws.proofs.Tracking.{IsFormed, AllAnnounce, alone_first, all_tracked}
 use Rattle.stream_laws.proofs.Formed.{all_formed}
-use Rattle.stream_laws.proofs.Headers.{FibLaws, header_said}
+use Rattle.stream_laws.proofs.Bytes.{FibLaws, each_take}
 use Rattle.stream_laws.proofs.Swapping.{awaited_is}
-use Rattle.stream_laws.proofs.Announced.{items_in, notice_is, each_drop, formed_handed}
-use Rattle.stream_laws.proofs.AnnouncedChange.{changes_are_announced}
+use Rattle.stream_laws.proofs.Announced.{items_in, notice_is, each_drop, formed_handed, changes_are_announced, notice_header}
 use Rattle.stream_check.proofs.Saying.{said_append}
-use Rattle.mux_types.proofs.Members.{mapped_from, mapped_to}
-use Rattle.stream_laws.proofs.Bytes.{each_take}
 
 -- ---- the first FIG 0/0 of all that was sent
 
@@ -212,9 +205,8 @@ awaited_at step period past i c sw =
     let e : is_ensemble i ≡ true = first_holds (is_ensemble i) _ sw in
     let made : is_made (listener_after past).awaited (ensemble_of i) ≡ true = sym (ensemble_made past i e) ∙ sw in
     let all = (plain_ensemble step period past i c e).swap made in
-    let none = no_fault (not ((ensemble_of i).count % 250 == awaited_low k)) (faults.AnnouncedFor (awaited_low k)) (all_left _ (when (not ((ensemble_of i).count % 250 == awaited_low k)) (faults.AnnouncedFor (awaited_low k))) (notice_faults k ++ unit_faults k) all.1) in
-    let low : ((ensemble_of i).count % 250 == awaited_low k) ≡ true = not-false ((ensemble_of i).count % 250 == awaited_low k) none in
-    awaited_is (listener_after past).awaited (ensemble_of i) ((ensemble_of i).count % 250) made (eqb-true ((ensemble_of i).count % 250) (awaited_low k) low)
+    let low = first_fine (not ((ensemble_of i).count % 250 == awaited_low k)) (faults.AnnouncedFor (awaited_low k)) (notice_faults k ++ unit_faults k) all.1 in
+    awaited_is (listener_after past).awaited (ensemble_of i) ((ensemble_of i).count % 250) made (eqb-true ((ensemble_of i).count % 250) (awaited_low k) (not-false ((ensemble_of i).count % 250 == awaited_low k) low.0))
 
 pub counts_are_held : FibLaws → CountsAreHeld
 counts_are_held laws r size step period frames past i bytes faultless s sw frame next e inside heard =
@@ -226,13 +218,7 @@ counts_are_held laws r size step period frames past i bytes faultless s sw frame
     let notice : List (List (List ℕ)) = last_of (length (rows past)) (take (frames_ended past) frames) in
     let all : AllByRecursion AreFibBytes notice = each_drop AreFibBytes _ (take (frames_ended past) frames) (each_take AreFibBytes (frames_ended past) frames bytes) in
     let are : map (items_in r) notice ≡ notice_rows past = notice_is r step frames past i s (alone_first step period past i clean formed is_one) in
-    let here = mapped_to row_of notice frame inside in
-    let fibs : AreFibBytes here.0 = each_contains AreFibBytes notice here.0 all here.1 in
-    let header = header_said laws r here.0 next e fibs (subst (λ (b : List ℕ). IsEnsembleHeardInRow b next e) (sym here.2) heard) in
-    let row : AllAnnounce (last_flags past) low (items_in r here.0) =
-    each_contains (AllAnnounce (last_flags past) low) (map (items_in r) notice) (items_in r here.0)
-    (subst (AllByRecursion (AllAnnounce (last_flags past) low)) (sym are) a.rows) (mapped_from (items_in r) notice here.0 here.1) in
-    let says = each_contains (λ j. is_ensemble j ≡ true → ((ensemble_of j).change ≡ last_flags past) × ((ensemble_of j).occurrence ≡ Some low)) (items_in r here.0) header.item row header.inside header.ensemble in
-    let flags : e.change ≡ last_flags past = ap (λ (x : EnsembleInformation). x.change) (sym header.says) ∙ says.0 in
+    let says = notice_header laws r notice all (last_flags past) low (subst (AllByRecursion (AllAnnounce (last_flags past) low)) (sym are) a.rows) frame next e inside heard in
+    let flags = says.0 in
     let some = a.flags in
-    (omega (arith, flags, some), flags, ap (λ (x : EnsembleInformation). x.occurrence) (sym header.says) ∙ says.1)
+    (omega (arith, flags, some), flags, says.1)

@@ -18,7 +18,7 @@ use Rattle.stream_check.specs.Stream.{count_due, placed_count, count_of_frame, a
 use Rattle.stream_check.proofs.Members.{member_eid}
 use Rattle.plan_code.specs.declared.plan.Plan.{Plan}
 use Rattle.plan_code.specs.declared.instr.Instr.{Instr}
-use Rattle.plan_code.specs.declared.instr.Instr.TheVariants.{Wait, Until, WaitContact, WaitAny, CommitIn, CommitAt, Join, Settle, End, Edit as Edits, Test, TestTime, Jump, Set, Loop}
+use Rattle.plan_code.specs.declared.instr.Instr.TheVariants.{Settle}
 use Rattle.plan_code.specs.Program.{Program, instr_at}
 use Rattle.plan_code.specs.Machine.{State, step, settle, effect, effect_of}
 use Rattle.plan_runs.specs.Frames.{is_due, with_swap, with_due_swap, is_running, is_here, burst, ready, after_burst, is_first_noticed, shown, frame_bytes, after_frame}
@@ -41,21 +41,8 @@ settle_eid None s = refl
 settle_eid (Some left) s = refl
 
 effect_eid : (plan : Plan) (i : Instr) (s : State) → (effect plan i s).eid ≡ s.eid
-effect_eid plan (Wait n) s = refl
-effect_eid plan (Until t) s = refl
-effect_eid plan (WaitContact c closed) s = refl
-effect_eid plan (WaitAny closed opened until frames) s = refl
-effect_eid plan (CommitIn k) s = refl
-effect_eid plan (CommitAt n) s = refl
-effect_eid plan Join s = refl
 effect_eid plan Settle s = settle_eid s.left s
-effect_eid plan End s = refl
-effect_eid plan (Edits e) s = refl
-effect_eid plan (Test c target) s = refl
-effect_eid plan (TestTime from to target) s = refl
-effect_eid plan (Jump target) s = refl
-effect_eid plan (Set r n) s = refl
-effect_eid plan (Loop r target) s = refl
+effect_eid plan i s = refl
 
 step_eid : (plan : Plan) (i : Option Instr) (s : State) → (effect_of plan i s).eid ≡ s.eid
 step_eid plan None s = refl

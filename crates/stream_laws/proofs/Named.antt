@@ -45,7 +45,7 @@ use Rattle.stream_laws.proofs.Findings.{items_room}
 use Rattle.stream_check.proofs.Framing.{all_append}
 use Rattle.stream_laws.proofs.Clean.{said_ended}
 use Rattle.stream_laws.proofs.Opening.{IsOpened, next_opened, first_opened}
-use Rattle.stream_laws.proofs.Noting.{ensemble_made}
+use Rattle.stream_laws.proofs.Kept.{ensemble_made}
 
 -- ---- findings other than a swap
 

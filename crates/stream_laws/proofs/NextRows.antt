@@ -1,31 +1,189 @@
--- The rows of a notice along a run: for each frame heard of it, the entries with C/N 1.
-use Rattle.std.proofs.Common.{◌≡◌, ℕ, ◌%◌, Bool, true, false, cond, List, [], ◌∷◌, ◌++◌, Some, refl, sym, ap, ◌∙◌, subst, inl, inr}
-use Rattle.std.proofs.lemmas.Bool.{false≢true}
+-- What the checker hears of the next configuration in the frames of a run: a row for each frame, three times in all.
+use Rattle.std.proofs.Common.{◌≡◌, ℕ, ◌&&◌, ◌||◌, true, false, cond, List, [], ◌∷◌, ◌++◌, Contains, Some, refl, sym, ap, ◌∙◌, subst, inl, inr, ◌≢◌, ◌%◌, Bool, None, ◌≤◌, not, nat_lt, Option, arith, le-ltb}
+use Rattle.std.specs.List.{AllByRecursion}
+use Rattle.std.proofs.lemmas.Bool.{or_parts, false≢true}
+use Rattle.std.proofs.lemmas.List.Elements.{Contains-append_left, Contains-append_right}
+use Rattle.mux_types.proofs.Elements.{contains_cases, contains_first, contains_none}
+use Rattle.fib_reader.specs.Listening.{Listening, hear_entry, all_entries}
+use Rattle.stream_check.specs.Pictures.{key_of}
+use Rattle.stream_check.specs.History.{Item, Moment, Said, Ended, said, is_flagged, is_swap, listening, listener_after, begins_notice, has_begun, row_at_hand, rows, frame_items, is_cut_off}
+use Rattle.stream_check.proofs.Members.{and_false, or_false, or_true, member_has_begun, member_rows, member_row, member_heard, after_is}
+use Rattle.stream_laws.proofs.Rows.{HasNone}
+use Rattle.stream_laws.proofs.LastHeard.{some_before, stays_tuned}
 use Rattle.fib_codec.specs.Layouts.{layout_mode}
+use Rattle.mux_types.specs.Entries.{EnsembleInformation}
+use Rattle.mux_types.specs.Facts.{Marked, marked, facts_of}
+use Rattle.mux_config.specs.Configuration.{Configuration}
+use Rattle.fib_codec.specs.Heard.{IsHeardInRow}
 use Rattle.fib_codec.specs.Modes.{count_step}
-use Rattle.fib_reader.specs.Listening.{Listening}
+use Rattle.fib_reader.specs.Raw.{raw_entry}
 use Rattle.stream_check.specs.Frames.{Reading}
-use Rattle.stream_check.specs.History.{Item, Moment, Ended, said, frame_items, listening, has_begun, is_cut_off, row_at_hand, rows}
 use Rattle.plan_code.specs.declared.plan.Plan.{Plan}
-use Rattle.plan_code.specs.Program.{Program}
 use Rattle.plan_code.specs.Machine.{State}
-use Rattle.plan_verifier.specs.Typing.{Known}
-use Rattle.plan_runs.specs.declared.event.Event.TheVariants.{Contact}
-use Rattle.plan_runs.specs.Frames.{is_due, shown, frame_bytes, after_frame}
-use Rattle.plan_runs.specs.Runs.{happens}
-use Rattle.plan_runs.specs.Announced.{heard_of}
+use Rattle.plan_runs.specs.Frames.{shown_bytes, ensemble_sent, sent_entries, is_due, shown, frame_bytes, after_frame}
+use Rattle.plan_runs.specs.Announced.{HasHeader, heard_of, IsAnnounced}
 use Rattle.plan_runs.proofs.Tracked.{Airs}
-use Rattle.plan_runs.proofs.Facts.{Holds, IsCode, airs}
-use Rattle.plan_runs.proofs.Announcing.{heard_contacts}
+use Rattle.plan_runs.proofs.Right.{pageable}
+use Rattle.plan_runs.proofs.HeardFrame.{zero_or_not}
 use Rattle.stream_laws.proofs.Framing.{read_frame}
-use Rattle.stream_laws.proofs.AgreeingRuns.{IsBetween, on_air}
-use Rattle.stream_laws.proofs.AgreeingFrames.{agrees_by, before_of}
+use Rattle.stream_laws.proofs.Sending.{IsSentItem}
+use Rattle.stream_laws.proofs.AgreeingRuns.{on_air, IsBetween}
+use Rattle.stream_laws.proofs.AgreeingFrames.{not_sent, agrees_by, before_of}
+use Rattle.stream_laws.proofs.NoticeFrames.{SaysNothing, HasNext, IsRowed, IsNoticing, IsReading, none_rowed, rowed_more, rowed_silent, due_left, AreKeysOf, announced_thrice}
+use Rattle.stream_laws.proofs.Opening.{FrameLaws, IsOpened, entry_at_frame, items_at, past_after, next_opened, first_opened, cut_still}
+use Rattle.plan_runs.proofs.Hearing.{headed}
+use Rattle.plan_code.specs.Program.{Program}
+use Rattle.plan_verifier.specs.Typing.{Known}
+use Rattle.plan_runs.specs.declared.event.Event.TheVariants.{Contact, Frame}
+use Rattle.plan_runs.specs.Runs.{happens}
+use Rattle.plan_runs.proofs.Facts.{Holds, IsCode, airs}
+use Rattle.plan_runs.proofs.Announcing.{heard_contacts, swaps_run}
 use Rattle.stream_laws.proofs.Following.{more_heard, heard_then, quiet_heard, cut_first}
-use Rattle.stream_laws.proofs.NoticeRows.{IsRowed, IsNoticing, IsReading}
-use Rattle.stream_laws.proofs.NextHeard.{begun_rows}
-use Rattle.stream_laws.proofs.NextParts.{none_rowed, rowed_more, rowed_silent}
-use Rattle.stream_laws.proofs.Opening.{FrameLaws, items_at, past_after, IsOpened, next_opened, first_opened, cut_still}
-use Rattle.stream_laws.proofs.NextFrames.{still_quiet, rows_after, frame_next, frame_silent}
+use Rattle.std.specs.Prelude.{map}
+use Rattle.stream_check.specs.Parts.{IsTheMost}
+use Rattle.stream_check.specs.Rules.{wanted, times_heard}
+use Rattle.stream_check.proofs.Greedily.{three_or_more}
+use Rattle.plan_runs.proofs.Pictures.{whole_of, IsPartial, entries_of, contains_in, in_contains, fact_in, in_fact}
+use Rattle.plan_runs.proofs.Knowing.{KnowsPending, KnowsBy}
+use Rattle.plan_runs.proofs.HeardFrames.{Nothing}
+use Rattle.stream_laws.proofs.Ages.{entry_of}
+use Rattle.mux_types.proofs.Members.{mapped_to}
+
+-- ---- a notice that has not begun
+
+-- it has no frames
+pub begun_rows : (past : List Moment) → has_begun past ≡ false → rows past ≡ []
+begun_rows [] e = refl
+begun_rows (Said i ∷ past) e =
+    elim (is_swap past i) as (λ t. cond t (is_flagged i) (has_begun past || begins_notice past i) ≡ false → cond t [] (rows past) ≡ []) [
+      | true ↦ λ h. refl
+      | false ↦ λ h. begun_rows past (or_parts (has_begun past) (begins_notice past i) h).0
+    ] e
+begun_rows (Ended count ∷ past) e = ap (λ t. cond t (rows past ++ row_at_hand past ∷ []) []) e
+
+-- ---- entries other than FIG 0/0
+
+pub rows_stay : (items : List Item) (past : List Moment) → HasNone items → rows (said items past) ≡ rows past
+rows_stay [] past none = refl
+rows_stay (i ∷ is) past none = rows_stay is (Said i ∷ past) none.1 ∙ member_rows past i none.0
+
+pub begun_stays : (items : List Item) (past : List Moment) → HasNone items → has_begun past ≡ true → has_begun (said items past) ≡ true
+begun_stays [] past none e = e
+begun_stays (i ∷ is) past none e =
+    begun_stays is (Said i ∷ past) none.1 (member_has_begun past i none.0 ∙ ap (λ t. t || ((listener_after past).tuned && i.next)) e)
+
+row_stays : (key : ℕ) (items : List Item) (past : List Moment) → HasNone items → Contains (row_at_hand past) key → Contains (row_at_hand (said items past)) key
+row_stays key [] past none h = h
+row_stays key (i ∷ is) past none h =
+    let more : List ℕ = cond ((listener_after past).tuned && i.next) (key_of i.raw ∷ []) [] in
+    row_stays key is (Said i ∷ past) none.1 (subst (λ (r : List ℕ). Contains r key) (sym (member_row past i none.0)) (Contains-append_left (row_at_hand past) more key h))
+
+-- entries with C/N 0 begin no notice
+pub none_begins : (items : List Item) (past : List Moment) → HasNone items → AllByRecursion (λ i. i.next ≡ false) items → has_begun (said items past) ≡ has_begun past
+none_begins [] past none all = refl
+none_begins (i ∷ is) past none all =
+    none_begins is (Said i ∷ past) none.1 all.1
+    ∙ member_has_begun past i none.0
+    ∙ ap (λ t. has_begun past || ((listener_after past).tuned && t)) all.0
+    ∙ ap (λ t. has_begun past || t) (and_false (listener_after past).tuned)
+    ∙ or_false (has_begun past)
+
+-- the entry with this key was heard with C/N 1 in the current frame, and the notice has begun
+pub record IsNoted (key : ℕ) (past : List Moment) : Type 0 where
+  pub row : Contains (row_at_hand past) key
+  pub begun : has_begun past ≡ true
+
+-- an entry of the next configuration among these is heard
+pub next_member : (key : ℕ) (items : List Item) (past : List Moment) (l after : Listening) → listening past ≡ Some l → l.tuned ≡ true → listening (said items past) ≡ Some after → HasNone items
+    → (i : Item) → Contains items i → i.next ≡ true → key_of i.raw ≡ key → IsNoted key (said items past)
+next_member key [] past l after is t all none i inside n k = absurd (contains_none i inside)
+next_member key (j ∷ js) past l after is t all none i inside n k = elim (contains_cases j js i inside) [
+  | inl same ↦ (
+      let tuned : (listener_after past).tuned ≡ true = ap (λ (x : Listening). x.tuned) (after_is past l is) ∙ t in
+      let next : j.next ≡ true = ap (λ (x : Item). x.next) same ∙ n in
+      let keys : key_of j.raw ≡ key = ap (λ (x : Item). key_of x.raw) same ∙ k in
+      let row : row_at_hand (Said j ∷ past) ≡ row_at_hand past ++ key_of j.raw ∷ [] =
+      member_row past j none.0
+      ∙ ap (λ b. row_at_hand past ++ cond (b && j.next) (key_of j.raw ∷ []) []) tuned
+      ∙ ap (λ b. row_at_hand past ++ cond b (key_of j.raw ∷ []) []) next in
+      let here : Contains (row_at_hand past ++ key_of j.raw ∷ []) (key_of j.raw) = Contains-append_right (row_at_hand past) (key_of j.raw ∷ []) (key_of j.raw) (contains_first (key_of j.raw) []) in
+      let now : Contains (row_at_hand (Said j ∷ past)) key = subst (λ (x : ℕ). Contains (row_at_hand (Said j ∷ past)) x) keys (subst (λ (r : List ℕ). Contains r (key_of j.raw)) (sym row) here) in
+      let begun : has_begun (Said j ∷ past) ≡ true =
+      member_has_begun past j none.0
+      ∙ ap (λ b. has_begun past || (b && j.next)) tuned
+      ∙ ap (λ b. has_begun past || b) next
+      ∙ or_true (has_begun past) in
+      record { row = row_stays key js (Said j ∷ past) none.1 now; begun = begun_stays js (Said j ∷ past) none.1 begun }
+      )
+  | inr more ↦ (
+      let next = some_before js (Said j ∷ past) after all in
+      let heard : hear_entry j.next j.raw l ≡ Some next.0 = sym (member_heard past j l is) ∙ next.1 in
+      next_member key js (Said j ∷ past) next.0 after next.1 (stays_tuned j.next j.raw l next.0 t heard) all none.1 i more n k
+      )
+]
+
+-- ---- a frame of a run
+
+-- outside of a notice all entries have C/N 0
+all_current : (c n : Configuration) (on : Bool) (items : List Item) → on ≡ false → AllByRecursion (IsSentItem on c n) items → AllByRecursion (λ i. i.next ≡ false) items
+all_current c n on [] off all = tt
+all_current c n on (i ∷ is) off all = (
+  all.0.next
+      ∙ elim all.0.sent [
+        | inl current ↦ current.0
+        | inr next ↦ absurd (false≢true (sym off ∙ next.0))
+      ],
+  all_current c n on is off all.1,
+)
+
+pub still_quiet : (plan : Plan) (u : State) (due : Bool) (past : List Moment) (items : List Item) → IsOpened plan u due past items → on_air plan u ≡ false → has_begun (said items past) ≡ cond due false (has_begun past)
+still_quiet plan u due past items o off =
+    ap has_begun o.are
+    ∙ none_begins o.members (said o.heads past) o.none (all_current u.current u.next (on_air plan u) o.members off o.sent)
+    ∙ o.unflagged off
+
+pub rows_after : (plan : Plan) (u : State) (due : Bool) (past : List Moment) (items : List Item) → IsOpened plan u due past items → rows (said items past) ≡ cond due [] (rows past)
+rows_after plan u due past items o = ap rows o.are ∙ rows_stay o.members (said o.heads past) o.none ∙ o.rows_left
+
+-- an entry with C/N 1 that is heard in the bytes of the frame
+pub next_noted : FrameLaws → (r : Reading) (plan : Plan) (u : State) → Airs plan u → (due : Bool) (past : List Moment) → IsOpened plan u due past (frame_items (read_frame r plan.layout (shown_bytes plan u))) → (after : Listening)
+    → listening (said (frame_items (read_frame r plan.layout (shown_bytes plan u))) past) ≡ Some after → (m : Marked) → m.next ≡ true → IsHeardInRow (shown_bytes plan u) m
+    → IsNoted (key_of (raw_entry m.entry)) (said (frame_items (read_frame r plan.layout (shown_bytes plan u))) past)
+next_noted laws r plan u a due past o after all m next row =
+    let key : ℕ = key_of (raw_entry m.entry) in
+    let it = entry_at_frame laws r plan u a m row in
+    let l = some_before (frame_items (read_frame r plan.layout (shown_bytes plan u))) past after all in
+    let h = o.hears l.0 l.1 in
+    subst (IsNoted key) (sym o.are)
+    (next_member key o.members (said o.heads past) (headed (ensemble_sent plan u) l.0) after h.0 h.1 (sym (ap listening o.are) ∙ all) o.none it.0.item (o.among it.0.item it.0.inside it.1) (it.0.next ∙ next) (ap key_of it.0.raw))
+
+pub frame_next : FrameLaws → (r : Reading) (plan : Plan) (u : State) → Airs plan u → (due : Bool) (past : List Moment) → IsOpened plan u due past (frame_items (read_frame r plan.layout (shown_bytes plan u))) → (after : Listening)
+    → listening (said (frame_items (read_frame r plan.layout (shown_bytes plan u))) past) ≡ Some after
+    → HasNext (shown_bytes plan u) (row_at_hand (said (frame_items (read_frame r plan.layout (shown_bytes plan u))) past))
+frame_next laws r plan u a due past o after all m next row = (next_noted laws r plan u a due past o after all m next row).row
+
+-- if no notice has begun after a frame on the air, nothing in the frame belongs to one
+pub frame_silent : FrameLaws → (r : Reading) (plan : Plan) (u : State) → Airs plan u → (due : Bool) (past : List Moment) → IsOpened plan u due past (frame_items (read_frame r plan.layout (shown_bytes plan u))) → (after : Listening)
+    → listening (said (frame_items (read_frame r plan.layout (shown_bytes plan u))) past) ≡ Some after → on_air plan u ≡ true
+    → has_begun (said (frame_items (read_frame r plan.layout (shown_bytes plan u))) past) ≡ false → SaysNothing (shown_bytes plan u)
+frame_silent laws r plan u a due past o after all on quiet = record {
+  none = λ m next row. false≢true (sym quiet ∙ (next_noted laws r plan u a due past o after all m next row).begun);
+  bare = λ header. elim (zero_or_not (u.count % count_step (layout_mode plan.layout))) [
+    | inl here ↦ false≢true (sym quiet ∙ ap has_begun o.are ∙ begun_stays o.members (said o.heads past) o.none (o.flagged here on))
+    | inr off ↦ not_headed header off
+  ];
+}
+  where
+    none_some : (e : EnsembleInformation) → None ≡ Some e → ⊥
+    none_some e is = cc is
+
+    not_headed : HasHeader (shown_bytes plan u) → u.count % count_step (layout_mode plan.layout) ≢ 0 → ⊥
+    not_headed (marked, e, heard) off =
+        let able = pageable laws.heard.pages plan u a in
+        let sent = (laws.heard.pages.ensemble plan.layout (ensemble_sent plan u) u.page_index (sent_entries plan u) able marked e).0 heard in
+        none_some e (sym (not_sent plan u off) ∙ sent.1)
+
+-- ---- a row for each frame heard
 
 some_frames : (frames : List (List ℕ)) (frame : List ℕ) → frames ++ frame ∷ [] ≡ [] → ⊥
 some_frames [] frame e = cc e
@@ -121,3 +279,38 @@ noticing_contact p past s d closed g =
       fresh = λ e. g.fresh (sym heard ∙ e);
       rowed = λ cut. subst (λ (hs : List (List ℕ)). IsRowed hs (rows past)) (sym heard) (g.rowed cut);
     }
+
+-- ---- what is wanted in the frames of a notice
+
+facts_marked : (n : Configuration) (m : Marked) → Contains (facts_of n true) m → m.next ≡ true
+facts_marked n m inside = sym (fact_in true (entries_of n) m (contains_in (facts_of n true) m inside)).0
+
+-- where a swap is due, the listener's next picture has only entries of the next configuration
+next_part : (p : Program) (ts : List Known) → IsCode p ts → (s : State) → (past : List Moment) → (b : IsBetween p.plan past s) → is_due s.left ≡ true → IsPartial (whole_of s.next) Nothing b.heard.next
+next_part p ts c s past b due =
+    let pending : KnowsPending p.plan 0 s.current s.next s.count Nothing Nothing b.heard = subst (λ (o : Option ℕ). KnowsBy p.plan o s.current s.next s.count Nothing Nothing b.heard) (due_left s.left due) b.knows in
+    (pending.inside (omega (arith, c.program.planned.notice_from))).knows.next
+
+wanted_keys : (p : Program) (ts : List Known) → IsCode p ts → (s : State) → (past : List Moment) → IsBetween p.plan past s → is_due s.left ≡ true → AreKeysOf s.next (wanted past)
+wanted_keys p ts c s past b due x inside =
+    let same : listener_after past ≡ b.heard = after_is past b.heard b.is in
+    let there : Contains (map key_of (all_entries b.heard.next)) x = subst (λ (l : Listening). Contains (map key_of (all_entries l.next)) x) same inside in
+    let raw = mapped_to key_of (all_entries b.heard.next) x there in
+    let it = entry_of s.next Nothing b.heard.next raw.0 (next_part p ts c s past b due) (contains_in (all_entries b.heard.next) raw.0 raw.1) in
+    let m : Marked = marked true it.0 in
+    (m, in_contains (facts_of s.next true) m (in_fact true (entries_of s.next) it.0 it.2), refl, ap key_of it.1 ∙ raw.2)
+
+-- ---- a swap
+
+not_few : (cut : Bool) (n : ℕ) → (cut ≡ false → 3 ≤ n) → (not cut && nat_lt n 3) ≡ false
+not_few true n h = refl
+not_few false n h = le-ltb n 3 (h refl)
+
+pub repeated : IsTheMost → FrameLaws → (p : Program) (ts : List Known) → IsCode p ts → (s : State) → Holds p ts s → (past : List Moment) → IsBetween p.plan past s → IsNoticing p.plan past s → is_due s.left ≡ true
+    → (not (is_cut_off past) && nat_lt (times_heard past) 3) ≡ false
+repeated most laws p ts c s holds past b g due =
+    let announced : IsAnnounced s.current s.next s.count (heard_of p.plan s) = (swaps_run laws.heard.pages p ts c s (Frame ∷ []) holds).0.announced due in
+    let keys = wanted_keys p ts c s past b due in
+    not_few (is_cut_off past) (times_heard past) (λ whole.
+    (three_or_more (wanted past) (times_heard past) (rows past) (most (wanted past) (rows past))).1
+    (announced_thrice s.current s.next s.count (heard_of p.plan s) (rows past) (wanted past) announced (g.rowed whole) keys (facts_marked s.next)))

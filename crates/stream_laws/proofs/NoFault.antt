@@ -32,21 +32,17 @@ use Rattle.stream_laws.specs.Faultless.{IsNoFault}
 use Rattle.stream_laws.specs.Faults.{RunsAreFaultless}
 use Rattle.stream_laws.proofs.Rows.{HasNone}
 use Rattle.stream_laws.proofs.Framing.{read_frame, right_after}
-use Rattle.stream_laws.proofs.OpenFrames.{frame_open}
+use Rattle.stream_laws.proofs.Sending.{frame_open}
 use Rattle.stream_laws.proofs.Findings.{Each, each_other, IsNoticeFine, IsWellNoticed, items_room, IsFrameFree, found_free}
 use Rattle.stream_laws.proofs.InPlace.{IsBegun, frame_right, begun_after}
 use Rattle.stream_laws.proofs.AgreeingRuns.{IsBetween}
 use Rattle.stream_laws.proofs.AgreeingFrames.{agrees_by, before_contact}
-use Rattle.stream_laws.proofs.Flagging.{SwapLaws, follows_contact, flags_change}
-use Rattle.stream_laws.proofs.NoticeRows.{IsNoticing}
-use Rattle.stream_laws.proofs.NextRows.{noticing, noticing_contact}
-use Rattle.stream_laws.proofs.Repeating.{repeated}
+use Rattle.stream_laws.proofs.Following.{SwapLaws, follows_contact, flags_change, IsCounted, not_too_soon, counted_after, Follows, follows}
+use Rattle.stream_laws.proofs.NoticeFrames.{IsNoticing}
+use Rattle.stream_laws.proofs.NextRows.{noticing, noticing_contact, repeated}
 use Rattle.stream_check.proofs.Framing.{all_append}
 use Rattle.stream_laws.proofs.Opening.{FrameLaws, items_at, made_due, none_made, IsOpened, next_opened, first_opened, each_opened}
-use Rattle.stream_laws.proofs.Appearing.{IsTurning, turning_contact, turning}
-use Rattle.stream_laws.proofs.Silence.{none_silent}
-use Rattle.stream_laws.proofs.Timely.{IsCounted, not_too_soon, counted_after}
-use Rattle.stream_laws.proofs.Following.{Follows, follows}
+use Rattle.stream_laws.proofs.Ages.{IsTurning, turning_contact, turning, none_silent}
 
 -- ---- what the checker has noted
 
@@ -199,24 +195,7 @@ pub record DependsOnNoPeriod (sort : Fault → Bool) : Type 0 where
 other_sort : (sort : Fault → Bool) → DependsOnNoPeriod sort → (f : Fault) → is_of_period f ≡ true → sort f ≡ false
 other_sort sort h (faults.Appeared name) is = h.appeared name
 other_sort sort h (faults.Silent name) is = h.silent name
-other_sort sort h (faults.ShortFrame fibs) is = absurd (false≢true is)
-other_sort sort h (faults.Damaged fibs) is = absurd (false≢true is)
-other_sort sort h faults.NoEnsemble is = absurd (false≢true is)
-other_sort sort h (faults.OtherEnsemble eid) is = absurd (false≢true is)
-other_sort sort h (faults.Count due) is = absurd (false≢true is)
-other_sort sort h faults.OutOfPlace is = absurd (false≢true is)
-other_sort sort h (faults.AnnouncedAgain flags low) is = absurd (false≢true is)
-other_sort sort h (faults.NoSwapAt low) is = absurd (false≢true is)
-other_sort sort h faults.NextUnannounced is = absurd (false≢true is)
-other_sort sort h (faults.Changed name) is = absurd (false≢true is)
-other_sort sort h (faults.NextChanged name) is = absurd (false≢true is)
-other_sort sort h (faults.AnnouncedFor low) is = absurd (false≢true is)
-other_sort sort h (faults.AnnouncedTimes times) is = absurd (false≢true is)
-other_sort sort h (faults.NextHeard times) is = absurd (false≢true is)
-other_sort sort h (faults.Flags flags changes) is = absurd (false≢true is)
-other_sort sort h (faults.Overlap a b) is = absurd (false≢true is)
-other_sort sort h (faults.Contradicts c) is = absurd (false≢true is)
-other_sort sort h (faults.PastEnd a) is = absurd (false≢true is)
+other_sort sort h f is = absurd (false≢true is)
 
 one_free : (sort : Fault → Bool) → DependsOnNoPeriod sort → (L : Type 0) (w : What) → IsFreeUnlessShort L w → IsFreeOf sort w
 one_free sort h L (whats.Event e) free = tt

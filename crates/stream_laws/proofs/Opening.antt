@@ -1,13 +1,13 @@
 -- A frame of a run: its FIG 0/0, the entries after it, and what is known after them.
-use Rattle.std.proofs.Common.{◌≡◌, ◌≢◌, ℕ, ◌+◌, ◌≤◌, ◌%◌, ◌==◌, ◌||◌, Bool, true, false, cond, not, List, [], ◌∷◌, ◌++◌, Contains, Option, Some, None, refl, sym, ap, ◌∙◌, subst, arith, inl, inr, zero, suc, ◌<◌, ◌&&◌, ◌⊎◌, ◌-◌}
+use Rattle.std.proofs.Common.{◌≡◌, ◌≢◌, ℕ, ◌+◌, ◌≤◌, ◌%◌, ◌==◌, ◌||◌, Bool, true, false, cond, not, List, [], ◌∷◌, ◌++◌, Contains, Option, Some, None, refl, sym, ap, ◌∙◌, subst, arith, inl, inr, ◌&&◌, ◌⊎◌, ◌-◌}
 use Rattle.std.specs.List.{AllByRecursion}
-use Rattle.std.proofs.lemmas.Bool.{false≢true, eq-eqb, ne_eqb, or_right}
+use Rattle.std.proofs.lemmas.Bool.{false≢true, eq-eqb, ne_eqb}
 use Rattle.fib_codec.specs.Layouts.{layout_mode}
 use Rattle.mux_types.proofs.Elements.{contains_cases}
 use Rattle.mux_types.specs.Entries.{EnsembleInformation}
 use Rattle.mux_config.specs.Configuration.{Configuration}
 use Rattle.fib_codec.specs.Modes.{count_step}
-use Rattle.fib_reader.specs.Raw.{Raw, raw_entry}
+use Rattle.fib_reader.specs.Raw.{Raw}
 use Rattle.fib_reader.specs.Listening.{Listening, untuned, is_made, at_ensemble}
 use Rattle.stream_check.specs.Frames.{Reading}
 use Rattle.stream_check.specs.Pictures.{key_of}
@@ -24,20 +24,19 @@ use Rattle.plan_runs.proofs.Right.{ensemble_right, pageable}
 use Rattle.plan_runs.proofs.Facts.{Holds, IsCode, airs}
 use Rattle.plan_runs.proofs.Notice.{links}
 use Rattle.plan_runs.proofs.HeardFrame.{zero_or_not, RowSaid, fibs_in, frame_heard, enters, enters_swap, enters_untuned}
-use Rattle.stream_laws.proofs.Noting.{ensemble_made, ensemble_flags, begun_is, rows_are, times_are, begun_flagged}
+use Rattle.stream_laws.proofs.Kept.{ensemble_made, ensemble_flags, begun_is, rows_are, times_are, begun_flagged}
 use Rattle.stream_laws.proofs.Rows.{HasNone}
 use Rattle.stream_laws.proofs.Framing.{read_frame}
 use Rattle.stream_laws.proofs.Sending.{IsSentItem, IsHeadOf, frame_said, fibs_heard}
-use Rattle.stream_laws.proofs.AgreeingRuns.{IsBetween, on_air, flags_on, still, on_by, zero_or_some, awaits_by, due_awaits, due_low}
+use Rattle.stream_laws.proofs.AgreeingRuns.{IsBetween, on_air, flags_on, made_where_due}
 use Rattle.stream_laws.proofs.AgreeingFrames.{is_sent, not_sent}
 use Rattle.stream_laws.proofs.NoticeFrames.{due_left}
-use Rattle.stream_laws.proofs.LastHeard.{at_tuned, row_said}
+use Rattle.stream_laws.proofs.LastHeard.{at_tuned, row_said, IsSaidOf}
 use Rattle.fib_codec.specs.Grammar.{OneList}
 use Rattle.stream_check.specs.Stream.{after_frame as after_read}
 use Rattle.plan_runs.proofs.Contents.{Laws}
-use Rattle.stream_laws.proofs.Agreeing.{sent_ext, none_or_some}
+use Rattle.stream_laws.proofs.Agreeing.{sent_ext}
 use Rattle.stream_laws.proofs.Findings.{Each}
-use Rattle.plan_runs.proofs.Passing.{some_is}
 use Rattle.plan_runs.proofs.Knowing.{KnowsBy, InFrame, Still, knows_after}
 use Rattle.plan_runs.proofs.HeardFrames.{Nothing, KnowsAt, knows_weaker}
 use Rattle.plan_runs.proofs.Hearing.{headed}
@@ -64,51 +63,9 @@ past_after r p s past = after_read (count_step (layout_mode p.plan.layout)) past
 abbrev pub IsOnStep : Plan → State → Type 0
 IsOnStep plan u = u.count % count_step (layout_mode plan.layout) ≡ 0
 
--- ---- a swap is made exactly where it is due
+-- ---- a swap that is made
 
-not_now : (count low k : ℕ) → count < 5000 → 1 ≤ k → k < 250 → low ≡ (count + k) % 5000 % 250 → count % 250 ≢ low
-not_now count low k below some short is e = omega (arith, below, some, short, is, e)
-
--- a swap is made exactly where it is due
-pub made_where_due : (p : Program) (ts : List Known) → IsCode p ts → (s : State) → Holds p ts s → (past : List Moment) → (h : IsBetween p.plan past s) → is_made h.heard.awaited (ensemble_of p.plan (shown p s)) ≡ is_due s.left
-made_where_due p ts c s holds past h = by (none_or_some h.heard.awaited) (due_or_not s.left)
-  where
-    due_or_not : (left : Option ℕ) → (left ≡ Some 0) ⊎ (is_due left ≡ false)
-    due_or_not None = inr refl
-    due_or_not (Some zero) = inl refl
-    due_or_not (Some (suc k)) = inr (ne_eqb (suc k) 0 (λ e. omega (arith, e)))
-
-    made_low : (low : ℕ) → h.heard.awaited ≡ Some low → is_made h.heard.awaited (ensemble_of p.plan (shown p s)) ≡ ((ensemble_of p.plan (shown p s)).change == 0 || (ensemble_of p.plan (shown p s)).count % 250 == low)
-    made_low low some = ap (λ o. is_made o (ensemble_of p.plan (shown p s))) some
-
-    count : (ensemble_of p.plan (shown p s)).count ≡ s.count
-    count = (ensemble_right p.plan (shown p s)).count ∙ (links p ts c s holds).count
-
-    both_false : (a b : Bool) → not a ≡ true → b ≡ false → (a || b) ≡ false
-    both_false true b x y = absurd (false≢true x)
-    both_false false b x y = y
-
-    by : (h.heard.awaited ≡ None) ⊎ ((low : ℕ) × (h.heard.awaited ≡ Some low)) → (s.left ≡ Some 0) ⊎ (is_due s.left ≡ false) → is_made h.heard.awaited (ensemble_of p.plan (shown p s)) ≡ is_due s.left
-    by (inl none) (inl now) = absurd (due_awaits p.plan s.left s.current s.next s.count h.heard (omega (arith, c.program.planned.notice_from)) now h.knows none)
-    by (inl none) (inr apart) = ap (λ o. is_made o (ensemble_of p.plan (shown p s))) none ∙ sym apart
-    by (inr (low, some)) (inl now) =
-        let w = awaits_by p.plan s.left s.current s.next s.count h.heard low h.knows some in
-        let zero_left : w.k ≡ 0 = some_is w.k 0 (sym w.is ∙ now) in
-        let at : s.count % 250 ≡ low = due_low s.count low w.k holds.tracked.count zero_left w.low_is in
-        made_low low some ∙ or_right ((ensemble_of p.plan (shown p s)).change == 0) _ (eq-eqb ((ensemble_of p.plan (shown p s)).count % 250) low (ap (λ n. n % 250) count ∙ at)) ∙ sym (ap is_due now)
-    by (inr (low, some)) (inr apart) =
-        let w = awaits_by p.plan s.left s.current s.next s.count h.heard low h.knows some in
-        let more : 1 ≤ w.k = elim (zero_or_some w.k) [
-          | inl none ↦ absurd (false≢true (sym (sym (ap is_due w.is ∙ eq-eqb w.k 0 none) ∙ apart)))
-          | inr some_left ↦ some_left
-        ] in
-        let on = on_by p.plan (shown p s) w.k (still p.plan s (shown p s) w.k (links p ts c s holds) w.is more).left more (omega (arith, w.below)) in
-        let flags = flags_on p.plan (shown p s) (airs p ts c s holds) on in
-        let short : w.k < 250 = omega (arith, w.below, c.program.planned.notice_to) in
-        let other : s.count % 250 ≢ low = not_now s.count low w.k holds.tracked.count more short w.low_is in
-        made_low low some ∙ both_false ((ensemble_of p.plan (shown p s)).change == 0) _ flags (ne_eqb ((ensemble_of p.plan (shown p s)).count % 250) low (λ e. other (sym (ap (λ n. n % 250) count) ∙ e))) ∙ sym apart
-
--- a swap that is made was due
+-- it was due
 pub made_due : (p : Program) (ts : List Known) → IsCode p ts → (s : State) → Holds p ts s → (past : List Moment) → IsBetween p.plan past s → (e : EnsembleInformation) → e ≡ ensemble_of p.plan (shown p s)
     → is_made (listener_after past).awaited e ≡ true → is_due s.left ≡ true
 made_due p ts c s holds past h e says made =
@@ -354,24 +311,11 @@ knows_later one laws r p ts c s holds past C N D M en f g =
 
 -- ---- an entry that is heard in the bytes of the frame is among its entries
 
-pub record IsHeardAt (items : List Item) (m : Marked) : Type 0 where
-  pub item : Item
-  pub inside : Contains items item
-  pub next : item.next ≡ m.next
-  pub raw : item.raw ≡ raw_entry m.entry
-  pub other : is_ensemble item ≡ false
-
 pub entry_at_frame : FrameLaws → (r : Reading) (plan : Plan) (u : State) → Airs plan u → (m : Marked) → IsHeardInRow (shown_bytes plan u) m
-    → IsHeardAt (frame_items (read_frame r plan.layout (shown_bytes plan u))) m
+    → (it : IsSaidOf (frame_items (read_frame r plan.layout (shown_bytes plan u))) m) × (is_ensemble it.item ≡ false)
 entry_at_frame laws r plan u a m row =
     let able = pageable laws.heard.pages plan u a in
     let long = (laws.heard.pages.valid plan.layout (ensemble_sent plan u) u.page_index (sent_entries plan u) able).1 in
     let it = row_said laws.one laws.size r plan.layout (shown_bytes plan u) m long row in
     let some : 1 ≤ ext_of m.entry = row.1.organization in
-    record {
-      item = it.item;
-      inside = it.inside;
-      next = it.next;
-      raw = it.raw;
-      other = ap (λ (x : Raw). x.ext == 0) it.raw ∙ ne_eqb (ext_of m.entry) 0 (λ e. omega (arith, some, e));
-    }
+    (it, ap (λ (x : Raw). x.ext == 0) it.raw ∙ ne_eqb (ext_of m.entry) 0 (λ e. omega (arith, some, e)))

@@ -102,13 +102,6 @@ taken_in raw p room = elim (raw.ext == 1) as (λ t. finds_no_room (lookup raw (c
           ]
     ] room
 
--- the list for an extension
-abbrev by_ext : ℕ → Pictured → List Raw
-by_ext n p = cond (n == 1) p.subs (cond (n == 2) p.services p.packets)
-
-kind_of : ℕ → ℕ
-kind_of n = cond (n == 1) 1 (cond (n == 2) 2 3)
-
 -- the new entry is found
 pub found_kept : (raw : Raw) (p : Pictured) → entry_like raw (picture_with raw p) ≡ Some raw
 found_kept raw p = elim (raw.ext == 1) as (λ t. entry_at identifier_of (identifier_of raw) (cond t (cond t (record p { subs = kept raw p.subs }) (cond (raw.ext == 2) (record p { services = kept raw p.services }) (record p { packets = kept raw p.packets }))).subs

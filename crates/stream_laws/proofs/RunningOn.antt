@@ -1,6 +1,6 @@
 -- The counts of a stream without a fault run on.
-use Rattle.std.specs.Prelude.{nat_lt, unwrap_or, ◌&&◌}
-use Rattle.std.proofs.Common.{◌≡◌, ℕ, ◌+◌, ◌%◌, ◌≤◌, ◌==◌, Bool, true, false, cond, not, List, [], ◌∷◌, ◌++◌, map, length, Contains, Option, Some, None, refl, sym, ap, ◌∙◌, subst, arith, inl, inr}
+use Rattle.std.specs.Prelude.{nat_lt, ◌&&◌}
+use Rattle.std.proofs.Common.{◌≡◌, ℕ, ◌+◌, ◌%◌, ◌≤◌, ◌==◌, Bool, true, false, cond, not, List, [], ◌∷◌, ◌++◌, map, length, Contains, Option, Some, None, refl, sym, ap, ◌∙◌, arith, inl, inr}
 use Rattle.std.specs.List.{AllByRecursion}
 use Rattle.std.proofs.lemmas.Bool.{false≢true, eqb-true, eq-eqb, ltb-false, not-false}
 use Rattle.std.proofs.lemmas.List.Elements.{Contains-append_left, Contains-append_right}
@@ -11,53 +11,21 @@ use Rattle.fib_reader.specs.Raw.{Raw, entries_in, ensemble_in}
 use Rattle.stream_check.specs.declared.contradiction.Contradiction.{Contradiction}
 use Rattle.stream_check.specs.declared.finding.Fault.TheVariants as faults
 use Rattle.stream_check.specs.declared.finding.Finding.{Finding}
-use Rattle.stream_check.specs.Reporting.{when}
 use Rattle.stream_check.specs.Frames.{Fib, Reading, first_raw, first_or, first_in_figs, first_in, opening, is_there, first_of_frame, first_opening, lacks_opening, damaged_in}
 use Rattle.stream_check.specs.History.{Item, Moment, Said, said, items_of, fig_items, figs_items, fib_items, fibs_items, frame_items, is_ensemble, ensemble_of, is_in_place, due, eid_of, last_eid}
-use Rattle.stream_check.specs.Rules.{Known, known_of, is_other, is_placed, is_of_other_ensemble, has_other_count, place_faults, ensemble_findings, member_findings}
-use Rattle.stream_check.specs.Stream.{count_in, count_due, placed_count, count_of_frame, first_line, size_findings, damaged_findings, frame_findings, frame_at, runs_full, findings_in, noted_in, after_frame, after_frames, findings_from, frames_full}
+use Rattle.stream_check.specs.Rules.{is_other}
+use Rattle.stream_check.specs.Stream.{count_in, count_due, placed_count, count_of_frame, first_line, size_findings, damaged_findings, frame_findings, noted_in, after_frame, after_frames, findings_from, frames_full}
 use Rattle.stream_laws.specs.Faultless.{IsNoFault}
 use Rattle.stream_laws.specs.Notices.{AreFibBytes, read_frames, row_of}
 use Rattle.stream_laws.specs.RunningOn.{IsAtCount, RunOn, CountsRunOn}
-use Rattle.stream_laws.proofs.Clean.{all_left, all_right, IsClean, told_alone, all_clean, before_said, before_frames, clean_handed}
-use Rattle.stream_laws.proofs.Kept.{no_fault, first_holds, second_holds}
+use Rattle.stream_laws.proofs.Clean.{all_left, all_right, IsClean, all_clean, before_said, before_frames, clean_handed, frame_free}
+use Rattle.stream_laws.proofs.Kept.{no_fault, first_holds, second_holds, second_false, plain_ensemble}
 use Rattle.stream_laws.proofs.Rows.{at_hand, HasNone}
 use Rattle.stream_laws.proofs.Tracking.{IsFormed, alone_first}
 use Rattle.stream_laws.proofs.Formed.{all_formed}
-use Rattle.stream_laws.proofs.Headers.{FibLaws, header_heard, header_said}
+use Rattle.stream_laws.proofs.Bytes.{FibLaws, header_heard, header_said}
 use Rattle.stream_laws.proofs.Announced.{formed_handed}
 use Rattle.plan_runs.proofs.Passing.{some_is}
-
--- ---- a FIG 0/0, where nothing is at fault
-
--- it is in place, at the count and of the ensemble that are due
-record IsPlain (k : Known) (first : Bool) (e : EnsembleInformation) : Type 0 where
-  on_step : e.count % k.step ≡ 0
-  eid : is_other e.eid k.eid ≡ false
-  count : is_other e.count k.due ≡ false
-
-and_false : (a b : Bool) → a ≡ true → (a && b) ≡ false → b ≡ false
-and_false true b e h = h
-and_false false b e h = absurd (false≢true e)
-
-plain_rules : (k : Known) (first : Bool) (e : EnsembleInformation) → AllByRecursion IsNoFault (ensemble_findings k first e) → IsPlain k first e
-plain_rules k first e all =
-    let place = all_left IsNoFault (place_faults k first e) _ all in
-    let one = all_left IsNoFault (when (is_of_other_ensemble k first e) (faults.OtherEnsemble e.eid)) _ place in
-    let more = all_right IsNoFault (when (is_of_other_ensemble k first e) (faults.OtherEnsemble e.eid)) _ place in
-    let two = all_left IsNoFault (when (has_other_count k first e) (faults.Count (unwrap_or k.due 0))) _ more in
-    let three = all_right IsNoFault (when (has_other_count k first e) (faults.Count (unwrap_or k.due 0))) _ more in
-    let placed : is_placed k first e ≡ true = not-false (is_placed k first e) (no_fault (not (is_placed k first e)) faults.OutOfPlace three) in
-    record {
-      on_step = eqb-true (e.count % k.step) 0 (second_holds first (e.count % k.step == 0) placed);
-      eid = and_false (is_placed k first e) (is_other e.eid k.eid) placed (no_fault (is_of_other_ensemble k first e) (faults.OtherEnsemble e.eid) one);
-      count = and_false (is_placed k first e) (is_other e.count k.due) placed (no_fault (has_other_count k first e) (faults.Count (unwrap_or k.due 0)) two);
-    }
-
-item_plain : (step period : ℕ) (past : List Moment) (i : Item) → IsClean step period (Said i ∷ past) → is_ensemble i ≡ true → IsPlain (known_of step period past) i.first (ensemble_of i)
-item_plain step period past i c e =
-    plain_rules (known_of step period past) i.first (ensemble_of i)
-    (subst (λ (b : Bool). AllByRecursion IsNoFault (cond b (ensemble_findings (known_of step period past) i.first (ensemble_of i)) (member_findings (known_of step period past) i.next i.raw))) e c.0)
 
 clean_here : (step period : ℕ) (i : Item) (is : List Item) (past : List Moment) → IsClean step period (said (i ∷ is) past) → IsClean step period (Said i ∷ past)
 clean_here step period i is past c = before_said (IsClean step period) (clean_handed step period) is (Said i ∷ past) c
@@ -89,7 +57,7 @@ items_due step period eid count [] past c d h = record { each = tt; after = h }
 items_due step period eid count (i ∷ is) past c d h =
     let here = clean_here step period i is past c in
     let one : IsDue step eid count i = λ e.
-    let p = item_plain step period past i here e in
+    let p = plain_ensemble step period past i here e in
     (p.on_step, same_as (ensemble_of i).eid eid (last_eid step past) h p.eid, same_as (ensemble_of i).count count (due past) d p.count)
     in
     let rest = items_due step period eid count is (Said i ∷ past) c d (eid_after step eid i past h (λ e. (one e).1)) in
@@ -172,23 +140,7 @@ frame_opens size step last frame some all on =
     let whole = no_fault (nat_lt 0 (damaged_in frame)) (faults.Damaged (damaged_in frame)) (all_left IsNoFault (damaged_findings frame) _ later) in
     let missing = no_fault (count_due last frame % step == 0 && lacks_opening frame) faults.NoEnsemble (all_right IsNoFault (damaged_findings frame) _ later) in
     let long : size ≤ length frame = ltb-false (length frame) size short in
-    opened frame (omega (arith, some, long)) whole (and_false (count_due last frame % step == 0) (lacks_opening frame) (eq-eqb (count_due last frame % step) 0 on) missing)
-
-record IsFrameFree (size step period : ℕ) (past : List Moment) (noted : List Contradiction) (frame : List Fib) (frames : List (List Fib)) : Type 0 where
-  itself : AllByRecursion IsNoFault (frame_findings size step (due past) frame)
-  room : frames_full step period (after_frame step past frame) frames ≡ false
-  plain : AllByRecursion (λ (found : Finding). IsNoFault found.what) (findings_from size step period (after_frame step past frame) (noted_in period past noted frame) frames)
-
-frame_free : (size step period : ℕ) (past : List Moment) (noted : List Contradiction) (frame : List Fib) (frames : List (List Fib)) → frames_full step period past (frame ∷ frames) ≡ false
-    → AllByRecursion (λ (found : Finding). IsNoFault found.what) (findings_from size step period past noted (frame ∷ frames)) → IsFrameFree size step period past noted frame frames
-frame_free size step period past noted frame frames room plain =
-    let here = told_alone (frame_at step past frame) _ (all_left (λ (found : Finding). IsNoFault found.what) (findings_in size step period past noted frame) _ plain) in
-    let rest = all_right (λ (found : Finding). IsNoFault found.what) (findings_in size step period past noted frame) _ plain in
-    elim (runs_full step period past (frame_items frame)) as (λ t. cond t true (frames_full step period (after_frame step past frame) frames) ≡ false
-    → AllByRecursion (λ (found : Finding). IsNoFault found.what) (cond t [] (findings_from size step period (after_frame step past frame) (noted_in period past noted frame) frames)) → IsFrameFree size step period past noted frame frames) [
-      | true ↦ λ r p. absurd (false≢true (sym r))
-      | false ↦ λ r p. record { itself = all_left IsNoFault (frame_findings size step (due past) frame) _ here; room = r; plain = p }
-    ] room rest
+    opened frame (omega (arith, some, long)) whole (second_false (count_due last frame % step == 0) (lacks_opening frame) (eq-eqb (count_due last frame % step) 0 on) missing)
 
 -- ---- the bytes of a frame
 
@@ -275,7 +227,7 @@ first_due step period (i ∷ is) e c w s =
     ] in
     let ens : is_ensemble i ≡ true = ap is_ensemble same ∙ s.ensemble in
     let says : ensemble_of i ≡ e = ap ensemble_of same ∙ s.says in
-    let plain = item_plain step period [] i (clean_here step period i is [] c) ens in
+    let plain = plain_ensemble step period [] i (clean_here step period i is [] c) ens in
     let eid : last_eid step (Said i ∷ []) ≡ Some e.eid = ap (λ t. cond t (Some (ensemble_of i).eid) None) ens ∙ ap (λ (x : EnsembleInformation). Some x.eid) says in
     let rest = none_due step e.eid e.count is (Said i ∷ []) none eid in
     record {
@@ -286,7 +238,7 @@ first_due step period (i ∷ is) e c w s =
 all_on_step : (step period : ℕ) (items : List Item) (past : List Moment) → IsClean step period (said items past) → AllByRecursion (λ (i : Item). is_ensemble i ≡ true → (ensemble_of i).count % step ≡ 0) items
 all_on_step step period [] past c = tt
 all_on_step step period (i ∷ is) past c =
-    ((λ e. (item_plain step period past i (clean_here step period i is past c) e).on_step), all_on_step step period is (Said i ∷ past) c)
+    ((λ e. (plain_ensemble step period past i (clean_here step period i is past c) e).on_step), all_on_step step period is (Said i ∷ past) c)
 
 zero_on_step : (step : ℕ) → 0 % step ≡ 0
 zero_on_step step = grind arith

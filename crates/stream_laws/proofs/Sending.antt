@@ -1,21 +1,21 @@
--- The entries of a frame of a run, as the checker hears them.
-use Rattle.std.proofs.Common.{◌≡◌, ℕ, ◌+◌, ◌-◌, ◌*◌, ◌%◌, ◌==◌, Bool, true, false, cond, List, [], ◌∷◌, ◌++◌, length, drop, Option, Some, None, refl, sym, ap, ◌∙◌, subst, arith, replicate, zero, suc}
-use Rattle.std.specs.Prelude.{map, IfSome}
+-- The entries of a frame of a run, as the checker hears them: those of FIG 0/0 to 0/3 of its own ensemble alone.
+use Rattle.std.proofs.Common.{◌≡◌, ℕ, ◌+◌, ◌-◌, ◌*◌, ◌%◌, ◌==◌, Bool, true, false, cond, List, [], ◌∷◌, ◌++◌, length, drop, Option, Some, None, refl, sym, ap, ◌∙◌, subst, arith, replicate, zero, suc, map}
+use Rattle.std.specs.Prelude.{IfSome}
 use Rattle.std.specs.List.{AllByRecursion}
-use Rattle.std.proofs.lemmas.List.{append_assoc, drop-drop}
+use Rattle.std.proofs.lemmas.List.{append_assoc, drop-drop, map-append}
 use Rattle.fib_codec.specs.Layouts.{frame_fibs, reserved_fibs}
 use Rattle.fib_codec.specs.declared.frame_layout.FrameLayout.{FrameLayout}
-use Rattle.fib_codec.specs.declared.frame_layout.FrameLayout.TheVariants.{Whole, ReserveOne, ReserveTwo}
+use Rattle.fib_codec.specs.declared.frame_layout.FrameLayout.TheVariants.{Whole, ReserveOne}
 use Rattle.mux_config.specs.Configuration.{Configuration}
 use Rattle.mux_types.specs.Entries.{EnsembleInformation}
 use Rattle.mux_types.specs.Facts.{Marked, marked}
 use Rattle.mux_types.specs.declared.entry.Entry.{Entry}
 use Rattle.mux_types.specs.declared.entry.Entry.TheVariants.{Ensemble as EnsembleOf}
 use Rattle.fib_codec.specs.declared.head.Head.{Head}
-use Rattle.fib_codec.specs.declared.modes.Mode.TheVariants.{I, II, III, IV}
+use Rattle.fib_codec.specs.declared.modes.Mode.TheVariants.{I}
 use Rattle.fib_codec.specs.Ranges.{IsEnsembleInformation}
 use Rattle.fib_codec.specs.Spelling.{Written, head_of, head_byte, entry_bytes}
-use Rattle.fib_codec.specs.Grammar.{OneList, fig_of, is_next, is_long, Fig, Open, Other}
+use Rattle.fib_codec.specs.Grammar.{OneList, fig_of, is_next, is_long, Fig, Open, Other, IsOpen}
 use Rattle.fib_codec.specs.Heard.{fib_at}
 use Rattle.fib_carousel.specs.Packing.{same_head}
 use Rattle.fib_carousel.specs.Pages.{fib_entries, first_fib, later_fibs}
@@ -31,14 +31,18 @@ use Rattle.plan_runs.specs.Frames.{is_noticed, sent_entries, ensemble_sent, show
 use Rattle.plan_runs.specs.Listening.{fibs_from, HearsAll}
 use Rattle.plan_runs.proofs.Tracked.{Airs, noticed}
 use Rattle.plan_runs.proofs.Right.{pageable, sent_within}
-use Rattle.plan_runs.proofs.Tuned.{IsSentOf, AreSentOf}
+use Rattle.plan_runs.proofs.Tuned.{IsSentOf}
 use Rattle.plan_runs.proofs.Hearing.{second_next, raw_is}
-use Rattle.plan_runs.proofs.Contents.{Laws, fib_sent}
+use Rattle.plan_runs.proofs.Contents.{Laws, fib_sent as page_sent}
 use Rattle.stream_laws.proofs.Framing.{first_of_fibs, read_frame}
 use Rattle.stream_check.proofs.Framing.{all_append}
 use Rattle.stream_laws.proofs.Bytes.{is_read}
 use Rattle.fib_reader.specs.Listening.{Listening, where_heard, hear_entry, hear_entries, hear_fig, hear_figs}
 use Rattle.stream_check.proofs.Saying.{said_append}
+use Rattle.stream_check.specs.declared.contradiction.Contradiction.{Contradiction}
+use Rattle.stream_check.specs.Rules.{known_of, findings_at, has_no_room}
+use Rattle.stream_check.specs.Sent.{EntrySent, entries_sent, fig_sent, figs_sent, fib_sent, fibs_sent, frame_sent, noted_at}
+use Rattle.stream_check.specs.Stream.{findings_at_items, findings_at_sent}
 
 -- an entry that is sent of these configurations
 pub record IsSentItem (noticed : Bool) (c n : Configuration) (i : Item) : Type 0 where
@@ -74,13 +78,13 @@ joined_sent : (on : Bool) (c n : Configuration) (m : Marked) (fs : List Written)
 joined_sent on c n m [] sent all = ((λ first. (item_sent on c n m first sent, tt)), tt)
 joined_sent on c n m (f ∷ fs) sent all = joined_by on c n m f fs (same_head (head_of m) f.head) refl sent all.0 all.1
 
-figs_sent : (on : Bool) (c n : Configuration) (ms : List Marked) → AllByRecursion (IsSentOf on c n) ms → AllByRecursion (FigIsSent on c n) (figs_of ms)
-figs_sent on c n [] all = tt
-figs_sent on c n (m ∷ ms) all = joined_sent on c n m (figs_of ms) all.0 (figs_sent on c n ms all.1)
+figs_are_sent : (on : Bool) (c n : Configuration) (ms : List Marked) → AllByRecursion (IsSentOf on c n) ms → AllByRecursion (FigIsSent on c n) (figs_of ms)
+figs_are_sent on c n [] all = tt
+figs_are_sent on c n (m ∷ ms) all = joined_sent on c n m (figs_of ms) all.0 (figs_are_sent on c n ms all.1)
 
-items_sent : (on : Bool) (c n : Configuration) (ws : List Written) (first : Bool) → AllByRecursion (FigIsSent on c n) ws → AllByRecursion (IsSentItem on c n) (figs_items first (map fig_of ws))
-items_sent on c n [] first all = tt
-items_sent on c n (w ∷ ws) first all = all_append (IsSentItem on c n) (fig_items first (fig_of w)) (figs_items false (map fig_of ws)) (all.0 first) (items_sent on c n ws false all.1)
+items_are_sent : (on : Bool) (c n : Configuration) (ws : List Written) (first : Bool) → AllByRecursion (FigIsSent on c n) ws → AllByRecursion (IsSentItem on c n) (figs_items first (map fig_of ws))
+items_are_sent on c n [] first all = tt
+items_are_sent on c n (w ∷ ws) first all = all_append (IsSentItem on c n) (fig_items first (fig_of w)) (figs_items false (map fig_of ws)) (all.0 first) (items_are_sent on c n ws false all.1)
 
 -- ---- a frame
 
@@ -105,74 +109,82 @@ head_items heard (Some e) within ws =
     let raw : h.raw ≡ raw_entry (EnsembleOf e) = raw_is m in
     (h ∷ [], false, refl, (h, refl, ap (λ (x : Raw). x.ext == 0) raw, ap ensemble_in raw ∙ heard e within))
 
--- FIBs without FIGs, the reserved ones
-none_later : OneList → (r : Reading) (on : Bool) (c n : Configuration) (count place : ℕ) (frame : List ℕ)
-    → AreFibs (replicate count []) (drop (32 * place) frame) → AllByRecursion (IsSentItem on c n) (fibs_items false (map r.read (fibs_from count place frame)))
-none_later one r on c n zero place frame are = tt
-none_later one r on c n (suc count) place frame are =
-    let next : drop 32 (drop (32 * place) frame) ≡ drop (32 * (place + 1)) frame = drop-drop 32 (32 * place) frame ∙ ap (λ d. drop d frame) (omega arith) in
-    let rest : AreFibs (replicate count []) (drop (32 * (place + 1)) frame) = subst (λ (b : List ℕ). AreFibs (replicate count []) b) next are.1 in
-    let read : r.read (fib_at frame place) ≡ Some [] = is_read one r (fib_at frame place) [] are.0.fib in
-    all_append (IsSentItem on c n) (fib_items false (r.read (fib_at frame place))) _
-    (subst (λ (fib : Fib). AllByRecursion (IsSentItem on c n) (fib_items false fib)) (sym read) tt)
-    (none_later one r on c n count (place + 1) frame rest)
+-- what is sent in the frame of a state: the FIGs of its first FIB, and those of each later one
+abbrev first_figs : Plan → State → List Written
+first_figs plan u = ensemble_figs (ensemble_sent plan u) ++ figs_of (fib_entries plan.layout (first_fib plan.layout u.page_index) (sent_entries plan u))
 
-fibs_later : OneList → (r : Reading) (on : Bool) (c n : Configuration) (layout : FrameLayout) (es : List Marked) (ns : List ℕ) (count place : ℕ) (frame : List ℕ)
-    → AreFibs (map (λ k. figs_of (fib_entries layout k es)) ns ++ replicate count []) (drop (32 * place) frame) → AreSentOf on c n (map (λ k. fib_entries layout k es) ns)
-    → AllByRecursion (IsSentItem on c n) (fibs_items false (map r.read (fibs_from (length ns + count) place frame)))
-fibs_later one r on c n layout es [] count place frame are sent =
-    let same : 0 + count ≡ count = omega arith in
-    subst (λ (k : ℕ). AllByRecursion (IsSentItem on c n) (fibs_items false (map r.read (fibs_from k place frame)))) (sym same) (none_later one r on c n count place frame are)
-fibs_later one r on c n layout es (k ∷ ks) count place frame are sent =
-    let next : drop 32 (drop (32 * place) frame) ≡ drop (32 * (place + 1)) frame = drop-drop 32 (32 * place) frame ∙ ap (λ d. drop d frame) (omega arith) in
-    let rest : AreFibs (map (λ j. figs_of (fib_entries layout j es)) ks ++ replicate count []) (drop (32 * (place + 1)) frame) = subst (λ (b : List ℕ). AreFibs (map (λ j. figs_of (fib_entries layout j es)) ks ++ replicate count []) b) next are.1 in
-    let longer : suc (length ks) + count ≡ suc (length ks + count) = omega arith in
-    let read : r.read (fib_at frame place) ≡ Some (map fig_of (figs_of (fib_entries layout k es))) = is_read one r (fib_at frame place) (map fig_of (figs_of (fib_entries layout k es))) are.0.fib in
-    subst (λ (j : ℕ). AllByRecursion (IsSentItem on c n) (fibs_items false (map r.read (fibs_from j place frame)))) (sym longer)
-    (all_append (IsSentItem on c n) (fib_items false (r.read (fib_at frame place))) _
-    (subst (λ (fib : Fib). AllByRecursion (IsSentItem on c n) (fib_items false fib)) (sym read) (items_sent on c n (figs_of (fib_entries layout k es)) false (figs_sent on c n (fib_entries layout k es) sent.0)))
-    (fibs_later one r on c n layout es ks count (place + 1) frame rest sent.1))
+abbrev later_figs : Plan → State → List (List Written)
+later_figs plan u =
+    map (λ k. figs_of (fib_entries plan.layout k (sent_entries plan u))) (later_fibs plan.layout u.page_index) ++ replicate (reserved_fibs plan.layout) []
 
-fibs_sent : (plan : Plan) (u : State) (ns : List ℕ) → AreSentOf (is_noticed plan.notice u.left) u.current u.next (map (λ k. fib_entries plan.layout k (sent_entries plan u)) ns)
-fibs_sent plan u [] = tt
-fibs_sent plan u (k ∷ ks) = (fib_sent plan u k, fibs_sent plan u ks)
+abbrev as_read : List (List Written) → List Fib
+as_read figs = map (λ (ws : List Written). Some (map fig_of ws)) figs
 
 pub later_count : (layout : FrameLayout) (k : ℕ) → frame_fibs layout - 1 ≡ length (later_fibs layout k) + reserved_fibs layout
 later_count (Whole I) k = refl
-later_count (Whole II) k = refl
-later_count (Whole III) k = refl
-later_count (Whole IV) k = refl
 later_count (ReserveOne I) k = refl
-later_count (ReserveOne II) k = refl
-later_count (ReserveOne III) k = refl
-later_count (ReserveOne IV) k = refl
-later_count ReserveTwo k = refl
+later_count layout k = refl
+
+long_list : {X Y : Type 0} (f : X → Y) (xs : List X) (count : ℕ) (y : Y) → length (map f xs ++ replicate count y) ≡ length xs + count
+long_list f [] zero y = omega arith
+long_list f [] (suc count) y = let rest = long_list f [] count y in omega (arith, rest)
+long_list f (x ∷ xs) count y = let rest = long_list f xs count y in omega (arith, rest)
+
+fibs_read : OneList → (r : Reading) (figs : List (List Written)) (place : ℕ) (frame : List ℕ) → AreFibs figs (drop (32 * place) frame) → map r.read (fibs_from (length figs) place frame) ≡ as_read figs
+fibs_read one r [] place frame are = refl
+fibs_read one r (ws ∷ wss) place frame are =
+    let next : drop 32 (drop (32 * place) frame) ≡ drop (32 * (place + 1)) frame = drop-drop 32 (32 * place) frame ∙ ap (λ d. drop d frame) (omega arith) in
+    let rest : AreFibs wss (drop (32 * (place + 1)) frame) = subst (λ (b : List ℕ). AreFibs wss b) next are.1 in
+    ap (λ f. f ∷ map r.read (fibs_from (length wss) (place + 1) frame)) (is_read one r (fib_at frame place) (map fig_of ws) are.0.fib)
+    ∙ ap (λ fs. Some (map fig_of ws) ∷ fs) (fibs_read one r wss (place + 1) frame rest)
+
+sent_fibs : Laws → (plan : Plan) (u : State) → Airs plan u → AreFibs (first_figs plan u ∷ later_figs plan u) (shown_bytes plan u)
+sent_fibs laws plan u a = (laws.pages.valid plan.layout (ensemble_sent plan u) u.page_index (sent_entries plan u) (pageable laws.pages plan u a)).0
+
+frame_read : OneList → Laws → (r : Reading) (plan : Plan) (u : State) → Airs plan u → read_frame r plan.layout (shown_bytes plan u) ≡ as_read (first_figs plan u ∷ later_figs plan u)
+frame_read one laws r plan u a =
+    let frame : List ℕ = shown_bytes plan u in
+    let are = sent_fibs laws plan u a in
+    let long = long_list (λ k. figs_of (fib_entries plan.layout k (sent_entries plan u))) (later_fibs plan.layout u.page_index) (reserved_fibs plan.layout) [] in
+    ap (map r.read) (first_of_fibs plan.layout frame)
+    ∙ ap (λ k. r.read (fib_at frame 0) ∷ map r.read (fibs_from k 1 frame)) (later_count plan.layout u.page_index ∙ sym long)
+    ∙ ap (λ f. f ∷ map r.read (fibs_from (length (later_figs plan u)) 1 frame)) (is_read one r (fib_at frame 0) (map fig_of (first_figs plan u)) are.0.fib)
+    ∙ ap (λ fs. Some (map fig_of (first_figs plan u)) ∷ fs) (fibs_read one r (later_figs plan u) 1 frame are.1)
+
+-- their entries are sent
+abbrev AreSent : Bool → Configuration → Configuration → List (List Written) → Type 0
+AreSent on c n wss = AllByRecursion (λ ws. AllByRecursion (FigIsSent on c n) ws) wss
+
+none_sent : (on : Bool) (c n : Configuration) (count : ℕ) → AreSent on c n (replicate count [])
+none_sent on c n zero = tt
+none_sent on c n (suc count) = (tt, none_sent on c n count)
+
+each_sent : (plan : Plan) (u : State) (ks : List ℕ) → AreSent (is_noticed plan.notice u.left) u.current u.next (map (λ k. figs_of (fib_entries plan.layout k (sent_entries plan u))) ks)
+each_sent plan u [] = tt
+each_sent plan u (k ∷ ks) = (figs_are_sent (is_noticed plan.notice u.left) u.current u.next (fib_entries plan.layout k (sent_entries plan u)) (page_sent plan u k), each_sent plan u ks)
+
+later_sent : (on : Bool) (c n : Configuration) (wss : List (List Written)) → AreSent on c n wss → AllByRecursion (IsSentItem on c n) (fibs_items false (as_read wss))
+later_sent on c n [] all = tt
+later_sent on c n (ws ∷ wss) all = all_append (IsSentItem on c n) (figs_items false (map fig_of ws)) (fibs_items false (as_read wss)) (items_are_sent on c n ws false all.0) (later_sent on c n wss all.1)
 
 pub frame_said : OneList → Laws → (r : Reading) (plan : Plan) (u : State) → Airs plan u → IsFrameSaid plan u (read_frame r plan.layout (shown_bytes plan u))
 frame_said one laws r plan u a =
-    let layout : FrameLayout = plan.layout in
     let on : Bool = is_noticed plan.notice u.left in
-    let es : List Marked = sent_entries plan u in
-    let o : Option EnsembleInformation = ensemble_sent plan u in
-    let frame : List ℕ = shown_bytes plan u in
-    let ns : List ℕ = later_fibs layout u.page_index in
-    let first : List Marked = fib_entries layout (first_fib layout u.page_index) es in
-    let are = (laws.pages.valid layout o u.page_index es (pageable laws.pages plan u a)).0 in
-    let read : r.read (fib_at frame 0) ≡ Some (map fig_of (ensemble_figs o ++ figs_of first)) = is_read one r (fib_at frame 0) (map fig_of (ensemble_figs o ++ figs_of first)) are.0.fib in
-    let head = head_items laws.ensemble o (sent_within plan u a) (figs_of first) in
-    let reserved : ℕ = reserved_fibs layout in
-    let later : List Item = fibs_items false (map r.read (fibs_from (length ns + reserved) 1 frame)) in
-    let fibs : read_frame r layout frame ≡ r.read (fib_at frame 0) ∷ map r.read (fibs_from (length ns + reserved) 1 frame) =
-    ap (map r.read) (first_of_fibs layout frame) ∙ ap (λ k. r.read (fib_at frame 0) ∷ map r.read (fibs_from k 1 frame)) (later_count layout u.page_index) in
+    let c : Configuration = u.current in
+    let n : Configuration = u.next in
+    let first : List Marked = fib_entries plan.layout (first_fib plan.layout u.page_index) (sent_entries plan u) in
+    let head = head_items laws.ensemble (ensemble_sent plan u) (sent_within plan u a) (figs_of first) in
+    let later : List Item = fibs_items false (as_read (later_figs plan u)) in
+    let ks : List ℕ = later_fibs plan.layout u.page_index in
+    let all : AreSent on c n (later_figs plan u) =
+    all_append (λ ws. AllByRecursion (FigIsSent on c n) ws) (map (λ k. figs_of (fib_entries plan.layout k (sent_entries plan u))) ks) (replicate (reserved_fibs plan.layout) []) (each_sent plan u ks) (none_sent on c n (reserved_fibs plan.layout)) in
     record {
       heads = head.0;
       members = figs_items head.1 (map fig_of (figs_of first)) ++ later;
-      are = ap frame_items fibs ∙ ap (λ fib. fib_items true fib ++ later) read ∙ ap (λ is. is ++ later) head.2
-          ∙ append_assoc head.0 (figs_items head.1 (map fig_of (figs_of first))) later;
+      are = ap frame_items (frame_read one laws r plan u a) ∙ ap (λ is. is ++ later) head.2 ∙ append_assoc head.0 (figs_items head.1 (map fig_of (figs_of first))) later;
       header = head.3;
-      sent = all_append (IsSentItem on u.current u.next) (figs_items head.1 (map fig_of (figs_of first))) later
-          (items_sent on u.current u.next (figs_of first) head.1 (figs_sent on u.current u.next first (fib_sent plan u (first_fib layout u.page_index))))
-          (fibs_later one r on u.current u.next layout es ns reserved 1 frame are.1 (fibs_sent plan u ns));
+      sent = all_append (IsSentItem on c n) (figs_items head.1 (map fig_of (figs_of first))) later
+          (items_are_sent on c n (figs_of first) head.1 (figs_are_sent on c n first (page_sent plan u (first_fib plan.layout u.page_index)))) (later_sent on c n (later_figs plan u) all);
     }
 
 -- ---- hearing the entries of FIBs one after another
@@ -216,3 +228,52 @@ fibs_heard one r first (f ∷ fs) past l after (between, here, rest) is =
     ap (λ (fib : Fib). listening (said (fib_items first fib) past)) read ∙ figs_heard first here.0 past ∙ ap (λ o. where_heard o (hear_figs here.0)) is ∙ here.2 in
     ap listening (said_append (fib_items first (r.read f)) (fibs_items false (map r.read fs)) past)
     ∙ fibs_heard one r false fs (said (fib_items first (r.read f)) past) between after rest now
+
+-- ---- what is sent in FIBs of this ensemble are their entries
+
+abbrev pub IsOpenFib : Fib → Type 0
+IsOpenFib None = Unit {0}
+IsOpenFib (Some figs) = AllByRecursion IsOpen figs
+
+entries_alone : (first next : Bool) (raws : List Raw) → entries_sent first next raws ≡ map EntrySent (items_of first next raws)
+entries_alone first next [] = refl
+entries_alone first next (raw ∷ raws) = ap (λ ss. EntrySent (record { first = first; next = next; raw = raw }) ∷ ss) (entries_alone first next raws)
+
+fig_alone : (first : Bool) (f : Fig) → IsOpen f → fig_sent first f ≡ map EntrySent (fig_items first f)
+fig_alone first (Open second es) opened = entries_alone first (is_next second) (entries_in (Open second es))
+fig_alone first (Other given) opened = absurd opened
+
+figs_alone : (first : Bool) (figs : List Fig) → AllByRecursion IsOpen figs → figs_sent first figs ≡ map EntrySent (figs_items first figs)
+figs_alone first [] all = refl
+figs_alone first (f ∷ fs) all =
+    ap (λ ss. ss ++ figs_sent false fs) (fig_alone first f all.0) ∙ ap (λ ss. map EntrySent (fig_items first f) ++ ss) (figs_alone false fs all.1)
+    ∙ sym (map-append EntrySent (fig_items first f) (figs_items false fs))
+
+fib_alone : (first : Bool) (fib : Fib) → IsOpenFib fib → fib_sent first fib ≡ map EntrySent (fib_items first fib)
+fib_alone first None opened = refl
+fib_alone first (Some figs) opened = figs_alone first figs opened
+
+fibs_alone : (first : Bool) (fibs : List Fib) → AllByRecursion IsOpenFib fibs → fibs_sent first fibs ≡ map EntrySent (fibs_items first fibs)
+fibs_alone first [] all = refl
+fibs_alone first (fib ∷ fibs) all =
+    ap (λ ss. ss ++ fibs_sent false fibs) (fib_alone first fib all.0) ∙ ap (λ ss. map EntrySent (fib_items first fib) ++ ss) (fibs_alone false fibs all.1)
+    ∙ sym (map-append EntrySent (fib_items first fib) (fibs_items false fibs))
+
+found_alone : (step period : ℕ) (items : List Item) (past : List Moment) (noted : List Contradiction) → findings_at_sent step period past noted (map EntrySent items) ≡ findings_at_items step period past items
+found_alone step period [] past noted = refl
+found_alone step period (i ∷ is) past noted =
+    ap (λ ws. cond (has_no_room (known_of step period past) i) [] (findings_at (known_of step period past) i ++ ws)) (found_alone step period is (Said i ∷ past) (noted_at past i noted))
+
+pub found_open : (step period : ℕ) (frame : List Fib) (past : List Moment) (noted : List Contradiction) → AllByRecursion IsOpenFib frame
+    → findings_at_sent step period past noted (frame_sent frame) ≡ findings_at_items step period past (frame_items frame)
+found_open step period frame past noted all =
+    ap (findings_at_sent step period past noted) (fibs_alone true frame all) ∙ found_alone step period (frame_items frame) past noted
+
+-- ---- those of a run
+
+fibs_open : (figs : List (List Written)) (bytes : List ℕ) → AreFibs figs bytes → AllByRecursion IsOpenFib (as_read figs)
+fibs_open [] bytes are = tt
+fibs_open (ws ∷ wss) bytes are = (are.0.looked_into, fibs_open wss (drop 32 bytes) are.1)
+
+pub frame_open : OneList → Laws → (r : Reading) (plan : Plan) (u : State) → Airs plan u → AllByRecursion IsOpenFib (read_frame r plan.layout (shown_bytes plan u))
+frame_open one laws r plan u a = subst (AllByRecursion IsOpenFib) (sym (frame_read one laws r plan u a)) (fibs_open (first_figs plan u ∷ later_figs plan u) (shown_bytes plan u) (sent_fibs laws plan u a))

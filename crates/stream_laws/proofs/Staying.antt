@@ -9,13 +9,12 @@ use Rattle.fib_reader.specs.Raw.{Raw}
 use Rattle.fib_reader.specs.Listening.{Pictured, Listening, kept, all_entries}
 use Rattle.fib_reader.proofs.Keeping.{each_kept}
 use Rattle.stream_check.specs.declared.contradiction.Contradiction.{Contradiction}
-use Rattle.stream_check.specs.Sent.{frame_sent}
 use Rattle.stream_check.specs.declared.finding.Finding.{Finding}
 use Rattle.stream_check.specs.Pictures.{key_of}
 use Rattle.stream_check.specs.Frames.{Fib, Reading}
-use Rattle.stream_check.specs.History.{Item, Moment, Said, Ended, said, frame_items, is_ensemble, ensemble_of, is_flagged, is_swap, is_member, frames_ended, listener_after, last_heard, due}
+use Rattle.stream_check.specs.History.{Item, Moment, Said, Ended, said, frame_items, is_ensemble, ensemble_of, is_flagged, is_swap, is_member, frames_ended, listener_after, last_heard}
 use Rattle.stream_check.specs.Rules.{is_silent, silence, silent_findings}
-use Rattle.stream_check.specs.Stream.{findings_at_sent, runs_full, frame_findings, frame_at, findings_in, noted_in, after_frame, findings_from, after_frames, frames_full, last_findings}
+use Rattle.stream_check.specs.Stream.{noted_in, after_frame, findings_from, after_frames, frames_full}
 use Rattle.stream_check.proofs.Ensembles.{heard_as}
 use Rattle.stream_check.proofs.Members.{member_last}
 use Rattle.stream_laws.specs.Faultless.{IsNoFault, IsFaultless}
@@ -23,17 +22,14 @@ use Rattle.stream_laws.specs.Keeping.{entry_like}
 use Rattle.stream_laws.specs.Notices.{AreFibBytes, read_frames, row_of}
 use Rattle.stream_laws.specs.Entries.{IsSent}
 use Rattle.stream_laws.specs.Staying.{last_swap, CurrentStays, CurrentIsSent}
-use Rattle.stream_laws.proofs.Clean.{all_left, all_right, IsClean, told_alone, all_clean, clean_handed, before_said, before_frames, frames_twice, said_ended}
-use Rattle.stream_laws.proofs.Kept.{current_kept, first_holds, second_holds}
+use Rattle.stream_laws.proofs.Clean.{all_left, all_right, IsClean, all_clean, clean_handed, before_said, before_frames, frames_twice, said_ended, frame_free, faultless_before}
+use Rattle.stream_laws.proofs.Kept.{current_kept, first_holds, second_holds, with_member, after_member, after_heard}
 use Rattle.stream_laws.proofs.Pictures.{picture_with, found_kept, found_again}
-use Rattle.stream_laws.proofs.Noting.{with_member, after_member, after_heard}
-use Rattle.stream_laws.proofs.Saying.{Grows, same_next}
+use Rattle.stream_laws.proofs.Swapping.{Grows, same_next}
 use Rattle.stream_laws.proofs.Formed.{all_formed}
 use Rattle.stream_laws.proofs.LastHeard.{last_at_most, last_grows}
-use Rattle.stream_laws.proofs.PictureKinds.{HasKinds, all_kinds}
-use Rattle.stream_laws.proofs.Announced.{items_in, one_found, frames_counted}
-use Rattle.stream_laws.proofs.AnnouncedChange.{there, sent}
-use Rattle.stream_laws.proofs.Fronts.{faultless_before}
+use Rattle.stream_laws.proofs.Shown.{HasKinds, all_kinds}
+use Rattle.stream_laws.proofs.Announced.{items_in, one_found, frames_counted, there, sent}
 use Rattle.stream_check.proofs.Framing.{all_append}
 use Rattle.mux_types.proofs.Members.{mapped_from, mapped_to}
 
@@ -52,16 +48,8 @@ frames_vocal : (size step period : ℕ) (frames : List (List Fib)) (past : List 
     → AllByRecursion (λ (found : Finding). IsNoFault found.what) (findings_from size step period past noted frames) → IsVocal period past → IsVocal period (after_frames step past frames)
 frames_vocal size step period [] past noted room plain v = v
 frames_vocal size step period (frame ∷ frames) past noted room plain v =
-    let here = told_alone (frame_at step past frame) _ (all_left (λ (found : Finding). IsNoFault found.what) (findings_in size step period past noted frame) _ plain) in
-    let rest = all_right (λ (found : Finding). IsNoFault found.what) (findings_in size step period past noted frame) _ plain in
-    let sent = all_right IsNoFault (frame_findings size step (due past) frame) _ here in
-    let last = all_right IsNoFault (findings_at_sent step period past noted (frame_sent frame)) _ sent in
-    elim (runs_full step period past (frame_items frame)) as (λ t. cond t true (frames_full step period (after_frame step past frame) frames) ≡ false
-    → AllByRecursion (λ (found : Finding). IsNoFault found.what) (cond t [] (findings_from size step period (after_frame step past frame) (noted_in period past noted frame) frames))
-    → AllByRecursion IsNoFault (last_findings t period (said (frame_items frame) past)) → IsVocal period (after_frames step (after_frame step past frame) frames)) [
-      | true ↦ λ r p q. absurd (false≢true (sym r))
-      | false ↦ λ r p q. frames_vocal size step period frames (after_frame step past frame) (noted_in period past noted frame) r p (q, said_vocal period (frame_items frame) past v)
-    ] room rest last
+    let f = frame_free size step period past noted frame frames room plain in
+    frames_vocal size step period frames (after_frame step past frame) (noted_in period past noted frame) f.room f.plain (f.silent, said_vocal period (frame_items frame) past v)
 
 none_silent : (test : Raw → Bool) (rs : List Raw) → AllByRecursion IsNoFault (map silence (filter test rs)) → AllByRecursion (λ x. test x ≡ false) rs
 none_silent test [] all = tt

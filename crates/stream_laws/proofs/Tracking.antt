@@ -9,8 +9,7 @@ use Rattle.stream_check.specs.History.{Item, Moment, Said, Ended, is_ensemble, e
 use Rattle.stream_check.specs.Rules.{known_of, occurrence_of, has_flags, announces_another}
 use Rattle.stream_check.proofs.Members.{no_swap, member_has_begun, member_began_early, member_flags, member_times}
 use Rattle.stream_laws.proofs.Clean.{IsClean}
-use Rattle.stream_laws.proofs.Kept.{first_holds, second_holds, next_kept}
-use Rattle.stream_laws.proofs.Noting.{awaited_member, after_heard, ensemble_made, ensemble_flags, begun_is, times_are, flags_are, IsPlainEnsemble, plain_ensemble, some_flags, occurrence_is, not_another, nothing_awaited, begun_flagged}
+use Rattle.stream_laws.proofs.Kept.{first_holds, second_holds, next_kept, awaited_member, after_heard, ensemble_made, ensemble_flags, begun_is, times_are, flags_are, IsPlainEnsemble, plain_ensemble, some_flags, occurrence_is, not_another, nothing_awaited, begun_flagged}
 use Rattle.stream_laws.proofs.Rows.{at_hand, notice_rows, HasNone, none_at_hand}
 use Rattle.mux_types.proofs.Tables.{each_pushed}
 use Rattle.plan_runs.proofs.Passing.{some_is}

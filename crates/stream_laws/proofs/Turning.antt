@@ -19,8 +19,7 @@ use Rattle.plan_runs.proofs.Facts.{Holds, IsCode, airs}
 use Rattle.plan_runs.proofs.Notice.{links}
 use Rattle.plan_runs.specs.declared.event.Event.TheVariants.{Contact}
 use Rattle.plan_runs.specs.Runs.{happens}
-use Rattle.stream_laws.proofs.Following.{begun_left}
-use Rattle.stream_laws.proofs.Timely.{no_counts}
+use Rattle.stream_laws.proofs.Following.{begun_left, no_counts}
 
 -- ---- how many frames later a page is in turn
 

@@ -1,5 +1,4 @@
-use Rattle.stream_laws.proofs.Delivered.{runs_are_cleared}
-use Rattle.stream_laws.proofs.Whole.{runs_are_heard_out}
+use Rattle.stream_laws.proofs.Delivered.{runs_are_cleared, runs_are_heard_out}
 use Rattle.stream_laws.proofs.laws.bytes.Goals as goal
 
 pub returns-clause-pieces : goal.returns-clause-pieces

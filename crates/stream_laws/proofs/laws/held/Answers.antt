@@ -1,4 +1,4 @@
-use Rattle.stream_laws.proofs.Headers.{FibLaws}
+use Rattle.stream_laws.proofs.Bytes.{FibLaws}
 use Rattle.stream_laws.proofs.Held.{whole_notices_are_held, counts_are_held}
 use Rattle.stream_laws.proofs.laws.held.Goals as goal
 

@@ -1,5 +1,5 @@
-use Rattle.stream_laws.proofs.Headers.{FibLaws}
-use Rattle.stream_laws.proofs.AnnouncedChange.{changes_are_announced}
+use Rattle.stream_laws.proofs.Bytes.{FibLaws}
+use Rattle.stream_laws.proofs.Announced.{changes_are_announced}
 use Rattle.stream_laws.proofs.laws.notices.Goals as goal
 
 pub returns : goal.returns

@@ -1,4 +1,4 @@
-use Rattle.stream_laws.proofs.Headers.{FibLaws}
+use Rattle.stream_laws.proofs.Bytes.{FibLaws}
 use Rattle.stream_laws.proofs.RunningOn.{counts_run_on}
 use Rattle.stream_laws.proofs.laws.running_counts.Goals as goal
 

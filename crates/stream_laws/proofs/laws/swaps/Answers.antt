@@ -1,4 +1,4 @@
-use Rattle.stream_laws.proofs.Headers.{FibLaws}
+use Rattle.stream_laws.proofs.Bytes.{FibLaws}
 use Rattle.stream_laws.proofs.Announced.{Laws, swaps_are_announced}
 use Rattle.stream_laws.proofs.laws.swaps.Goals as goal
 

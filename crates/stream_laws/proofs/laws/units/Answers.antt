@@ -1,5 +1,4 @@
-use Rattle.stream_laws.proofs.OwnUnits.{swaps_keep_units}
-use Rattle.stream_laws.proofs.UnitsStay.{units_stay_own}
+use Rattle.stream_laws.proofs.OwnUnits.{swaps_keep_units, units_stay_own}
 use Rattle.stream_laws.proofs.laws.units.Goals as goal
 
 pub returns-clause-swapped : goal.returns-clause-swapped
