@@ -25,7 +25,7 @@ use Rattle.plan_runs.proofs.Tuned.{Tuned, NextBy, IsSentOf, SaidIn, Or, tuned_we
 use Rattle.plan_runs.proofs.HeardFrames.{Nothing}
 use Rattle.stream_laws.proofs.Kept.{second_holds, member_room}
 use Rattle.stream_laws.proofs.Sending.{IsSentItem}
-use Rattle.stream_laws.proofs.Findings.{quiet_early, Each, Agrees}
+use Rattle.stream_laws.proofs.Findings.{quiet_early, Each, Agrees, not_both}
 
 -- ---- one list
 
@@ -116,9 +116,6 @@ pub record IsInside (plan : Plan) (u : State) (awaited : Option ℕ) (past : Lis
 record MemberFine (step period : ℕ) (plan : Plan) (u : State) (awaited : Option ℕ) (past : List Moment) (i : Item) : Type 0 where
   word : Agrees step period past i
   after : IsInside plan u awaited (Said i ∷ past)
-
-not_both : {X : Type 0} {b : Bool} → b ≡ false → b ≡ true → X
-not_both f t = absurd (false≢true (sym f ∙ t))
 
 no_ensemble : (raw : Raw) (full : Pictured) → IsOf raw full → (raw.ext == 0) ≡ false
 no_ensemble raw full (inl h) = ap (λ (k : ℕ). k == 0) h.0

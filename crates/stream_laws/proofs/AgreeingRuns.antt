@@ -32,7 +32,7 @@ use Rattle.stream_laws.proofs.Units.{units_fine}
 use Rattle.stream_laws.proofs.Agreeing.{none_or_some}
 use Rattle.stream_laws.proofs.Tracking.{no_some}
 use Rattle.stream_check.proofs.Members.{or_true}
-use Rattle.plan_runs.proofs.Passing.{some_is}
+use Rattle.plan_runs.proofs.Passing.{some_is, due_is}
 
 -- ---- between two frames
 
@@ -67,6 +67,10 @@ awaits_by plan (Some k) c n count l low h e = elim (split_le plan.notice k) [
 long_notice : (m : Mode) (notice count : ℕ) → 12 ≤ notice → notice - 0 ≤ (count + (count_step m - 1)) % count_step m → ⊥
 long_notice I notice count long h = omega (arith, long, h)
 long_notice m notice count long h = omega (arith, long, h)
+
+pub due_left : (left : Option ℕ) → is_due left ≡ true → left ≡ Some 0
+due_left None e = absurd cc
+due_left (Some l) e = ap (λ (x : ℕ). Some x) (due_is l e)
 
 -- a swap that is due is awaited
 pub due_awaits : (plan : Plan) (left : Option ℕ) (c n : Configuration) (count : ℕ) (l : Listening) → 12 ≤ plan.notice → left ≡ Some 0 → KnowsBy plan left c n count Nothing Nothing l → l.awaited ≡ None → ⊥

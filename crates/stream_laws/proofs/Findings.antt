@@ -31,20 +31,52 @@ use Rattle.stream_check.proofs.Framing.{all_append}
 abbrev pub AreFree : (IsLong : Type 0) → List What → Type 0
 AreFree L ws = AllByRecursion (IsFreeUnlessShort L) ws
 
-when_not : (L : Type 0) (b : Bool) (fault : Fault) → b ≡ false → AreFree L (when b fault)
-when_not L true fault e = absurd (false≢true (sym e))
-when_not L false fault e = tt
-
 when_short : (L : Type 0) (b : Bool) (fault : Fault) → is_of_period fault ≡ true → (L → b ≡ false) → AreFree L (when b fault)
 when_short L true fault is h = ((is, λ l. false≢true (sym (h l))), tt)
 when_short L false fault is h = tt
 
-both : (L : Type 0) (xs ys : List What) → AreFree L xs → AreFree L ys → AreFree L (xs ++ ys)
-both L xs ys a b = all_append (IsFreeUnlessShort L) xs ys a b
+pub not_both : {X : Type 0} {b : Bool} → b ≡ false → b ≡ true → X
+not_both f t = absurd (false≢true (sym f ∙ t))
 
-either : (L : Type 0) (b : Bool) (xs ys : List What) → AreFree L xs → AreFree L ys → AreFree L (cond b xs ys)
-either L true xs ys x y = x
-either L false xs ys x y = y
+-- ---- what holds of each finding, if it holds of each fault whose test is met
+
+pub when_each : (P : What → Type 0) (b : Bool) (fault : Fault) → (b ≡ true → P (whats.Fault fault)) → AllByRecursion P (when b fault)
+when_each P true fault f = (f refl, tt)
+when_each P false fault f = tt
+
+pub when_then : (P : What → Type 0) (b : Bool) (fault : Fault) (more : List What) → (b ≡ true → P (whats.Fault fault)) → AllByRecursion P more → AllByRecursion P (when b fault ++ more)
+when_then P true fault more f all = (f refl, all)
+when_then P false fault more f all = all
+
+pub either_each : (P : What → Type 0) (b : Bool) (xs ys : List What) → (b ≡ true → AllByRecursion P xs) → (b ≡ false → AllByRecursion P ys) → AllByRecursion P (cond b xs ys)
+either_each P true xs ys f g = f refl
+either_each P false xs ys f g = g refl
+
+pub frame_each : (P : What → Type 0) (size step : ℕ) (last : Option ℕ) (frame : List Fib) → ((eid : ℕ) → P (whats.Event (events.Ensemble eid)))
+    → (nat_lt (length frame) size ≡ true → P (whats.Fault (faults.ShortFrame (length frame)))) → (nat_lt 0 (damaged_in frame) ≡ true → P (whats.Fault (faults.Damaged (damaged_in frame))))
+    → ((count_due last frame % step == 0 && lacks_opening frame) ≡ true → P (whats.Fault faults.NoEnsemble)) → AllByRecursion P (frame_findings size step last frame)
+frame_each P size step last frame event short damaged none =
+    all_append P (first_line last frame) _ (first_event last)
+    (when_then P (nat_lt (length frame) size) (faults.ShortFrame (length frame)) _ short
+    (when_then P (nat_lt 0 (damaged_in frame)) (faults.Damaged (damaged_in frame)) _ damaged
+    (when_each P (count_due last frame % step == 0 && lacks_opening frame) faults.NoEnsemble none)))
+  where
+    first_event : (o : Option ℕ) → AllByRecursion P (first_line o frame)
+    first_event None = (event _, tt)
+    first_event (Some count) = tt
+
+pub place_each : (P : What → Type 0) (k : Known) (first : Bool) (e : EnsembleInformation) → (is_of_other_ensemble k first e ≡ true → P (whats.Fault (faults.OtherEnsemble e.eid)))
+    → (has_other_count k first e ≡ true → P (whats.Fault (faults.Count (unwrap_or k.due 0)))) → (not (is_placed k first e) ≡ true → P (whats.Fault faults.OutOfPlace)) → AllByRecursion P (place_faults k first e)
+place_each P k first e eid count placed =
+    when_then P (is_of_other_ensemble k first e) (faults.OtherEnsemble e.eid) _ eid
+    (when_then P (has_other_count k first e) (faults.Count (unwrap_or k.due 0)) _ count (when_each P (not (is_placed k first e)) faults.OutOfPlace placed))
+
+pub notice_each : (P : What → Type 0) (k : Known) → ((not k.is_cut_off && nat_lt k.times 3) ≡ true → P (whats.Fault (faults.AnnouncedTimes k.times)))
+    → ((not k.is_cut_off && nat_lt k.heard 3) ≡ true → P (whats.Fault (faults.NextHeard k.heard))) → ((not k.is_cut_off && not (k.flags == changes k)) ≡ true → P (whats.Fault (faults.Flags k.flags (changes k))))
+    → AllByRecursion P (notice_faults k)
+notice_each P k times heard flags =
+    when_then P (not k.is_cut_off && nat_lt k.times 3) (faults.AnnouncedTimes k.times) _ times
+    (when_then P (not k.is_cut_off && nat_lt k.heard 3) (faults.NextHeard k.heard) _ heard (when_each P (not k.is_cut_off && not (k.flags == changes k)) (faults.Flags k.flags (changes k)) flags))
 
 -- ---- the frame as a whole
 
@@ -53,19 +85,8 @@ pub record IsFrameFine (size step : ℕ) (last : Option ℕ) (frame : List Fib) 
   pub whole : nat_lt 0 (damaged_in frame) ≡ false
   pub opens : (count_due last frame % step == 0 && lacks_opening frame) ≡ false
 
-frame_free : (L : Type 0) (size step : ℕ) (last : Option ℕ) (frame : List Fib) → IsFrameFine size step last frame
-    → AreFree L (frame_findings size step last frame)
-frame_free L size step last frame h =
-    both L (first_line last frame) _ (first_event last)
-    (both L (when (nat_lt (length frame) size) (faults.ShortFrame (length frame))) _
-    (when_not L (nat_lt (length frame) size) (faults.ShortFrame (length frame)) h.full)
-    (both L (when (nat_lt 0 (damaged_in frame)) (faults.Damaged (damaged_in frame))) _
-    (when_not L (nat_lt 0 (damaged_in frame)) (faults.Damaged (damaged_in frame)) h.whole)
-    (when_not L (count_due last frame % step == 0 && lacks_opening frame) faults.NoEnsemble h.opens)))
-  where
-    first_event : (o : Option ℕ) → AreFree L (first_line o frame)
-    first_event None = (tt, tt)
-    first_event (Some count) = tt
+frame_free : (L : Type 0) (size step : ℕ) (last : Option ℕ) (frame : List Fib) → IsFrameFine size step last frame → AreFree L (frame_findings size step last frame)
+frame_free L size step last frame h = frame_each (IsFreeUnlessShort L) size step last frame (λ eid. tt) (not_both h.full) (not_both h.whole) (not_both h.opens)
 
 -- ---- a FIG 0/0
 
@@ -89,42 +110,10 @@ pub record IsNoticeFine (k : Known) : Type 0 where
   pub heard : (not k.is_cut_off && nat_lt k.heard 3) ≡ false
   pub flags : (not k.is_cut_off && not (k.flags == changes k)) ≡ false
 
-place_free : (L : Type 0) (k : Known) (first : Bool) (e : EnsembleInformation) → IsPlaceFine k first e → AreFree L (place_faults k first e)
-place_free L k first e h =
-    both L (when (is_of_other_ensemble k first e) (faults.OtherEnsemble e.eid)) _
-    (when_not L (is_of_other_ensemble k first e) (faults.OtherEnsemble e.eid) h.eid)
-    (both L (when (has_other_count k first e) (faults.Count (unwrap_or k.due 0))) _
-    (when_not L (has_other_count k first e) (faults.Count (unwrap_or k.due 0)) h.count)
-    (when_not L (not (is_placed k first e)) faults.OutOfPlace (ap not h.placed)))
-
-notice_free : (L : Type 0) (k : Known) → IsNoticeFine k → AreFree L (notice_faults k)
-notice_free L k h =
-    both L (when (not k.is_cut_off && nat_lt k.times 3) (faults.AnnouncedTimes k.times)) _
-    (when_not L (not k.is_cut_off && nat_lt k.times 3) (faults.AnnouncedTimes k.times) h.times)
-    (both L (when (not k.is_cut_off && nat_lt k.heard 3) (faults.NextHeard k.heard)) _
-    (when_not L (not k.is_cut_off && nat_lt k.heard 3) (faults.NextHeard k.heard) h.heard)
-    (when_not L (not k.is_cut_off && not (k.flags == changes k)) (faults.Flags k.flags (changes k)) h.flags))
-
 unit_free : (L : Type 0) (k : Known) → (overlap k.listener.next.subs ≡ None) × (past_end k.listener.next.subs ≡ None) → AreFree L (unit_faults k)
 unit_free L k none =
     subst (λ (o : Option Fault). AreFree L (as_list o ++ as_list (past_end k.listener.next.subs))) (sym none.0)
     (subst (λ (o : Option Fault). AreFree L (as_list o)) (sym none.1) tt)
-
-swap_free : (L : Type 0) (k : Known) (e : EnsembleInformation) → IsHeadFine k e → (b : Bool) → makes_swap k e ≡ b → (b ≡ true → IsNoticeFine k)
-    → AreFree L (cond b (swap_findings k e) (when (announces_another k e) (faults.AnnouncedAgain e.change (occurrence_of e))))
-swap_free L k e h true is notice = (
-  tt,
-  both L (when (not (e.count % 250 == awaited_low k)) (faults.AnnouncedFor (awaited_low k))) (notice_faults k ++ unit_faults k)
-      (when_not L (not (e.count % 250 == awaited_low k)) (faults.AnnouncedFor (awaited_low k)) (ap not (h.made is)))
-      (both L (notice_faults k) (unit_faults k) (notice_free L k (notice refl)) (unit_free L k (h.units is))),
-)
-swap_free L k e h false is notice = when_not L (announces_another k e) (faults.AnnouncedAgain e.change (occurrence_of e)) (h.again is)
-
-first_free : (L : Type 0) (k : Known) (e : EnsembleInformation) → IsHeadFine k e → (b : Bool) → announces_first k e ≡ b
-    → AreFree L (cond b (whats.Event (events.Announced e.change (occurrence_of e)) ∷ when (not (can_fall_at k.step (occurrence_of e))) (faults.NoSwapAt (occurrence_of e))) [])
-first_free L k e h true is =
-    (tt, when_not L (not (can_fall_at k.step (occurrence_of e))) (faults.NoSwapAt (occurrence_of e)) (ap not (h.falls (first_holds (has_flags e) _ is))))
-first_free L k e h false is = tt
 
 pub quiet_early : (f b : Bool) → (b ≡ true → f ≡ true) → (not f && b) ≡ false
 quiet_early true b h = refl
@@ -134,10 +123,18 @@ quiet_early false false h = refl
 head_free : (L : Type 0) (k : Known) (first : Bool) (e : EnsembleInformation) → IsPlaceFine k first e → IsHeadFine k e → (makes_swap k e ≡ true → IsNoticeFine k)
     → AreFree L (ensemble_findings k first e)
 head_free L k first e place h notice =
-    both L (place_faults k first e) _ (place_free L k first e place)
-    (both L (swap_or_another k e) _ (swap_free L k e h (makes_swap k e) refl notice)
-    (both L (announcement k e) _ (first_free L k e h (announces_first k e) refl)
-    (when_not L (not (has_flags e) && k.began_early) faults.NextUnannounced (quiet_early (has_flags e) k.began_early h.early))))
+    let P : What → Type 0 = IsFreeUnlessShort L in
+    all_append P (place_faults k first e) _ (place_each P k first e (not_both place.eid) (not_both place.count) (not_both (ap not place.placed)))
+    (all_append P (swap_or_another k e) _ (either_each P (makes_swap k e) (swap_findings k e) _ (λ is. (
+      tt,
+      when_then P (not (e.count % 250 == awaited_low k)) (faults.AnnouncedFor (awaited_low k)) (notice_faults k ++ unit_faults k) (not_both (ap not (h.made is)))
+          (all_append P (notice_faults k) (unit_faults k) (notice_each P k (not_both (notice is).times) (not_both (notice is).heard) (not_both (notice is).flags)) (unit_free L k (h.units is))),
+    )) (λ no. when_each P (announces_another k e) (faults.AnnouncedAgain e.change (occurrence_of e)) (not_both (h.again no))))
+    (all_append P (announcement k e) _ (either_each P (announces_first k e) _ [] (λ is. (
+      tt,
+      when_each P (not (can_fall_at k.step (occurrence_of e))) (faults.NoSwapAt (occurrence_of e)) (not_both (ap not (h.falls (first_holds (has_flags e) _ is)))),
+    )) (λ no. tt))
+    (when_each P (not (has_flags e) && k.began_early) faults.NextUnannounced (not_both (quiet_early (has_flags e) k.began_early h.early)))))
 
 -- ---- another entry
 
@@ -151,17 +148,12 @@ abbrev pub IsNoNews : Known → Item → Type 0
 IsNoNews k i = i.next ≡ false → (is_absent (lookup_in i.raw k.listener.current) && is_settled k) ≡ false
 
 member_free : (L : Type 0) (k : Known) (i : Item) → IsMemberFine k i → (L → IsNoNews k i) → AreFree L (member_findings k i.next i.raw)
-member_free L k i h known = either L k.listener.tuned _ [] (by i.next refl) tt
-  where
-    by : (b : Bool) → i.next ≡ b → AreFree L (cond b (next_findings k i.raw) (current_findings k i.raw))
-    by true is =
-        both L (when (not k.has_begun && k.has_ensemble) faults.NextUnannounced) _
-        (when_not L (not k.has_begun && k.has_ensemble) faults.NextUnannounced (h.flagged is))
-        (when_not L (is_other_one (lookup_in i.raw k.listener.next)) (faults.NextChanged (name_of i.raw)) (h.next is))
-    by false is =
-        both L (when (is_other_one (lookup_in i.raw k.listener.current)) (faults.Changed (name_of i.raw))) _
-        (when_not L (is_other_one (lookup_in i.raw k.listener.current)) (faults.Changed (name_of i.raw)) (h.same is))
-        (when_short L (is_absent (lookup_in i.raw k.listener.current) && is_settled k) (faults.Appeared (name_of i.raw)) refl (λ l. known l is))
+member_free L k i h known =
+    let P : What → Type 0 = IsFreeUnlessShort L in
+    either_each P k.listener.tuned _ [] (λ t. either_each P i.next (next_findings k i.raw) (current_findings k i.raw)
+    (λ is. when_then P (not k.has_begun && k.has_ensemble) faults.NextUnannounced _ (not_both (h.flagged is)) (when_each P (is_other_one (lookup_in i.raw k.listener.next)) (faults.NextChanged (name_of i.raw)) (not_both (h.next is))))
+    (λ is. when_then P (is_other_one (lookup_in i.raw k.listener.current)) (faults.Changed (name_of i.raw)) _ (not_both (h.same is))
+    (when_short L (is_absent (lookup_in i.raw k.listener.current) && is_settled k) (faults.Appeared (name_of i.raw)) refl (λ l. known l is)))) (λ t. tt)
 
 -- ---- the entries of a frame
 
@@ -204,8 +196,7 @@ items_free : (L : Type 0) (step period : ℕ) (items : List Item) (past : List M
     → (L → Each (IsKnown step period) past items) → AreFree L (findings_at_items step period past items)
 items_free L step period [] past place word notice known = tt
 items_free L step period (i ∷ is) past place word notice known =
-    either L (has_no_room (known_of step period past) i) [] _ tt
-    (both L (findings_at (known_of step period past) i) _
+    either_each (IsFreeUnlessShort L) (has_no_room (known_of step period past) i) [] _ (λ full. tt) (λ room. all_append (IsFreeUnlessShort L) (findings_at (known_of step period past) i) _
     (item_free L step period past i place.0 word.0 notice.0 (λ l. (known l).0))
     (items_free L step period is (Said i ∷ past) place.1 word.1 notice.1 (λ l. (known l).1)))
 
@@ -247,8 +238,8 @@ pub found_free : (L : Type 0) (size step period : ℕ) (past : List Moment) (not
     → AllByRecursion (λ (found : Finding). IsFreeUnlessShort L found.what) (findings_in size step period past noted frame)
 found_free L size step period past noted frame h =
     in_frame_free L (frame_at step past frame) _
-    (both L (frame_findings size step (due past) frame) _ (frame_free L size step (due past) frame h.whole)
-    (both L (findings_at_sent step period past noted (frame_sent frame)) _
+    (all_append (IsFreeUnlessShort L) (frame_findings size step (due past) frame) _ (frame_free L size step (due past) frame h.whole)
+    (all_append (IsFreeUnlessShort L) (findings_at_sent step period past noted (frame_sent frame)) _
     (subst (AreFree L) (sym (found_open step period frame past noted h.own)) (items_free L step period (frame_items frame) past h.place h.word h.notice h.known))
-    (either L (runs_full step period past (frame_items frame)) [] (silent_findings period (said (frame_items frame) past)) tt
-    (silent_free L (is_silent period (said (frame_items frame) past)) _ h.sent))))
+    (either_each (IsFreeUnlessShort L) (runs_full step period past (frame_items frame)) [] (silent_findings period (said (frame_items frame) past)) (λ full. tt) (λ room.
+    silent_free L (is_silent period (said (frame_items frame) past)) _ h.sent))))

@@ -20,7 +20,7 @@ use Rattle.plan_runs.proofs.Carries.{IsNewly, LeftBy}
 use Rattle.plan_runs.proofs.Facts.{Holds, IsCode, airs}
 use Rattle.plan_runs.proofs.Notice.{links, heard_frame}
 use Rattle.plan_runs.proofs.Contents.{Laws}
-use Rattle.stream_laws.proofs.AgreeingRuns.{on_air, IsBetween}
+use Rattle.stream_laws.proofs.AgreeingRuns.{on_air, IsBetween, due_left}
 use Rattle.stream_laws.proofs.AgreeingFrames.{SinceFirst}
 use Rattle.plan_runs.proofs.Passing.{some_is}
 use Rattle.stream_laws.proofs.Opening.{IsOpened, opened_cut, past_after, items_at, first_opened, next_opened, cut_still, said_times, Knows, knows_later, enters_first, enters_due, enters_still, none_made}
@@ -47,7 +47,7 @@ use Rattle.plan_runs.proofs.Announcing.{heard_contacts}
 use Rattle.plan_runs.proofs.Pictures.{each_whole}
 use Rattle.stream_laws.proofs.Shown.{flags_of_change}
 use Rattle.stream_laws.proofs.Agreeing.{none_or_some}
-use Rattle.stream_laws.proofs.NoticeFrames.{due_left, current_whole, next_whole}
+use Rattle.stream_laws.proofs.NoticeFrames.{current_whole, next_whole}
 
 -- ---- the number of announcements
 

@@ -1,9 +1,11 @@
--- The frames of a run, as the checker cuts them.
-use Rattle.std.proofs.Common.{◌≡◌, ◌≢◌, ℕ, zero, suc, ◌+◌, ◌-◌, ◌<◌, ◌≤◌, ◌%◌, Bool, false, cond, List, [], ◌∷◌, ◌++◌, length, flat_map, Contains, Some, None, refl, sym, ap, ◌∙◌, subst, arith, inl, inr}
+-- The frames of a run, as the checker cuts them; and the frames into which a stream is cut, as bytes.
+use Rattle.std.proofs.Common.{◌≡◌, ℕ, List, [], ◌∷◌, ◌++◌, flat_map, refl, sym, ap, ◌∙◌, ◌≢◌, zero, suc, ◌+◌, ◌-◌, ◌<◌, ◌≤◌, ◌%◌, Bool, false, cond, length, Contains, Some, None, subst, arith, inl, inr}
 use Rattle.std.specs.Prelude.{map}
+use Rattle.std.proofs.lemmas.List.{append_assoc, append-nil, map-append, length-map}
+use Rattle.stream_check.specs.Frames.{Fib, Reading, is_damaged, first_raw, first_or, first_in_figs, first_in, opening_in_figs, opening, is_there, begins_with_ensemble, holds_ensemble, IsOneFrame, AreFrames, HoldsFirst}
+use Rattle.stream_laws.specs.Notices.{read_frames, FramesAreOfBytes}
 use Rattle.std.specs.List.{AllByRecursion}
 use Rattle.std.proofs.lemmas.Bool.{eq-eqb, ne_eqb}
-use Rattle.std.proofs.lemmas.List.{append_assoc, append-nil, map-append, length-map}
 use Rattle.std.proofs.lemmas.List.Concat.{flat_map-append}
 use Rattle.fib_codec.specs.Layouts.{layout_mode, frame_fibs}
 use Rattle.fib_codec.specs.declared.frame_layout.FrameLayout.{FrameLayout}
@@ -18,7 +20,6 @@ use Rattle.fib_codec.specs.declared.modes.Mode.TheVariants.{I}
 use Rattle.fib_codec.specs.Modes.{fib_count, count_step}
 use Rattle.fib_reader.specs.Raw.{raw_of, entries_in, ensemble_in}
 use Rattle.fib_reader.specs.Laws.{EnsembleIsHeard}
-use Rattle.stream_check.specs.Frames.{Fib, Reading, is_damaged, first_raw, first_or, first_in_figs, first_in, opening_in_figs, opening, is_there, begins_with_ensemble, holds_ensemble, IsOneFrame, AreFrames, HoldsFirst}
 use Rattle.stream_check.specs.History.{Item, items_of, fig_items, figs_items, fib_items, fibs_items}
 use Rattle.plan_code.specs.declared.plan.Plan.{Plan}
 use Rattle.plan_code.specs.Program.{Program}
@@ -32,11 +33,60 @@ use Rattle.plan_runs.specs.Headline.{HeadlineHolds}
 use Rattle.plan_runs.specs.Listening.{fibs_from, fibs_of, HasCount}
 use Rattle.plan_runs.proofs.Clock.{shown_count}
 use Rattle.plan_runs.specs.Announced.{RunsJoin}
-use Rattle.stream_laws.specs.Notices.{read_frames}
 use Rattle.stream_laws.specs.Framing.{frames_of, RunsAreFramed}
 use Rattle.stream_laws.proofs.Rows.{HasNone}
 use Rattle.stream_check.proofs.Framing.{all_append}
 use Rattle.stream_laws.proofs.Bytes.{is_read}
+
+record IsPair {X Y : Type 0} (f : X → Y) (xs : List X) (ys zs : List Y) : Type 0 where
+  left : List X
+  right : List X
+  whole : xs ≡ left ++ right
+  first : map f left ≡ ys
+  second : map f right ≡ zs
+
+pair : {X Y : Type 0} (f : X → Y) (xs : List X) (ys zs : List Y) → map f xs ≡ ys ++ zs → IsPair f xs ys zs
+pair f xs [] zs e = record { left = []; right = xs; whole = refl; first = refl; second = e }
+pair f [] (y ∷ ys) zs e = absurd cc
+pair f (x ∷ xs) (y ∷ ys) zs e =
+    let heads : f x ≡ y = cc in
+    let tails : map f xs ≡ ys ++ zs = cc in
+    let rest = pair f xs ys zs tails in
+    record { left = x ∷ rest.left; right = rest.right; whole = ap (λ l. x ∷ l) rest.whole; first = ap (λ z. z ∷ map f rest.left) heads ∙ ap (λ l. y ∷ l) rest.first; second = rest.second }
+
+record IsRow (r : Reading) (fibs : List (List ℕ)) (frames : List (List Fib)) (rest : List Fib) : Type 0 where
+  bytes : List (List (List ℕ))
+  after : List (List ℕ)
+  whole : fibs ≡ flat_map (λ frame. frame) bytes ++ after
+  reads : read_frames r bytes ≡ frames
+  leaves : map r.read after ≡ rest
+
+row : (r : Reading) (fibs : List (List ℕ)) (frames : List (List Fib)) (rest : List Fib) → map r.read fibs ≡ flat_map (λ f. f) frames ++ rest → IsRow r fibs frames rest
+row r fibs [] rest e = record { bytes = []; after = fibs; whole = refl; reads = refl; leaves = e }
+row r fibs (frame ∷ frames) rest e =
+    let one = pair r.read fibs frame (flat_map (λ f. f) frames ++ rest) (e ∙ append_assoc frame (flat_map (λ f. f) frames) rest) in
+    let more = row r one.right frames rest one.second in
+    record {
+      bytes = one.left ∷ more.bytes;
+      after = more.after;
+      whole = one.whole ∙ ap (λ l. one.left ++ l) more.whole ∙ sym (append_assoc one.left (flat_map (λ f. f) more.bytes) more.after);
+      reads = ap (λ f. f ∷ read_frames r more.bytes) one.first ∙ ap (λ fs. frame ∷ fs) more.reads;
+      leaves = more.leaves;
+    }
+
+pub frames_are_of_bytes : FramesAreOfBytes
+frames_are_of_bytes r size fibs skipped frames rest f =
+    let one = pair r.read fibs skipped (flat_map (λ g. g) frames ++ rest) f.whole in
+    let more = row r one.right frames rest one.second in
+    record {
+      before = one.left;
+      bytes = more.bytes;
+      after = more.after;
+      whole = one.whole ∙ ap (λ l. one.left ++ l) more.whole;
+      skips = one.first;
+      reads = more.reads;
+      leaves = more.leaves;
+    }
 
 -- ---- a FIB
 

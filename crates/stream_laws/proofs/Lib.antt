@@ -10,7 +10,6 @@ pub mod Shown
 pub mod Announced
 pub mod OwnUnits
 pub mod Held
-pub mod Cutting
 pub mod Framing
 pub mod Findings
 pub mod InPlace
@@ -18,8 +17,8 @@ pub mod Sending
 pub mod Units
 pub mod Agreeing
 pub mod AgreeingRuns
-pub mod AgreeingFrames
 pub mod Opening
+pub mod AgreeingFrames
 pub mod Named
 pub mod NoticeFrames
 pub mod Following

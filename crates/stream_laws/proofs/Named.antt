@@ -1,6 +1,6 @@
 -- The swaps that are reported in the frames of a run are those of the run.
-use Rattle.std.proofs.Common.{◌≡◌, ℕ, ◌+◌, ◌%◌, ◌==◌, ◌&&◌, Bool, true, false, cond, not, nat_lt, List, [], ◌∷◌, ◌++◌, length, Option, Some, None, refl, sym, ap, ◌∙◌, subst, inl, inr}
-use Rattle.std.specs.Prelude.{map, unwrap_or}
+use Rattle.std.proofs.Common.{◌≡◌, ℕ, ◌+◌, ◌%◌, ◌==◌, ◌&&◌, Bool, true, false, cond, not, List, [], ◌∷◌, ◌++◌, Option, Some, None, refl, sym, ap, ◌∙◌, subst, inl, inr}
+use Rattle.std.specs.Prelude.{map}
 use Rattle.std.specs.List.{AllByRecursion}
 use Rattle.std.proofs.lemmas.List.{append-nil}
 use Rattle.fib_codec.specs.Layouts.{layout_mode, frame_fibs}
@@ -19,11 +19,11 @@ use Rattle.stream_check.specs.declared.finding.What.{What}
 use Rattle.stream_check.specs.declared.finding.Finding.{Finding}
 use Rattle.stream_check.specs.declared.reporting.FrameAt.{FrameAt}
 use Rattle.stream_check.specs.Reporting.{when, as_list, in_frame}
-use Rattle.stream_check.specs.Frames.{Fib, Reading, damaged_in, lacks_opening}
+use Rattle.stream_check.specs.Frames.{Fib, Reading}
 use Rattle.stream_check.specs.Lookup.{lookup_in}
 use Rattle.stream_check.specs.History.{Item, Moment, Said, said, frame_items, is_ensemble, ensemble_of as said_ensemble, frames_ended, listener_after, due}
-use Rattle.stream_check.specs.Rules.{Known as Knowledge, known_of, name_of, overlap, past_end, place_faults, is_of_other_ensemble, has_other_count, is_placed, makes_swap, notice_faults, unit_faults, swap_findings, swap_or_another, announces_another, occurrence_of, announces_first, announcement, ensemble_findings, current_findings, next_findings, member_findings, is_other_one, finds_no_room, has_no_room, findings_at, silence, silent_findings, awaited_low, changes}
-use Rattle.stream_check.specs.Stream.{count_due, first_line, frame_findings, findings_at_items, findings_at_sent, runs_full, frame_at, last_findings, findings_in, noted_in, after_frame as after_read, findings_from, findings_of}
+use Rattle.stream_check.specs.Rules.{Known as Knowledge, known_of, name_of, overlap, past_end, place_faults, makes_swap, notice_faults, unit_faults, swap_findings, swap_or_another, announces_another, occurrence_of, announces_first, announcement, ensemble_findings, current_findings, next_findings, member_findings, is_other_one, finds_no_room, has_no_room, findings_at, silence, silent_findings, awaited_low, can_fall_at, has_flags, is_absent, is_settled}
+use Rattle.stream_check.specs.Stream.{frame_findings, findings_at_items, findings_at_sent, runs_full, frame_at, last_findings, findings_in, noted_in, after_frame as after_read, findings_from, findings_of}
 use Rattle.plan_code.specs.declared.plan.Plan.{Plan}
 use Rattle.plan_code.specs.Program.{Program}
 use Rattle.plan_code.specs.Machine.{State}
@@ -41,7 +41,7 @@ use Rattle.stream_laws.proofs.Rows.{HasNone}
 use Rattle.stream_laws.proofs.Framing.{read_frame}
 use Rattle.stream_laws.proofs.AgreeingRuns.{IsBetween}
 use Rattle.stream_laws.proofs.AgreeingFrames.{agrees_by, before_contact}
-use Rattle.stream_laws.proofs.Findings.{items_room}
+use Rattle.stream_laws.proofs.Findings.{items_room, when_each, when_then, either_each, frame_each, place_each, notice_each}
 use Rattle.stream_check.proofs.Framing.{all_append}
 use Rattle.stream_laws.proofs.Clean.{said_ended}
 use Rattle.stream_laws.proofs.Opening.{IsOpened, next_opened, first_opened}
@@ -52,10 +52,6 @@ use Rattle.stream_laws.proofs.Kept.{ensemble_made}
 abbrev IsQuietly : List What → Type 0
 IsQuietly ws = AllByRecursion (λ w. names_swap w ≡ false) ws
 
-when_quiet : (b : Bool) (fault : Fault) → IsQuietly (when b fault)
-when_quiet true fault = (refl, tt)
-when_quiet false fault = tt
-
 listed_quiet : (o : Option Fault) → IsQuietly (as_list o)
 listed_quiet None = tt
 listed_quiet (Some fault) = (refl, tt)
@@ -63,55 +59,21 @@ listed_quiet (Some fault) = (refl, tt)
 both : (xs ys : List What) → IsQuietly xs → IsQuietly ys → IsQuietly (xs ++ ys)
 both xs ys a b = all_append (λ w. names_swap w ≡ false) xs ys a b
 
-either_quiet : (b : Bool) (xs ys : List What) → IsQuietly xs → IsQuietly ys → IsQuietly (cond b xs ys)
-either_quiet true xs ys x y = x
-either_quiet false xs ys x y = y
-
-notice_quiet : (k : Knowledge) → IsQuietly (notice_faults k)
-notice_quiet k =
-    both (when (not k.is_cut_off && nat_lt k.times 3) (faults.AnnouncedTimes k.times)) _ (when_quiet _ (faults.AnnouncedTimes k.times))
-    (both (when (not k.is_cut_off && nat_lt k.heard 3) (faults.NextHeard k.heard)) _ (when_quiet _ (faults.NextHeard k.heard)) (when_quiet _ (faults.Flags k.flags (changes k))))
-
-unit_quiet : (k : Knowledge) → IsQuietly (unit_faults k)
-unit_quiet k = both (as_list (overlap k.listener.next.subs)) (as_list (past_end k.listener.next.subs)) (listed_quiet (overlap k.listener.next.subs)) (listed_quiet (past_end k.listener.next.subs))
-
-place_quiet : (k : Knowledge) (first : Bool) (e : EnsembleInformation) → IsQuietly (place_faults k first e)
-place_quiet k first e =
-    both (when (is_of_other_ensemble k first e) (faults.OtherEnsemble e.eid)) _ (when_quiet _ (faults.OtherEnsemble e.eid))
-    (both (when (has_other_count k first e) (faults.Count (unwrap_or k.due 0))) _ (when_quiet _ (faults.Count (unwrap_or k.due 0))) (when_quiet (not (is_placed k first e)) faults.OutOfPlace))
-
-announcement_quiet : (k : Knowledge) (e : EnsembleInformation) → IsQuietly (announcement k e)
-announcement_quiet k e = either_quiet (announces_first k e) _ [] (refl, when_quiet _ (faults.NoSwapAt (occurrence_of e))) tt
-
-member_quiet : (k : Knowledge) (next : Bool) (raw : Raw) → IsQuietly (member_findings k next raw)
-member_quiet k next raw =
-    either_quiet k.listener.tuned _ []
-    (either_quiet next (next_findings k raw) (current_findings k raw)
-    (both (when (not k.has_begun && k.has_ensemble) faults.NextUnannounced) _ (when_quiet _ faults.NextUnannounced) (when_quiet _ (faults.NextChanged (name_of raw))))
-    (both (when (is_other_one (lookup_in raw k.listener.current)) (faults.Changed (name_of raw))) _ (when_quiet _ (faults.Changed (name_of raw))) (when_quiet _ (faults.Appeared (name_of raw)))))
-    tt
-
 silence_quiet : (rs : List Raw) → IsQuietly (map silence rs)
 silence_quiet [] = tt
 silence_quiet (r ∷ rs) = (refl, silence_quiet rs)
 
-frame_quiet : (size step : ℕ) (last : Option ℕ) (frame : List Fib) → IsQuietly (frame_findings size step last frame)
-frame_quiet size step last frame =
-    both (first_line last frame) _ (first_event last)
-    (both (when (nat_lt (length frame) size) (faults.ShortFrame (length frame))) _ (when_quiet _ (faults.ShortFrame (length frame)))
-    (both (when (nat_lt 0 (damaged_in frame)) (faults.Damaged (damaged_in frame))) _ (when_quiet _ (faults.Damaged (damaged_in frame)))
-    (when_quiet (count_due last frame % step == 0 && lacks_opening frame) faults.NoEnsemble)))
-  where
-    first_event : (o : Option ℕ) → IsQuietly (first_line o frame)
-    first_event None = (refl, tt)
-    first_event (Some count) = tt
-
 items_quiet : (step period : ℕ) (items : List Item) (past : List Moment) → HasNone items → IsQuietly (findings_at_items step period past items)
 items_quiet step period [] past none = tt
 items_quiet step period (i ∷ is) past none =
-    either_quiet (has_no_room (known_of step period past) i) [] _ tt
-    (both (findings_at (known_of step period past) i) _
-    (subst IsQuietly (sym (ap (λ t. cond t (ensemble_findings (known_of step period past) i.first (said_ensemble i)) (member_findings (known_of step period past) i.next i.raw)) none.0)) (member_quiet (known_of step period past) i.next i.raw))
+    let k : Knowledge = known_of step period past in
+    let P : What → Type 0 = λ w. names_swap w ≡ false in
+    let member : IsQuietly (member_findings k i.next i.raw) = either_each P k.listener.tuned _ [] (λ t. either_each P i.next (next_findings k i.raw) (current_findings k i.raw)
+    (λ is. when_then P (not k.has_begun && k.has_ensemble) faults.NextUnannounced _ (λ met. refl) (when_each P (is_other_one (lookup_in i.raw k.listener.next)) (faults.NextChanged (name_of i.raw)) (λ met. refl)))
+    (λ is. when_then P (is_other_one (lookup_in i.raw k.listener.current)) (faults.Changed (name_of i.raw)) _ (λ met. refl)
+    (when_each P (is_absent (lookup_in i.raw k.listener.current) && is_settled k) (faults.Appeared (name_of i.raw)) (λ met. refl)))) (λ t. tt) in
+    either_each P (has_no_room k i) [] _ (λ full. tt) (λ room. both (findings_at k i) _
+    (subst IsQuietly (sym (ap (λ t. cond t (ensemble_findings k i.first (said_ensemble i)) (member_findings k i.next i.raw)) none.0)) member)
     (items_quiet step period is (Said i ∷ past) none.1))
 
 -- ---- the swaps among findings
@@ -140,14 +102,19 @@ named_first n xs ys all = named_both n xs ys ∙ ap (λ l. named n xs ++ l) (qui
 
 at_swap : (n : ℕ) (k : Knowledge) (e : EnsembleInformation) (b : Bool) → named n (cond b (swap_findings k e) (when (announces_another k e) (faults.AnnouncedAgain e.change (occurrence_of e)))) ≡ cond b (n ∷ []) []
 at_swap n k e true =
-    ap (λ l. n ∷ l) (quiet_named n _ (both (when (not (e.count % 250 == awaited_low k)) (faults.AnnouncedFor (awaited_low k))) (notice_faults k ++ unit_faults k)
-    (when_quiet _ (faults.AnnouncedFor (awaited_low k))) (both (notice_faults k) (unit_faults k) (notice_quiet k) (unit_quiet k))))
-at_swap n k e false = quiet_named n _ (when_quiet (announces_another k e) (faults.AnnouncedAgain e.change (occurrence_of e)))
+    let P : What → Type 0 = λ w. names_swap w ≡ false in
+    ap (λ l. n ∷ l) (quiet_named n _ (when_then P (not (e.count % 250 == awaited_low k)) (faults.AnnouncedFor (awaited_low k)) (notice_faults k ++ unit_faults k) (λ met. refl)
+    (both (notice_faults k) (unit_faults k) (notice_each P k (λ met. refl) (λ met. refl) (λ met. refl))
+    (both (as_list (overlap k.listener.next.subs)) (as_list (past_end k.listener.next.subs)) (listed_quiet (overlap k.listener.next.subs)) (listed_quiet (past_end k.listener.next.subs))))))
+at_swap n k e false = quiet_named n _ (when_each (λ w. names_swap w ≡ false) (announces_another k e) (faults.AnnouncedAgain e.change (occurrence_of e)) (λ met. refl))
 
 at_head : (n : ℕ) (k : Knowledge) (first : Bool) (e : EnsembleInformation) → named n (ensemble_findings k first e) ≡ cond (makes_swap k e) (n ∷ []) []
 at_head n k first e =
-    named_then n (place_faults k first e) _ (place_quiet k first e)
-    ∙ named_first n (swap_or_another k e) _ (both (announcement k e) _ (announcement_quiet k e) (when_quiet _ faults.NextUnannounced))
+    let P : What → Type 0 = λ w. names_swap w ≡ false in
+    named_then n (place_faults k first e) _ (place_each P k first e (λ met. refl) (λ met. refl) (λ met. refl))
+    ∙ named_first n (swap_or_another k e) _ (both (announcement k e) _
+    (either_each P (announces_first k e) _ [] (λ is. (refl, when_each P (not (can_fall_at k.step (occurrence_of e))) (faults.NoSwapAt (occurrence_of e)) (λ met. refl))) (λ no. tt))
+    (when_each P (not (has_flags e) && k.began_early) faults.NextUnannounced (λ met. refl)))
     ∙ at_swap n k e (makes_swap k e)
 
 in_frame_named : (at : FrameAt) (ws : List What) → swap_frames (map (in_frame at) ws) ≡ named at.frame ws
@@ -165,7 +132,7 @@ frames_both (x ∷ xs) ys = elim (names_swap x.what) as (λ t. cond t (x.frame �
 ]
 
 last_quiet : (full : Bool) (period : ℕ) (past : List Moment) → IsQuietly (last_findings full period past)
-last_quiet full period past = either_quiet full [] (silent_findings period past) tt (silence_quiet _)
+last_quiet full period past = either_each (λ w. names_swap w ≡ false) full [] (silent_findings period past) (λ is. tt) (λ no. silence_quiet _)
 
 -- what a FIG contradicts is no swap
 new_quiet : (cs : List Contradiction) → IsQuietly (map contradicts cs)
@@ -194,7 +161,7 @@ frame_named size step period past noted frame =
     let last : List What = last_findings (runs_full step period past (frame_items frame)) period (said (frame_items frame) past) in
     let whole : List What = frame_findings size step (due past) frame in
     in_frame_named (frame_at step past frame) (whole ++ (items ++ last))
-    ∙ named_then (frames_ended past) whole (items ++ last) (frame_quiet size step (due past) frame)
+    ∙ named_then (frames_ended past) whole (items ++ last) (frame_each (λ w. names_swap w ≡ false) size step (due past) frame (λ eid. refl) (λ met. refl) (λ met. refl) (λ met. refl))
     ∙ named_first (frames_ended past) items last (last_quiet (runs_full step period past (frame_items frame)) period (said (frame_items frame) past))
     ∙ sent_named (frames_ended past) step period (frame_sent frame) past noted
     ∙ ap (λ is. named (frames_ended past) (findings_at_items step period past is)) (frame_has_items frame)
@@ -218,7 +185,7 @@ opened_named n step period plan u made past items o = ap (λ is. named n (findin
   | inl none ↦
       ap (λ hs. named n (findings_at_items step period past (hs ++ o.members))) none.0
       ∙ quiet_named n _ (items_quiet step period o.members past o.none) ∙ ap (λ b. cond b (n ∷ []) []) (sym none.1)
-  | inr (i, are, ens, says, made_is) ↦
+  | inr (i, are, ens, says, made_is, on) ↦
       ap (λ hs. named n (findings_at_items step period past (hs ++ o.members))) are
       ∙ with_head n step period past i o.members ens o.none ∙ ap (λ b. cond b (n ∷ []) []) (sym (ensemble_made past i ens) ∙ made_is)
 ]

@@ -26,10 +26,10 @@ use Rattle.plan_runs.proofs.Tracked.{Airs}
 use Rattle.plan_runs.proofs.Right.{pageable}
 use Rattle.plan_runs.proofs.HeardFrame.{zero_or_not}
 use Rattle.stream_laws.proofs.Framing.{read_frame}
-use Rattle.stream_laws.proofs.Sending.{IsSentItem}
-use Rattle.stream_laws.proofs.AgreeingRuns.{on_air, IsBetween}
-use Rattle.stream_laws.proofs.AgreeingFrames.{not_sent, agrees_by, before_of}
-use Rattle.stream_laws.proofs.NoticeFrames.{SaysNothing, HasNext, IsRowed, IsNoticing, IsReading, none_rowed, rowed_more, rowed_silent, due_left, AreKeysOf, announced_thrice}
+use Rattle.stream_laws.proofs.Sending.{IsSentItem, not_sent}
+use Rattle.stream_laws.proofs.AgreeingRuns.{on_air, IsBetween, due_left}
+use Rattle.stream_laws.proofs.AgreeingFrames.{agrees_by, before_of}
+use Rattle.stream_laws.proofs.NoticeFrames.{SaysNothing, HasNext, IsRowed, IsNoticing, IsReading, none_rowed, rowed_more, rowed_silent, AreKeysOf, announced_thrice}
 use Rattle.stream_laws.proofs.Opening.{FrameLaws, IsOpened, entry_at_frame, items_at, past_after, next_opened, first_opened, cut_still}
 use Rattle.plan_runs.proofs.Hearing.{headed}
 use Rattle.plan_code.specs.Program.{Program}

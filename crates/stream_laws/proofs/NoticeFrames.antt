@@ -15,7 +15,6 @@ use Rattle.plan_verifier.specs.Typing.{Known}
 use Rattle.plan_runs.specs.Frames.{is_due, shown_bytes, ensemble_sent, sent_entries}
 use Rattle.plan_runs.specs.Announced.{heard_of, IsHeardInSome, HasHeader, IsHeardWhole, HasThreeHeaders, IsAnnounced}
 use Rattle.plan_runs.proofs.Knowledge.{CommittedBy}
-use Rattle.plan_runs.proofs.Passing.{due_is}
 use Rattle.plan_runs.proofs.Tracked.{SwapsOn, page_of, page_of_first, page_of_next, noticed}
 use Rattle.plan_runs.proofs.Facts.{Holds, IsCode}
 use Rattle.plan_runs.proofs.Right.{PageLaws, pageable}
@@ -33,6 +32,7 @@ use Rattle.std.proofs.lemmas.List.{append_assoc, length-append}
 use Rattle.mux_types.proofs.Elements.{contains_cases, contains_none, each_contains, contains_first}
 use Rattle.stream_check.specs.Cutting.{HasAll, IsPart, IsCutInThree}
 use Rattle.plan_runs.proofs.Lookups.{get_below}
+use Rattle.stream_laws.proofs.AgreeingRuns.{due_left}
 
 -- ---- each entry is heard in the frames
 
@@ -58,10 +58,6 @@ notice_hears laws plan c n eid count i d below m inside =
     subst (λ (es : List Marked). Contains (page_entries plan.layout (page_of (both_rounds plan c n) i) es) m) (sym entries) inside in
     let heard : IsHeardInRow (shown_bytes plan st) m = (laws.heard plan.layout (ensemble_sent plan st) st.page_index (sent_entries plan st) (pageable laws plan st a) m).1 there in
     subst (λ (b : List ℕ). IsHeardInRow b m) (sym (notice_at_is plan c n eid base i)) heard
-
-pub due_left : (left : Option ℕ) → is_due left ≡ true → left ≡ Some 0
-due_left None e = absurd cc
-due_left (Some l) e = ap (λ (x : ℕ). Some x) (due_is l e)
 
 notice_has : PageLaws → (p : Program) (ts : List Known) → IsCode p ts → (s : State) → Holds p ts s → is_due s.left ≡ true → (m : Marked) → Contains (page_set s.current (Some s.next)) m → IsHeardInSome (heard_of p.plan s) m
 notice_has laws p ts c s h due m inside =

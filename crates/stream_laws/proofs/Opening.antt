@@ -27,10 +27,8 @@ use Rattle.plan_runs.proofs.HeardFrame.{zero_or_not, RowSaid, fibs_in, frame_hea
 use Rattle.stream_laws.proofs.Kept.{ensemble_made, ensemble_flags, begun_is, rows_are, times_are, begun_flagged}
 use Rattle.stream_laws.proofs.Rows.{HasNone}
 use Rattle.stream_laws.proofs.Framing.{read_frame}
-use Rattle.stream_laws.proofs.Sending.{IsSentItem, IsHeadOf, frame_said, fibs_heard}
-use Rattle.stream_laws.proofs.AgreeingRuns.{IsBetween, on_air, flags_on, made_where_due}
-use Rattle.stream_laws.proofs.AgreeingFrames.{is_sent, not_sent}
-use Rattle.stream_laws.proofs.NoticeFrames.{due_left}
+use Rattle.stream_laws.proofs.Sending.{IsSentItem, IsHeadOf, frame_said, fibs_heard, is_sent, not_sent}
+use Rattle.stream_laws.proofs.AgreeingRuns.{IsBetween, on_air, flags_on, made_where_due, due_left}
 use Rattle.stream_laws.proofs.LastHeard.{at_tuned, row_said, IsSaidOf}
 use Rattle.fib_codec.specs.Grammar.{OneList}
 use Rattle.stream_check.specs.Stream.{after_frame as after_read}
@@ -111,8 +109,8 @@ pub record IsOpened (plan : Plan) (u : State) (made : Bool) (past : List Moment)
   pub are : said items past ≡ said members (said heads past)
   pub none : HasNone members
   pub sent : AllByRecursion (IsSentItem (on_air plan u) u.current u.next) members
-  pub head : ((heads ≡ []) × (made ≡ false))
-      ⊎ ((i : Item) × (heads ≡ i ∷ []) × (is_ensemble i ≡ true) × (said_ensemble i ≡ ensemble_of plan u) × (is_swap past i ≡ made))
+  pub head : ((heads ≡ []) × (made ≡ false) × (IsOnStep plan u → ⊥))
+      ⊎ ((i : Item) × (heads ≡ i ∷ []) × (is_ensemble i ≡ true) × (said_ensemble i ≡ ensemble_of plan u) × (is_swap past i ≡ made) × IsOnStep plan u)
   pub hears : (l : Listening) → listening past ≡ Some l
       → (listening (said heads past) ≡ Some (headed (ensemble_sent plan u) l)) × ((headed (ensemble_sent plan u) l).tuned ≡ true)
   pub among : (i : Item) → Contains items i → is_ensemble i ≡ false → Contains members i
@@ -152,7 +150,7 @@ headed_opens plan u a made past i members ens says sent on is =
       are = refl;
       none = none_of (on_air plan u) u members sent;
       sent = sent;
-      head = inr (i, refl, ens, says, swap);
+      head = inr (i, refl, ens, says, swap, on);
       hears = λ l h. (
         ensemble_heard past i l ens h ∙ ap (λ x. Some (at_ensemble x l)) says ∙ ap (λ o. Some (headed o l)) (sym (is_sent plan u on)),
         ap (λ o. (headed o l).tuned) (is_sent plan u on) ∙ at_tuned (ensemble_of plan u) l,
@@ -182,7 +180,7 @@ bare_opens plan u past members off sent tuned = record {
   are = refl;
   none = none_of (on_air plan u) u members sent;
   sent = sent;
-  head = inl (refl, refl);
+  head = inl (refl, refl, off);
   hears = λ l h. (
     h ∙ ap (λ o. Some (headed o l)) (sym (not_sent plan u off)),
     ap (λ o. (headed o l).tuned) (not_sent plan u off) ∙ sym (ap (λ (x : Listening). x.tuned) (after_is past l h)) ∙ tuned,
@@ -266,7 +264,7 @@ pub each_opened : (P : List Moment → Item → Type 0) (plan : Plan) (u : State
     → ((i : Item) → is_ensemble i ≡ true → said_ensemble i ≡ ensemble_of plan u → P past i) → Each P (said o.heads past) o.members → Each P past items
 each_opened P plan u made past items o f rest = subst (Each P past) (sym o.list) (elim o.head [
   | inl none ↦ subst (λ hs. Each P (said hs past) o.members → Each P past (hs ++ o.members)) (sym none.0) (λ e. e) rest
-  | inr (i, are, ens, says, made_is) ↦ subst (λ hs. Each P (said hs past) o.members → Each P past (hs ++ o.members)) (sym are) (λ e. (f i ens says, e)) rest
+  | inr (i, are, ens, says, made_is, on) ↦ subst (λ hs. Each P (said hs past) o.members → Each P past (hs ++ o.members)) (sym are) (λ e. (f i ens says, e)) rest
 ])
 
 -- ---- what a listener knows, one frame later

@@ -1,5 +1,5 @@
 -- Lookup in a picture with one more entry.
-use Rattle.std.proofs.Common.{◌≡◌, ℕ, ◌==◌, ◌||◌, true, false, cond, nat_lt, List, [], ◌∷◌, length, Option, Some, None, refl, sym, ap, ◌∙◌}
+use Rattle.std.proofs.Common.{◌≡◌, ℕ, ◌==◌, ◌||◌, true, false, cond, nat_lt, List, [], ◌∷◌, length, Option, Some, None, refl, sym, ap, ◌∙◌, Bool}
 use Rattle.std.proofs.lemmas.Bool.{false≢true, eq-eqb, eqb-true, or_right}
 use Rattle.mux_config.specs.Tables.{entry_at, with_entry, with_entry_changed, has_entry}
 use Rattle.mux_config.proofs.Keeping.{present}
@@ -89,57 +89,43 @@ room_by raw rs (Some r) e free = ap (λ t. t || nat_lt (length rs) 64) (present 
 room_where : (raw : Raw) (rs : List Raw) → finds_no_room (lookup raw rs) ≡ false → has_room raw rs ≡ true
 room_where raw rs free = room_by raw rs (entry_at identifier_of (identifier_of raw) rs) refl free
 
+-- the list of an extension, and the picture with one more entry in it, by the tests for extensions 1 and 2
+abbrev list_by : Bool → Bool → Pictured → List Raw
+list_by one two p = cond one p.subs (cond two p.services p.packets)
+
+abbrev with_by : Bool → Bool → Raw → Pictured → Pictured
+with_by one two raw p = cond one (record p { subs = kept raw p.subs }) (cond two (record p { services = kept raw p.services }) (record p { packets = kept raw p.packets }))
+
+taken_by : (one two : Bool) (raw : Raw) (p : Pictured) → finds_no_room (lookup raw (list_by one two p)) ≡ false
+    → cond one (Some (record p { subs = kept raw p.subs })) (cond two (cond (has_room raw p.services) (Some (record p { services = kept raw p.services })) None) (cond (has_room raw p.packets) (Some (record p { packets = kept raw p.packets })) None))
+    ≡ Some (with_by one two raw p)
+taken_by true two raw p room = refl
+taken_by false true raw p room = ap (λ t. cond t (Some (record p { services = kept raw p.services })) None) (room_where raw p.services room)
+taken_by false false raw p room = ap (λ t. cond t (Some (record p { packets = kept raw p.packets })) None) (room_where raw p.packets room)
+
 pub taken_in : (raw : Raw) (p : Pictured) → finds_no_room (lookup_in raw p) ≡ false → pictured raw p ≡ Some (picture_with raw p)
-taken_in raw p room = elim (raw.ext == 1) as (λ t. finds_no_room (lookup raw (cond t p.subs (cond (raw.ext == 2) p.services p.packets))) ≡ false
-    → cond t (Some (record p { subs = kept raw p.subs })) (cond (raw.ext == 2) (cond (has_room raw p.services) (Some (record p { services = kept raw p.services })) None) (cond (has_room raw p.packets) (Some (record p { packets = kept raw p.packets })) None))
-    ≡ Some (cond t (record p { subs = kept raw p.subs }) (cond (raw.ext == 2) (record p { services = kept raw p.services }) (record p { packets = kept raw p.packets })))) [
-      | true ↦ λ r. refl
-      | false ↦ elim (raw.ext == 2) as (λ t. finds_no_room (lookup raw (cond t p.services p.packets)) ≡ false
-          → cond t (cond (has_room raw p.services) (Some (record p { services = kept raw p.services })) None) (cond (has_room raw p.packets) (Some (record p { packets = kept raw p.packets })) None)
-          ≡ Some (cond t (record p { services = kept raw p.services }) (record p { packets = kept raw p.packets }))) [
-            | true ↦ λ r. ap (λ t. cond t (Some (record p { services = kept raw p.services })) None) (room_where raw p.services r)
-            | false ↦ λ r. ap (λ t. cond t (Some (record p { packets = kept raw p.packets })) None) (room_where raw p.packets r)
-          ]
-    ] room
+taken_in raw p room = taken_by (raw.ext == 1) (raw.ext == 2) raw p room
 
 -- the new entry is found
+kept_by : (one two : Bool) (raw : Raw) (p : Pictured) → entry_at identifier_of (identifier_of raw) (list_by one two (with_by one two raw p)) ≡ Some raw
+kept_by true two raw p = kept_here raw p.subs
+kept_by false true raw p = kept_here raw p.services
+kept_by false false raw p = kept_here raw p.packets
+
 pub found_kept : (raw : Raw) (p : Pictured) → entry_like raw (picture_with raw p) ≡ Some raw
-found_kept raw p = elim (raw.ext == 1) as (λ t. entry_at identifier_of (identifier_of raw) (cond t (cond t (record p { subs = kept raw p.subs }) (cond (raw.ext == 2) (record p { services = kept raw p.services }) (record p { packets = kept raw p.packets }))).subs
-    (cond (raw.ext == 2) (cond t (record p { subs = kept raw p.subs }) (cond (raw.ext == 2) (record p { services = kept raw p.services }) (record p { packets = kept raw p.packets }))).services (cond t (record p { subs = kept raw p.subs }) (cond (raw.ext == 2) (record p { services = kept raw p.services }) (record p { packets = kept raw p.packets }))).packets)) ≡ Some raw) [
-      | true ↦ kept_here raw p.subs
-      | false ↦ elim (raw.ext == 2) as (λ t. entry_at identifier_of (identifier_of raw) (cond t (cond t (record p { services = kept raw p.services }) (record p { packets = kept raw p.packets })).services (cond t (record p { services = kept raw p.services }) (record p { packets = kept raw p.packets })).packets) ≡ Some raw) [
-        | true ↦ kept_here raw p.services
-        | false ↦ kept_here raw p.packets
-      ]
-    ]
+found_kept raw p = kept_by (raw.ext == 1) (raw.ext == 2) raw p
 
 -- each entry that was found before is found again, if the new one agrees with what it replaces
+again_by : (one two first second : Bool) (raw y : Raw) (p : Pictured) → ((known : Raw) → entry_at identifier_of (identifier_of raw) (list_by one two p) ≡ Some known → known ≡ raw)
+    → entry_at identifier_of (identifier_of y) (list_by first second p) ≡ Some y → entry_at identifier_of (identifier_of y) (list_by first second (with_by one two raw p)) ≡ Some y
+again_by true two true second raw y p agrees found = kept_stays raw y p.subs agrees found
+again_by true two false second raw y p agrees found = found
+again_by false true true second raw y p agrees found = found
+again_by false true false true raw y p agrees found = kept_stays raw y p.services agrees found
+again_by false true false false raw y p agrees found = found
+again_by false false true second raw y p agrees found = found
+again_by false false false true raw y p agrees found = found
+again_by false false false false raw y p agrees found = kept_stays raw y p.packets agrees found
+
 pub found_again : (raw y : Raw) (p : Pictured) → ((known : Raw) → entry_like raw p ≡ Some known → known ≡ raw) → entry_like y p ≡ Some y → entry_like y (picture_with raw p) ≡ Some y
-found_again raw y p agrees found =
-    elim (raw.ext == 1) as (λ t. ((known : Raw) → entry_at identifier_of (identifier_of raw) (cond t p.subs (cond (raw.ext == 2) p.services p.packets)) ≡ Some known → known ≡ raw)
-    → entry_like y (cond t (record p { subs = kept raw p.subs }) (cond (raw.ext == 2) (record p { services = kept raw p.services }) (record p { packets = kept raw p.packets }))) ≡ Some y) [
-      | true ↦ λ ag. elim (y.ext == 1) as (λ t. entry_at identifier_of (identifier_of y) (cond t p.subs (cond (y.ext == 2) p.services p.packets)) ≡ Some y
-          → entry_at identifier_of (identifier_of y) (cond t (kept raw p.subs) (cond (y.ext == 2) p.services p.packets)) ≡ Some y) [
-            | true ↦ λ f. kept_stays raw y p.subs ag f
-            | false ↦ λ f. f
-          ] found
-      | false ↦ elim (raw.ext == 2) as (λ t. ((known : Raw) → entry_at identifier_of (identifier_of raw) (cond t p.services p.packets) ≡ Some known → known ≡ raw)
-          → entry_like y (cond t (record p { services = kept raw p.services }) (record p { packets = kept raw p.packets })) ≡ Some y) [
-            | true ↦ λ ag. elim (y.ext == 1) as (λ t. entry_at identifier_of (identifier_of y) (cond t p.subs (cond (y.ext == 2) p.services p.packets)) ≡ Some y
-                → entry_at identifier_of (identifier_of y) (cond t p.subs (cond (y.ext == 2) (kept raw p.services) p.packets)) ≡ Some y) [
-                  | true ↦ λ f. f
-                  | false ↦ elim (y.ext == 2) as (λ t. entry_at identifier_of (identifier_of y) (cond t p.services p.packets) ≡ Some y → entry_at identifier_of (identifier_of y) (cond t (kept raw p.services) p.packets) ≡ Some y) [
-                    | true ↦ λ f. kept_stays raw y p.services ag f
-                    | false ↦ λ f. f
-                  ]
-                ] found
-            | false ↦ λ ag. elim (y.ext == 1) as (λ t. entry_at identifier_of (identifier_of y) (cond t p.subs (cond (y.ext == 2) p.services p.packets)) ≡ Some y
-                → entry_at identifier_of (identifier_of y) (cond t p.subs (cond (y.ext == 2) p.services (kept raw p.packets))) ≡ Some y) [
-                  | true ↦ λ f. f
-                  | false ↦ elim (y.ext == 2) as (λ t. entry_at identifier_of (identifier_of y) (cond t p.services p.packets) ≡ Some y → entry_at identifier_of (identifier_of y) (cond t p.services (kept raw p.packets)) ≡ Some y) [
-                    | true ↦ λ f. f
-                    | false ↦ λ f. kept_stays raw y p.packets ag f
-                  ]
-                ] found
-          ]
-    ] agrees
+found_again raw y p agrees found = again_by (raw.ext == 1) (raw.ext == 2) (y.ext == 1) (y.ext == 2) raw y p agrees found

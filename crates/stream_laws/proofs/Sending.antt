@@ -1,9 +1,9 @@
 -- The entries of a frame of a run, as the checker hears them: those of FIG 0/0 to 0/3 of its own ensemble alone.
-use Rattle.std.proofs.Common.{◌≡◌, ℕ, ◌+◌, ◌-◌, ◌*◌, ◌%◌, ◌==◌, Bool, true, false, cond, List, [], ◌∷◌, ◌++◌, length, drop, Option, Some, None, refl, sym, ap, ◌∙◌, subst, arith, replicate, zero, suc, map}
+use Rattle.std.proofs.Common.{◌≡◌, ℕ, ◌+◌, ◌-◌, ◌*◌, ◌%◌, ◌==◌, Bool, true, false, cond, List, [], ◌∷◌, ◌++◌, length, drop, Option, Some, None, refl, sym, ap, ◌∙◌, subst, arith, replicate, zero, suc, map, ◌≢◌}
 use Rattle.std.specs.Prelude.{IfSome}
 use Rattle.std.specs.List.{AllByRecursion}
 use Rattle.std.proofs.lemmas.List.{append_assoc, drop-drop, map-append}
-use Rattle.fib_codec.specs.Layouts.{frame_fibs, reserved_fibs}
+use Rattle.fib_codec.specs.Layouts.{frame_fibs, reserved_fibs, layout_mode}
 use Rattle.fib_codec.specs.declared.frame_layout.FrameLayout.{FrameLayout}
 use Rattle.fib_codec.specs.declared.frame_layout.FrameLayout.TheVariants.{Whole, ReserveOne}
 use Rattle.mux_config.specs.Configuration.{Configuration}
@@ -27,9 +27,9 @@ use Rattle.stream_check.specs.Frames.{Fib, Reading}
 use Rattle.stream_check.specs.History.{Item, fig_items, figs_items, fib_items, fibs_items, frame_items, is_ensemble, ensemble_of as said_ensemble, Moment, Said, said, items_of, listening}
 use Rattle.plan_code.specs.declared.plan.Plan.{Plan}
 use Rattle.plan_code.specs.Machine.{State}
-use Rattle.plan_runs.specs.Frames.{is_noticed, sent_entries, ensemble_sent, shown_bytes}
+use Rattle.plan_runs.specs.Frames.{is_noticed, sent_entries, ensemble_sent, shown_bytes, ensemble_of}
 use Rattle.plan_runs.specs.Listening.{fibs_from, HearsAll}
-use Rattle.plan_runs.proofs.Tracked.{Airs, noticed}
+use Rattle.plan_runs.proofs.Tracked.{Airs}
 use Rattle.plan_runs.proofs.Right.{pageable, sent_within}
 use Rattle.plan_runs.proofs.Tuned.{IsSentOf}
 use Rattle.plan_runs.proofs.Hearing.{second_next, raw_is}
@@ -43,6 +43,8 @@ use Rattle.stream_check.specs.declared.contradiction.Contradiction.{Contradictio
 use Rattle.stream_check.specs.Rules.{known_of, findings_at, has_no_room}
 use Rattle.stream_check.specs.Sent.{EntrySent, entries_sent, fig_sent, figs_sent, fib_sent, fibs_sent, frame_sent, noted_at}
 use Rattle.stream_check.specs.Stream.{findings_at_items, findings_at_sent}
+use Rattle.std.proofs.lemmas.Bool.{eq-eqb, ne_eqb}
+use Rattle.fib_codec.specs.Modes.{count_step}
 
 -- an entry that is sent of these configurations
 pub record IsSentItem (noticed : Bool) (c n : Configuration) (i : Item) : Type 0 where
@@ -108,6 +110,13 @@ head_items heard (Some e) within ws =
     let h : Item = record { first = true; next = is_next (head_byte (head_of m)); raw = raw_of (head_byte (head_of m) % 32) (is_long (head_byte (head_of m))) (entry_bytes (EnsembleOf e)) } in
     let raw : h.raw ≡ raw_entry (EnsembleOf e) = raw_is m in
     (h ∷ [], false, refl, (h, refl, ap (λ (x : Raw). x.ext == 0) raw, ap ensemble_in raw ∙ heard e within))
+
+-- FIG 0/0 is sent at counts that are multiples of the step
+pub is_sent : (plan : Plan) (u : State) → u.count % count_step (layout_mode plan.layout) ≡ 0 → ensemble_sent plan u ≡ Some (ensemble_of plan u)
+is_sent plan u e = ap (λ (b : Bool). cond b (Some (ensemble_of plan u)) None) (eq-eqb (u.count % count_step (layout_mode plan.layout)) 0 e)
+
+pub not_sent : (plan : Plan) (u : State) → u.count % count_step (layout_mode plan.layout) ≢ 0 → ensemble_sent plan u ≡ None
+not_sent plan u apart = ap (λ (b : Bool). cond b (Some (ensemble_of plan u)) None) (ne_eqb (u.count % count_step (layout_mode plan.layout)) 0 apart)
 
 -- what is sent in the frame of a state: the FIGs of its first FIB, and those of each later one
 abbrev first_figs : Plan → State → List Written

@@ -1,4 +1,4 @@
-use Rattle.stream_laws.proofs.Cutting.{frames_are_of_bytes}
+use Rattle.stream_laws.proofs.Framing.{frames_are_of_bytes}
 use Rattle.stream_laws.proofs.laws.cutting.Goals as goal
 
 pub returns : goal.returns
