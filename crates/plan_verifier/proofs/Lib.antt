@@ -15,5 +15,4 @@ pub mod Tabled
 pub mod Verdicts
 mod Vectors
 mod VectorsOfTyping
-mod VectorsOfSwaps
 mod VectorsOfRefusals

@@ -154,10 +154,6 @@ code_from_is c labels lines is formed ascend from to each first last = record {
   lines_formed = each;
 }
 
-pub code_is : (labels : List Label) (lines : List Line) → AllByRecursion (IsLabel 1) labels → IsAscending label_key labels → 1 ≤ length labels → length labels ≤ 1024
-    → AllByRecursion IsLine lines → 1 ≤ length lines → length lines ≤ 4096 → IsProgram (code labels lines)
-code_is labels lines formed ascend from to each first last = code_from_is nothing labels lines empty_is formed ascend from to each first last
-
 -- with one label, at the first instruction, of this cost
 pub first_from_is : (c : Configuration) (cost : ℕ) (lines : List Line) → IsConfiguration c → 1 ≤ cost → cost ≤ 255 → AllByRecursion IsLine lines → 1 ≤ length lines → length lines ≤ 4096
     → IsProgram (code_from c (label 0 cost ∷ []) lines)

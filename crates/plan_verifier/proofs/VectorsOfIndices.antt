@@ -4,10 +4,10 @@ use Rattle.std.proofs.Common.{◌≡◌, ℕ, true, false, List, [], ◌∷◌, 
 use Rattle.std.proofs.lemmas.Bool.{false≢true}
 use Rattle.mux_config.specs.Configuration.{Configuration, nothing}
 use Rattle.mux_config.specs.declared.edit.Edit.TheVariants.{DropSub}
-use Rattle.plan_code.specs.declared.instr.Instr.TheVariants.{Edit as Edits, Join, Wait, Jump}
+use Rattle.plan_code.specs.declared.instr.Instr.TheVariants.{Edit as Edits, Wait}
 use Rattle.plan_code.specs.declared.label.Swap.{Swap}
 use Rattle.plan_code.specs.declared.label.Swap.TheVariants.{Idle, Within, Perhaps}
-use Rattle.plan_verifier.specs.declared.fitting.Condition.TheVariants.{Never, Both, NextTwice}
+use Rattle.plan_verifier.specs.declared.fitting.Condition.TheVariants.{NextTwice}
 use Rattle.plan_verifier.specs.declared.indices.IndexedFlow.{IndexedFlow}
 use Rattle.plan_verifier.specs.declared.indices.Indices.{Indices}
 use Rattle.plan_verifier.specs.declared.tracked.TrackedFlow.{TrackedFlow}
@@ -53,9 +53,6 @@ not_in_a_shorter h = let lt = h.1 in omega (arith, lt)
 at_its_index : IsAt table (Some 1) other
 at_its_index = refl
 
-anywhere : IsAt table None other
-anywhere = tt
-
 at_no_other : IsAt table (Some 0) other → ⊥
 at_no_other e = let same : nothing ≡ other = cc in differ (sym same)
 
@@ -82,9 +79,6 @@ not_its_indices h = at_no_other h.0
 abbrev after_swap : Indices
 after_swap = record { current = Some 1; next = Some 1 }
 
-abbrev after_edit : Indices
-after_edit = record { current = Some 0; next = None }
-
 abbrev known : ℕ → Option ℕ
 known k = Some k
 
@@ -94,32 +88,17 @@ not_none e = cc
 same_index : (j k : ℕ) → known j ≡ known k → j ≡ k
 same_index j k e = cc
 
-edited : indices_after (Edits (DropSub 3)) Idle Idle indices ≡ after_edit
-edited = refl
-
 an_edit_forgets : indices_after (Edits (DropSub 3)) Idle Idle indices ≡ indices → ⊥
 an_edit_forgets e = not_none (sym (ap (λ (k : Indices). k.next) e))
-
-joined : indices_after Join (Within 24 24) Idle indices ≡ after_swap
-joined = refl
 
 waited_for_it : indices_after (Wait 24) (Within 24 24) Idle indices ≡ after_swap
 waited_for_it = refl
 
-waited_before_it : indices_after (Wait 4) (Within 24 24) (Within 20 20) indices ≡ indices
-waited_before_it = refl
-
 not_swapped_before_it : moved_indices (Within 24 24) (Within 20 20) indices ≡ swapped_indices indices → ⊥
 not_swapped_before_it e = let same = same_index 0 1 (ap (λ (k : Indices). k.current) e) in omega (arith, same)
 
-a_jump_keeps_them : indices_after (Jump 7) Idle Idle indices ≡ indices
-a_jump_keeps_them = refl
-
 its_own : indices_of indexed ≡ indices
 its_own = refl
-
-fits_before_it : fit_indices (Within 24 24) indexed ≡ indices
-fits_before_it = refl
 
 abbrev perhaps : IndexedFlow
 perhaps = record { current = 0; next = 1; pending = Perhaps 3 }
@@ -136,15 +115,8 @@ made = refl
 none_made : has_swapped Idle Idle ≡ true → ⊥
 none_made e = false≢true e
 
--- what a flow needs to fit another
-same_as_itself : satisfies Both (known_at (flow nothing other Idle)) (known_at (flow nothing other Idle)) ≡ true
-same_as_itself = refl
-
 not_before_the_swap : satisfies NextTwice (known_at (flow nothing other Idle)) (known_at (flow nothing other (Perhaps 3))) ≡ true → ⊥
 not_before_the_swap e = false≢true e
 
 swapped : satisfies NextTwice (known_at (flow other other Idle)) (known_at (flow nothing other (Perhaps 3))) ≡ true
 swapped = refl
-
-in_no_case : satisfies Never (known_at (flow nothing other Idle)) (known_at (flow nothing other Idle)) ≡ true → ⊥
-in_no_case e = false≢true e

@@ -1,25 +1,23 @@
 -- Why small codes are refused: for each definition of refusals, examples that hold and examples that fail.
-use Rattle.std.proofs.Common.{◌≡◌, ◌≢◌, ℕ, zero, suc, ◌<◌, ◌≤◌, [], ◌∷◌, length, slice_get, Contains, Some, None, inl, inr, refl, sym, ap, subst, arith}
+use Rattle.std.proofs.Common.{◌≡◌, ◌≢◌, ℕ, zero, suc, ◌<◌, ◌≤◌, [], ◌∷◌, slice_get, Contains, Some, None, inl, inr, refl, sym, ap, subst, arith}
 use Rattle.std.proofs.lemmas.Bool.{false≢true}
-use Rattle.mux_config.specs.Configuration.{Configuration, nothing}
-use Rattle.std.specs.List.{AllByRecursion}
 use Rattle.mux_config.specs.declared.edit.Edit.TheVariants.{AddSub, DropSub}
 use Rattle.mux_config.specs.declared.fault.EditFault.TheVariants.{IdAbsent}
 use Rattle.plan_code.specs.declared.label.Label.{Label}
 use Rattle.plan_code.specs.declared.label.Swap.TheVariants.{Idle, Within}
 use Rattle.plan_code.specs.declared.instr.Instr.{Instr}
 use Rattle.plan_code.specs.declared.instr.Instr.TheVariants.{CommitIn, Join, End, Edit as Edits, Jump}
-use Rattle.plan_code.specs.Program.{Program, IsProgram, IsLabel, IsLine, IsInstr, instr_at, label_at, label_key}
+use Rattle.plan_code.specs.Program.{Program, IsProgram, IsLine, IsInstr, instr_at, label_at, label_key}
 use Rattle.plan_verifier.specs.declared.cause.Cause.{Cause}
-use Rattle.plan_verifier.specs.declared.cause.Cause.TheVariants.{Target, Table, Edit as OfEdit, Pending, Notice, JoinIdle, Mismatch, Cost, Round, FallsOff}
-use Rattle.plan_verifier.proofs.Samples.{plan, sub, counters, label, label_is, line, code, code_is, line_is, first_is}
-use Rattle.plan_verifier.specs.Typing.{Known, Declares, HasOpening, IsLabelTyped, IsAfter, IsSafe}
-use Rattle.plan_verifier.specs.Refusals.{Where, WhereSome, ◌orelse◌, CommitRefused, FitsLabel, EntryRefused, JumpRefused, InstrRefused, KnownRefused, TakenRefused, LabelRefused, PcRefused, OpenedRefused, OpeningRefused, IsSafeBelow, IsTypingBelow, InstructionRefused, IsFirstPast, IsRefusedAt, IsRefused, HasOneVerdict}
+use Rattle.plan_verifier.specs.declared.cause.Cause.TheVariants.{Target, Table, Edit as OfEdit, Pending, Notice, JoinIdle, Mismatch, Cost, FallsOff}
+use Rattle.plan_verifier.proofs.Samples.{plan, sub, counters, label, line, code, line_is, first_is}
+use Rattle.plan_verifier.specs.Typing.{Known, Declares, HasOpening, IsLabelTyped, IsAfter}
+use Rattle.plan_verifier.specs.Refusals.{Where, WhereSome, CommitRefused, FitsLabel, EntryRefused, JumpRefused, InstrRefused, KnownRefused, TakenRefused, LabelRefused, PcRefused, OpenedRefused, OpeningRefused, IsSafeBelow, IsTypingBelow, InstructionRefused, IsFirstPast, IsRefusedAt, IsRefused, HasOneVerdict}
 use Rattle.plan_verifier.proofs.Tabled.{IsTabled, tabled, declared_once}
 use Rattle.plan_verifier.proofs.Causes.{decides_label, entry_computes, known_computes}
 use Rattle.plan_verifier.proofs.Entries.{whole_computes}
-use Rattle.plan_verifier.proofs.OneVerdict.{refused_if, codes_have_one_verdict}
-use Rattle.plan_verifier.proofs.VectorsOfTyping.{each_frame, many_subs, knows, no_room_in_each_frame, joins, opened, edited, committed, its_label_declares, opened_fits, a_first_sub_channel, opens_empty}
+use Rattle.plan_verifier.proofs.OneVerdict.{codes_have_one_verdict}
+use Rattle.plan_verifier.proofs.VectorsOfTyping.{joins, opened, edited, committed, its_label_declares, a_first_sub_channel, opens_empty}
 
 -- adds a sub-channel, and then waits for a swap although none was committed
 abbrev unjoined : Program
@@ -49,9 +47,6 @@ lone_tabled i h = tabled (lone i) (first_is 3 (line i ∷ []) (omega arith) (ome
 a_fault : Where (1 < 2) Cost Cost
 a_fault = (omega arith, refl)
 
-no_fault : Where (2 < 1) Cost Cost → ⊥
-no_fault h = let e : 2 < 1 = h.0 in omega (arith, e)
-
 another_cause : Where (1 < 2) Cost Table → ⊥
 another_cause h = let e : Table ≡ Cost = h.1 in absurd cc
 
@@ -60,12 +55,6 @@ named_by_its_fault = refl
 
 without_a_fault : WhereSome None OfEdit (OfEdit IdAbsent) → ⊥
 without_a_fault h = h
-
-tested_later : (Where (2 < 1) Cost orelse Where (1 < 2) Table) Table
-tested_later = inr ((λ cause h. let e : 2 < 1 = h.0 in omega (arith, e)), (omega arith, refl))
-
-tested_first : (Where (1 < 2) Cost orelse Where (1 < 2) Table) Table → ⊥
-tested_first h = elim h [ inl first ↦ (let e : Table ≡ Cost = first.1 in absurd cc) | inr later ↦ later.0 Cost a_fault ]
 
 -- ---- at an instruction: a swap is pending, and the delay is too short as well
 
@@ -78,9 +67,6 @@ commit_while_pending = inl swap_pending
 not_for_its_delay : CommitRefused plan committed (23 < 24) Notice Notice → ⊥
 not_for_its_delay h = elim h [ inl first ↦ (let e : Notice ≡ Pending = first.1 in absurd cc) | inr later ↦ later.0 Pending swap_pending ]
 
-fits_its_label : FitsLabel joins (label 0 3) opened
-fits_its_label = (opened, its_label_declares, opened_fits)
-
 with_another_next_one : FitsLabel joins (label 0 3) edited → ⊥
 with_another_next_one h = false≢true ((decides_label joins (label 0 3) edited its_label_declares).found h)
 
@@ -90,15 +76,8 @@ spent_two = record opened { allowance = 2 }
 cannot_afford_the_label : EntryRefused joins (label 0 3) spent_two Cost
 cannot_afford_the_label = (entry_computes joins (label 0 3) spent_two its_label_declares).told Cost refl
 
--- a state that does not fit is refused for that, not for its cost
-not_for_its_cost : EntryRefused joins (label 0 3) edited Cost → ⊥
-not_for_its_cost h = let e : Some Mismatch ≡ Some Cost = (entry_computes joins (label 0 3) edited its_label_declares).found Cost h in absurd cc
-
 comes_to_the_label : (cause : Cause) → EntryRefused joins (label 0 3) opened cause → ⊥
 comes_to_the_label cause h = let e : None ≡ Some cause = (entry_computes joins (label 0 3) opened its_label_declares).found cause h in absurd cc
-
-no_label_there : JumpRefused joins None opened Target
-no_label_there = refl
 
 a_label_there : (cause : Cause) → JumpRefused joins (Some (label 0 3)) opened cause → ⊥
 a_label_there cause h = comes_to_the_label cause h
@@ -118,9 +97,6 @@ falls_off = (known_computes joins 3 Join committed joins_tabled).told FallsOff r
 
 joins_nothing_first : KnownRefused joins 3 Join opened FallsOff → ⊥
 joins_nothing_first h = let e : Some JoinIdle ≡ Some FallsOff = (known_computes joins 3 Join opened joins_tabled).found FallsOff h in absurd cc
-
-spent_all_first : KnownRefused joins 3 Join (record opened { allowance = 0 }) Cost
-spent_all_first = (known_computes joins 3 Join (record opened { allowance = 0 }) joins_tabled).told Cost refl
 
 -- ---- where the machine reaches an instruction
 
@@ -149,17 +125,11 @@ label_before_an_end cause h =
 neither_label_nor_way : PcRefused joins 2 Join None None Table
 neither_label_nor_way = refl
 
-comes_without_a_label : PcRefused joins 2 Join None (Some opened) JoinIdle
-comes_without_a_label = (known_computes joins 2 Join opened joins_tabled).told JoinIdle refl
-
 comes_with_a_swap : PcRefused joins 2 Join None (Some committed) JoinIdle → ⊥
 comes_with_a_swap h = let e : None ≡ Some JoinIdle = (known_computes joins 2 Join committed joins_tabled).found JoinIdle h in absurd cc
 
 begins_without_a_label : OpeningRefused joins End None Table
 begins_without_a_label = refl
-
-begins_with_a_join : OpeningRefused (lone Join) Join (Some (label 0 3)) JoinIdle
-begins_with_a_join = (whole_computes (lone Join) [] 0 Join (lone_tabled Join tt)).told JoinIdle refl
 
 begins_with_an_end : (cause : Cause) → OpeningRefused (lone End) End (Some (label 0 3)) cause → ⊥
 begins_with_an_end cause h = let e : None ≡ Some cause = (whole_computes (lone End) [] 0 End (lone_tabled End tt)).found cause h in absurd cc
@@ -187,9 +157,6 @@ safe_below_one = record {
   onward = λ on lt. absurd (omega (arith, lt));
   targets = λ target e. absurd cc;
 }
-
-not_safe_as_a_whole : IsSafe unjoined (opened ∷ []) 0 (Edits (AddSub sub)) opened → ⊥
-not_safe_as_a_whole h = let e : None ≡ Some edited = h.onward refl in absurd cc
 
 join_of_nothing : IsSafeBelow unjoined 2 (opened ∷ edited ∷ []) 1 Join edited → ⊥
 join_of_nothing h = h.fine
@@ -249,23 +216,6 @@ refused_at_the_join = (typing_below_one, second_refused)
 for_no_other_cause : IsRefusedAt unjoined (opened ∷ []) 1 (Some Join) Cost → ⊥
 for_no_other_cause h = second_not_for_its_cost h.1
 
-at_no_instruction : IsRefusedAt unjoined (opened ∷ []) 2 None Table → ⊥
-at_no_instruction h = let e : 1 ≡ 2 = h.0.each in omega (arith, e)
-
-so_it_is_refused : IsRefused unjoined 1 JoinIdle
-so_it_is_refused = ((opened ∷ []), refused_at_the_join)
-
-labels_past_are : AllByRecursion (IsLabel 1) labels_past.labels
-labels_past_are = (label_is 0 3 (omega arith) (omega arith) (omega arith), (label_is 7 3 (omega arith) (omega arith) (omega arith), (label_is 9 3 (omega arith) (omega arith) (omega arith), tt)))
-
-labels_past_is : IsProgram labels_past
-labels_past_is =
-    code_is labels_past.labels labels_past.lines labels_past_are (((omega arith, (omega arith, tt)), ((omega arith, tt), (tt, tt)))) (omega arith) (omega arith)
-    (line_is End tt, tt) (omega arith) (omega arith)
-
-labels_past_refused : IsRefused labels_past 7 Table
-labels_past_refused = refused_if labels_past 7 Table labels_past_is refl
-
 -- ---- one verdict
 
 unjoined_has_one : HasOneVerdict unjoined
@@ -292,44 +242,3 @@ never_refused (suc pc) cause r = no_opening (r.1.0.opening (omega arith))
 
 no_verdict : HasOneVerdict astray → ⊥
 no_verdict h = elim h.either [ inl typed ↦ no_opening typed.1.opening | inr refused ↦ never_refused refused.0 refused.1 refused.2 ]
-
--- ---- more pages than the period has frames: 24 small sub-channels take two pages, and the period is one frame
-
-many_changes : many_subs ≡ nothing → ⊥
-many_changes e = let n : 24 ≡ 0 = ap (λ (c : Configuration). length c.subs) e in omega (arith, n)
-
-commit_of_two_pages : CommitRefused each_frame (knows many_subs Idle 2) (24 < 24) Notice Round
-commit_of_two_pages =
-    inr ((λ cause h. h.0 refl), inr ((λ cause h. let e : 24 < 24 = h.0 in omega (arith, e)), inr ((λ cause h. h), inr ((λ cause h. many_changes h.0), (no_room_in_each_frame, refl)))))
-
-abbrev crowded : Program
-crowded = record (lone End) { plan = each_frame; configurations = many_subs ∷ [] }
-
-abbrev opened_with_many : Known
-opened_with_many = record { current = many_subs; next = many_subs; pending = Idle; counters = counters 0; allowance = 3 }
-
-nothing_below : IsTypingBelow crowded 0 []
-nothing_below = record {
-  each = refl;
-  opening = λ some. absurd (omega (arith, some));
-  labels = λ l has lt. absurd (omega (arith, lt));
-  safe = λ pc i t at known. absurd (none_there pc t known);
-  reached = λ pc lt none. absurd (omega (arith, lt));
-}
-  where
-    none_there : (pc : ℕ) (t : Known) → slice_get [] pc ≡ Some t → ⊥
-    none_there zero t e = absurd cc
-    none_there (suc pc) t e = absurd cc
-
-begins_with_two_pages : OpenedRefused crowded End (label 0 3) opened_with_many Round
-begins_with_two_pages =
-    inr (
-      (λ cause h. h.0 (record { same = refl; idle = refl; unset = refl })),
-      inr ((λ cause h. let e : 20 < 3 = h.0 in omega (arith, e)), inr ((λ cause h. h), inl (omega arith, refl))),
-    )
-
-refused_for_its_pages : IsRefused crowded 0 Round
-refused_for_its_pages = (
-  [],
-  (nothing_below, (opened_with_many, record { current = refl; next = refl; pending = refl; counters = refl; cost = refl }, begins_with_two_pages)),
-)

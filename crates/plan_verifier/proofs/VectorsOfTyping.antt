@@ -1,22 +1,22 @@
 -- Typed codes on a small code: for each definition, an example that holds and one that fails.
-use Rattle.std.proofs.Common.{◌≡◌, ◌≢◌, ℕ, zero, suc, ◌+◌, ◌*◌, ◌<◌, ◌≤◌, true, false, List, [], ◌∷◌, slice_get, Contains, Option, Some, None, inl, inr, refl, ap, subst, ◌∙◌, arith}
+use Rattle.std.proofs.Common.{◌≡◌, ◌≢◌, ℕ, zero, suc, ◌+◌, ◌*◌, ◌<◌, ◌≤◌, List, [], ◌∷◌, slice_get, Contains, Option, Some, None, inl, inr, refl, ap, subst, arith}
 use Rattle.std.proofs.lemmas.Bool.{false≢true}
 use Rattle.mux_config.specs.Configuration.{Configuration, nothing}
 use Rattle.mux_config.specs.Sound.{IsSound}
-use Rattle.mux_config.specs.declared.edit.Edit.TheVariants.{AddSub, DropSub}
+use Rattle.mux_config.specs.declared.edit.Edit.TheVariants.{AddSub}
 use Rattle.mux_types.specs.declared.parts.Sub.{Sub}
 use Rattle.mux_config.proofs.Sounding.{sound_told}
 use Rattle.mux_eep.specs.declared.sizes.EepSet.TheVariants.{A}
 use Rattle.plan_code.specs.declared.plan.Plan.{Plan}
 use Rattle.plan_code.specs.declared.label.Label.{Label}
 use Rattle.plan_code.specs.declared.label.Swap.{Swap}
-use Rattle.plan_code.specs.declared.label.Swap.TheVariants.{Idle, Within, Perhaps}
+use Rattle.plan_code.specs.declared.label.Swap.TheVariants.{Idle, Within}
 use Rattle.plan_code.specs.declared.instr.Instr.{Instr}
-use Rattle.plan_code.specs.declared.instr.Instr.TheVariants.{Wait, CommitIn, CommitAt, Join, End, Edit as Edits, Loop}
+use Rattle.plan_code.specs.declared.instr.Instr.TheVariants.{CommitIn, Join, End, Edit as Edits}
 use Rattle.plan_code.specs.Program.{Program, instr_at, label_at}
 use Rattle.plan_verifier.proofs.Samples.{plan, sub, one_sub, counters, label, line, code}
-use Rattle.plan_verifier.specs.Typing.{Known, HasRoom, CanCommit, IsCertain, IsSurelyPending, IsFine, Declares, HasConfigurationsOf, FitsSwap, Fits, CanEnter, IsInitial, IsOpening, Arrives, HasOpening, IsLabelTyped, Reaches, IsAfter, IsSafe, IsTyping, leaves, continues}
-use Rattle.plan_verifier.proofs.DecidingWalks.{decides_includes, decides_initial}
+use Rattle.plan_verifier.specs.Typing.{Known, HasRoom, CanCommit, IsCertain, IsFine, Declares, HasConfigurationsOf, FitsSwap, Fits, CanEnter, IsInitial, IsOpening, HasOpening, IsLabelTyped, Reaches, IsAfter, IsSafe, IsTyping}
+use Rattle.plan_verifier.proofs.DecidingWalks.{decides_initial}
 use Rattle.plan_verifier.proofs.DecidingFlows.{decides_room}
 
 -- ---- values shared by these vectors: the sub-channel of the samples, added to an empty multiplex
@@ -24,10 +24,6 @@ use Rattle.plan_verifier.proofs.DecidingFlows.{decides_room}
 -- the plan of the samples, but the whole configuration goes out in each frame
 abbrev pub each_frame : Plan
 each_frame = record plan { period = 1 }
-
--- two sub-channels that share all capacity units
-abbrev pub overlapping : Configuration
-overlapping = record { subs = sub ∷ record sub { id = 2 } ∷ []; services = []; packets = [] }
 
 -- n sub-channels of 8 kbit/s, one after the other
 abbrev pub small_subs : ℕ → ℕ → List Sub
@@ -61,14 +57,6 @@ joined = record { current = one_sub; next = one_sub; pending = Idle; counters = 
 abbrev pub known_there : List Known
 known_there = opened ∷ edited ∷ committed ∷ joined ∷ []
 
-abbrev subs_of : Option Configuration → List Sub
-subs_of None = []
-subs_of (Some c) = c.subs
-
-abbrev next_subs_of : Option Known → List Sub
-next_subs_of None = []
-next_subs_of (Some t) = t.next.subs
-
 abbrev pending_of : Option Known → Swap
 pending_of None = Idle
 pending_of (Some t) = t.pending
@@ -93,14 +81,6 @@ not_the_current e = let subs : sub ∷ [] ≡ [] = ap (λ (c : Configuration). c
 pub can_commit_one_sub : CanCommit plan edited
 can_commit_one_sub = record { idle = refl; sound = one_sub_is_sound; changes = not_the_current; room = room_for_one_sub }
 
-not_while_pending : CanCommit plan committed → ⊥
-not_while_pending h = let e : Within 24 27 ≡ Idle = h.idle in absurd cc
-
-not_what_overlaps : CanCommit plan (knows overlapping Idle 2) → ⊥
-not_what_overlaps h =
-    let same : 1 ≡ 2 = h.sound.apart sub (record sub { id = 2 }) 0 (0, omega arith, refl) (1, omega arith, refl) (omega arith, omega arith) (omega arith, omega arith) in
-    omega (arith, same)
-
 not_without_a_change : CanCommit plan opened → ⊥
 not_without_a_change h = h.changes refl
 
@@ -109,44 +89,14 @@ not_without_a_change h = h.changes refl
 ends_before_the_swap : IsCertain 23 (Within 24 27)
 ends_before_the_swap = inl (omega arith)
 
-ends_after_the_swap : IsCertain 27 (Within 24 27)
-ends_after_the_swap = inr (omega arith)
-
 ends_among_them : IsCertain 25 (Within 24 27) → ⊥
 ends_among_them h = elim h [ inl early ↦ omega (arith, early) | inr late ↦ omega (arith, late) ]
-
-a_swap_is_pending : IsSurelyPending (Within 24 27)
-a_swap_is_pending = tt
-
-it_may_have_been_made : IsSurelyPending (Perhaps 26) → ⊥
-it_may_have_been_made h = h
 
 pub a_first_sub_channel : IsFine plan (Edits (AddSub sub)) opened
 a_first_sub_channel = (refl, refl)
 
-pub no_edit_while_pending : IsFine plan (Edits (DropSub 1)) committed → ⊥
-no_edit_while_pending h = let e : Within 24 27 ≡ Idle = h.0 in absurd cc
-
-no_drop_of_what_is_absent : IsFine plan (Edits (DropSub 1)) opened → ⊥
-no_drop_of_what_is_absent h = let e = h.1 in absurd cc
-
 a_delay_of_the_notice : IsFine plan (CommitIn 24) edited
 a_delay_of_the_notice = (can_commit_one_sub, omega arith)
-
-no_shorter_delay : IsFine plan (CommitIn 23) edited → ⊥
-no_shorter_delay h = let e : 24 ≤ 23 = h.1 in omega (arith, e)
-
-at_count_1000 : IsFine plan (CommitAt 1000) edited
-at_count_1000 = (can_commit_one_sub, (refl, omega arith))
-
-not_at_count_1002 : IsFine plan (CommitAt 1002) edited → ⊥
-not_at_count_1002 h = let e : 2 ≡ 0 = h.1.0 in omega (arith, e)
-
-a_wait_before_the_swap : IsFine plan (Wait 23) committed
-a_wait_before_the_swap = ends_before_the_swap
-
-no_wait_among_its_frames : IsFine plan (Wait 25) committed → ⊥
-no_wait_among_its_frames h = ends_among_them h
 
 a_join_of_the_swap : IsFine plan Join committed
 a_join_of_the_swap = tt
@@ -154,28 +104,13 @@ a_join_of_the_swap = tt
 pub no_join_without_a_swap : IsFine plan Join opened → ⊥
 no_join_without_a_swap h = h
 
-a_loop_on_a_set_counter : IsFine plan (Loop 2 0) (record opened { counters = counters 4 })
-a_loop_on_a_set_counter = refl
-
-no_loop_on_an_unset_counter : IsFine plan (Loop 2 0) opened → ⊥
-no_loop_on_an_unset_counter h = false≢true h
-
 -- ---- labels
 
 pub its_label_declares : Declares joins (label 0 3) opened
 its_label_declares = record { current = refl; next = refl; pending = refl; counters = refl; cost = refl }
 
-pub it_declares_no_sub_channel : Declares joins (label 0 3) edited → ⊥
-it_declares_no_sub_channel h =
-    let same : Some nothing ≡ Some one_sub = h.next in
-    let subs : [] ≡ sub ∷ [] = ap (λ (o : Option Configuration). subs_of o) same in
-    absurd cc
-
 no_configuration_there : Declares joins (record (label 0 3) { next = 1 }) opened → ⊥
 no_configuration_there h = let e : None ≡ Some nothing = h.next in absurd cc
-
-the_same_two : HasConfigurationsOf edited committed
-the_same_two = (refl, refl)
 
 another_next_one : HasConfigurationsOf opened committed → ⊥
 another_next_one h = let e : nothing ≡ one_sub = h.1 in let subs : [] ≡ sub ∷ [] = ap (λ (c : Configuration). c.subs) e in absurd cc
@@ -186,23 +121,6 @@ narrower_bounds = ((refl, refl), omega arith, omega arith)
 
 wider_bounds : FitsSwap (Within 24 27) (Within 25 30) committed committed → ⊥
 wider_bounds h = let e : 25 ≤ 24 = h.1 in omega (arith, e)
-
--- the swap may have been made: it has been, or comes in time, but not later
-swap_made : FitsSwap Idle (Perhaps 26) joined committed
-swap_made = (refl, refl)
-
-swap_to_come : FitsSwap (Within 24 27) (Perhaps 27) committed committed
-swap_to_come = ((refl, refl), omega arith)
-
-swap_too_late : FitsSwap (Within 24 27) (Perhaps 26) committed committed → ⊥
-swap_too_late h = let e : 27 ≤ 26 = h.1 in omega (arith, e)
-
-no_swap_pending : FitsSwap Idle (Within 24 27) edited committed → ⊥
-no_swap_pending h = h
-
--- a counter that is set although the label does not require it
-pub more_counters_fit : Fits (record opened { counters = counters 5 }) (record opened { counters = counters 4 })
-more_counters_fit = record { swap = (refl, refl); counters = (decides_includes (counters 5) (counters 4)).told refl }
 
 unset_counter : Fits opened (record opened { counters = counters 4 }) → ⊥
 unset_counter h = false≢true (h.counters 2 refl)
@@ -224,14 +142,8 @@ begins_idle = (decides_initial opened).told refl
 not_with_a_swap : IsInitial committed → ⊥
 not_with_a_swap h = let e : Within 24 27 ≡ Idle = h.idle in absurd cc
 
-not_with_a_counter : IsInitial (record opened { counters = counters 4 }) → ⊥
-not_with_a_counter h = let e : 4 ≡ 0 = h.unset in omega (arith, e)
-
 pub opens_empty : IsOpening plan opened
 opens_empty = record { initial = begins_idle; sound = sound_told nothing refl; within_period = omega arith }
-
-opens_with_one_sub : IsOpening each_frame joined
-opens_with_one_sub = record { initial = (decides_initial joined).told refl; sound = one_sub_is_sound; within_period = omega arith }
 
 -- two pages in a period of one frame
 not_with_two_pages : IsOpening each_frame (record joined { current = many_subs; next = many_subs }) → ⊥
@@ -245,22 +157,8 @@ no_label_at_its_beginning h = let e : None ≡ Some h.label = h.first in absurd 
 
 -- ---- at a pc of a code
 
-arrives_after_the_edit : Arrives joins known_there 1 None (leaves plan (Edits (AddSub sub)) opened)
-arrives_after_the_edit = refl
-
-arrives_with_something_else : Arrives joins known_there 1 None opened → ⊥
-arrives_with_something_else h =
-    let subs : subs_of (Some one_sub) ≡ [] = ap (λ (o : Option Known). next_subs_of o) h in
-    absurd cc
-
-arrives_at_its_label : Arrives joins known_there 0 (Some (label 0 3)) opened
-arrives_at_its_label = comes_to_its_label
-
 pub its_label_is_placed : IsLabelTyped joins known_there (label 0 3)
 its_label_is_placed = record { known = opened; there = refl; declares = its_label_declares; within = omega arith }
-
-no_instruction_there : IsLabelTyped joins known_there (label 4 3) → ⊥
-no_instruction_there h = let e : None ≡ Some h.known = h.there in absurd cc
 
 past_the_budget : IsLabelTyped joins known_there (label 0 21) → ⊥
 past_the_budget h = let e : 21 ≤ 20 = h.within in omega (arith, e)
@@ -270,20 +168,6 @@ reaches_its_label = record { label = label 0 3; there = refl; comes = comes_to_i
 
 no_label_at_the_target : Reaches joins 1 edited → ⊥
 no_label_at_the_target h = let e : None ≡ Some h.label = h.there in absurd cc
-
-after_the_edit : IsAfter joins 1
-after_the_edit = record { before = 0; instr = Edits (AddSub sub); next = refl; there = refl; onward = refl }
-
-abbrev ends_twice : Program
-ends_twice = code (label 0 1 ∷ []) (line End ∷ line End ∷ [])
-
-nothing_goes_on_to_it : IsAfter ends_twice 1 → ⊥
-nothing_goes_on_to_it h =
-    let first : h.before ≡ 0 = (let e : 1 ≡ h.before + 1 = h.next in omega (arith, e)) in
-    let there : Some End ≡ Some h.instr = subst (λ (pc : ℕ). instr_at ends_twice pc ≡ Some h.instr) first h.there in
-    let same : End ≡ h.instr = cc in
-    let onward : false ≡ true = ap continues same ∙ h.onward in
-    false≢true onward
 
 -- ---- codes
 
@@ -326,9 +210,6 @@ end_is_safe = record {
 nothing_left_to_spend : IsSafe joins known_there 2 Join (record committed { allowance = 0 }) → ⊥
 nothing_left_to_spend h = let e : 1 ≤ 0 = h.allowance in omega (arith, e)
 
-no_wait_at_the_end : IsSafe joins known_there 3 (Wait 1) joined → ⊥
-no_wait_at_the_end h = let e : 4 < 4 = h.inside refl in omega (arith, e)
-
 safe_for : (pc : ℕ) (i : Instr) (t : Known) → IsSafe joins known_there pc i t
     → (j : Instr) (u : Known) → Some i ≡ Some j → Some t ≡ Some u → IsSafe joins known_there pc j u
 safe_for pc i t h j u e f =
@@ -347,6 +228,9 @@ placed_everywhere : (l : Label) → Contains joins.labels l → IsLabelTyped joi
 placed_everywhere l (zero, lt, same) = subst (λ (x : Label). IsLabelTyped joins known_there x) same its_label_is_placed
 placed_everywhere l (suc n, lt, same) = absurd (omega (arith, lt))
 
+nothing_before_the_first : IsAfter joins 0 → ⊥
+nothing_before_the_first h = let e : 0 ≡ h.before + 1 = h.next in omega (arith, e)
+
 after_another : (pc : ℕ) → pc < 4 → label_at joins pc ≡ None → IsAfter joins pc
 after_another zero lt e = absurd cc
 after_another (suc zero) lt e = record { before = 0; instr = Edits (AddSub sub); next = refl; there = refl; onward = refl }
@@ -356,10 +240,6 @@ after_another (suc (suc (suc (suc pc)))) lt e = absurd (omega (arith, lt))
 
 its_typing : IsTyping joins known_there
 its_typing = record { each = refl; opening = its_opening; labels = placed_everywhere; safe = safe_everywhere; reached = after_another }
-
--- a typing has an entry for every instruction
-ends_too_early : IsTyping joins (opened ∷ edited ∷ committed ∷ []) → ⊥
-ends_too_early h = let e : 3 ≡ 4 = h.each in omega (arith, e)
 
 -- after the join the swap has been made
 forgets_the_swap : IsTyping joins (opened ∷ edited ∷ committed ∷ committed ∷ []) → ⊥
