@@ -148,12 +148,6 @@ header_count II notice count j some three long short low whole = omega (arith, s
 header_count III notice count j some three long short low whole = omega (arith, some, three, long, short, low, whole)
 header_count IV notice count j some three long short low whole = omega (arith, some, three, long, short, low, whole)
 
-step_low : (m : Mode) → (1 ≤ count_step m) × (count_step m ≤ 4)
-step_low I = (omega arith, omega arith)
-step_low II = (omega arith, omega arith)
-step_low III = (omega arith, omega arith)
-step_low IV = (omega arith, omega arith)
-
 sent_here : (plan : Plan) (s : State) → s.count % count_step (layout_mode plan.layout) ≡ 0 → ensemble_sent plan s ≡ Some (ensemble_of plan s)
 sent_here plan s e = ap (λ (b : Bool). cond b (Some (ensemble_of plan s)) None) (eq-eqb (s.count % count_step (layout_mode plan.layout)) 0 e)
 

@@ -6,7 +6,6 @@ pub mod Reached
 pub mod Samples
 mod Vectors
 mod VectorsOfAlternatives
-mod Meanings
 pub mod Lookups
 pub mod Knowledge
 pub mod Passing

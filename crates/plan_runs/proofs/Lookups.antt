@@ -34,10 +34,3 @@ get_some (x ∷ xs) (suc i) below = get_some xs i (omega arith)
 
 pub get_below : {X : Type 0} (xs : List X) (i : ℕ) (x : X) → slice_get xs i ≡ Some x → i < length xs
 get_below xs i x h = slice_get_within xs i x h
-
-pub get_contains : {X : Type 0} (xs : List X) (i : ℕ) (x : X) → slice_get xs i ≡ Some x → Contains xs x
-get_contains [] i x h = absurd cc
-get_contains (y ∷ ys) zero x h =
-    let same : y ≡ x = cc in
-    (0, omega arith, same)
-get_contains (y ∷ ys) (suc i) x h = contains_later y x ys (get_contains ys i x h)

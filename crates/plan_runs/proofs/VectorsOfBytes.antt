@@ -11,7 +11,7 @@ use Rattle.fib_codec.specs.declared.modes.Mode.{Mode}
 use Rattle.fib_codec.specs.declared.modes.Mode.TheVariants.{I, II}
 use Rattle.fib_codec.specs.Ranges.{IsEnsembleInformation}
 use Rattle.fib_codec.specs.Grammar.{Fig, Open, Other}
-use Rattle.fib_codec.specs.Heard.{IsInFig, IsHeardInRow, IsEnsembleHeardInRow, fib_at}
+use Rattle.fib_codec.specs.Heard.{IsInFig, IsEnsembleHeardInRow, fib_at}
 use Rattle.fib_codec.proofs.Uniqueness.{one_fib}
 use Rattle.fib_carousel.specs.Pages.{page_entries}
 use Rattle.fib_carousel.specs.Carried.{IsPageable}
@@ -24,12 +24,12 @@ use Rattle.plan_code.specs.Machine.{State}
 use Rattle.plan_verifier.proofs.Samples.{sub_at_rate, with_sub, one_sub_is, lower_is}
 use Rattle.plan_runs.specs.declared.event.Event.TheVariants.{Frame}
 use Rattle.plan_runs.specs.Frames.{FrameIsAllowed, sent_entries, ensemble_sent, shown_bytes, after_frame, frame_bytes}
-use Rattle.plan_runs.specs.Announced.{IsHeardInSome, IsHeardWhole, HasHeader, IsHeaded, HasThreeHeaders, IsFlagged, IsAnnounced, FrameRuns, EventRuns, Runs}
-use Rattle.plan_runs.specs.RightBytes.{IsEnsembleFig, IsNoHeader, IsFlaggedBy, IsEnsembleOf, IsHeadedBy, IsUnheaded, IsRight, BeginsNoPhase, IsOnePhase}
+use Rattle.plan_runs.specs.Announced.{IsHeardInSome, IsHeardWhole, HasHeader, IsFlagged, IsAnnounced, FrameRuns, Runs}
+use Rattle.plan_runs.specs.RightBytes.{IsEnsembleFig, IsNoHeader, IsEnsembleOf, IsHeadedBy, IsUnheaded, IsRight, BeginsNoPhase, IsOnePhase}
 use Rattle.plan_runs.specs.Headline.{IsAnnouncedIn, AnnouncesOnly, SwapsAt, KeepsCount}
 use Rattle.plan_runs.proofs.Samples.{all_open}
 use Rattle.plan_runs.proofs.Tracked.{Airs}
-use Rattle.plan_runs.proofs.Right.{PageLaws, frame_right, ensemble_right, page_inside}
+use Rattle.plan_runs.proofs.Right.{PageLaws, frame_right, ensemble_right}
 
 -- FIG 0/0 is in every fourth frame of mode I, and in every frame of mode II
 abbrev plan : Mode → Plan
@@ -64,9 +64,6 @@ a_header = refl
 no_header : IsEnsembleFig (Open 1 []) → ⊥
 no_header h = let e : 1 ≡ 0 = h in omega (arith, e)
 
-not_looked_into : IsEnsembleFig (Other []) → ⊥
-not_looked_into h = h
-
 other_extension : IsNoHeader (Open 1 [])
 other_extension = no_header
 
@@ -85,33 +82,11 @@ flagged count low = record { eid = 0xe1c5; change = 1; al = false; count = count
 some_count : (a b : ℕ) → Some a ≡ Some b → a ≡ b
 some_count a b e = cc
 
-flagged_with_its_count : IsFlagged (with_sub 128) (with_sub 96) 1010 (flagged 998 10)
-flagged_with_its_count = (refl, refl)
-
-flagged_with_another : IsFlagged (with_sub 128) (with_sub 96) 1010 (flagged 998 11) → ⊥
-flagged_with_another h = let e : 11 ≡ 10 = some_count 11 10 h.1 in omega (arith, e)
-
-flagged_as_services : IsFlagged (with_sub 128) (with_sub 96) 1010 (record (flagged 998 10) { change = 2 }) → ⊥
-flagged_as_services h = let e : 2 ≡ 1 = h.0 in omega (arith, e)
-
--- the count runs modulo 5000
-flagged_over_the_turn : IsFlaggedBy (on_air (Some 12) 4990) (Some 12) (flagged 4990 2)
-flagged_over_the_turn = (refl, refl)
-
-flagged_without_a_swap : IsFlaggedBy (on_air None 4990) None (flagged 4990 2) → ⊥
-flagged_without_a_swap h = h
-
-before_the_notice : IsEnsembleOf (plan I) (on_air (Some 13) 987) (unflagged 987)
-before_the_notice = ensemble_right (plan I) (on_air (Some 13) 987)
-
 in_the_notice : IsEnsembleOf (plan I) (on_air (Some 12) 988) (flagged 988 0)
 in_the_notice = ensemble_right (plan I) (on_air (Some 12) 988)
 
 unflagged_in_the_notice : IsEnsembleOf (plan I) (on_air (Some 12) 988) (unflagged 988) → ⊥
 unflagged_in_the_notice h = let e : 0 ≡ 1 = (h.flagged refl).0 in omega (arith, e)
-
-flagged_too_early : IsEnsembleOf (plan I) (on_air (Some 13) 987) (flagged 987 0) → ⊥
-flagged_too_early h = let e : 1 ≡ 0 = (h.unflagged refl).0 in omega (arith, e)
 
 -- ---- phases
 
@@ -129,19 +104,12 @@ notice_begins h = let e : true ≡ false = h.1.0 in absurd cc
 
 -- ---- what is heard in the bytes of a frame: page 0 of the current configuration, with FIG 0/0 on a count of 8
 
-unflagged_is : (count : ℕ) → count < 5000 → IsEnsembleInformation (unflagged count)
-unflagged_is count below =
-    record { eid = omega arith; change = omega arith; count = below; flagged = (λ none. absurd cc, λ some. absurd (omega (arith, some))); occurrence = tt }
-
 flagged_is : (count low : ℕ) → count < 5000 → low < 256 → IsEnsembleInformation (flagged count low)
 flagged_is count low below last =
     record { eid = omega arith; change = omega arith; count = below; flagged = (λ there. omega arith, λ some. refl); occurrence = last }
 
 abbrev IsSendableBy : Plan → State → Type 0
 IsSendableBy plan s = IsPageable (ensemble_sent plan s) (sent_entries plan s)
-
-with_header : IsSendableBy (plan I) (on_air None 8)
-with_header = page_sets_are_pageable (with_sub 128) None (Some (unflagged 8)) one_sub_is tt (unflagged_is 8 (omega arith))
 
 without_header : IsSendableBy (plan I) (on_air None 9)
 without_header = page_sets_are_pageable (with_sub 128) None None one_sub_is tt tt
@@ -153,85 +121,16 @@ headed = shown_bytes (plan I) (on_air None 8)
 abbrev bare : List ℕ
 bare = shown_bytes (plan I) (on_air None 9)
 
-abbrev current_sub : Marked
-current_sub = marked false (sub_entry (sub_at_rate 128))
-
 abbrev next_sub : Marked
 next_sub = marked true (sub_entry (sub_at_rate 96))
 
-heard_in_headed : IsHeardInRow headed current_sub
-heard_in_headed =
-    (pages_are_heard (Whole I) (ensemble_sent (plan I) (on_air None 8)) 0 (sent_entries (plan I) (on_air None 8)) with_header current_sub).1 (0, omega arith, refl)
-
-nothing_more : (m : Marked) → IsHeardInRow headed m → m ≡ current_sub
-nothing_more m h = one (page_inside (Whole I) 0 (sent_entries (plan I) (on_air None 8)) m
-    ((pages_are_heard (Whole I) (ensemble_sent (plan I) (on_air None 8)) 0 (sent_entries (plan I) (on_air None 8)) with_header m).0 h))
-  where
-    one : Contains (current_sub ∷ []) m → m ≡ current_sub
-    one (zero, lt, same) = sym same
-    one (suc n, lt, same) = absurd (omega (arith, lt))
-
-heard_in_some : IsHeardInSome (headed ∷ []) current_sub
-heard_in_some = (headed, (0, omega arith, refl), heard_in_headed)
-
-only_frame : (frame other : List ℕ) → Contains (frame ∷ []) other → frame ≡ other
-only_frame frame other (zero, lt, same) = same
-only_frame frame other (suc n, lt, same) = absurd (omega (arith, lt))
-
-not_of_the_next : IsHeardInSome (headed ∷ []) next_sub → ⊥
-not_of_the_next h =
-    let there : IsHeardInRow headed next_sub = subst (λ (frame : List ℕ). IsHeardInRow frame next_sub) (sym (only_frame headed h.0 h.1)) h.2 in
-    let same : true ≡ false = ap (λ (m : Marked). m.next) (nothing_more next_sub there) in
-    absurd cc
-
-whole_current : IsHeardWhole (with_sub 128) false (headed ∷ [])
-whole_current m (zero, lt, same) = subst (λ (x : Marked). IsHeardInSome (headed ∷ []) x) same heard_in_some
-whole_current m (suc n, lt, same) = absurd (omega (arith, lt))
-
-not_the_next : IsHeardWhole (with_sub 96) true (headed ∷ []) → ⊥
-not_the_next h = not_of_the_next (h next_sub (0, omega arith, refl))
-
 -- ---- FIG 0/0 in a frame
-
-its_header : IsEnsembleHeardInRow headed false (unflagged 8)
-its_header = (ensemble_is_heard (Whole I) (ensemble_sent (plan I) (on_air None 8)) 0 (sent_entries (plan I) (on_air None 8)) with_header false (unflagged 8)).1 (refl, refl)
-
-has_header : HasHeader headed
-has_header = (false, unflagged 8, its_header)
 
 has_no_header : HasHeader bare → ⊥
 has_no_header h =
     let said = (ensemble_is_heard (Whole I) (ensemble_sent (plan I) (on_air None 9)) 0 (sent_entries (plan I) (on_air None 9)) without_header h.0 h.1).0 h.2 in
     let e : None ≡ Some h.1 = said.1 in
     absurd cc
-
-headed_second : IsHeaded (bare ∷ headed ∷ []) 1
-headed_second = (headed, refl, has_header)
-
-not_headed_first : IsHeaded (bare ∷ headed ∷ []) 0 → ⊥
-not_headed_first h =
-    let same : bare ≡ h.0 = some_frame bare h.0 h.1 in
-    has_no_header (subst (λ (frame : List ℕ). HasHeader frame) (sym same) h.2)
-  where
-    some_frame : (frame other : List ℕ) → Some frame ≡ Some other → frame ≡ other
-    some_frame frame other e = cc
-
-three_headers : HasThreeHeaders (headed ∷ bare ∷ headed ∷ headed ∷ [])
-three_headers = record {
-  first = 0;
-  second = 2;
-  third = 3;
-  before_second = omega arith;
-  before_third = omega arith;
-  in_first = (headed, refl, has_header);
-  in_second = (headed, refl, has_header);
-  in_third = (headed, refl, has_header);
-}
-
-two_headers : HasThreeHeaders (headed ∷ headed ∷ []) → ⊥
-two_headers h =
-    let within : h.third < 2 = slice_get_within (headed ∷ headed ∷ []) h.third h.in_third.0 h.in_third.1 in
-    omega (arith, within, h.before_second, h.before_third)
 
 -- ---- correct frames
 
@@ -254,14 +153,8 @@ airs count below = record {
 frame_of_8 : IsRight (plan I) (on_air None 8) headed
 frame_of_8 = frame_right laws (plan I) (on_air None 8) (airs 8 (omega arith))
 
-frame_of_9 : IsRight (plan I) (on_air None 9) bare
-frame_of_9 = frame_right laws (plan I) (on_air None 9) (airs 9 (omega arith))
-
 begins_with_its_header : IsHeadedBy (plan I) (on_air None 8) (fib_at headed 0)
 begins_with_its_header = frame_of_8.headed refl
-
-no_header_at_all : IsUnheaded (fib_at bare 0)
-no_header_at_all = frame_of_9.unheaded (λ e. let one : 1 ≡ 0 = e in omega (arith, one))
 
 no_header_in_its_second : IsUnheaded (fib_at headed 1)
 no_header_in_its_second = frame_of_8.others_unheaded 1 (omega arith) (omega arith)
@@ -278,25 +171,8 @@ not_both plan s fib h u =
     let each : AllByRecursion IsNoHeader (h.header ∷ h.others) = subst (λ (figs : List Fig). AllByRecursion IsNoHeader figs) same u.2 in
     each.0 (says_header h.header h.information h.says)
 
-headed_without_one : (s : State) → IsHeadedBy (plan I) s (fib_at bare 0) → ⊥
-headed_without_one s h = not_both (plan I) s (fib_at bare 0) h no_header_at_all
-
 unheaded_with_one : IsUnheaded (fib_at headed 0) → ⊥
 unheaded_with_one h = not_both (plan I) (on_air None 8) (fib_at headed 0) begins_with_its_header h
-
--- its FIG 0/0 has another count
-not_for_count_12 : IsRight (plan I) (on_air None 12) headed → ⊥
-not_for_count_12 h =
-    let top = h.headed refl in
-    let heard : IsEnsembleHeardInRow headed false top.information = (0, (top.header ∷ top.others, top.header, top.first, (0, omega arith, refl), top.says)) in
-    let said = ((ensemble_is_heard (Whole I) (ensemble_sent (plan I) (on_air None 8)) 0 (sent_entries (plan I) (on_air None 8)) with_header false top.information).0 heard).1 in
-    let same : unflagged 8 ≡ top.information = some_information (unflagged 8) top.information said in
-    let count : top.information.count ≡ 12 = top.right.count in
-    let eight : 8 ≡ top.information.count = ap (λ (e : EnsembleInformation). e.count) same in
-    omega (arith, count, eight)
-  where
-    some_information : (e other : EnsembleInformation) → Some e ≡ Some other → e ≡ other
-    some_information e other same = cc
 
 -- ---- a notice in mode II: the swap falls on count 10
 
@@ -397,15 +273,6 @@ announced = record {
   flagged = all_flagged;
 }
 
-no_count : (a : ℕ) → None ≡ Some a → ⊥
-no_count a e = absurd cc
-
--- the same frames don't announce a swap at the count after it
-announced_for_11 : IsAnnounced (with_sub 128) (with_sub 96) 11 notice → ⊥
-announced_for_11 h =
-    let same : 10 ≡ 11 = some_count 10 11 ((h.flagged (notice_frame 7 3) false (flagged 7 10) (0, omega arith, refl) (header_of 7 3 three_before)).1) in
-    omega (arith, same)
-
 -- and two frames alone announce no swap
 announced_by_two : IsAnnounced (with_sub 128) (with_sub 96) 10 (notice_frame 8 2 ∷ notice_frame 9 1 ∷ []) → ⊥
 announced_by_two h =
@@ -426,21 +293,6 @@ announces_only_10 = only_10
 
 announces_only_11 : AnnouncesOnly 11 (notice_frame 9 1) → ⊥
 announces_only_11 h = let e : 10 ≡ 11 = h 10 announces_10 in omega (arith, e)
-
-announces_11 : IsAnnouncedIn (notice_frame 9 1) 11 → ⊥
-announces_11 h = let e : 11 ≡ 10 = only_10 11 h in omega (arith, e)
-
--- without a swap no count is announced
-announces_nothing : (low : ℕ) → IsAnnouncedIn headed low → ⊥
-announces_nothing low h =
-    let said = (ensemble_is_heard (Whole I) (ensemble_sent (plan I) (on_air None 8)) 0 (sent_entries (plan I) (on_air None 8)) with_header h.0 h.1).0 h.2 in
-    no_count low (ap (λ (e : EnsembleInformation). e.occurrence) (some_same (Some (unflagged 8)) (unflagged 8) h.1 refl said.1) ∙ h.3)
-
-swap_at_10 : SwapsAt 10 (code II) (on_air (Some 0) 10) (Frame ∷ [])
-swap_at_10 = refl
-
-no_swap_at_10 : SwapsAt 10 (code II) (on_air (Some 1) 10) (Frame ∷ []) → ⊥
-no_swap_at_10 h = let e : false ≡ true = h in absurd cc
 
 -- a swap falls on the frame after the one that announces it
 keeps_its_count : KeepsCount (code II) (noticed 9 1) (Frame ∷ Frame ∷ [])
@@ -481,12 +333,6 @@ swap_was_announced = record { allowed = swap_allowed; announced = λ due. announ
 
 swap_was_not : FrameRuns (code II) swapping (notice_frame 8 2 ∷ notice_frame 9 1 ∷ []) → ⊥
 swap_was_not h = announced_by_two (h.announced refl)
-
-frame_runs : EventRuns (code II) swapping notice Frame
-frame_runs = swap_was_announced
-
-frame_does_not_run : EventRuns (code II) swapping (notice_frame 8 2 ∷ notice_frame 9 1 ∷ []) Frame → ⊥
-frame_does_not_run h = swap_was_not h
 
 runs_over_the_swap : Runs (code II) swapping notice (Frame ∷ [])
 runs_over_the_swap = (swap_was_announced, tt)

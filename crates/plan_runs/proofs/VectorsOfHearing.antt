@@ -1,18 +1,11 @@
--- Small examples: a listener hearing one FIB, and statements that hold for one run and fail for another.
-use Rattle.std.specs.Prelude.{take, map, ◌++◌}
-use Rattle.std.proofs.Common.{◌≡◌, ℕ, true, false, List, [], ◌∷◌, Option, Some, None, inr, refl, ap, replicate, arith}
+-- Statements about listeners that hold for one run and fail for another.
+use Rattle.std.proofs.Common.{◌≡◌, ℕ, true, false, List, [], ◌∷◌, Option, Some, None, inr, refl, replicate}
 use Rattle.fib_codec.specs.declared.frame_layout.FrameLayout.TheVariants.{Whole}
 use Rattle.mux_eep.specs.declared.sizes.EepSet.TheVariants.{A}
 use Rattle.mux_types.specs.declared.parts.Sub.{Sub}
 use Rattle.mux_config.specs.Configuration.{Configuration}
-use Rattle.mux_types.specs.Entries.{EnsembleInformation}
-use Rattle.mux_types.specs.Facts.{facts_of}
 use Rattle.fib_codec.specs.declared.modes.Mode.TheVariants.{II}
-use Rattle.fib_codec.specs.Grammar.{OneList, fig_of}
-use Rattle.fib_carousel.specs.Bytes.{page_bytes, ensemble_figs, figs_of}
-use Rattle.fib_carousel.specs.Carried.{IsPageable}
-use Rattle.fib_carousel.proofs.Hearing.{pages_are_valid}
-use Rattle.fib_reader.specs.Listening.{blank, Listening, untuned}
+use Rattle.fib_reader.specs.Listening.{blank, untuned}
 use Rattle.fib_reader.specs.Picture.{Shows}
 use Rattle.plan_code.specs.declared.flags.Contacts.{Contacts}
 use Rattle.plan_code.specs.declared.hold.Hold.TheVariants.{Ended}
@@ -20,9 +13,7 @@ use Rattle.plan_code.specs.Program.{Program}
 use Rattle.plan_code.specs.Machine.{State}
 use Rattle.plan_runs.specs.declared.event.Event.{Event}
 use Rattle.plan_runs.specs.declared.event.Event.TheVariants.{Frame}
-use Rattle.plan_runs.specs.Listening.{fibs_of, HearsAll, HasCount, IsTunedBy, KnowsTheCurrent, IsNotice, MakesNoSwap, IsUntilNextSwap, ListenersKnow}
-use Rattle.plan_runs.proofs.Pictures.{whole_of}
-use Rattle.plan_runs.proofs.Tuned.{hears_same}
+use Rattle.plan_runs.specs.Listening.{KnowsTheCurrent, IsNotice, MakesNoSwap, IsUntilNextSwap, ListenersKnow}
 
 abbrev sub : Sub
 sub = record { id = 1; start = 0; protection = record { set = A; level = 3 }; kbits = 128 }
@@ -32,46 +23,8 @@ one_sub = record { subs = sub ∷ []; services = []; packets = [] }
 
 -- ---- what a picture shows
 
-its_picture : Shows (whole_of one_sub) one_sub
-its_picture = refl
-
 not_blank : Shows blank one_sub → ⊥
 not_blank e = absurd cc
-
--- ---- the first FIB of a page, with FIG 0/0 and FIG 0/1
-
-abbrev information : EnsembleInformation
-information = record { eid = 0xe1c5; change = 0; al = false; count = 0; occurrence = None }
-
-its_page : IsPageable (Some information) (facts_of one_sub false)
-its_page = record {
-  entries = (
-    record {
-      organization = omega arith;
-      within = record { id = omega arith; start = omega arith; option = omega arith; level = omega arith; size = omega arith };
-      small = omega arith;
-    },
-    tt,
-  );
-  ensemble_within = record { eid = omega arith; change = omega arith; count = omega arith; flagged = (λ none. absurd cc, λ some. absurd (omega (arith, some))); occurrence = tt };
-}
-
-abbrev page : List ℕ
-page = page_bytes (Whole II) (Some information) 0 (facts_of one_sub false)
-
-abbrev knows : Listening
-knows = record { tuned = true; current = whole_of one_sub; next = blank; awaited = None }
-
-first_fib_heard : HearsAll (take 1 (fibs_of (Whole II) (page ∷ []))) untuned knows
-first_fib_heard =
-    let valid = (pages_are_valid (Whole II) (Some information) 0 (facts_of one_sub false) its_page).0.0 in
-    (knows, (map fig_of (ensemble_figs (Some information) ++ figs_of (facts_of one_sub false)), valid.fib, refl), refl)
-
-not_unheard : OneList → HearsAll (take 1 (fibs_of (Whole II) (page ∷ []))) untuned untuned → ⊥
-not_unheard law h =
-    let same : knows ≡ untuned = hears_same law (take 1 (fibs_of (Whole II) (page ∷ []))) untuned knows untuned first_fib_heard h in
-    let flags : true ≡ false = ap (λ (l : Listening). l.tuned) same in
-    absurd cc
 
 -- ---- runs of a code that has ended
 
@@ -97,13 +50,6 @@ state left count = record {
   eid = 0xe1c5;
   page_index = 0;
 }
-
--- in mode II every frame has FIG 0/0, and so has the next one
-tuned_at_once : IsTunedBy (code 1) (state None 7) []
-tuned_at_once = inr refl
-
-no_frame_yet : HasCount (code 1) (state None 7) [] → ⊥
-no_frame_yet h = h
 
 -- with a period of no frames the law would fail: nothing was heard
 no_period : KnowsTheCurrent (code 0) (state None 7) → ⊥

@@ -1,6 +1,6 @@
 -- Swaps, waits, counts, contacts and what was heard: for each definition, examples that hold and examples that fail.
 use Rattle.std.specs.Prelude.{map, get_or}
-use Rattle.std.proofs.Common.{◌≡◌, ℕ, zero, suc, ◌<◌, ◌≤◌, ◌%◌, true, false, List, [], ◌∷◌, length, Some, None, refl, sym, ap, arith, inl, inr}
+use Rattle.std.proofs.Common.{◌≡◌, ℕ, zero, suc, ◌<◌, ◌≤◌, ◌%◌, true, false, List, [], ◌∷◌, length, Some, None, refl, ap, arith, inl, inr}
 use Rattle.fib_codec.specs.declared.frame_layout.FrameLayout.TheVariants.{Whole}
 use Rattle.mux_types.specs.declared.parts.Sub.{Sub}
 use Rattle.mux_config.specs.Configuration.{Configuration}
@@ -8,8 +8,7 @@ use Rattle.mux_types.specs.Entries.{EnsembleInformation}
 use Rattle.fib_codec.specs.declared.modes.Mode.{Mode}
 use Rattle.fib_codec.specs.declared.modes.Mode.TheVariants.{I, II}
 use Rattle.plan_code.specs.declared.plan.Plan.{Plan}
-use Rattle.plan_code.specs.declared.flags.Contacts.{Contacts}
-use Rattle.plan_code.specs.declared.hold.Hold.TheVariants.{Running, Waits, WaitsDay, WaitsContact, WaitsSwap, Ended}
+use Rattle.plan_code.specs.declared.hold.Hold.TheVariants.{Running, Waits, WaitsSwap}
 use Rattle.plan_code.specs.declared.instr.Instr.{Instr}
 use Rattle.plan_code.specs.declared.instr.Instr.TheVariants.{Wait, CommitIn, CommitAt, End, Set}
 use Rattle.plan_code.specs.declared.instr.Line.{Line}
@@ -19,9 +18,9 @@ use Rattle.plan_verifier.proofs.Samples.{with_sub}
 use Rattle.plan_runs.specs.declared.event.Event.TheVariants.{Contact, Frame}
 use Rattle.plan_runs.specs.declared.event.Start.{Start}
 use Rattle.plan_runs.specs.Frames.{is_due, hold_after_swap, is_running, is_here, with_hold_ended, ensemble_of, shown, frame_bytes, hold_after_frame, after_frame}
-use Rattle.plan_runs.specs.Firsts.{is_active, CarriesOut, IsFirstWhere}
+use Rattle.plan_runs.specs.Firsts.{CarriesOut, IsFirstWhere}
 use Rattle.plan_runs.specs.Swaps.{IsOnStep, SwapsWhereDue, IsSwapAtCount, IsSwapAfterDelay, IsCommit}
-use Rattle.plan_runs.specs.Waits.{IsWaitOf, HasCome, WaitsUntil}
+use Rattle.plan_runs.specs.Waits.{IsWaitOf, WaitsUntil}
 use Rattle.plan_runs.specs.Clock.{IsCounted, level_after}
 use Rattle.plan_runs.specs.LastSent.{AreLastSent}
 use Rattle.plan_runs.specs.SentHeaders.{HasHeaderOf}
@@ -43,28 +42,12 @@ code budget lines = record { plan = plan II 1 budget; configurations = []; label
 
 -- ---- the instructions of a frame
 
-abbrev third : State
-third = after_frame waits second
-
-carries_out_one : is_active waits second ≡ true
-carries_out_one = refl
-
-has_ended : is_active waits third ≡ true → ⊥
-has_ended e = let clash : false ≡ true = e in absurd cc
-
 the_wait : CarriesOut waits first (Wait 1)
 the_wait = (0, omega arith, refl)
 
 not_the_end : CarriesOut waits first End → ⊥
 not_the_end (zero, below, at) = let same : Some (Wait 1) ≡ Some End = at in absurd cc
 not_the_end (suc k, below, at) = let e : suc k < 1 = below in omega (arith, e)
-
-first_of_two : IsFirstWhere (is_active waits) (λ n t. n ≡ 1) 1 waits second (Frame ∷ Frame ∷ [])
-first_of_two = inl (refl, refl)
-
-not_the_second : IsFirstWhere (is_active waits) (λ n t. n ≡ 2) 1 waits second (Frame ∷ Frame ∷ []) → ⊥
-not_the_second (inl h) = let e : 1 ≡ 2 = h.1 in omega (arith, e)
-not_the_second (inr h) = let clash : true ≡ false = h.0 in absurd cc
 
 -- ---- swaps, with 128 kbit/s on the air and 96 kbit/s next
 
@@ -85,9 +68,6 @@ swapped = record { becomes_next = λ due. refl; stays = λ none. let clash : tru
 
 not_swapped : SwapsWhereDue (due_at 8) (due_at 8) → ⊥
 not_swapped h = other_rate (h.becomes_next refl)
-
-swapped_too_early : SwapsWhereDue (record (due_at 7) { left = Some 1 }) (record first { current = with_sub 96 }) → ⊥
-swapped_too_early h = let e : with_sub 96 ≡ with_sub 128 = h.stays refl in other_rate (sym e)
 
 a_commit : IsCommit (CommitIn 24)
 a_commit = tt
@@ -137,9 +117,6 @@ no_frame_left = refl
 one_frame_left : is_here first (Waits 1) ≡ true → ⊥
 one_frame_left e = let clash : false ≡ true = e in absurd cc
 
-nothing_to_wait_for : is_here first Running ≡ true
-nothing_to_wait_for = refl
-
 resumes : (with_hold_ended (record first { hold = Waits 0 })).hold ≡ Running
 resumes = refl
 
@@ -168,40 +145,6 @@ suspends_for_two h = let e : 2 ≡ 3 = after_wait 2 3 h in omega (arith, e)
   where
     after_wait : (a b : ℕ) → Waits a ≡ Waits b → a ≡ b
     after_wait a b same = cc same
-
-third_frame : HasCome (Waits 3) 3 first
-third_frame = refl
-
-second_frame : HasCome (Waits 3) 2 first → ⊥
-second_frame h = let e : 2 ≡ 3 = h in omega (arith, e)
-
--- 22:00:00 is 79,200 s, in frames of 24 ms
-at_ten : HasCome (WaitsDay 3300000) 1 (record first { day = 3300000 })
-at_ten = refl
-
-a_frame_late : HasCome (WaitsDay 3300000) 1 (record first { day = 3300001 }) → ⊥
-a_frame_late h = let e : 3300001 ≡ 3300000 = h in omega (arith, e)
-
-abbrev third_closed : Contacts
-third_closed = record { 0 = 8 }
-
-contact_closed : HasCome (WaitsContact 3 true) 1 (record first { contacts = third_closed })
-contact_closed = refl
-
-contact_open : HasCome (WaitsContact 3 true) 1 first → ⊥
-contact_open h = let clash : false ≡ true = h in absurd cc
-
-with_the_swap : HasCome WaitsSwap 1 (due_at 8)
-with_the_swap = refl
-
-before_the_swap : HasCome WaitsSwap 1 (record (due_at 7) { left = Some 1 }) → ⊥
-before_the_swap h = let clash : false ≡ true = h in absurd cc
-
-never : HasCome Ended 1 first → ⊥
-never h = h
-
-no_wait : HasCome Running 1 first → ⊥
-no_wait h = h
 
 waits_for_one : WaitsUntil waits second (Frame ∷ Contact 3 true ∷ Frame ∷ [])
 waits_for_one = waits_are_kept waits second (Frame ∷ Contact 3 true ∷ Frame ∷ []) played

@@ -1,19 +1,19 @@
 -- Listeners to small codes: for each definition of listening, examples that hold and examples that fail.
 use Rattle.std.specs.Prelude.{is_some, get_or}
-use Rattle.std.proofs.Common.{◌≡◌, ℕ, zero, suc, ◌+◌, ◌*◌, ◌/◌, ◌%◌, ◌==◌, cond, ◌<◌, Bool, true, false, List, [], ◌∷◌, ◌++◌, length, map, Option, Some, None, inl, inr, refl, sym, ap, ◌∙◌, arith}
+use Rattle.std.proofs.Common.{◌≡◌, ℕ, zero, suc, ◌+◌, ◌*◌, ◌/◌, ◌%◌, ◌==◌, cond, ◌<◌, Bool, true, false, List, [], ◌∷◌, ◌++◌, length, map, Option, Some, None, inl, inr, refl, ap, arith}
 use Rattle.std.proofs.lemmas.Bool.{false≢true}
 use Rattle.fib_codec.specs.declared.frame_layout.FrameLayout.TheVariants.{Whole}
 use Rattle.mux_types.specs.Entries.{EnsembleInformation}
-use Rattle.mux_types.specs.Facts.{marked, facts_of, sub_entry}
+use Rattle.mux_types.specs.Facts.{marked, sub_entry}
 use Rattle.fib_codec.specs.Ranges.{IsEnsembleInformation}
-use Rattle.fib_codec.specs.Grammar.{Fig, fig_of}
+use Rattle.fib_codec.specs.Grammar.{fig_of}
 use Rattle.fib_codec.specs.Heard.{fib_at}
-use Rattle.fib_carousel.specs.Bytes.{page_bytes, ensemble_figs, figs_of}
+use Rattle.fib_carousel.specs.Bytes.{ensemble_figs, figs_of}
 use Rattle.fib_carousel.specs.Carried.{IsSendable, IsPageable}
 use Rattle.fib_carousel.specs.Pages.{page_set}
 use Rattle.fib_reader.specs.Raw.{Raw}
 use Rattle.fib_codec.specs.Spelling.{bit_of, occurrence_bytes}
-use Rattle.fib_reader.specs.Listening.{blank, Listening, untuned, hear_figs}
+use Rattle.fib_reader.specs.Listening.{blank, Listening, untuned}
 use Rattle.fib_reader.specs.Picture.{Shows}
 use Rattle.plan_runs.specs.Frames.{frame_bytes, after_frame}
 use Rattle.plan_runs.proofs.Samples.{start_at, first_state}
@@ -176,12 +176,6 @@ listeners_know = record { room = never_full_of_it; current = knows_the_rate; aft
 count_of_8 : HasCount (lowers I) (first 7) (Frame ∷ Frame ∷ [])
 count_of_8 = inr (inl refl)
 
-no_count_of_8 : HasCount (lowers I) (first 9) (Frame ∷ Frame ∷ []) → ⊥
-no_count_of_8 h = elim h [
-  | inl first ↦ (let e : 1 ≡ 0 = first in omega (arith, e))
-  | inr later ↦ elim later [ inl second ↦ (let e : 2 ≡ 0 = second in omega (arith, e)) | inr none ↦ none ]
-]
-
 tuned_by_8 : IsTunedBy (lowers I) (first 7) (Frame ∷ [])
 tuned_by_8 = inr refl
 
@@ -220,31 +214,6 @@ current_sendable = record {
   within = record { id = omega arith; start = omega arith; option = omega arith; level = omega arith; size = omega arith };
   small = omega arith;
 }
-
-abbrev page : List ℕ
-page = page_bytes (Whole II) (Some (unflagged 7)) 0 (facts_of (with_sub 128) false)
-
-page_is : IsPageable (Some (unflagged 7)) (facts_of (with_sub 128) false)
-page_is = record { entries = (current_sendable, tt); ensemble_within = unflagged_is 7 (omega arith) }
-
-abbrev knows : Listening
-knows = record { tuned = true; current = whole_of (with_sub 128); next = blank; awaited = None }
-
-hears_the_first : HearsFib (fib_at page 0) untuned knows
-hears_the_first =
-    let valid = (pages_are_valid (Whole II) (Some (unflagged 7)) 0 (facts_of (with_sub 128) false) page_is).0.0 in
-    (map fig_of (ensemble_figs (Some (unflagged 7)) ++ figs_of (facts_of (with_sub 128) false)), valid.fib, refl)
-
-same_heard : (fib : List ℕ) (old new other : Listening) → HearsFib fib old new → HearsFib fib old other → new ≡ other
-same_heard fib old new other h g =
-    let figs : h.0 ≡ g.0 = one_fib fib h.0 g.0 h.1 g.1 in
-    one _ _ _ h.2 (ap (λ (fs : List Fig). hear_figs fs old) figs ∙ g.2)
-  where
-    one : (o : Option Listening) (x y : Listening) → o ≡ Some x → o ≡ Some y → x ≡ y
-    one o x y e f = let both : Some x ≡ Some y = sym e ∙ f in cc
-
-not_passed_over : HearsFib (fib_at page 0) untuned untuned → ⊥
-not_passed_over h = false≢true (sym (ap (λ (l : Listening). l.tuned) (same_heard (fib_at page 0) untuned knows untuned hears_the_first h)))
 
 -- ---- a notice of an invalid configuration: two sub-channels with the same identifier
 

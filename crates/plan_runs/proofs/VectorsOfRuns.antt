@@ -1,10 +1,8 @@
 -- Runs of a code that waits for a frame and ends: for each definition, an example that holds and one that fails.
 use Rattle.std.proofs.Common.{◌≡◌, ℕ, zero, suc, ◌<◌, ◌≤◌, Bool, true, false, cond, List, [], ◌∷◌, length, Some, None, ◌==◌, refl, sym, ap, subst, arith}
-use Rattle.std.proofs.lemmas.Bool.{false≢true}
 use Rattle.mux_types.specs.Facts.{Marked}
 use Rattle.fib_carousel.specs.Pages.{page_set}
 use Rattle.plan_code.specs.declared.flags.Contacts.{Contacts}
-use Rattle.plan_code.specs.declared.hold.Hold.TheVariants.{Running, Waits}
 use Rattle.plan_code.specs.declared.instr.Instr.{Instr}
 use Rattle.plan_code.specs.declared.instr.Line.{Line}
 use Rattle.plan_code.specs.declared.instr.Instr.TheVariants.{Wait, Join, End}
@@ -15,8 +13,8 @@ use Rattle.plan_verifier.proofs.Samples.{plan, with_sub, one_sub, one_sub_is, la
 use Rattle.plan_verifier.proofs.OneVerdict.{typed_if, refused_if, codes_have_one_verdict}
 use Rattle.plan_runs.specs.declared.event.Event.TheVariants.{Contact, Frame}
 use Rattle.plan_runs.specs.declared.event.Start.{Start}
-use Rattle.plan_runs.specs.Frames.{ready, Executes, FrameIsAllowed, after_burst, after_frame}
-use Rattle.plan_runs.specs.Runs.{StartIsInRange, IsEvent, IsStart, EventIsAllowed, RunIsAllowed, IsReached, run}
+use Rattle.plan_runs.specs.Frames.{ready, Executes, after_burst, after_frame}
+use Rattle.plan_runs.specs.Runs.{StartIsInRange, IsEvent, IsStart, EventIsAllowed, IsReached}
 use Rattle.plan_runs.specs.Settings.{Setting, IsSetting, AgreeOnContacts, AreAllAlike, last_of}
 use Rattle.plan_runs.specs.Phases.{SentBy}
 use Rattle.plan_runs.specs.TypedRuns.{IsPlayed, CanBeSent}
@@ -56,9 +54,6 @@ last_contact = omega arith
 no_such_contact : IsEvent (Contact 16 true) → ⊥
 no_such_contact h = let e : 16 < 16 = h in omega (arith, e)
 
-a_frame : IsEvent Frame
-a_frame = tt
-
 waits_starts : IsStart waits start first
 waits_starts = it_starts one_sub waits.lines 0 1
 
@@ -69,43 +64,10 @@ some_left left e = absurd cc
 not_with_a_swap : IsStart waits start (record first { left = Some 4 }) → ⊥
 not_with_a_swap h = some_left 4 h.left
 
--- nor in a wait, even if no frame of it is left
-not_in_a_wait : IsStart waits start (record first { hold = Waits 0 }) → ⊥
-not_in_a_wait h = let e : Waits 0 ≡ Running = h.hold in absurd cc
-
 -- ---- events without a trap
 
 pub one_instruction : Executes waits (ready first) 1 (after_burst waits first)
 one_instruction = (refl, record { instr = Wait 1; within = refl; allowed = tt }, (refl, refl))
-
-not_two : Executes waits (ready first) 2 (after_burst waits first) → ⊥
-not_two h = let e : false ≡ true = h.2.0 in absurd (false≢true e)
-
-first_frame : FrameIsAllowed waits first
-first_frame = record { steps = 1; within = omega arith; executes = one_instruction; counted = refl }
-
-second_frame : FrameIsAllowed waits second
-second_frame = record {
-  steps = 1;
-  within = omega arith;
-  executes = (refl, record { instr = End; within = refl; allowed = tt }, (refl, refl));
-  counted = refl;
-}
-
-frame_is_allowed : EventIsAllowed waits first Frame
-frame_is_allowed = first_frame
-
--- a frame, a contact that closes, and another frame
-two_frames : RunIsAllowed waits first (Frame ∷ Contact 3 true ∷ Frame ∷ [])
-two_frames = (first_frame, (tt, (third, tt)))
-  where
-    third : FrameIsAllowed waits (run waits first (Frame ∷ Contact 3 true ∷ []))
-    third = record {
-      steps = 1;
-      within = omega arith;
-      executes = (refl, record { instr = End; within = refl; allowed = tt }, (refl, refl));
-      counted = refl;
-    }
 
 -- a join without a pending swap
 no_join : (c : Contacts) (i : Instr) → Some Join ≡ Some i → IsAllowed plan i (record first { contacts = c }) → ⊥
@@ -121,12 +83,6 @@ join_traps c (suc n) t h = no_join c h.1.instr h.1.within h.1.allowed
 
 pub frame_traps : EventIsAllowed joins first Frame → ⊥
 frame_traps h = join_traps all_open h.steps (after_burst joins first) h.executes
-
-abbrev third_closed : Contacts
-third_closed = record { 0 = 8 }
-
-run_traps : RunIsAllowed joins first (Contact 3 true ∷ Frame ∷ []) → ⊥
-run_traps h = join_traps third_closed h.1.0.steps _ h.1.0.executes
 
 -- ---- a run in two parts, which joins for every run
 
@@ -175,9 +131,6 @@ no_second_page h = let e : 1 < 1 = h.page_index in omega (arith, e)
 
 -- ---- what a phase sends, with a notice of 24 frames
 
-sent_by_itself : SentBy plan None (with_sub 128) (with_sub 96) (page_set (with_sub 128) None)
-sent_by_itself = refl
-
 sent_beside_the_next : SentBy plan (Some 23) (with_sub 128) (with_sub 96) (page_set (with_sub 128) (Some (with_sub 96)))
 sent_beside_the_next = ((λ lt. refl), λ le. let e : 24 ≤ 23 = le in absurd (omega (arith, e)))
 
@@ -217,6 +170,3 @@ frames_alike = (last_counts, ((λ contact. refl), tt))
 
 another_frame : AreAllAlike ((closes 3 ∷ []) ∷ [] ∷ []) ([] ∷ (closes 3 ∷ []) ∷ []) → ⊥
 another_frame h = let e : Some true ≡ None = h.0 3 in absurd cc
-
-more_frames : AreAllAlike ([] ∷ []) ([] ∷ [] ∷ []) → ⊥
-more_frames h = h.1
