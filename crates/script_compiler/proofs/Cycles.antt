@@ -105,20 +105,6 @@ grows_one ps qs ws vs place d lt off e f =
       all = λ k same _. subst (λ n. IsAt qs n) (sym same) there;
     }
 
-pub grows_as : (ps qs : List Bool) (ws vs : List ℕ) (A B : ℕ → Type 0) → ((k : ℕ) → A k → B k) → ((k : ℕ) → B k → A k) → GrowsBy ps qs ws vs A → GrowsBy ps qs ws vs B
-grows_as ps qs ws vs A B to from g = record {
-  grows = record {
-    long = g.grows.long;
-    kept = g.grows.kept;
-    only = λ k h. elim (g.grows.only k h) [ inl a ↦ inl a | inr b ↦ inr (to k b) ];
-    fresh = g.grows.fresh;
-    still = g.grows.still;
-    waits = g.grows.waits;
-    count = g.grows.count;
-  };
-  all = λ k b lt. g.all k (from k b) lt;
-}
-
 pub grows_both : (ps qs rs : List Bool) (ws vs us : List ℕ) (A B C : ℕ → Type 0) → ((k : ℕ) → A k → C k) → ((k : ℕ) → B k → C k) → ((k : ℕ) → C k → A k ⊎ B k) → GrowsBy ps qs ws vs A → GrowsBy qs rs vs us B → GrowsBy ps rs ws us C
 grows_both ps qs rs ws vs us A B C a b either g h = record {
   grows = record {
@@ -236,11 +222,6 @@ pub instr_there : (lines : List Line) (pc : ℕ) (l : Line) → slice_get lines 
 instr_there [] pc l e = cc
 instr_there (x ∷ lines) zero l e = (let same : x ≡ l = cc in ap (λ (y : Line). Some y.instr) same)
 instr_there (x ∷ lines) (suc pc) l e = instr_there lines pc l e
-
-pub instr_past : (lines : List Line) (pc : ℕ) → slice_get lines pc ≡ None → slice_get (instrs_of lines) pc ≡ None
-instr_past [] pc e = cc
-instr_past (x ∷ lines) zero e = cc
-instr_past (x ∷ lines) (suc pc) e = instr_past lines pc e
 
 pub instrs_long : (lines : List Line) → length (instrs_of lines) ≡ length lines
 instrs_long [] = refl

@@ -3,14 +3,14 @@ use Rattle.std.proofs.Common.{◌≡◌, ℕ, ◌+◌, ◌≤◌, Bool, true, fa
 use Rattle.std.specs.Prelude.{slice_set}
 use Rattle.std.proofs.Math.Seq.{set-append_seam}
 use Rattle.plan_code.specs.declared.instr.Instr.{Instr}
-use Rattle.plan_code.specs.declared.instr.Instr.TheVariants.{End, Jump, Set, Loop}
+use Rattle.plan_code.specs.declared.instr.Instr.TheVariants.{Jump, Set, Loop}
 use Rattle.plan_code.specs.declared.instr.Line.{Line}
 use Rattle.plan_code.specs.declared.plan.Plan.{Plan}
 use Rattle.plan_verifier.specs.declared.cause.Cause.{Cause}
 use Rattle.plan_verifier.specs.Flows.{known_at, after_instr}
 use Rattle.plan_verifier.specs.Rules.{IsFine}
 use Rattle.script_front.specs.declared.tree.Act.{Act}
-use Rattle.script_front.specs.Block.{Block, nothing, basic, stop, when, either, repeat, forever, apply}
+use Rattle.script_front.specs.Block.{Block, nothing, basic, when, either, repeat, forever, apply}
 use Rattle.script_compiler.specs.declared.flow.ProgramPoint.{ProgramPoint}
 use Rattle.script_front.specs.declared.tree.Condition.{Condition}
 use Rattle.script_compiler.specs.Alternatives.{test_of}
@@ -100,19 +100,6 @@ left_act plan r line a rest v w l e fine =
       repeats = λ h. h;
       fewer = omega arith;
     }
-
-pub left_stop : (plan : Plan) (r line : ℕ) (rest : Block) (v w : Work) → Emits v w (alone line End r v.now) → Left plan r (stop line rest) v w false rest
-left_stop plan r line rest v w l = record {
-  emitted = alone line End r v.now;
-  emits = l;
-  whole = refl;
-  leads = refl;
-  judged = λ j. j;
-  only = λ j. j;
-  fails = λ at given j. j;
-  repeats = λ h. h;
-  fewer = omega arith;
-}
 
 -- ---- a block that has been compiled whole
 

@@ -1,5 +1,5 @@
 -- Configurations by their numbers in a pool that grows at its end.
-use Rattle.std.proofs.Common.{◌≡◌, ◌≢◌, ℕ, zero, suc, ◌+◌, ◌<◌, ◌≤◌, ◌⊎◌, inl, inr, List, [], ◌∷◌, ◌++◌, length, map, Option, Some, None, refl, sym, ap, ◌∙◌, subst, arith, take, drop, length-append, append_assoc, append-nil}
+use Rattle.std.proofs.Common.{◌≡◌, ◌≢◌, ℕ, zero, suc, ◌+◌, ◌<◌, ◌≤◌, ◌⊎◌, inl, inr, List, [], ◌∷◌, ◌++◌, length, map, Option, Some, None, refl, sym, ap, ◌∙◌, subst, arith, take, drop, length-append}
 use Rattle.std.specs.Prelude.{slice_get}
 use Rattle.mux_config.specs.Configuration.{Configuration}
 use Rattle.mux_types.proofs.Walking.{cut}
@@ -29,15 +29,6 @@ distinct_more xs c once none i j d e f = elim (in_more xs c i d e) [
 ]
 
 -- ---- a pool that has grown
-
-pub extends_same : (xs : List Configuration) → Extends xs xs
-extends_same xs = ([], sym (append-nil xs))
-
-pub extends_as : (xs ys : List Configuration) → ys ≡ xs → Extends xs ys
-extends_as xs ys e = ([], e ∙ sym (append-nil xs))
-
-pub extends_both : (xs ys zs : List Configuration) → Extends xs ys → Extends ys zs → Extends xs zs
-extends_both xs ys zs a b = (a.0 ++ b.0, b.1 ∙ ap (λ (l : List Configuration). l ++ b.0) a.1 ∙ append_assoc xs a.0 b.0)
 
 pub extends_length : (xs ys : List Configuration) → Extends xs ys → length xs ≤ length ys
 extends_length xs ys a = let e = ap length a.1 in let n = length-append xs a.0 in omega (arith, e, n)
@@ -79,11 +70,6 @@ pub below_at : (n : ℕ) (ks : List ℕ) (i k : ℕ) → AreBelow n ks → slice
 below_at n [] i k h e = cc
 below_at n (j ∷ ks) zero k h e = (let same : j ≡ k = cc in subst (λ m. m < n) same h.0)
 below_at n (j ∷ ks) (suc i) k h e = below_at n ks i k h.1 e
-
-pub table_at : (xs : List Configuration) (ks : List ℕ) (i k : ℕ) → slice_get ks i ≡ Some k → slice_get (map (configuration_at xs) ks) i ≡ Some (configuration_at xs k)
-table_at xs [] i k e = cc
-table_at xs (j ∷ ks) zero k e = (let same : j ≡ k = cc in ap (λ m. Some (configuration_at xs m)) same)
-table_at xs (j ∷ ks) (suc i) k e = table_at xs ks i k e
 
 -- a configuration in the table has its number there
 from_table : (xs : List Configuration) (ks : List ℕ) (i : ℕ) (c : Configuration) → slice_get (map (configuration_at xs) ks) i ≡ Some c → (k : ℕ) × (slice_get ks i ≡ Some k) × (configuration_at xs k ≡ c)
@@ -128,10 +114,6 @@ pushed_in_pool n (x ∷ ss) s one h = (h.0, pushed_in_pool n ss s one h.1)
 pub popped_in_pool : (n : ℕ) (ss : List IndexedPoint) (s : IndexedPoint) → AreInPool n (ss ++ s ∷ []) → IsInPool n s × AreInPool n ss
 popped_in_pool n [] s h = (h.0, tt)
 popped_in_pool n (x ∷ ss) s h = (let r = popped_in_pool n ss s h.1 in (r.0, (h.0, r.1)))
-
-pub spots_push : (xs : List Configuration) (ss : List IndexedPoint) (s : IndexedPoint) → map (point_in xs) (ss ++ s ∷ []) ≡ map (point_in xs) ss ++ point_in xs s ∷ []
-spots_push xs [] s = refl
-spots_push xs (x ∷ ss) s = ap (λ (l : List ProgramPoint). point_in xs x ∷ l) (spots_push xs ss s)
 
 pub flow_is : (pool : List Configuration) (f : IndexedFlow) (a b : Configuration) → slice_get pool f.current ≡ Some a → slice_get pool f.next ≡ Some b
     → flow_at pool f ≡ record { current = a; next = b; pending = f.pending }

@@ -1,12 +1,9 @@
 -- Why a script is refused, and at which line.
 use Rattle.std.proofs.Common.{◌≡◌, ◌≢◌, ℕ, ◌+◌, ◌<◌, ◌≤◌, Result, Ok, Err, Bool, true, false, if◌then◌else◌, List, [], ◌∷◌, ◌++◌, length, Option, Some, inl, inr, is_some, refl, sym, ap, ◌∙◌, subst, get_or, drop}
 use Rattle.std.specs.Prelude.{IfErr}
-use Rattle.plan_code.specs.declared.instr.Instr.{Instr}
 use Rattle.plan_code.specs.declared.plan.Plan.{Plan}
 use Rattle.plan_verifier.specs.declared.cause.Cause.{Cause}
 use Rattle.plan_verifier.specs.declared.cause.Cause.TheVariants.{Table, Mismatch}
-use Rattle.plan_verifier.specs.Flows.{Flow, known_at}
-use Rattle.plan_verifier.specs.Causes.{FlowRefused}
 use Rattle.plan_verifier.specs.Rules.{pages_alone}
 use Rattle.mux_config.specs.Configuration.{Configuration}
 use Rattle.mux_config.specs.Sound.{IsSound}
@@ -24,7 +21,7 @@ use Rattle.script_compiler.specs.Working.{Work}
 use Rattle.script_compiler.specs.declared.fault.CompileFault.{CompileFault}
 use Rattle.script_compiler.specs.declared.fault.CompileFault.TheVariants.{Refused, Limit, Memory}
 use Rattle.script_compiler.specs.Emission.{Left, Forks, StartsElse, points_of, way}
-use Rattle.script_compiler.specs.Refusals.{IsRefusedAs, IfRefused}
+use Rattle.script_compiler.specs.Refusals.{IfRefused}
 use Rattle.script_compiler.proofs.Trees.{statements_cut}
 use Rattle.script_compiler.proofs.Emitted.{whole_of}
 use Rattle.script_compiler.proofs.Refusing.{head_is, some_is}
@@ -47,9 +44,6 @@ refused_but_memory Memory m h = tt
 
 pub refused_here : (e : CompileFault) (line : ℕ) (cause : Cause) (P : ℕ → Cause → Type 0) → e ≡ Refused line cause → P line cause → IfRefused e P
 refused_here e line cause P is h = subst (λ (x : CompileFault). IfRefused x P) (sym is) h
-
-pub refused_as_said : (plan : Plan) (line : ℕ) (i : Instr) (t : Flow) (e : CompileFault) → IsRefusedAs plan line i t e → IfRefused e (λ at given. (at ≡ line) × FlowRefused plan i (known_at t) given)
-refused_as_said plan line i t e h = refused_here e line h.0 (λ at given. (at ≡ line) × FlowRefused plan i (known_at t) given) h.1 (refl, h.2)
 
 -- ---- a statement with blocks: one of them is refused, or the paths do not agree
 

@@ -78,22 +78,6 @@ leaves_both t0 t1 t2 ms ns h k = λ more room.
     let e : named_by (ms ++ ns) ++ more ≡ named_by ms ++ (named_by ns ++ more) = ap (λ xs. xs ++ more) (named_both ms ns) ∙ append_assoc (named_by ms) (named_by ns) more in
     k more (h (named_by ns ++ more) (subst (λ cs. HasRoomFor t0 cs) e room))
 
-pub room_front : (table : List Configuration) (m : UnpricedLabel) (ms : List UnpricedLabel) → HasRoomFor table (named_by (m ∷ ms)) → HasRoomFor table (named_by (m ∷ []))
-room_front table m ms room = room_fewer table (named_by (m ∷ [])) (named_by (m ∷ ms)) (λ c h. by c h.0 h.1) room
-  where
-    by : (c : Configuration) (i : ℕ) → slice_get (named_by (m ∷ [])) i ≡ Some c → IsInTable c (named_by (m ∷ ms))
-    by c zero e = (0, e)
-    by c (suc zero) e = (1, e)
-    by c (suc (suc i)) e = absurd (none_in_nothing c (i, e))
-
--- no room for the first of two configurations, or for the second
-pub room_current : (table : List Configuration) (m : UnpricedLabel) → (HasRoomFor table (m.flow.current ∷ []) → ⊥) → HasRoomFor table (named_by (m ∷ [])) → ⊥
-room_current table m full room = full (room_fewer table (m.flow.current ∷ []) (named_by (m ∷ [])) (λ c h. by c h.0 h.1) room)
-  where
-    by : (c : Configuration) (i : ℕ) → slice_get (m.flow.current ∷ []) i ≡ Some c → IsInTable c (named_by (m ∷ []))
-    by c zero e = (0, e)
-    by c (suc i) e = absurd (none_in_nothing c (i, e))
-
 pub room_next : (table one : List Configuration) (m : UnpricedLabel) → Added m.flow.current table one → (HasRoomFor one (m.flow.next ∷ []) → ⊥) → HasRoomFor table (named_by (m ∷ [])) → ⊥
 room_next table one m a full room =
     let more = room_added m.flow.current table one (named_by (m ∷ [])) a (0, refl) room in
@@ -108,12 +92,6 @@ room_next table one m a full room =
 pub full_table : (table : List Configuration) (c : Configuration) → ((i : ℕ) → slice_get table i ≢ Some c) → 256 ≤ length table → HasRoomFor table (c ∷ []) → ⊥
 full_table table c none full room =
     let k = room (c ∷ []) ((0, refl), (λ h. none h.0 h.1), (λ h. none_in_nothing c h), tt) in absurd (omega (arith, k, full))
-
-pub room_none : (table cs : List Configuration) → HasRoomFor table cs → length table ≤ 256
-room_none table cs room = let k = room [] tt in omega (arith, k)
-
-pub room_one : (table cs : List Configuration) (c : Configuration) → IsInTable c cs → (IsInTable c table → ⊥) → HasRoomFor table cs → length table + 1 ≤ 256
-room_one table cs c there none room = let k = room (c ∷ []) (there, none, (λ h. none_in_nothing c h), tt) in omega (arith, k)
 
 pub room_two : (table : List Configuration) (a b : Configuration) → (IsInTable a table → ⊥) → (IsInTable b table → ⊥) → (b ≡ a → ⊥) → HasRoomFor table (a ∷ b ∷ []) → length table + 2 ≤ 256
 room_two table a b na nb differs room =

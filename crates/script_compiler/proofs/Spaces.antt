@@ -125,9 +125,6 @@ pub met_labelled : (v : Option ProgramPoint) (t u : ProgramPoint) → meet v (So
 met_labelled None t u e = let is : at_label t.flow ≡ u = cc in ap (λ (s : ProgramPoint). s.labelled) (sym is)
 met_labelled (Some s) t u e = let is : at_label (merged s.flow t.flow) ≡ u = cc in ap (λ (s : ProgramPoint). s.labelled) (sym is)
 
-pub covered_flow : (s : ProgramPoint) (t : Flow) (ps : List PlacedInstr) → s.flow ≡ t → IsCovered s.flow ps → IsCovered t ps
-covered_flow s t ps e h = subst (λ x. IsCovered x ps) e h
-
 some_same : (x y : Configuration) → Some x ≡ Some y → x ≡ y
 some_same x y e = cc
 
@@ -178,13 +175,6 @@ covers_block plan r pc b s more onward_to = λ l. elim (first_of plan r pc b s) 
 
 -- ---- after a label is emitted
 
--- there is room for a required label
-pub room_label : (w : Work) (t : Flow) (ps : List PlacedInstr) → IsCovered t ps → HasSpace Labels w ps → length w.unpriced.items + 1 ≤ 1024
-room_label w t ps cover h =
-    let e : count_of_labels ps ≡ count_of_labels (cover.place ∷ cover.rest) = ap count_of_labels cover.is in
-    let f : count_of_labels (cover.place ∷ cover.rest) ≡ 1 + count_of_labels cover.rest = ap (λ (b : Bool). if b then 1 + count_of_labels cover.rest else count_of_labels cover.rest) cover.labelled in
-    omega (arith, h, e, f)
-
 -- and for the configurations that it names
 pub room_names : (w : Work) (t : Flow) (ps : List PlacedInstr) → HasTable w → IsCovered t ps → HasSpace Configurations w ps → HasRoomFor w.unpriced.table (t.current ∷ t.next ∷ [])
 room_names w t ps table cover h =
@@ -221,10 +211,6 @@ pub limit_map : (e : CompileFault) {P Q : ℕ → CodeLimit → Type 0} → ((at
 limit_map (Refused line cause) m h = tt
 limit_map (Limit line k) m h = m line k h
 limit_map Memory m h = tt
-
-pub limits_map : {A : Type 0} (x : Result A CompileFault) {P Q : ℕ → CodeLimit → Type 0} → ((at : ℕ) (k : CodeLimit) → P at k → Q at k) → IfErr x (λ e. IfLimit e P) → IfErr x (λ e. IfLimit e Q)
-limits_map (Ok a) m h = h
-limits_map (Err e) m h = limit_map e m h
 
 -- a fault that is no refusal
 pub limit_at_map : (e : CompileFault) (line : ℕ) {P Q : CodeLimit → Type 0} → ((k : CodeLimit) → P k → Q k) → IsLimitAt line P e → IsLimitAt line Q e

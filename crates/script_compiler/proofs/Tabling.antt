@@ -10,16 +10,10 @@ use Rattle.plan_code.specs.declared.label.Label.{Label}
 use Rattle.plan_code.specs.declared.instr.Line.{Line}
 use Rattle.plan_code.specs.Program.{Program}
 use Rattle.script_compiler.specs.Need.{IsNeed}
-use Rattle.script_compiler.specs.Compiled.{Added, CostsItsNeeds, instrs_of}
+use Rattle.script_compiler.specs.Compiled.{CostsItsNeeds, instrs_of}
 use Rattle.script_compiler.specs.Longest.{longest, Priced}
 use Rattle.script_compiler.proofs.Paths.{within_from, is_need}
 use Rattle.script_compiler.proofs.Rooms.{stands_last}
-
-pub added_new : (c : Configuration) (table new : List Configuration) → ((i : ℕ) → slice_get table i ≢ Some c) → new ≡ table ++ c ∷ [] → Added c table new
-added_new c table new none e = inr ((λ h. none h.0 h.1), e)
-
-pub added_old : (c : Configuration) (table : List Configuration) (i : ℕ) → slice_get table i ≡ Some c → Added c table table
-added_old c table i e = inl ((i, e), refl)
 
 pub last_new : (c : Configuration) (table new : List Configuration) (i : ℕ) → i ≡ length table → new ≡ table ++ c ∷ [] → slice_get new i ≡ Some c
 last_new c table new i e f = ap (λ xs. slice_get xs i) f ∙ ap (λ n. slice_get (table ++ c ∷ []) n) e ∙ stands_last table c

@@ -1,12 +1,9 @@
 -- Test vectors: small scripts, and what their statements, frames and events result in, and what not.
 use Rattle.std.proofs.Common.{◌≡◌, ℕ, zero, suc, true, false, List, [], ◌∷◌, Some, None, inl, inr, refl, sym, ap, ◌∙◌, arith}
-use Rattle.std.proofs.lemmas.Bool.{false≢true}
-use Rattle.mux_config.specs.declared.edit.Edit.TheVariants.{DropSub}
-use Rattle.mux_config.specs.declared.fault.EditFault.TheVariants.{IdAbsent}
 use Rattle.mux_config.specs.Configuration.{nothing as no_configuration}
 use Rattle.plan_code.specs.declared.flags.Contacts.{Contacts}
 use Rattle.plan_code.specs.declared.hold.Hold.{Hold}
-use Rattle.plan_code.specs.declared.hold.Hold.TheVariants.{Running, Waits, WaitsAny, WaitsSwap, Ended}
+use Rattle.plan_code.specs.declared.hold.Hold.TheVariants.{Running, Waits, Ended}
 use Rattle.plan_code.specs.declared.instr.Instr.{Instr}
 use Rattle.plan_code.specs.declared.instr.Instr.TheVariants.{Wait as WaitInstr, End}
 use Rattle.plan_code.specs.declared.instr.Line.{Line}
@@ -17,11 +14,9 @@ use Rattle.plan_verifier.proofs.OneVerdict.{typed_if}
 use Rattle.plan_runs.specs.declared.event.Event.TheVariants.{Contact, Frame}
 use Rattle.plan_runs.specs.declared.event.Start.{Start}
 use Rattle.plan_runs.proofs.Samples.{all_open, start_at, in_range, first_state, it_starts}
-use Rattle.script_front.specs.declared.tree.Act.TheVariants.{Edit, Wait, WaitAny, Join, Settle}
-use Rattle.script_front.specs.declared.tree.Condition.TheVariants.{Contact as IfContact, Time as IfTime}
-use Rattle.script_front.specs.declared.moment.MomentForm.TheVariants.{At}
-use Rattle.script_front.specs.declared.alternatives.Alternative.TheVariants.{Contact as OfContact, Until as OfMoment, Frames as OfFrames}
-use Rattle.script_front.specs.Block.{Block, nothing, basic, when, either, repeat, forever, apply}
+use Rattle.script_front.specs.declared.tree.Act.TheVariants.{Wait, Join}
+use Rattle.script_front.specs.declared.tree.Condition.TheVariants.{Contact as IfContact}
+use Rattle.script_front.specs.Block.{Block, nothing, basic, either, apply}
 use Rattle.script_front.specs.Tree.{Tree}
 use Rattle.script_compiler.specs.Compiled.{IsCodeOf}
 use Rattle.script_compiler.specs.Meaning.{Scene, Reading, reading, Performs, PerformsAll, begins, PlaysAsItReads}
@@ -53,34 +48,9 @@ held_same x y e = ap (λ (r : Reading). r.scene.hold) e
 
 -- ---- statements
 
-waits_two : Performs plan (reading (wait 2 nothing) (after 0 all_open Running)) 1 (reading nothing (after 0 all_open (Waits 2)))
-waits_two = (refl, tt, (refl, refl))
-
--- a wait one frame short
-not_one : (n : ℕ) → Performs plan (reading (wait 2 nothing) (after 0 all_open Running)) n (reading nothing (after 0 all_open (Waits 1))) → ⊥
-not_one n h = let e = held_same _ _ (performs_one plan 1 n _ _ _ waits_two h) in absurd (two_is_one e)
-  where
-    two_is_one : Waits 1 ≡ Waits 2 → ⊥
-    two_is_one e = absurd cc
-
--- no statement is left
-ends : Performs plan (reading nothing (after 0 all_open Running)) 1 (reading nothing (after 0 all_open Ended))
-ends = (refl, tt, (refl, refl))
-
-does_not_end : (n : ℕ) → Performs plan (reading nothing (after 0 all_open Running)) n (reading nothing (after 0 all_open Running)) → ⊥
-does_not_end zero h = let e : true ≡ false = h.0 in absurd cc
-does_not_end (suc zero) h = let e = held_same _ _ h.2.1 in absurd (different e)
-  where
-    different : Ended ≡ Running → ⊥
-    different e = absurd cc
-does_not_end (suc (suc n)) h = let e : false ≡ true = h.2.0 in absurd (false≢true e)
-
 -- the first branch is for a closed contact
 abbrev branches : Block
 branches = either 1 (IfContact 3) (wait 4 nothing) (wait 5 nothing) nothing
-
-closed_branch : Performs plan (reading branches (after 0 third_closed Running)) 2 (reading nothing (after 0 third_closed (Waits 4)))
-closed_branch = (refl, tt, (refl, tt, (refl, refl)))
 
 open_branch : Performs plan (reading branches (after 0 all_open Running)) 2 (reading nothing (after 0 all_open (Waits 5)))
 open_branch = (refl, tt, (refl, tt, (refl, refl)))
@@ -91,108 +61,14 @@ branches_exchanged n h = let e = held_same _ _ (performs_one plan 2 n _ _ _ open
     different : Waits 4 ≡ Waits 5 → ⊥
     different e = absurd cc
 
--- without `else`, an open contact skips the branch
-no_branch : Performs plan (reading (when 1 (IfContact 3) (wait 4 nothing) (wait 5 nothing)) (after 0 all_open Running)) 2 (reading nothing (after 0 all_open (Waits 5)))
-no_branch = (refl, tt, (refl, tt, (refl, refl)))
-
--- a window of the first second has frames 0 to 41, and a window over midnight has frame 0
-abbrev in_window : (from to : ℕ) → Block
-in_window from to = either 1 (IfTime from to) (wait 4 nothing) (wait 5 nothing) nothing
-
-last_in_window : Performs plan (reading (in_window 0 1) (after 41 all_open Running)) 2 (reading nothing (after 41 all_open (Waits 4)))
-last_in_window = (refl, tt, (refl, tt, (refl, refl)))
-
-past_the_window : Performs plan (reading (in_window 0 1) (after 42 all_open Running)) 2 (reading nothing (after 42 all_open (Waits 5)))
-past_the_window = (refl, tt, (refl, tt, (refl, refl)))
-
-over_midnight : Performs plan (reading (in_window 79200 21600) (after 0 all_open Running)) 2 (reading nothing (after 0 all_open (Waits 4)))
-over_midnight = (refl, tt, (refl, tt, (refl, refl)))
-
--- and one that ends as it begins has none
-an_empty_window : Performs plan (reading (in_window 0 0) (after 0 all_open Running)) 2 (reading nothing (after 0 all_open (Waits 5)))
-an_empty_window = (refl, tt, (refl, tt, (refl, refl)))
-
-the_window_has_no_such_frame : (n : ℕ) → Performs plan (reading (in_window 0 1) (after 42 all_open Running)) n (reading nothing (after 42 all_open (Waits 4))) → ⊥
-the_window_has_no_such_frame n h = let e = held_same _ _ (performs_one plan 2 n _ _ _ past_the_window h) in absurd (different e)
-  where
-    different : Waits 4 ≡ Waits 5 → ⊥
-    different e = absurd cc
-
--- a wait with alternatives waits for each of them
-waits_for_any :
-    Performs plan (reading (basic 1 (WaitAny (OfContact 3 true ∷ OfContact 0 false ∷ OfMoment (At 1) ∷ OfFrames 750 ∷ [])) nothing) (after 0 all_open Running)) 1
-    (reading nothing (after 0 all_open (WaitsAny (record { 0 = 8 }) (record { 0 = 1 }) (Some 42) (Some 750))))
-waits_for_any = (refl, tt, (refl, refl))
-
--- without a swap, `settle` does nothing and `join` traps
-settles : Performs plan (reading (basic 1 Settle (wait 5 nothing)) (after 0 all_open Running)) 2 (reading nothing (after 0 all_open (Waits 5)))
-settles = (refl, tt, (refl, tt, (refl, refl)))
-
-settling_does_not_wait : (n : ℕ) → Performs plan (reading (basic 1 Settle (wait 5 nothing)) (after 0 all_open Running)) n (reading (wait 5 nothing) (after 0 all_open WaitsSwap)) → ⊥
-settling_does_not_wait n h = let e = held_same _ _ (performs_one plan 2 n _ _ _ settles h) in absurd (different e)
-  where
-    different : WaitsSwap ≡ Waits 5 → ⊥
-    different e = absurd cc
-
 join_traps : (n : ℕ) (y : Reading) → Performs plan (reading (basic 1 Join nothing) (after 0 all_open Running)) n y → ⊥
 join_traps zero y h = let e : true ≡ false = h.0 in absurd cc
 join_traps (suc n) y h = let e : false ≡ true = h.1 in absurd cc
 
-edit_traps : (n : ℕ) (y : Reading) → Performs plan (reading (basic 1 (Edit (DropSub 9)) nothing) (after 0 all_open Running)) n y → ⊥
-edit_traps zero y h = let e : true ≡ false = h.0 in absurd cc
-edit_traps (suc n) y h = let e : Some IdAbsent ≡ None = h.1.1 in absurd cc
-
 -- ---- frames and events, where a wait is over
-
-abbrev rounds : ℕ → Block
-rounds times = repeat 1 times (wait 1 nothing) nothing
 
 abbrev between : ℕ → Block → Reading
 between frames todo = reading todo (after frames all_open (Waits 0))
-
--- two iterations of one frame each, and then the end
-two_rounds : PerformsAll plan (between 0 (rounds 2)) (Frame ∷ Frame ∷ Frame ∷ []) (reading nothing (after 3 all_open Ended))
-two_rounds = (
-  between 1 (rounds 1),
-  record { steps = 2; done = reading (rounds 1) (after 0 all_open (Waits 1)); statements = (refl, tt, (refl, tt, (refl, refl))); counts = refl },
-  (
-    between 2 (rounds 0),
-    record { steps = 2; done = reading (rounds 0) (after 1 all_open (Waits 1)); statements = (refl, tt, (refl, tt, (refl, refl))); counts = refl },
-    (
-      reading nothing (after 3 all_open Ended),
-      record { steps = 2; done = reading nothing (after 2 all_open Ended); statements = (refl, tt, (refl, tt, (refl, refl))); counts = refl },
-      refl,
-    ),
-  ),
-)
-
--- not one iteration more
-not_three : (todo : Block) → PerformsAll plan (between 0 (rounds 2)) (Frame ∷ Frame ∷ Frame ∷ []) (between 3 todo) → ⊥
-not_three todo h = let e = held_same _ _ (all_one plan (Frame ∷ Frame ∷ Frame ∷ []) _ _ _ two_rounds h) in absurd (different e)
-  where
-    different : Waits 0 ≡ Ended → ⊥
-    different e = absurd cc
-
--- an endless loop
-abbrev again : Block
-again = forever 1 (wait 1 nothing) nothing
-
-goes_round : PerformsAll plan (between 0 again) (Frame ∷ Frame ∷ []) (between 2 again)
-goes_round = (
-  between 1 again,
-  record { steps = 2; done = reading again (after 0 all_open (Waits 1)); statements = (refl, tt, (refl, tt, (refl, refl))); counts = refl },
-  (
-    between 2 again,
-    record { steps = 2; done = reading again (after 1 all_open (Waits 1)); statements = (refl, tt, (refl, tt, (refl, refl))); counts = refl },
-    refl,
-  ),
-)
-
-never_ends : (todo : Block) → PerformsAll plan (between 0 again) (Frame ∷ Frame ∷ []) (reading todo (after 2 all_open Ended)) → ⊥
-never_ends todo h = let e = held_same _ _ (all_one plan (Frame ∷ Frame ∷ []) _ _ _ goes_round h) in absurd (different e)
-  where
-    different : Ended ≡ Waits 0 → ⊥
-    different e = absurd cc
 
 -- a contact closes before a frame; an applied block runs before what follows it
 abbrev applies : Block

@@ -8,26 +8,24 @@ use Rattle.plan_code.specs.declared.label.Label.{Label}
 use Rattle.plan_code.specs.declared.label.Swap.{Swap}
 use Rattle.plan_code.specs.declared.label.Swap.TheVariants.{Idle, Within, Perhaps}
 use Rattle.plan_code.specs.declared.instr.Instr.{Instr}
-use Rattle.plan_code.specs.declared.instr.Instr.TheVariants.{Wait, WaitAny, Settle, End, Test, TestTime, Jump, Set, Loop}
+use Rattle.plan_code.specs.declared.instr.Instr.TheVariants.{Wait, WaitAny, End, Test, Set, Loop}
 use Rattle.plan_code.specs.Program.{Program}
 use Rattle.plan_code.specs.declared.limits.TheConstants.{MOST_CONFIGURATIONS}
 use Rattle.plan_verifier.proofs.Samples.{plan, sub, one_sub}
 use Rattle.plan_verifier.specs.Flows.{Flow, widest, FitsFlow}
 use Rattle.plan_verifier.specs.Rules.{suspends}
-use Rattle.script_front.specs.declared.tree.Act.TheVariants.{Wait as Waits, WaitAny as WaitsAny, Join as Joins, Settle as Settles}
+use Rattle.script_front.specs.declared.tree.Act.TheVariants.{Wait as Waits, WaitAny as WaitsAny, Join as Joins}
 use Rattle.script_front.specs.declared.tree.Item.{Item}
-use Rattle.script_front.specs.declared.tree.Condition.TheVariants.{Contact as IfContact, Time as IfTime}
-use Rattle.script_front.specs.Block.{Block, nothing, basic, stop, when, either, repeat, forever}
+use Rattle.script_front.specs.Block.{Block, nothing, basic, stop, repeat, forever}
 use Rattle.script_front.specs.Tree.{Tree}
 use Rattle.script_front.specs.declared.alternatives.Alternative.{Alternative}
-use Rattle.script_front.specs.declared.moment.MomentForm.TheVariants.{At, Early}
-use Rattle.script_front.specs.declared.alternatives.Alternative.TheVariants.{Contact as OfContact, Until as OfMoment, Frames as OfFrames}
-use Rattle.script_compiler.specs.Alternatives.{no_contacts}
+use Rattle.script_front.specs.declared.moment.MomentForm.TheVariants.{Early}
+use Rattle.script_front.specs.declared.alternatives.Alternative.TheVariants.{Contact as OfContact, Until as OfMoment}
 use Rattle.script_compiler.specs.declared.flow.UnpricedLabel.{UnpricedLabel}
 use Rattle.script_compiler.specs.declared.flow.ProgramPoint.{ProgramPoint}
 use Rattle.script_compiler.specs.Scheme.{at_label, without_label, falls_out, point_after, all_places, unpriced_labels}
 use Rattle.script_compiler.specs.Judged.{WaysAgree, BranchesAgree, FitsEntry, IsDone, Reached, IsJudged}
-use Rattle.script_compiler.specs.Need.{StepsTo, HasPath, IsWithinBudget, IsNeed}
+use Rattle.script_compiler.specs.Need.{StepsTo, IsWithinBudget, IsNeed}
 use Rattle.script_compiler.specs.Compiled.{AreFine, IsInTable, Added, Tabled, IsLabelOf, AreLabelsOf, IsCodeOf, CostsItsNeeds, IsAccepted, beginning, lines_of_placed, instrs_of, nested, placed_instrs}
 
 -- ---- values shared by these vectors
@@ -45,47 +43,11 @@ waits rest = basic 3 (Waits 1) rest
 
 -- ---- steps and paths
 
-abbrev turns : List Instr
-turns = Set 0 3 ∷ Wait 1 ∷ Loop 0 1 ∷ End ∷ []
-
 a_test_jumps : StepsTo (Test 1 5) 0 5
 a_test_jumps = (refl, inr refl)
 
-a_test_goes_on : StepsTo (Test 1 5) 0 1
-a_test_goes_on = (refl, inl (refl, refl))
-
--- a window of the day jumps or goes on in the same frame
-a_window_jumps : StepsTo (TestTime 42 84 5) 0 5
-a_window_jumps = (refl, inr refl)
-
-a_window_goes_on : StepsTo (TestTime 42 84 5) 0 1
-a_window_goes_on = (refl, inl (refl, refl))
-
--- a wait with alternatives does not
-a_wait_with_alternatives_suspends : (to : ℕ) → StepsTo (WaitAny no_contacts no_contacts None None) 0 to → ⊥
-a_wait_with_alternatives_suspends to h = let e : true ≡ false = h.0 in absurd cc
-
 a_wait_suspends : (to : ℕ) → StepsTo (Wait 1) 0 to → ⊥
 a_wait_suspends to h = let e : true ≡ false = h.0 in absurd cc
-
--- a `settle` may continue in the same frame
-a_settle_goes_on : StepsTo Settle 4 5
-a_settle_goes_on = (refl, inl (refl, refl))
-
-two_run_first : HasPath turns 0 2
-two_run_first = (Set 0 3, 1, refl, (refl, inl (refl, refl)), refl)
-
-one_runs_next : HasPath turns 1 2 → ⊥
-one_runs_next h =
-    let same : Some (Wait 1) ≡ Some h.0 = h.2 in
-    let is : h.0 ≡ Wait 1 = cc in
-    let goes : StepsTo (Wait 1) 1 h.1 = subst (λ j. StepsTo j 1 h.1) is h.3 in
-    let e : true ≡ false = goes.0 in
-    absurd cc
-
--- a wait, and then the end
-abbrev two : List Instr
-two = Wait 1 ∷ End ∷ []
 
 stops : (i j : Instr) (to pc : ℕ) → suspends i ≡ true → Some i ≡ Some j → StepsTo j pc to → ⊥
 stops i j to pc s e g =
@@ -93,32 +55,18 @@ stops i j to pc s e g =
     let not : suspends i ≡ false = subst (λ x. suspends x ≡ false) is g.0 in
     cc
 
-stays_within_one : IsWithinBudget 1 two
+-- only an end
+stays_within_one : IsWithinBudget 1 (End ∷ [])
 stays_within_one pc zero h = omega arith
 stays_within_one pc (suc zero) h = omega arith
-stays_within_one zero (suc (suc n)) h = absurd (stops (Wait 1) h.0 h.1 0 refl h.2 h.3)
-stays_within_one (suc zero) (suc (suc n)) h = absurd (stops End h.0 h.1 1 refl h.2 h.3)
-stays_within_one (suc (suc pc)) (suc (suc n)) h = let none : None ≡ Some h.0 = h.2 in absurd cc
+stays_within_one zero (suc (suc n)) h = absurd (stops End h.0 h.1 0 refl h.2 h.3)
+stays_within_one (suc pc) (suc (suc n)) h = let none : None ≡ Some h.0 = h.2 in absurd cc
 
--- a jump to itself has paths of every length
-round_and_round : (n : ℕ) → HasPath (Jump 0 ∷ []) 0 n
-round_and_round zero = tt
-round_and_round (suc zero) = search rules
-round_and_round (suc (suc n)) = (Jump 0, 0, refl, (refl, inr refl), round_and_round (suc n))
-
-is_over_any_budget : (budget : ℕ) → IsWithinBudget budget (Jump 0 ∷ []) → ⊥
-is_over_any_budget budget h = let e : suc budget ≤ budget = h 0 (suc budget) (round_and_round (suc budget)) in omega (arith, e)
-
-needs_one : IsNeed two 0 1
-needs_one = record { path = search rules; longest = λ n h. stays_within_one 0 n h }
-
-needs_no_two : IsNeed two 0 2 → ⊥
-needs_no_two h = let e : 2 ≤ 1 = stays_within_one 0 2 h.path in omega (arith, e)
+-- and that is over a budget of none
+is_over_none : IsWithinBudget 0 (End ∷ []) → ⊥
+is_over_none h = let e : 1 ≤ 0 = h 0 1 (search rules) in omega (arith, e)
 
 -- ---- paths that merge
-
-both_pending : widest (Within 28 31) (Within 30 33) ≡ Within 28 33
-both_pending = refl
 
 one_of_them : widest Idle (Within 28 31) ≡ Perhaps 31
 one_of_them = refl
@@ -172,13 +120,6 @@ a_wait_is_judged = (tt, tt)
 a_join_is_not : IsJudged plan (basic 3 Joins nothing) start → ⊥
 a_join_is_not h = h.0
 
-a_loop_is_judged : IsJudged plan (repeat 3 3 (waits nothing) nothing) start
-a_loop_is_judged = ((tt, tt), (refl, refl), tt)
-
--- both branches end
-nothing_after_two_ends : IsJudged plan (either 3 (IfContact 1) (stop 3 nothing) (stop 3 nothing) (waits nothing)) start → ⊥
-nothing_after_two_ends h = h.3
-
 -- ---- the scheme
 
 falls : falls_out (repeat 3 3 (waits nothing) nothing) ≡ true
@@ -196,50 +137,15 @@ the_lines_of_a_loop = refl
 the_labels_of_a_loop : map (λ m. m.pc) (unpriced_labels 0 (all_places plan 5 (repeat 2 3 (waits nothing) nothing) start)) ≡ 0 ∷ 1 ∷ []
 the_labels_of_a_loop = refl
 
--- `if contact 1 { } else { }` and `wait 1`
-the_instructions_of_a_choice : instrs_of (lines_of_placed (all_places plan 5 (either 2 (IfContact 1) nothing nothing (waits nothing)) start)) ≡ Test 1 2 ∷ Jump 2 ∷ Wait 1 ∷ End ∷ []
-the_instructions_of_a_choice = refl
-
 -- `contact 3 closed`, `contact 3 open` and `contact 0 open`
 abbrev third : Bool → Alternative
 third closed = OfContact 3 closed
-
--- `wait contact 3 closed or until 00:00:01 or 750`
-a_wait_with_alternatives :
-    instrs_of (lines_of_placed (all_places plan 3 (basic 3 (WaitsAny (third true ∷ OfMoment (At 1) ∷ OfFrames 750 ∷ [])) nothing) start))
-    ≡ WaitAny (record { 0 = 8 }) no_contacts (Some 42) (Some 750) ∷ End ∷ []
-a_wait_with_alternatives = refl
 
 -- the same contact several times is in each set once; 250 frames before ten in the evening
 the_same_contact_again :
     instrs_of (lines_of_placed (all_places plan 3 (basic 3 (WaitsAny (third true ∷ OfMoment (Early 79200 250) ∷ third true ∷ third false ∷ [])) nothing) start))
     ≡ WaitAny (record { 0 = 8 }) (record { 0 = 8 }) (Some 3299750) None ∷ End ∷ []
 the_same_contact_again = refl
-
--- `if time 22:00:00 to 06:00:00 { wait 3 } else { wait 2 }` and `wait 9`
-the_instructions_of_a_window :
-    instrs_of (lines_of_placed (all_places plan 8 (either 3 (IfTime 79200 21600) (basic 4 (Waits 3) nothing) (basic 6 (Waits 2) nothing) (basic 8 (Waits 9) nothing)) start))
-    ≡ TestTime 3300000 900000 3 ∷ Wait 3 ∷ Jump 4 ∷ Wait 2 ∷ Wait 9 ∷ End ∷ []
-the_instructions_of_a_window = refl
-
--- `wait contact 3 closed or until 22:00:00`, `if time 22:00:00 to 06:00:00 { wait 1 }` and `settle`, where the swap falls
--- after 24 to 27 frames
-abbrev over_a_window : Block
-over_a_window =
-    basic 9 (WaitsAny (third true ∷ OfMoment (At 79200) ∷ []))
-    (when 10 (IfTime 79200 21600) (basic 10 (Waits 1) nothing) (basic 11 Settles nothing))
-
-abbrev noticed : ProgramPoint
-noticed = without_label (knows one_sub (Within 24 27))
-
-a_window_is_judged : IsJudged plan over_a_window noticed
-a_window_is_judged = (tt, ((tt, tt), fits, (tt, tt)))
-  where
-    fits : WaysAgree (Some (without_label (knows one_sub (Perhaps 25)))) (Some (without_label (knows one_sub (Perhaps 26))))
-    fits = search rules
-
-the_label_after_a_window : unpriced_labels 0 (all_places plan 11 over_a_window noticed) ≡ record { pc = 3; flow = knows one_sub (Perhaps 26); repeats = 0 } ∷ []
-the_label_after_a_window = refl
 
 two_deep : nested (repeat 2 3 (repeat 3 3 (waits nothing) nothing) nothing) ≡ 2
 two_deep = refl
@@ -248,9 +154,6 @@ two_deep = refl
 
 abbrev mark : ℕ → Flow → UnpricedLabel
 mark pc flow = record { pc = pc; flow = flow; repeats = 1 }
-
-stands : IsInTable one_sub (no_configuration ∷ one_sub ∷ [])
-stands = (1, refl)
 
 stands_not : IsInTable one_sub (no_configuration ∷ []) → ⊥
 stands_not (zero, e) = let same : no_configuration ≡ one_sub = cc in not_the_empty (sym same)
@@ -335,20 +238,14 @@ is_code = record {
 is_no_code : IsCodeOf (ends [] 20) (record (ending 1) { lines = [] }) → ⊥
 is_no_code h = let e : [] ≡ record { number = 2; instr = End } ∷ [] = h.lines in absurd cc
 
-only_an_end : (pc n : ℕ) → HasPath (End ∷ []) pc n → n ≤ 1
-only_an_end pc zero h = omega arith
-only_an_end pc (suc zero) h = omega arith
-only_an_end zero (suc (suc n)) h = absurd (stops End h.0 h.1 0 refl h.2 h.3)
-only_an_end (suc pc) (suc (suc n)) h = let none : None ≡ Some h.0 = h.2 in absurd cc
-
 costs_its_needs : CostsItsNeeds (ending 1)
-costs_its_needs l (zero, lt, same) = subst (λ (x : Label). IsNeed (End ∷ []) x.pc x.cost) same (record { path = search rules; longest = λ n h. only_an_end 0 n h })
+costs_its_needs l (zero, lt, same) = subst (λ (x : Label). IsNeed (End ∷ []) x.pc x.cost) same (record { path = search rules; longest = λ n h. stays_within_one 0 n h })
 costs_its_needs l (suc n, lt, same) = absurd (omega (arith, lt))
 
 costs_more : CostsItsNeeds (ending 2) → ⊥
 costs_more h =
     let need : IsNeed (End ∷ []) 0 2 = h (record { pc = 0; cur = 0; next = 0; pending = Idle; counters = record { 0 = 0 }; cost = 2 }) (0, omega arith, refl) in
-    let e : 2 ≤ 1 = only_an_end 0 2 need.path in
+    let e : 2 ≤ 1 = stays_within_one 0 2 need.path in
     omega (arith, e)
 
 few_configurations : (table : List Configuration) → Tabled [] (unpriced_labels 0 (placed_instrs (ends [] 20))) table → length table ≤ MOST_CONFIGURATIONS
@@ -367,7 +264,7 @@ is_accepted = record {
   labels = omega arith;
   configurations = few_configurations;
   repeats = omega arith;
-  within = λ pc n h. let e = only_an_end pc n h in omega (arith, e);
+  within = λ pc n h. let e = stays_within_one pc n h in omega (arith, e);
 }
 
 -- even one instruction exceeds a budget of 0

@@ -1,10 +1,8 @@
 -- Test vectors of the result of compiling a block, the block without statements; and of faults and limits.
-use Rattle.std.proofs.Common.{◌≡◌, ℕ, ◌+◌, ◌≤◌, true, false, [], ◌∷◌, length, Some, None, Ok, Err, refl, ap, arith}
+use Rattle.std.proofs.Common.{◌≡◌, ◌+◌, ◌≤◌, true, false, [], ◌∷◌, length, Some, None, Ok, refl, ap, arith}
 use Rattle.plan_code.specs.declared.instr.Instr.{Instr}
-use Rattle.plan_verifier.specs.declared.cause.Cause.{Cause}
 use Rattle.plan_verifier.specs.declared.cause.Cause.TheVariants.{Mismatch, Cost}
-use Rattle.script_front.specs.declared.tree.Statement.TheVariants.{End}
-use Rattle.script_front.specs.Block.{Block, nothing, stop}
+use Rattle.script_front.specs.Block.{nothing}
 use Rattle.script_compiler.specs.declared.context.Context.{Context}
 use Rattle.script_compiler.specs.Scheme.{placed_instr}
 use Rattle.script_compiler.specs.declared.fault.CodeLimit.TheVariants.{Instructions, Labels, Counters}
@@ -12,17 +10,12 @@ use Rattle.script_compiler.specs.declared.fault.CompileFault.TheVariants.{Refuse
 use Rattle.script_compiler.specs.Refusals.{IsLimitAt, IfMismatchAt, IfLimitAt}
 use Rattle.script_compiler.specs.Space.{LacksSpace, HasTable, IsInLimits}
 use Rattle.script_compiler.specs.Working.{Work}
-use Rattle.script_compiler.specs.Emission.{tables}
-use Rattle.script_compiler.specs.Compiling.{CanCompile, Compiles, block_in, statement_in}
-use Rattle.script_compiler.proofs.Arms.{is_end}
+use Rattle.script_compiler.specs.Compiling.{CanCompile, Compiles, block_in}
 use Rattle.script_compiler.proofs.Emitted.{left_start}
 
 module _ (c : Context) (w : Work) where
   no_statements : block_in c [] ≡ nothing
   no_statements = refl
-
-  one_end : (rest : Block) → statement_in c (End 5) rest ≡ stop 5 rest
-  one_end rest = is_end (tables c.blocks.now) (End 5) 5 refl rest
 
   -- there is no counter for a ninth repeat
   nine_repeats : c.counters ≡ 9 → CanCompile c w → ⊥
@@ -34,10 +27,6 @@ module _ (c : Context) (w : Work) where
 
   ends : Compiles c nothing nothing w w (Ok false) → ⊥
   ends h = let leads : Some w.now ≡ None = h.left.leads in cc
-
-  -- it is valid anywhere, so it is not refused
-  refused : (line : ℕ) (cause : Cause) → Compiles c nothing nothing w w (Err (Refused line cause)) → ⊥
-  refused line cause h = h.refused tt tt
 
   -- ---- limits
 
@@ -59,9 +48,6 @@ limit_at_5 = (refl, refl)
 
 limit_at_6 : IsLimitAt 5 (λ k. k ≡ Labels) (Limit 6 Labels) → ⊥
 limit_at_6 h = let same : 6 ≡ 5 = h.0 in omega (arith, same)
-
-refusal_at_5 : (cause : Cause) → IsLimitAt 5 (λ k. k ≡ Labels) (Refused 5 cause) → ⊥
-refusal_at_5 cause h = h
 
 mismatch_at_5 : IfMismatchAt 5 (Labels ≡ Labels) (Refused 5 Mismatch)
 mismatch_at_5 = (refl, (refl, refl))

