@@ -3,7 +3,7 @@
 ghost use Rattle.std.specs.Prelude.{◌≡◌, ◌<◌, ◌≤◌, [], ◌∷◌, length, take, false, true, IfOk, OnOk, IfErr, OnErr};
 ghost use Rattle.std.specs.Io.KnownBytes.{Appends};
 ghost use Rattle.plan_runs.specs.declared.event.Event.TheVariants.{Frame};
-ghost use Rattle.plan_runs.specs.Headline.{KeepsItsWord};
+ghost use Rattle.plan_runs.specs.Headline.{MeetsGuarantees};
 ghost use Rattle.plan_player.specs.Playing.{played};
 ghost use Rattle.plan_player.specs.Delivery.{frames_of, played_bytes, next_frame, StoppedBy};
 
@@ -47,7 +47,7 @@ fn play_event<'a, S: Store, K: Sink>(
 
 /// The guarantees of the headline for these events.
 fn promise<'a, S: Store>(player: &Player<'a, S>, events: &[Event])
-    ensures { KeepsItsWord player.now.code player.now.state events.now }
+    ensures { MeetsGuarantees player.now.code player.now.state events.now }
 {
     // Read for the proof: a value's invariant is known where the value is read.
     let _current = player.current();
@@ -74,7 +74,7 @@ pub fn play<'a, S: Store, K: Sink>(
     ensures stopped { IfErr result (λ fault.
         StoppedBy player.old player.new events.now (K.taken sink.old) (K.taken sink.new) fault) }
     ensures fails { OnErr result (K.has_failed sink.new ≡ true) }
-    ensures headline { KeepsItsWord player.old.code player.old.state events.now }
+    ensures headline { MeetsGuarantees player.old.code player.old.state events.now }
 {
     promise(player, events);
     let mut frames = 0u64;

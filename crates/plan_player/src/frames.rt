@@ -4,7 +4,7 @@ ghost use Rattle.std.specs.Prelude.{◌≡◌, ◌≤◌, List, false, true, len
 ghost use Rattle.std.specs.Io.KnownBytes.{Appends};
 ghost use Rattle.plan_runs.specs.declared.event.Event.{Event};
 ghost use Rattle.plan_runs.specs.declared.event.Event.TheVariants.{Frame};
-ghost use Rattle.plan_runs.specs.Headline.{KeepsItsWord};
+ghost use Rattle.plan_runs.specs.Headline.{MeetsGuarantees};
 ghost use Rattle.plan_player.specs.Playing.{played};
 ghost use Rattle.plan_player.specs.Delivery.{frames_of, played_bytes, Delivered, Stopped, StoppedBy};
 ghost use Rattle.plan_player.specs.Quiet.{AreQuiet};
@@ -17,7 +17,7 @@ use plan_runs::laws;
 
 /// The guarantees of the headline for any events.
 fn promise<'a, S: Store>(player: &Player<'a, S>)
-    ensures { (events : List Event) → KeepsItsWord player.now.code player.now.state events }
+    ensures { (events : List Event) → MeetsGuarantees player.now.code player.now.state events }
 {
     // Read for the proof: a value's invariant is known where the value is read.
     let _current = player.current();
@@ -122,7 +122,7 @@ pub fn play_frames<'a, S: Store, K: Sink>(
     ensures stopped { IfErr result (λ fault. StoppedBy player.old player.new
         (replicate count Frame) (K.taken sink.old) (K.taken sink.new) fault) }
     ensures fails { OnErr result (K.has_failed sink.new ≡ true) }
-    ensures headline { KeepsItsWord player.old.code player.old.state (replicate count Frame) }
+    ensures headline { MeetsGuarantees player.old.code player.old.state (replicate count Frame) }
 {
     promise(player);
     let mut done = 0u32;

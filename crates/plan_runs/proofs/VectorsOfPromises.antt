@@ -14,7 +14,7 @@ use Rattle.plan_runs.specs.Frames.{IsOneBurst, ready, after_burst}
 use Rattle.plan_runs.specs.TypedRuns.{RunsWell}
 use Rattle.plan_runs.specs.Announced.{AlwaysRuns, IsHeardInSome}
 use Rattle.plan_runs.specs.RightBytes.{FrameIsRight, FramesAreRight, IsHeardEachPeriod}
-use Rattle.plan_runs.specs.Headline.{KeepsItsWord}
+use Rattle.plan_runs.specs.Headline.{MeetsGuarantees}
 use Rattle.plan_runs.proofs.Bursts.{bursts_are_one}
 use Rattle.plan_runs.proofs.TypedRuns.{typed_code_runs}
 use Rattle.plan_runs.proofs.Announcing.{swaps_are_announced}
@@ -88,8 +88,8 @@ no_period h =
 
 -- ---- all of it
 
-keeps_its_word : KeepsItsWord waits second events
-keeps_its_word = headline_holds laws waits second events played
+meets_guarantees : MeetsGuarantees waits second events
+meets_guarantees = headline_holds laws waits second events played
 
-breaks_it : KeepsItsWord joins first events → ⊥
-breaks_it h = frame_traps h.runs.0.allowed
+breaks_a_guarantee : MeetsGuarantees joins first events → ⊥
+breaks_a_guarantee h = frame_traps h.runs.0.allowed

@@ -43,14 +43,14 @@ KeepsCount p s (Frame ∷ es) =
 
 -- over these events: there is no trap, the budget is kept, and each swap was announced; every frame has correct FIBs;
 -- each swap falls on the announced count; and each period has the whole current configuration
-pub record KeepsItsWord (p : Program) (s : State) (events : List Event) : Type 0 where
+pub record MeetsGuarantees (p : Program) (s : State) (events : List Event) : Type 0 where
   pub runs : Runs p s (heard_of p.plan s) events
   pub right : FramesAreRight p s events
   pub counted : KeepsCount p s events
   pub whole : IsHeardEachPeriod p s
 
 abbrev pub HeadlineHolds : Type 0
-HeadlineHolds = (p : Program) (s : State) (events : List Event) → IsPlayed p s → KeepsItsWord p s events
+HeadlineHolds = (p : Program) (s : State) (events : List Event) → IsPlayed p s → MeetsGuarantees p s events
 
 -- ---- its parts, each a separate law
 
