@@ -2,12 +2,9 @@
 use Rattle.std.proofs.Common.{◌≡◌, ℕ, ◌+◌, ◌-◌, ◌≤◌, ◌<◌, leb, ltb, zero, suc, inl, inr, Bool, true, false, List, [], ◌∷◌, ◌++◌, length, get_or, take, drop, replicate, refl, sym, ap, ap₂, ◌∙◌, arith, append_assoc, append-nil, length-append, take_at, length-take-le, length-drop, drop-cons, drop_at, subst, subst₂}
 use Rattle.std.proofs.lemmas.List.{length-replicate}
 use Rattle.std.proofs.lemmas.Bool.{cond-true, cond-false, lt-ltb, le-ltb, le-leb, lt-leb, cases_lt}
-use Rattle.std.proofs.lemmas.List.Folds.{list_any-append}
 use Rattle.std.proofs.lemmas.List.{take_more}
 use Rattle.std.specs.List.{concat}
-use Rattle.std.specs.Str.{bytes_eq}
 use Rattle.fib_codec.specs.Spelling.{filled}
-use Rattle.fig_merge.specs.Taking.{waits}
 use Rattle.fig_merge.specs.Filling.{carried_in, carried_of, left_in, room_after, stale_in, stale_of, turns_in}
 
 -- ---- a FIG that waits on
@@ -63,9 +60,6 @@ pub record IsPassed (ok : List ℕ → Bool) (bytes0 : List ℕ) (waiting : List
   pub counted : count + length (carried_in ok room rest) ≡ length (carried_in ok room0 waiting)
   pub gone : stale + length (stale_in ok room rest) ≡ length (stale_in ok room0 waiting)
 
-pub pass_begins : (ok : List ℕ → Bool) (bytes : List ℕ) (waiting : List (List ℕ)) (room : ℕ) → IsPassed ok bytes waiting room bytes [] waiting room 0 0
-pass_begins ok bytes waiting room = record { carried = refl; left = refl; counted = omega arith; gone = omega arith }
-
 module _ (ok : List ℕ → Bool) (bytes0 bytes fig : List ℕ) (waiting front rest : List (List ℕ)) (room0 room count stale : ℕ) where
   passed_over : leb (length fig) room ≡ false
       → IsPassed ok bytes0 waiting room0 bytes front (fig ∷ rest) room count stale → IsPassed ok bytes0 waiting room0 bytes (front ++ fig ∷ []) rest room count stale
@@ -102,12 +96,6 @@ module _ (ok : List ℕ → Bool) (bytes0 bytes fig : List ℕ) (waiting front r
         counted = ap (λ xs. count + length xs) (sym (none_carried ok fig rest room fits is)) ∙ h.counted;
         gone = omega (arith, longer, all);
       }
-
--- ---- a FIG with the same bytes
-pub waits_not_yet : (fig d : List ℕ) (figs : List (List ℕ)) (i : ℕ) → i < length figs → waits fig (take i figs) ≡ false
-    → bytes_eq fig (get_or figs i d) ≡ false → waits fig (take (i + 1) figs) ≡ false
-waits_not_yet fig d figs i lt none other =
-    ap (waits fig) (take_more figs i d lt) ∙ list_any-append (bytes_eq fig) (take i figs) (get_or figs i d ∷ []) ∙ grind (arith, none, other)
 
 -- ---- the end of a FIB
 take_zeros : (n m : ℕ) → n ≤ m → take {A = ℕ} n (replicate m 0) ≡ replicate n 0

@@ -17,24 +17,6 @@ sub_channels = refl
 of_another_ensemble : is_left_out (Other (5 ∷ 65 ∷ 4 ∷ 0 ∷ 136 ∷ 96 ∷ [])) ≡ false
 of_another_ensemble = refl
 
-configuration_information : is_left_out (Other (3 ∷ 7 ∷ 32 ∷ 1 ∷ [])) ≡ true
-configuration_information = refl
-
-configuration_information_next : is_left_out (Other (3 ∷ 135 ∷ 32 ∷ 1 ∷ [])) ≡ true
-configuration_information_next = refl
-
-configuration_information_elsewhere : is_left_out (Other (3 ∷ 71 ∷ 32 ∷ 1 ∷ [])) ≡ false
-configuration_information_elsewhere = refl
-
-language : is_left_out (Other (3 ∷ 5 ∷ 1 ∷ 9 ∷ [])) ≡ false
-language = refl
-
-label_of_type_one : is_left_out (Other (35 ∷ 7 ∷ 32 ∷ 1 ∷ [])) ≡ false
-label_of_type_one = refl
-
-header_alone : is_left_out (Other (32 ∷ [])) ≡ false
-header_alone = refl
-
 taken_in_order : taken_of (Other (33 ∷ 1 ∷ []) ∷ Open 1 ((4 ∷ 0 ∷ 136 ∷ 96 ∷ []) ∷ []) ∷ Other (33 ∷ 2 ∷ []) ∷ []) ≡ (33 ∷ 1 ∷ []) ∷ (33 ∷ 2 ∷ []) ∷ []
 taken_in_order = refl
 
@@ -49,26 +31,14 @@ one = 33 ∷ 1 ∷ []
 abbrev two : List ℕ
 two = 33 ∷ 2 ∷ []
 
-first_waits : with_fig one nothing_taken ≡ record nothing_taken { waiting = one ∷ [] }
-first_waits = refl
-
-second_behind_it : (with_fig two (with_fig one nothing_taken)).waiting ≡ one ∷ two ∷ []
-second_behind_it = refl
-
 repeat_waits_once : (with_fig one (with_fig two (with_fig one nothing_taken))).waiting ≡ one ∷ two ∷ []
 repeat_waits_once = refl
-
-repeat_is_not_dropped : (with_fig one (with_fig one nothing_taken)).dropped ≡ 0
-repeat_is_not_dropped = refl
 
 abbrev full : Merging
 full = record nothing_taken { waiting = replicate 256 one; dropped = 7 }
 
 dropped_where_256_wait : (with_fig two full).dropped ≡ 8
 dropped_where_256_wait = refl
-
-none_waits_more : length (with_fig two full).waiting ≡ 256
-none_waits_more = refl
 
 repeated_or_dropped : repeated_of (one ∷ two ∷ []) full ≡ one ∷ []
 repeated_or_dropped = refl
@@ -109,12 +79,6 @@ short_overtakes_longer = refl
 longer_waits_on : left_in always 10 (long ∷ middle ∷ short ∷ []) ≡ middle ∷ []
 longer_waits_on = refl
 
-all_go : left_in always 15 (long ∷ middle ∷ short ∷ []) ≡ []
-all_go = refl
-
-none_goes : carried_in always 1 (long ∷ middle ∷ short ∷ []) ≡ []
-none_goes = refl
-
 -- one that does not agree takes no room
 stale_takes_no_room : carried_in not_middle 11 (middle ∷ long ∷ short ∷ []) ≡ long ∷ short ∷ []
 stale_takes_no_room = refl
@@ -128,9 +92,6 @@ it_waits_no_more = refl
 -- one that does not fit is not judged
 not_judged : stale_in not_middle 4 (middle ∷ []) ≡ []
 not_judged = refl
-
-room_of_nothing : room_of [] ≡ 30
-room_of_nothing = refl
 
 room_behind_a_fig : room_of (Other (35 ∷ 7 ∷ 32 ∷ 1 ∷ []) ∷ []) ≡ 26
 room_behind_a_fig = refl
@@ -152,9 +113,6 @@ none_that_fits_stays h = absurd (omega (arith, h.1.0))
 
 -- ---- accounts
 
-once : times one (one ∷ two ∷ []) ≡ 1
-once = refl
-
 twice : times one (one ∷ one ∷ []) ≡ 2
 twice = refl
 
@@ -168,9 +126,6 @@ alike_are_not_different h = let same = h.0 in absurd cc
 
 carried_behind : with_carried (Some (Other two ∷ [])) (one ∷ []) ≡ Some (Other two ∷ Other one ∷ [])
 carried_behind = refl
-
-damaged_stays : with_carried None (one ∷ []) ≡ None
-damaged_stays = refl
 
 filled_behind : AreFilled any_carried untuned (Some [] ∷ None ∷ []) (Some (Other one ∷ []) ∷ None ∷ [])
 filled_behind = (one ∷ [], None ∷ [], refl, refl, ([], [], refl, refl, refl))
