@@ -7,7 +7,6 @@ mod Running
 mod Framings
 mod Fronts
 mod OneOutcome
-mod Stopping
 mod Taking
 mod VectorsOfChecks
 mod VectorsOfLogs

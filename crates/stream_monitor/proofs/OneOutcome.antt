@@ -178,9 +178,6 @@ stops_alike r o fibs fib log other (endings.Refused causes.NoEnsemble) d short g
 pub front_short : (stream front rest : List ℕ) → stream ≡ front ++ rest → length stream < most → length front < most
 front_short stream front rest e short = let len = ap length e ∙ length-append front rest in omega (arith, len, short)
 
-flip : (log other : List Line) (e d : Ending) → AreSame other log d e → AreSame log other e d
-flip log other e d h = record { logs = sym h.logs; endings = sym h.endings }
-
 -- one at the end, the other with a FIB before it
 end_and_fib : (r : Reading) (o : CheckOptions) (fibs others : List (List ℕ)) (part fib more : List ℕ) (log other : List Line) (e d : Ending) → length (concat others) < most → concat fibs ++ part ≡ concat others ++ (fib ++ more)
     → StopsAtEnd r o fibs part log e → StopsWithFib r o others fib other d → ⊥

@@ -41,12 +41,6 @@ two = record { summary = record { frames = 2; skipped = 0; left_over = 0; damage
 
 -- ---- lines
 
-no_line : frames_lines options [] [] [] ≡ []
-no_line = refl
-
-one_frame : frames_lines options [] [] (damaged ∷ []) ≡ (finding_lines first_found ++ []) ++ []
-one_frame = refl
-
 -- totals after the second frame, and not after the first
 two_frames : frames_lines options [] [] (damaged ∷ damaged ∷ [])
     ≡ (finding_lines first_found ++ []) ++ ((finding_lines (found 1 (whats.Fault (faults.Damaged 3)) ∷ []) ++ lines.Alive two ∷ []) ++ [])
@@ -68,9 +62,6 @@ ends_with_fault = refl
 
 goes_on_at_fault : is_stopped options (damaged ∷ []) ≡ false
 goes_on_at_fault = refl
-
-goes_on_before : is_stopped until_fault [] ≡ false
-goes_on_before = refl
 
 -- ---- streams without a FIB
 
@@ -111,10 +102,3 @@ refused r = inl ([], [], refl, (goes_on r, refl, tt))
 -- and has no totals
 not_counted : (r : Reading) (log : List Line) (t : Totals) → StopsAtEnd r options [] [] log (endings.Counted t) → ⊥
 not_counted r log t h = h.2 tt
-
--- a byte alone is not a whole FIB
-not_whole : (r : Reading) → Checks r options (7 ∷ []) [] (endings.Refused causes.NotWhole)
-not_whole r = inl ([], 7 ∷ [], refl, (goes_on r, omega arith, omega arith))
-
-not_whole_none : (r : Reading) (log : List Line) → StopsAtEnd r options [] [] log (endings.Refused causes.NotWhole) → ⊥
-not_whole_none r log h = absurd (omega (arith, h.1))

@@ -2,7 +2,7 @@
 use Rattle.std.proofs.Common.{◌≡◌, ℕ, List, [], ◌∷◌, Option, None, Some, refl, ap, length, arith}
 use Rattle.stream_check.specs.Frames.{Reading}
 use Rattle.stream_monitor.specs.declared.ending.Ending.TheVariants as endings
-use Rattle.stream_monitor.specs.declared.fibs.Next.TheVariants.{Fib, Part, End}
+use Rattle.stream_monitor.specs.declared.fibs.Next.TheVariants.{Fib, Part}
 use Rattle.stream_monitor.specs.declared.line.Cause.TheVariants as causes
 use Rattle.stream_monitor.specs.declared.line.Line.TheVariants as lines
 use Rattle.stream_monitor.specs.Checking.{StopsAtFib, HasReadAll}
@@ -14,13 +14,6 @@ use Rattle.stream_monitor.proofs.VectorsOfChecks.{goes_on, options, tells_nothin
 
 gives_part : Gives (Some (7 ∷ [])) (Some []) Part
 gives_part = (7 ∷ [], omega arith, omega arith, refl, refl)
-
-gives_end : Gives (Some []) (Some []) End
-gives_end = (refl, refl)
-
--- bytes that are left are no end
-gives_no_end : Gives (Some (7 ∷ [])) (Some (7 ∷ [])) End → ⊥
-gives_no_end h = let len = ap length h.1 in absurd (omega (arith, len))
 
 -- a byte is no FIB
 gives_no_fib : Gives (Some (7 ∷ [])) (Some []) (Fib (7 ∷ [])) → ⊥
