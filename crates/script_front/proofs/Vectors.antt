@@ -1,19 +1,17 @@
 -- Short scripts that have the same tokens, and some that have not.
-use Rattle.std.proofs.Common.{◌≡◌, ◌≢◌, ℕ, ◌≤◌, true, false, List, [], ◌∷◌, ◌++◌, refl, sym, ap, ◌∙◌, arith}
+use Rattle.std.proofs.Common.{◌≡◌, ◌≢◌, ℕ, ◌≤◌, true, false, List, [], ◌∷◌, ◌++◌, refl, ap, arith}
 use Rattle.std.specs.Prelude.{Some, None}
 use Rattle.std.specs.Fmt.{decimal}
-use Rattle.fib_codec.specs.Layouts.{reserved_fibs}
 use Rattle.fib_codec.specs.declared.frame_layout.FrameLayout.{FrameLayout}
 use Rattle.fib_codec.specs.declared.frame_layout.FrameLayout.TheVariants.{Whole, ReserveOne, ReserveTwo}
 use Rattle.fib_codec.specs.declared.modes.Mode.TheVariants.{I}
-use Rattle.script_front.specs.declared.tree.Act.TheVariants.{Wait, WaitAny}
+use Rattle.script_front.specs.declared.tree.Act.TheVariants.{WaitAny}
 use Rattle.script_front.specs.declared.tree.Condition.TheVariants.{Time}
 use Rattle.script_front.specs.declared.moment.MomentForm.TheVariants.{At, Early}
 use Rattle.script_front.specs.declared.alternatives.Alternative.{Alternative}
 use Rattle.script_front.specs.declared.alternatives.Alternative.TheVariants.{Contact as OfContact, Until as OfMoment, Frames as OfFrames}
 use Rattle.script_front.specs.Waits.{moment_frame, AreAlternatives, may_follow}
 use Rattle.plan_code.specs.declared.plan.Plan.{Plan}
-use Rattle.script_front.specs.Block.{nothing, basic, block_of}
 use Rattle.script_front.specs.Tree.{Tree, IsScript}
 use Rattle.plan_code.specs.Program.{IsPlan}
 use Rattle.script_tokens.specs.declared.keyword.Keyword.TheVariants as the
@@ -23,7 +21,6 @@ use Rattle.script_tokens.proofs.Combining.{other_next, not_after}
 use Rattle.script_front.specs.Spelled.{alternative_lexemes, alternatives_lexemes, condition_lexemes, reserve_lexemes, header_lexemes, tree_lexemes}
 use Rattle.script_front.specs.Readers.{header_at, waiting_at, condition_at}
 use Rattle.script_front.specs.BlockReader.{stops, content_of, script_at}
-use Rattle.script_front.specs.Alike.{unlined}
 use Rattle.script_front.specs.Denoting.{IsScriptOf}
 use Rattle.script_front.proofs.FoundBlocks.{closing_stops}
 use Rattle.script_front.proofs.ReadingWaits.{IsPast, one_found, any_found, condition_law}
@@ -86,12 +83,6 @@ of_other_periods e =
     let a = scripts_alike (brief 4 2) (brief 5 2) (brief_is 4 2 (omega arith) (omega arith)) (brief_is 5 2 (omega arith) (omega arith)) e in
     let p : 4 ≡ 5 = ap (λ (h : Plan). h.period) a.header in omega (arith, p)
 
--- and a reserve, which is written where there is one
-of_a_reserve : tree_lexemes (laid_out (Whole I) 4 2) ≢ tree_lexemes (laid_out (ReserveOne I) 4 2)
-of_a_reserve e =
-    let a = scripts_alike (laid_out (Whole I) 4 2) (laid_out (ReserveOne I) 4 2) (laid_out_is (Whole I) 4 2 (omega arith) (omega arith)) (laid_out_is (ReserveOne I) 4 2 (omega arith) (omega arith)) e in
-    let same : 0 ≡ 1 = ap (λ (h : Plan). reserved_fibs h.layout) a.header in omega (arith, same)
-
 reserved : header_lexemes (headed (ReserveOne I) 4) ≡ header_lexemes (headed (Whole I) 4) ++ letters the.Reserve ∷ decimal 1 ∷ []
 reserved = refl
 
@@ -128,9 +119,6 @@ nothing_is_read = refl
 before_ten : moment_frame (Early 79200 250) ≡ 3299750
 before_ten = refl
 
-at_midnight : moment_frame (Early 1 42) ≡ 0
-at_midnight = refl
-
 over_midnight : moment_frame (Early 0 1) ≡ 3599999
 over_midnight = refl
 
@@ -144,9 +132,6 @@ three_are = record { several = omega arith; few = omega arith; each = (omega ari
 -- one alternative is too few, and two moments are too many
 one_is_not : AreAlternatives (OfFrames 5 ∷ []) → ⊥
 one_is_not h = let e = h.several in omega (arith, e)
-
-two_moments_are_not : AreAlternatives (OfMoment (At 1) ∷ OfMoment (At 2) ∷ []) → ⊥
-two_moments_are_not h = let e = h.one_moment in omega (arith, e)
 
 no_more : IsPast (letters the.End ∷ [])
 no_more = (other_next the.End the.Early [] (λ e. cc), other_next the.End the.Or [] (λ e. cc))
@@ -167,13 +152,6 @@ a_number_and_a_contact = refl
 -- `time 22:00:00 to 06:00:00`
 a_window_is_read : condition_at (condition_lexemes (Time 79200 21600) ++ letters the.OpenBrace ∷ []) ≡ Some (Time 79200 21600, letters the.OpenBrace ∷ [])
 a_window_is_read = condition_law.found (Time 79200 21600) (letters the.OpenBrace ∷ []) (omega arith, omega arith)
-
--- and so does another wait
-of_other_waits : (s t : Tree) → IsScript s → IsScript t → block_of [] s.statements ≡ basic 3 (Wait 1) nothing → block_of [] t.statements ≡ basic 3 (Wait 2) nothing → tree_lexemes s ≢ tree_lexemes t
-of_other_waits s t x y one two e =
-    let a = scripts_alike s t x y e in
-    let same : basic 0 (Wait 1) nothing ≡ basic 0 (Wait 2) nothing = ap unlined (sym one) ∙ a.statements ∙ ap unlined two in
-    absurd cc
 
 -- no text is that of the same script on two different lines
 on_one_line : (text : List ℕ) → IsScriptOf text (brief 4 2) → IsScriptOf text (brief 4 3) → ⊥
