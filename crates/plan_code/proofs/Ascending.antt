@@ -44,19 +44,12 @@ pub are_labels_start : (count : ℕ) (xs : List Label) → (AllByRecursion (IsLa
 are_labels_start count xs =
     (λ h. record { formed = h.0; ascending = ascends_from_zero label_key xs h.1 }, λ h. (h.formed, from_ascends label_key 0 xs h.ascending))
 
-pub are_labels_step : (count low : ℕ) (x : Label) (xs : List Label) → low ≤ x.pc → IsLabel count x → AreLabels count low (x ∷ xs) ↔ AreLabels count (x.pc + 1) xs
-are_labels_step count low x xs from is =
-    (λ h. record { formed = h.formed.1; ascending = h.ascending.1 }, λ h. record { formed = (is, h.formed); ascending = (from, h.ascending) })
-
 pub not_labels_below : (count low i pc : ℕ) (xs : List Label) (d : Label) → i < length xs → pc ≡ (get_or xs i d).pc → pc < low → AreLabels count low (drop i xs) → ⊥
 not_labels_below count low i pc xs d lt is below h =
     let cut : AreLabels count low (get_or xs i d ∷ drop (i + 1) xs) = rw (drop_more xs i d lt) at h in
     omega (arith, is, below, cut.ascending.0)
 
 -- ---- binary search
-
-key_at : {T : Type 0} (key : T → ℕ) (xs : List T) (i : ℕ) (d : T) → ℕ
-key_at key xs i d = key (get_or xs i d)
 
 each_at : {T : Type 0} (P : T → Type 0) (xs : List T) (i : ℕ) (d : T) → AllByRecursion P xs → i < length xs → P (get_or xs i d)
 each_at P [] i d all lt = absurd (omega (arith, lt))

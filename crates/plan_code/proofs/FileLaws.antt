@@ -12,7 +12,7 @@ use Rattle.mux_config.specs.declared.record.RecordFault.{RecordFault}
 use Rattle.mux_config.specs.Configuration.{Configuration, IsConfiguration, IsAscending}
 use Rattle.mux_config.specs.FieldSpelling.{u16_bytes}
 use Rattle.mux_config.specs.Spelling.{config_bytes}
-use Rattle.mux_config.specs.FieldReading.{Reads, place, byte_at, number_at, byte_within}
+use Rattle.mux_config.specs.FieldReading.{place, byte_at, number_at, byte_within}
 use Rattle.mux_config.specs.Reading.{config_at}
 use Rattle.mux_config.proofs.FieldLaws.{IsBytes, Front, front_then, byte_front, long_front, long_again}
 use Rattle.mux_config.proofs.RecordLaws.{record_front, record_again, members_front, members_again}
@@ -25,7 +25,7 @@ use Rattle.plan_code.specs.Program.{Program, IsProgram, IsPlan, IsLabel, IsLine,
 use Rattle.plan_code.specs.Spelling.{magic, mode_bytes, layout_bytes, plan_bytes, header_bytes, label_bytes, line_bytes, code_bytes}
 use Rattle.plan_code.specs.Parts.{label_from, line_from}
 use Rattle.plan_code.specs.Reading.{Parses, ◌>>=◌, refuse_code, read_from, in_file, magic_at, mode_of, reserving, reserving_at, layout_in, layout_at, plan_at, count_at, config_in, line_in, items_at, labels_in, Header, header_at, program_at, code_of, Gives}
-use Rattle.plan_code.proofs.Operands.{IsReading, byte_of, word_reading, byte_from_reading}
+use Rattle.plan_code.proofs.Operands.{byte_of, word_reading, byte_from_reading}
 use Rattle.plan_code.proofs.LabelLaws.{label_front, label_again}
 use Rattle.plan_code.proofs.LineLaws.{line_front, line_again}
 
@@ -57,12 +57,6 @@ ok_read start r x e = rw e refl
 pub record IsParsing {T : Type 0} (read : List ℕ → Parses T) (spell : T → List ℕ) (P : T → Type 0) : Type 0 where
   pub front : (bytes : List ℕ) (x : T × List ℕ) → IsBytes bytes → read bytes ≡ Ok x → Front bytes (spell x.0) x.1 × P x.0
   pub again : (x : T) (rest : List ℕ) → P x → read (spell x ++ rest) ≡ Ok (x, rest)
-
-in_file_parsing : {T : Type 0} (read : List ℕ → Reads T) (spell : T → List ℕ) (P : T → Type 0) → IsReading read spell P → IsParsing (λ b. in_file (read b)) spell P
-in_file_parsing read spell P reading = record {
-  front = λ bytes x fits e. reading.front bytes x fits (read_ok 0 (read bytes) x e);
-  again = λ x rest formed. ok_read 0 (read (spell x ++ rest)) (x, rest) (reading.again x rest formed);
-}
 
 -- ---- the header
 
