@@ -1,5 +1,5 @@
 -- What the success of the other commands means, from what their steps leave.
-use Rattle.std.proofs.Common.{◌≡◌, ℕ, List, Option, None, Some, IfSome, IfOk, Result, Ok, true, ◌∙◌, sym, subst}
+use Rattle.std.proofs.Common.{◌≡◌, ℕ, List, Option, None, Some, IfSome, IfOk, Result, Ok, true, ◌∙◌, subst}
 use Rattle.std.specs.Io.KnownBytes.{Consumes, IsAtEnd, Keeps}
 use Rattle.std.proofs.KnownBytes.{Consumes-whole}
 use Rattle.console.specs.declared.exit.Status.{Status}
@@ -50,16 +50,6 @@ diffs from to kept a b Prints status p k q plan = both from to p (kept_known to 
     both None to p q = tt
     both (Some f) None p q = tt
     both (Some f) (Some t) p q = diffs_both f t a b Prints status p q plan
-
-pub no_diff : (from to : Option (List ℕ)) (Prints : List ℕ → Type 0) (status : Status) → status ≡ Refused
-    → IfSome from (λ f. IfSome to (λ t. Diffs f t Prints status))
-no_diff from to Prints status is =
-    subst (λ (s : Status). IfSome from (λ f. IfSome to (λ t. Diffs f t Prints s))) (sym is) (refuses from to)
-  where
-    refuses : (from to : Option (List ℕ)) → IfSome from (λ f. IfSome to (λ t. Diffs f t Prints Refused))
-    refuses None to = tt
-    refuses (Some f) None = tt
-    refuses (Some f) (Some t) = tt
 
 -- ---- `frame --script`
 

@@ -1,6 +1,6 @@
 -- What success means, in small cases: examples that hold and that fail.
 use Rattle.std.proofs.Common.{◌≡◌, ℕ, List, [], ◌∷◌, length, take_all, IsUtf8, None, Ok, refl, sym, ap, subst, inl, inr, arith}
-use Rattle.console.specs.declared.exit.Status.TheVariants.{Done, Refused, Misused, Faulty}
+use Rattle.console.specs.declared.exit.Status.TheVariants.{Done, Refused, Faulty}
 use Rattle.fib_codec.specs.declared.frame_layout.FrameLayout.{FrameLayout}
 use Rattle.mux_config.specs.Configuration.{Configuration}
 use Rattle.plan_code.specs.Program.{Program, IsProgram}
@@ -46,9 +46,6 @@ its_own_file script c h = (c, h, refl)
 
 done_without_a_file : (script : List ℕ) → Compiles script (λ file. ⊥) Done → ⊥
 done_without_a_file script h = h.2
-
-misused : (script : List ℕ) → Compiles script (λ file. Unit {0}) Misused → ⊥
-misused script h = h
 
 none_found_of_memory : (script : List ℕ) → ((why : FindsCompiled script None) → why.0 ≡ Memory → ⊥)
 none_found_of_memory script why e = memory_is_no_reason (subst IsReason e why.1.reason)

@@ -1,23 +1,15 @@
 -- Merging frame by frame: one more FIB of a frame, and one more frame.
-use Rattle.std.proofs.Common.{◌≡◌, ℕ, suc, ◌+◌, ◌-◌, ◌*◌, ◌<◌, ◌≤◌, ◌⊎◌, inl, inr, List, [], ◌∷◌, ◌++◌, length, flat_map, take, drop, get_or, drop-cons, add-one, refl, sym, ap, subst, ◌∙◌, arith, append_assoc, append-nil, length-append, length-take-le}
+use Rattle.std.proofs.Common.{◌≡◌, ℕ, suc, ◌+◌, ◌-◌, ◌*◌, ◌<◌, ◌≤◌, ◌⊎◌, inl, inr, List, [], ◌∷◌, ◌++◌, length, flat_map, take, drop, refl, sym, ap, subst, ◌∙◌, arith, append_assoc, append-nil, length-append, length-take-le}
 use Rattle.std.proofs.Math.Seq.{take-append_seam, drop-append_seam}
 use Rattle.std.proofs.lemmas.List.{length-drop, drop-drop}
 use Rattle.std.proofs.lemmas.List.Folds.{concat-append}
 use Rattle.std.specs.List.{concat}
 use Rattle.std.specs.Simd.{first_chunks}
 use Rattle.stream_check.specs.Frames.{Reading}
-use Rattle.fig_merge.specs.Taking.{Merging, after_take}
+use Rattle.fig_merge.specs.Taking.{Merging}
 use Rattle.fig_merge.specs.Filling.{merged, after_fill}
 use Rattle.cli_streams.specs.Merging.{after_taking, after_filling, filled_frame, next_of, merged_frames, after_merging, bytes_of}
 use Rattle.cli_streams.specs.Merged.{fib_from, FillsFib}
-
--- ---- one more FIB of the multiplexer
-
-pub taken_more : (r : Reading) (fibs : List (List ℕ)) (i : ℕ) (m n : Merging) → i < length fibs → n ≡ after_take (r.read (get_or fibs i [])) m
-    → after_taking r (drop (i + 1) fibs) n ≡ after_taking r (drop i fibs) m
-taken_more r fibs i m n lt is =
-    let cut : drop i fibs ≡ get_or fibs i [] ∷ drop (i + 1) fibs = rw (add-one, drop-cons fibs i [] lt) refl in
-    ap (after_taking r (drop (i + 1) fibs)) is ∙ sym (ap (λ (l : List (List ℕ)). after_taking r l m) cut)
 
 -- ---- one more FIB of the plan
 
@@ -118,11 +110,6 @@ after_next r (f ∷ fs) frame (t ∷ ts) next m turn =
     shorter : (length (t ∷ ts) ≡ length (f ∷ fs)) ⊎ ((length (t ∷ ts) ≤ length (f ∷ fs)) × (next ≡ [])) → (length ts ≡ length fs) ⊎ ((length ts ≤ length fs) × (next ≡ []))
     shorter (inl e) = inl (omega (arith, e))
     shorter (inr (le, e)) = inr (omega (arith, le), e)
-
--- as many frames are merged as the plan has
-pub length-merged : (r : Reading) (frames taken : List (List (List ℕ))) (m : Merging) → length (merged_frames r frames taken m) ≡ length frames
-length-merged r [] taken m = refl
-length-merged r (f ∷ fs) taken m = ap suc (length-merged r fs (drop 1 taken) (after_filling r f (after_taking r (next_of taken) m)))
 
 -- the bytes of one more frame follow those before
 pub bytes_next : (frames : List (List (List ℕ))) (frame : List (List ℕ)) → bytes_of (frames ++ frame ∷ []) ≡ bytes_of frames ++ concat frame

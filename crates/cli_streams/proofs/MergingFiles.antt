@@ -3,12 +3,12 @@ use Rattle.std.proofs.Common.{◌≡◌, ◌≢◌, ℕ, Bool, true, false, cond
 use Rattle.std.specs.Prelude.{Option, Some, None, Result, Ok, Err}
 use Rattle.std.specs.Bool.{Decides}
 use Rattle.std.specs.Str.{bytes_eq}
-use Rattle.std.specs.Io.KnownBytes.{Consumes, Keeps, prepend_known}
-use Rattle.std.proofs.KnownBytes.{Keeps-trans, prepend_known-nil}
+use Rattle.std.specs.Io.KnownBytes.{Consumes, Keeps}
+use Rattle.std.proofs.KnownBytes.{Keeps-trans}
 use Rattle.std.proofs.lemmas.Slice.Eq.{bytes_eq-Decides}
 use Rattle.console.specs.declared.exit.Status.{Status}
 use Rattle.cli_streams.specs.Merged.{Merges, ReadsFrame}
-use Rattle.cli_streams.specs.Success.{AreTwo, MergesFiles, known_at}
+use Rattle.cli_streams.specs.Success.{MergesFiles, known_at}
 use Rattle.cli_streams.specs.declared.merge.MergeFault.{MergeFault}
 use Rattle.cli_streams.specs.declared.merge.MergeSummary.{MergeSummary}
 
@@ -70,14 +70,3 @@ opened_at known input source path in_input in_file = at_path known input path (�
 kept : (b : Bool) (known later input input_later : Option (List ℕ)) (P : Type 0) → Decides b P → Keeps known later → (P → Keeps input input_later) → Keeps (cond b input known) (cond b input_later later)
 kept true known later input input_later P d of_file of_input = of_input (d.0 refl)
 kept false known later input input_later P d of_file of_input = of_file
-
--- the bytes of the other file, after the first one is opened
-pub kept_at : (known later : List ℕ → Option (List ℕ)) (input input_later : Option (List ℕ)) (path other : List ℕ) → ((p : List ℕ) → Keeps (known p) (later p)) → (path ≢ codes "-" → Keeps input input_later)
-    → AreTwo path other → Keeps (known_at known input other) (known_at later input_later other)
-kept_at known later input input_later path other of_files of_input two =
-    kept (bytes_eq other (codes "-")) (known other) (later other) input input_later (other ≡ codes "-") (bytes_eq-Decides other (codes "-")) (of_files other) (λ e. of_input (λ p. two p e))
-
--- a source of which nothing is buffered has its bytes
-pub behind_buffer : (known source behind : Option (List ℕ)) (ahead : List ℕ) → Keeps known source → behind ≡ source → ahead ≡ [] → Keeps known (prepend_known ahead behind)
-behind_buffer known source behind ahead keeps same none =
-    rw (none) (subst (λ (o : Option (List ℕ)). Keeps known o) (sym (prepend_known-nil behind)) (subst (λ (o : Option (List ℕ)). Keeps known o) (sym same) keeps))

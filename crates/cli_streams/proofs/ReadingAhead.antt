@@ -1,10 +1,10 @@
 -- Bytes that are buffered ahead of a source.
 use Rattle.std.proofs.Common.{◌≡◌, ℕ, ◌+◌, ◌-◌, ◌≤◌, List, [], ◌++◌, Option, None, Some, arith, length, length-take, take, drop, slice_range, sym, ap, ◌∙◌, subst, append_assoc, take-append-drop}
-use Rattle.std.specs.Io.KnownBytes.{Consumes, IsAtEnd, Keeps, prepend_known}
+use Rattle.std.specs.Io.KnownBytes.{Consumes, Keeps, prepend_known}
 use Rattle.std.proofs.KnownBytes.{Keeps-refl}
 use Rattle.std.proofs.lemmas.List.{drop-take}
 use Rattle.stream_monitor.specs.Buffered.{Buffered, left_of}
-use lib.Seq.{drop-drop, drop-length}
+use lib.Seq.{drop-drop}
 
 -- the buffered bytes behind the first ones
 pub later : (a k b : ℕ) (xs : List ℕ) → k ≤ length (slice_range xs a b) → slice_range xs (a + k) b ≡ drop k (slice_range xs a b)
@@ -22,17 +22,6 @@ passed None behind ahead n kept = tt
 passed (Some x) None ahead n kept = absurd kept
 passed (Some x) (Some y) ahead n kept =
     sym kept ∙ ap (λ l. l ++ y) (sym (take-append-drop n ahead)) ∙ append_assoc (take n ahead) (drop n ahead) y
-
--- none is passed over
-pub none_passed : (before left : Option (List ℕ)) → Keeps before left → Consumes before left []
-none_passed None left kept = tt
-none_passed (Some x) None kept = absurd kept
-none_passed (Some x) (Some y) kept = sym kept
-
--- all of them are, and no more are left
-pub all_passed : (behind : Option (List ℕ)) (ahead : List ℕ) → IsAtEnd behind → IsAtEnd (prepend_known (drop (length ahead) ahead) behind)
-all_passed None ahead end = tt
-all_passed (Some y) ahead end = ap (λ l. l ++ y) (drop-length ahead) ∙ end
 
 -- what is passed over of what is buffered
 pub passed_over : (old new : Buffered) (n : ℕ) → new.ahead ≡ drop n old.ahead → new.behind ≡ old.behind → (part : List ℕ) × Consumes (left_of old) (left_of new) part

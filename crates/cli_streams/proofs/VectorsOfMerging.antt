@@ -3,7 +3,7 @@ use Rattle.std.proofs.Common.{◌≡◌, ℕ, true, false, List, [], ◌∷◌, 
 use Rattle.std.specs.Prelude.{Some, None}
 use Rattle.fig_merge.specs.Taking.{nothing_taken}
 use Rattle.fig_merge.specs.Steps.{Take, Fill}
-use Rattle.console.specs.declared.exit.Status.TheVariants.{Done, Refused, Misused}
+use Rattle.console.specs.declared.exit.Status.TheVariants.{Done}
 use Rattle.cli_streams.specs.Merging.{next_of, bytes_of, calls_of}
 use Rattle.cli_streams.specs.Merged.{IsTaken, TakesFrames, summary_of}
 use Rattle.cli_streams.specs.Success.{known_at, AreTwo}
@@ -22,45 +22,20 @@ c = 3 ∷ []
 first_is_next : next_of ((a ∷ []) ∷ (b ∷ []) ∷ []) ≡ a ∷ []
 first_is_next = refl
 
-none_is_next : next_of [] ≡ []
-none_is_next = refl
-
-taken_before_filled : calls_of ((a ∷ b ∷ []) ∷ []) ((c ∷ []) ∷ []) ≡ Take c ∷ Fill a ∷ Fill b ∷ []
-taken_before_filled = refl
-
 -- a frame of the multiplexer for each of the plan's
 one_for_each : calls_of ((a ∷ []) ∷ (b ∷ []) ∷ []) ((c ∷ []) ∷ []) ≡ Take c ∷ Fill a ∷ Fill b ∷ []
 one_for_each = refl
-
--- none is taken after the plan's end
-not_after_the_end : calls_of [] ((c ∷ []) ∷ []) ≡ []
-not_after_the_end = refl
 
 bytes_in_order : bytes_of ((a ∷ b ∷ []) ∷ (c ∷ []) ∷ []) ≡ 1 ∷ 2 ∷ 3 ∷ []
 bytes_in_order = refl
 
 -- ---- the multiplexer's frames
 
-as_many : IsTaken true Done 2 2 [] None
-as_many = (refl, refl)
-
-too_few_while_open : IsTaken true Done 2 1 [] None → ⊥
-too_few_while_open h = (let same : 1 ≡ 2 = h.0 in omega (arith, same))
-
 at_its_end : IsTaken false Done 2 1 [] (Some [])
 at_its_end = (omega arith, refl, refl)
 
 before_its_end : IsTaken false Done 2 1 [] (Some (7 ∷ [])) → ⊥
 before_its_end h = absurd (let none : 7 ∷ [] ≡ [] = h.2 in cc)
-
-cut_is_refused : IsTaken false Refused 2 1 (7 ∷ []) (Some [])
-cut_is_refused = omega arith
-
-cut_is_not_done : IsTaken false Done 2 1 (7 ∷ []) (Some []) → ⊥
-cut_is_not_done h = absurd (let none : 7 ∷ [] ≡ [] = h.1 in cc)
-
-not_misused : IsTaken false Misused 2 1 [] (Some []) → ⊥
-not_misused h = h
 
 two_bytes_each : TakesFrames 2 (Some (1 ∷ 2 ∷ 3 ∷ 4 ∷ [])) (Some (3 ∷ 4 ∷ [])) true Done 1 ((1 ∷ 2 ∷ []) ∷ [])
 two_bytes_each = record { cut = []; whole = (refl, tt); bytes = refl; ends = (refl, refl) }

@@ -1,10 +1,9 @@
 -- What statuses mean, in small cases: for each definition one in which it holds, and one in which it does not.
-use Rattle.std.proofs.Common.{◌≡◌, true, [], ◌∷◌, None, Some, Ok, Err, refl, ap, length, arith}
+use Rattle.std.proofs.Common.{◌≡◌, true, [], ◌∷◌, Some, Ok, Err, refl, ap, length, arith}
 use Rattle.stream_monitor.specs.declared.ending.Ending.TheVariants as endings
 use Rattle.stream_monitor.specs.declared.line.Cause.TheVariants as causes
 use Rattle.stream_monitor.specs.declared.line.Totals.{Totals}
 use Rattle.console.specs.declared.exit.Status.TheVariants.{Done, Refused, Faulty}
-use Rattle.cli_streams.specs.declared.frame.FrameFault.TheVariants.{NoSuchPage}
 use Rattle.cli_streams.specs.declared.listen.StreamFault.TheVariants.{NotWhole}
 use Rattle.cli_streams.specs.Stream.{unheard}
 use Rattle.cli_streams.specs.Success.{ListensTo, PrintsFrame, check_status, listen_status}
@@ -36,6 +35,3 @@ bytes_are_written = (refl, λ raw. refl)
 
 other_bytes_are : PrintsFrame true (Ok (7 ∷ [])) (Some []) (Some []) Done → ⊥
 other_bytes_are h = let len = ap length (h.1 refl) in absurd (omega (arith, len))
-
-no_page : PrintsFrame true (Err NoSuchPage) (Some []) None Refused
-no_page = refl

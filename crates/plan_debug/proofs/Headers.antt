@@ -1,14 +1,12 @@
 -- What FIG 0/0 of a frame announces is what the state says.
-use Rattle.std.proofs.Common.{rules, ◌≡◌, ℕ, zero, suc, ◌≤◌, ◌%◌, ◌==◌, Bool, true, false, if◌then◌else◌, List, [], ◌∷◌, map, Contains, Option, Some, None, refl, sym, ap, subst, ◌∙◌, arith}
+use Rattle.std.proofs.Common.{rules, ◌≡◌, ℕ, zero, suc, ◌%◌, ◌==◌, Bool, true, false, if◌then◌else◌, List, [], ◌∷◌, map, Contains, Option, Some, None, refl, sym, ap, subst, ◌∙◌, arith}
 use Rattle.std.proofs.Math.Dec.{eqb-suc-zero}
 use Rattle.std.specs.List.{AllByRecursion}
 use Rattle.fib_codec.specs.Layouts.{layout_mode}
 use Rattle.mux_types.specs.Entries.{EnsembleInformation}
 use Rattle.mux_types.specs.Facts.{marked}
 use Rattle.mux_types.specs.declared.entry.Entry.TheVariants.{Ensemble as EnsembleOf}
-use Rattle.fib_codec.specs.declared.modes.Mode.{Mode}
-use Rattle.fib_codec.specs.declared.modes.Mode.TheVariants.{I, II, III, IV}
-use Rattle.fib_codec.specs.Modes.{fib_count, count_step}
+use Rattle.fib_codec.specs.Modes.{count_step}
 use Rattle.fib_codec.specs.Ranges.{IsEnsembleInformation}
 use Rattle.fib_codec.specs.Grammar.{Fig, Open, Other, IsFib, IsFig, is_long}
 use Rattle.fib_codec.specs.Heard.{IsInFig, fib_at}
@@ -88,9 +86,3 @@ due plan s bytes fib a (suc n) is right at headed unheaded =
 
 pub announced_here : (plan : Plan) (s : State) (bytes fib : List ℕ) (a : Option Announcement) → IsRight plan s bytes → fib ≡ fib_at bytes 0 → Headed fib a → Unheaded fib a → a ≡ shown_announcement plan s
 announced_here plan s bytes fib a right at headed unheaded = due plan s bytes fib a (s.count % count_step (layout_mode plan.layout)) refl right at headed unheaded
-
-pub three_fibs : (mode : Mode) → 1 ≤ fib_count mode
-three_fibs I = omega arith
-three_fibs II = omega arith
-three_fibs III = omega arith
-three_fibs IV = omega arith

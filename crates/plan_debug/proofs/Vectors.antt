@@ -56,7 +56,3 @@ one_of_two before frame none some = inl (unflagged before none, inr (told 0, [],
 left_out : (frame : List ℕ) → HasHeaderOf plan (before_swap 12) frame → AreFlaggedIn (frame ∷ []) [] → ⊥
 left_out frame has (inl h) = not_unflagged frame has h.0
 left_out frame has (inr h) = let e : [] ≡ h.0 ∷ h.1 = h.2 in absurd cc
-
-made_up : (frame : List ℕ) → HasHeaderOf plan (before_swap 13) frame → AreFlaggedIn (frame ∷ []) (told 0 ∷ []) → ⊥
-made_up frame has (inl h) = let e : told 0 ∷ [] ≡ [] = h.1 in absurd cc
-made_up frame has (inr h) = unflagged frame has h.0 h.3.0

@@ -1,11 +1,11 @@
 -- Statements in a row that wait for the next day, and such that do not.
-use Rattle.std.proofs.Common.{◌≡◌, ℕ, true, false, inl, inr, [], ◌∷◌, Some, None, refl}
+use Rattle.std.proofs.Common.{◌≡◌, ℕ, true, false, inl, inr, [], ◌∷◌, Some, refl}
 use Rattle.mux_config.specs.declared.edit.Edit.TheVariants.{DropSub}
-use Rattle.script_front.specs.declared.tree.Act.TheVariants.{Edit as Edits, Wait, WaitContact, WaitAny, Until, CommitIn, CommitAt, Join, Settle}
+use Rattle.script_front.specs.declared.tree.Act.TheVariants.{Edit as Edits, WaitAny, Until, CommitIn, Join}
 use Rattle.script_front.specs.declared.moment.MomentForm.{MomentForm as Moment}
 use Rattle.script_front.specs.declared.moment.MomentForm.TheVariants.{At}
-use Rattle.script_front.specs.declared.alternatives.Alternative.TheVariants.{Contact, Until as OfMoment, Frames}
-use Rattle.script_front.specs.Block.{Block, nothing, basic, repeat}
+use Rattle.script_front.specs.declared.alternatives.Alternative.TheVariants.{Contact, Until as OfMoment}
+use Rattle.script_front.specs.Block.{Block, nothing, basic}
 use Rattle.plan_explain.specs.declared.straight.Way.{Way}
 use Rattle.plan_explain.specs.declared.day_wait.DayWait.{DayWait}
 use Rattle.plan_explain.specs.declared.warning.Warning.TheVariants.{NextDay}
@@ -23,27 +23,11 @@ on_air = record { from = 3300000; frames = 250; swap = Some 250 }
 way_of_swap : along (start 3300000) ((2, Edits (DropSub 3)) ∷ (3, CommitIn 250) ∷ (4, Join) ∷ []) ≡ on_air
 way_of_swap = refl
 
--- a wait within the delay counts once
-way_within : along (start 3300000) ((2, CommitIn 250) ∷ (3, Wait 100) ∷ (4, Join) ∷ []) ≡ on_air
-way_within = refl
-
--- `settle` may take no frame, `commit at` has no delay, and each other wait may take one
-way_of_waits : along (start 3300000) ((2, CommitIn 250) ∷ (3, WaitContact 1 true) ∷ (4, Settle) ∷ (5, CommitAt 7) ∷ (6, WaitAny (Contact 1 true ∷ Frames 9 ∷ [])) ∷ []) ≡ record { from = 3300000; frames = 2; swap = None }
-way_of_waits = refl
-
 three_seconds : comes_late on_air (at 79203) ≡ true
 three_seconds = refl
 
--- the frame of the swap itself is not a later one
-six_seconds : comes_late on_air (at 79206) ≡ true
-six_seconds = refl
-
 seven_seconds : comes_late on_air (at 79207) ≡ false
 seven_seconds = refl
-
--- an hour before, that is nearly a day later
-hour_before : comes_late on_air (at 75600) ≡ false
-hour_before = refl
 
 times : time_of (WaitAny (Contact 1 true ∷ OfMoment (at 79200) ∷ [])) ≡ Some 3300000
 times = refl
@@ -74,7 +58,3 @@ is_listed = refl
 
 in_time : straight_from nowhere (swap_at_ten (basic 5 (Until (at 79207)) nothing)) ≡ []
 in_time = refl
-
--- not straight there
-in_braces : straight_from nowhere (swap_at_ten (repeat 5 2 (basic 6 (Until (at 79203)) nothing) nothing)) ≡ []
-in_braces = refl

@@ -2,7 +2,6 @@
 use Rattle.std.proofs.Common.{◌≡◌, ◌≢◌, ℕ, false, [], ◌∷◌, length, Option, Some, None, refl, ap, arith}
 use Rattle.mux_eep.specs.declared.sizes.EepSet.TheVariants.{A}
 use Rattle.mux_types.specs.declared.numbers.Sid.TheVariants.{Short}
-use Rattle.mux_types.specs.declared.parts.Carrier.TheVariants.{Sub as BySub}
 use Rattle.mux_types.specs.declared.parts.Component.TheVariants.{Sound}
 use Rattle.mux_types.specs.declared.parts.Packet.{Packet}
 use Rattle.mux_types.specs.declared.parts.Sub.{Sub}
@@ -15,7 +14,7 @@ use Rattle.plan_verifier.proofs.Samples.{plan}
 use Rattle.script_compiler.specs.declared.fault.CompileFault.TheVariants.{Refused as IsRefusedAt}
 use Rattle.plan_explain.specs.declared.difference.Compared.TheVariants.{Current, AfterSwap}
 use Rattle.plan_explain.specs.declared.difference.Difference.TheVariants.{Sub as OfSub}
-use Rattle.plan_explain.specs.declared.fact.Fact.TheVariants.{HasSub, HasComponent as HasPart, Lacks, LacksComponent as LacksPart, Empty, Swap}
+use Rattle.plan_explain.specs.declared.fact.Fact.TheVariants.{HasSub}
 use Rattle.plan_explain.specs.declared.stop.Refused.{Refused}
 use Rattle.plan_explain.specs.declared.stop.Refused.TheVariants.{Instr, Loop}
 use Rattle.plan_explain.specs.declared.stop.Stop.{Stop}
@@ -63,10 +62,6 @@ not_of_another_line h = let e : IsRefusedAt 8 JoinIdle ≡ IsRefusedAt 9 JoinIdl
 loops_mismatch : cause_of Loop ≡ Mismatch
 loops_mismatch = refl
 
--- a loop that ends with no swap pending does not fit a beginning with one
-loop_refused : IsRefusal (stop_at Loop)
-loop_refused h = h
-
 -- ---- members
 
 abbrev start_of : Option Sub → ℕ
@@ -78,30 +73,6 @@ has_one = refl
 
 has_no_other_one : Holds (HasSub (record one { start = 1 })) joins → ⊥
 has_no_other_one e = let same : 0 ≡ 1 = ap start_of e in absurd (omega (arith, same))
-
-lacks_three : Holds (Lacks (BySub 3)) joins
-lacks_three = refl
-
-has_two : Holds (Lacks (BySub 2)) joins → ⊥
-has_two e = absurd cc
-
-has_on_one : Holds (HasPart (Short 5) (BySub 1)) joins
-has_on_one = refl
-
-lacks_on_two : Holds (LacksPart (Short 5) (BySub 2)) joins
-lacks_on_two = refl
-
-has_not_on_two : Holds (HasPart (Short 5) (BySub 2)) joins → ⊥
-has_not_on_two e = absurd cc
-
-is_not_empty : Holds (Empty (Short 5)) joins → ⊥
-is_not_empty e = absurd cc
-
-is_idle : Holds (Swap Idle) joins
-is_idle = refl
-
-is_not_pending : Holds (Swap (Within 24 27)) joins → ⊥
-is_not_pending e = absurd cc
 
 -- ---- shared units
 

@@ -13,10 +13,9 @@ use Rattle.script_front.specs.declared.tree.Act.TheVariants.{Wait as Waits, Wait
 use Rattle.script_front.specs.declared.tree.Statement.TheOpen.{Statement-F}
 use Rattle.script_front.specs.declared.tree.Statement.TheVariants.{Act as Acts, rolls-Act}
 use Rattle.script_front.specs.declared.tree.Statement.TheFolds.{fold-roll-Statement}
-use Rattle.script_front.specs.declared.tree.Condition.TheVariants.{Contact as OnContact}
 use Rattle.script_front.specs.declared.moment.MomentForm.{MomentForm as Moment}
 use Rattle.script_front.specs.declared.moment.MomentForm.TheVariants.{At}
-use Rattle.script_front.specs.Block.{Block, nothing, basic, when, Before, statement_step, before}
+use Rattle.script_front.specs.Block.{Block, nothing, basic, Before, statement_step, before}
 use Rattle.plan_explain.specs.declared.flaw.Flaw.TheVariants.{Unnamed, LongAudio}
 use Rattle.plan_explain.specs.declared.primary.Primary.{Primary}
 use Rattle.plan_explain.specs.declared.beginning.FirstWait.{FirstWait}
@@ -43,9 +42,6 @@ alone = record { subs = three ∷ []; services = []; packets = [] }
 abbrev with_service : Service → Configuration
 with_service s = record { subs = three ∷ []; services = s ∷ []; packets = [] }
 
-abbrev in_packets : Configuration
-in_packets = record { subs = three ∷ []; services = []; packets = record { scid = 7; dg = true; ty = 60; sub = 3; address = 9 } ∷ [] }
-
 abbrev data_service : Service
 data_service = record { sid = Long 5; components = Stream 5 3 ∷ [] }
 
@@ -61,17 +57,11 @@ is_not_named = has_flaw alone (Unnamed 3) (contains_first (Unnamed 3) [])
 component_names_it : HasFlaw (with_service data_service) (Unnamed 3) → ⊥
 component_names_it h = contains_none (Unnamed 3) (flaw_listed (with_service data_service) (Unnamed 3) h)
 
-packet_names_it : HasFlaw in_packets (Unnamed 3) → ⊥
-packet_names_it h = contains_none (Unnamed 3) (flaw_listed in_packets (Unnamed 3) h)
-
 is_long_audio : HasFlaw (with_service long_service) (LongAudio (Long 5) 3)
 is_long_audio = has_flaw (with_service long_service) (LongAudio (Long 5) 3) (contains_first (LongAudio (Long 5) 3) [])
 
 is_short : HasFlaw (with_service short_service) (LongAudio (Short 5) 3) → ⊥
 is_short h = contains_none (LongAudio (Short 5) 3) (flaw_listed (with_service short_service) (LongAudio (Short 5) 3) h)
-
-is_no_audio : HasFlaw (with_service data_service) (LongAudio (Long 5) 3) → ⊥
-is_no_audio h = contains_none (LongAudio (Long 5) 3) (flaw_listed (with_service data_service) (LongAudio (Long 5) 3) h)
 
 -- ---- primary components
 
@@ -86,17 +76,6 @@ first_changes = is_other of_two turned _ (contains_first (record { sid = Short 5
 
 first_stays : (p : Primary) → IsOtherPrimary of_two of_two p → ⊥
 first_stays p h = contains_none p (other_listed of_two of_two p h)
-
--- the only component of a service moves
-
-abbrev of_one : Configuration
-of_one = record { subs = []; services = record { sid = Short 5; components = Sound 63 1 ∷ [] } ∷ []; packets = [] }
-
-abbrev moved_one : Configuration
-moved_one = record { subs = []; services = record { sid = Short 5; components = Sound 63 2 ∷ [] } ∷ []; packets = [] }
-
-one_moves : (p : Primary) → IsOtherPrimary of_one moved_one p → ⊥
-one_moves p h = contains_none p (other_listed of_one moved_one p h)
 
 -- ---- first waits
 
@@ -139,9 +118,6 @@ at_ten = record { line = 9; contact = 3; closed = true; until = ten }
 is_late : HasLate (basic 8 (WaitsContact 3 true) (basic 9 (WaitsUntil ten) nothing)) at_ten
 is_late = inl (record { waits = refl; behind = nothing; follows = refl })
 
-is_late_inside : HasLate (when 7 (OnContact 1) (basic 8 (WaitsContact 3 true) (basic 9 (WaitsUntil ten) nothing)) nothing) at_ten
-is_late_inside = inl is_late
-
 -- a statement between them
 abbrev apart : Block
 apart = basic 8 (WaitsContact 3 true) (basic 9 (Waits 1) (basic 10 (WaitsUntil ten) nothing))
@@ -151,13 +127,6 @@ is_not_late u (inl h) = let no = h.follows in cc
 is_not_late u (inr (inl h)) = let no = h.waits in cc
 is_not_late u (inr (inr (inl h))) = let no = h.waits in cc
 is_not_late u (inr (inr (inr h))) = h
-
--- the wait in braces, and the time behind them
-is_not_late_behind : (u : LateUntil) → HasLate (when 7 (OnContact 1) (basic 8 (WaitsContact 3 true) nothing) (basic 9 (WaitsUntil ten) nothing)) u → ⊥
-is_not_late_behind u (inl (inl h)) = let no = h.follows in cc
-is_not_late_behind u (inl (inr h)) = h
-is_not_late_behind u (inr (inl h)) = let no = h.waits in cc
-is_not_late_behind u (inr (inr h)) = h
 
 -- ---- warnings, each once
 

@@ -35,9 +35,6 @@ use Rattle.plan_explain.proofs.StraightLaws.{only_straight}
 
 -- ---- one configuration in the place of another
 
-new_flaws : Configuration → Configuration → List Flaw
-new_flaws before after = flat_map (unless_among (flaws before)) (flaws after)
-
 module _ (script : Tree) (code : Program) (line : ℕ) (before after : Configuration) where
   flaw_warranted : (f : Flaw) → Comes script code line before after → Contains (flat_map (unless_among (flaws before)) (flaws after)) f → IsNewFlaw script code line f
   flaw_warranted f comes h =

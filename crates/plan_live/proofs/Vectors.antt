@@ -1,8 +1,7 @@
 -- Lines and the steps that they list: each definition where it holds, and where it fails.
 use Rattle.std.specs.Prelude.{codes, replicate}
-use Rattle.std.proofs.Common.{◌≡◌, ℕ, List, [], ◌∷◌, length, Result, Ok, Err, Some, None, refl, sym, ap, arith, inl, inr}
+use Rattle.std.proofs.Common.{◌≡◌, ℕ, List, [], ◌∷◌, length, Result, Ok, Err, Some, refl, sym, ap, arith, inl}
 use Rattle.std.proofs.lemmas.Fmt.{decimal_digit}
-use Rattle.std.proofs.lemmas.List.{length-replicate}
 use Rattle.script_tokens.specs.declared.fault.ScriptFault.{ScriptFault}
 use Rattle.script_tokens.specs.declared.fault.ScriptFault.TheVariants.{Byte as ByteAt}
 use Rattle.script_tokens.specs.declared.token.Token.{Token}
@@ -50,10 +49,6 @@ by_one = refl
 by_another : Grows {A = ℕ} (Some []) (Some []) (1 ∷ []) → ⊥
 by_another h = let n : 0 ≡ 1 = ap (λ (l : List ℕ). length l) h in omega (arith, n)
 
--- a known list stays known
-not_known_any_more : Grows {A = ℕ} (Some (1 ∷ [])) None [] → ⊥
-not_known_any_more h = h
-
 -- ---- a line
 
 abbrev pub two_frames : List ℕ
@@ -81,10 +76,6 @@ only_two law steps h = law two_frames steps (Frames 2 ∷ []) h.holds two_are_he
 not_none : HoldsOneList → LineHolds two_frames [] → ⊥
 not_none law h = let n : 0 ≡ 1 = ap (λ (l : List Step). length l) (only_two law [] h) in omega (arith, n)
 
-empty : LineHolds [] []
-unfolding lexed
-empty = record { short = omega arith; text = ([], (refl, refl)); holds = record { tokens = []; cut = refl; lexemes = refl; in_range = tt } }
-
 -- `@` is not allowed in an event file
 abbrev pub at_sign : List ℕ
 at_sign = 64 ∷ []
@@ -102,27 +93,10 @@ no_steps = λ steps h. not_cut h.holds.tokens h.holds.cut
 pub some_steps : ListsNone two_frames → ⊥
 some_steps h = h (Frames 2 ∷ []) two_are_held
 
-abbrev blanks : ℕ → List ℕ
-blanks n = replicate n 32
-
--- nor does a line of 65,537 blanks list any
-too_long : ListsNone (blanks 65537)
-too_long = λ steps h. let n : length (blanks 65537) ≡ 65537 = length-replicate {A = ℕ} 65537 32 in let short = h.short in omega (arith, n, short)
-
 -- ---- the steps of lines
 
 pub two_are_played : LineDoes two_frames (Frames 2 ∷ [])
 two_are_played = inl two_are_held
-
-pub bad_does_nothing : LineDoes at_sign []
-bad_does_nothing = inr (no_steps, refl)
-
-bad_is_played : LineDoes at_sign (Frames 2 ∷ []) → ⊥
-bad_is_played (inl h) = no_steps (Frames 2 ∷ []) h
-bad_is_played (inr h) = let n : 1 ≡ 0 = ap (λ (l : List Step). length l) h.1 in omega (arith, n)
-
-two_lines : LinesDo (at_sign ∷ two_frames ∷ []) (Frames 2 ∷ [])
-two_lines = ([], Frames 2 ∷ [], refl, bad_does_nothing, (Frames 2 ∷ [], [], refl, two_are_played, refl))
 
 no_line : LinesDo [] (Frames 2 ∷ []) → ⊥
 no_line h = let n : 1 ≡ 0 = ap (λ (l : List Step). length l) h in omega (arith, n)

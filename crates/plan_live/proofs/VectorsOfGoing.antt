@@ -9,8 +9,8 @@ use Rattle.plan_session.specs.Events.{events_of}
 use Rattle.plan_live.specs.Going.{kept, FrameWent, Went, LineWent, Going}
 use Rattle.plan_live.specs.Lines.{LineDoes}
 use Rattle.plan_live.specs.Living.{Streamed, streamed, streams_at}
-use Rattle.plan_live.proofs.Vectors.{fresh, frames, two_frames, at_sign, no_steps, two_are_played, bad_does_nothing}
-use Rattle.plan_live.proofs.VectorsOfRuns.{input, before, after, one, reached, reached_first}
+use Rattle.plan_live.proofs.Vectors.{fresh, frames, two_frames, at_sign, no_steps, two_are_played}
+use Rattle.plan_live.proofs.VectorsOfRuns.{input, before, after, one, reached}
 
 -- ---- a frame
 
@@ -51,9 +51,6 @@ miscounted h = let e : 1 ≡ 2 = h.count in omega (arith, e)
 line_went : LineWent 1 fresh 0 two_frames later 2 before (record after { left = Some input })
 line_went = record { steps = Frames 2 ∷ []; does = two_are_played; went = went }
 
-bad_went : LineWent 1 fresh 0 at_sign fresh 0 before before
-bad_went = record { steps = []; does = bad_does_nothing; went = record { state = refl; count = refl; left = refl; out = refl } }
-
 at_no_frame : (steps : List Step) → LineDoes at_sign steps → 1 ≡ 0 + length (frames_of fresh (events_of steps)) → ⊥
 at_no_frame steps (inl h) count = no_steps steps h
 at_no_frame steps (inr h) count = let n : length (frames_of fresh (events_of steps)) ≡ 0 = ap (λ (l : List Step). length (frames_of fresh (events_of l))) h.1 in omega (arith, n, count)
@@ -63,9 +60,6 @@ bad_counted : LineWent 1 fresh 0 at_sign fresh 1 before before → ⊥
 bad_counted h = at_no_frame h.steps h.does h.went.count
 
 -- ---- lines one after another
-
-starts : Going 1 fresh before before fresh 0
-starts = record { lines = []; reached = reached_first; player = refl; count = refl }
 
 goes : Going 1 fresh before after later 2
 goes = record { lines = one; reached = reached; player = refl; count = refl }

@@ -1,17 +1,13 @@
--- Lines as one event file, by the lines `frames 2` with a carriage return, `@`, and `frames 2` without a line feed: each
--- definition where it holds, and where it fails.
-use Rattle.std.specs.Prelude.{codes, replicate}
+-- Lines as one event file, by the lines `frames 2` and `@`: each definition where it holds, and where it fails.
+use Rattle.std.specs.Prelude.{replicate}
 use Rattle.std.proofs.Common.{◌≡◌, ℕ, List, [], ◌∷◌, ◌++◌, length, Some, refl, sym, ap, subst, ◌∙◌, arith, inl, inr, append-nil}
-use Rattle.std.proofs.lemmas.Fmt.{decimal_digit}
 use Rattle.std.proofs.lemmas.List.{length-replicate}
-use Rattle.console.specs.Lines.{lines_of, AreLinesOf}
-use Rattle.script_tokens.specs.Lexing.{lexed}
+use Rattle.console.specs.Lines.{AreLinesOf}
 use Rattle.plan_player.specs.Delivery.{played_bytes}
 use Rattle.plan_session.specs.declared.step.Step.{Step}
 use Rattle.plan_session.specs.declared.step.Step.TheVariants.{Frames}
-use Rattle.plan_session.specs.Events.{Holds, HoldsOneList, events_of}
+use Rattle.plan_session.specs.Events.{HoldsOneList, events_of}
 use Rattle.plan_session.specs.Playback.{Request, Begins}
-use Rattle.plan_live.specs.Lines.{LineHolds}
 use Rattle.plan_live.specs.Living.{Streamed, streamed, kept_bytes}
 use Rattle.plan_live.specs.OneFile.{AreListing, ListInTurn, Fits, over, IsPlayedAs}
 use Rattle.plan_live.proofs.OneFile.{lines_list_in_turn, playback_of}
@@ -19,45 +15,14 @@ use Rattle.plan_live.proofs.Vectors.{fresh, frames, two_frames, two_are_held, on
 
 -- ---- the lines that list steps
 
-abbrev with_return : List ℕ
-with_return = two_frames ++ 13 ∷ []
-
-two_are_held_with_it : LineHolds with_return (Frames 2 ∷ [])
-unfolding lexed lib.Utf8.encode
-two_are_held_with_it =
-    let n : length with_return ≡ 9 = refl in
-    record {
-      short = omega (arith, n);
-      text = (with_return, (refl, refl));
-      holds = record {
-        tokens = record { start = 0; end = 6; position = record { line = 1; column = 1 } } ∷ record { start = 7; end = 8; position = record { line = 1; column = 8 } } ∷ [];
-        cut = refl;
-        lexemes = ap (λ (digits : List ℕ). codes "frames" ∷ digits ∷ []) (sym (decimal_digit 2 (omega arith)));
-        in_range = ((omega arith, omega arith), tt);
-      };
-    }
-
-abbrev three : List (List ℕ)
-three = with_return ∷ at_sign ∷ two_frames ∷ []
-
-abbrev good : List (List ℕ)
-good = with_return ∷ two_frames ∷ []
-
-those_are_listing : AreListing three good
-those_are_listing = inl (Frames 2 ∷ [], two_frames ∷ [], two_are_held_with_it, refl, inr (no_steps, inl (Frames 2 ∷ [], [], two_are_held, refl, refl)))
+-- `@` lists no steps
+those_are_listing : AreListing (at_sign ∷ two_frames ∷ []) (two_frames ∷ [])
+those_are_listing = inr (no_steps, inl (Frames 2 ∷ [], [], two_are_held, refl, refl))
 
 -- a line that lists steps is left out
 one_is_left_out : AreListing (two_frames ∷ []) [] → ⊥
 one_is_left_out (inl (steps, others, holds, is, rest)) = let n : 0 ≡ length (two_frames ∷ others) = ap (λ (l : List (List ℕ)). length l) is in omega (arith, n)
 one_is_left_out (inr h) = some_steps h.0
-
--- a line that lists none is taken
-bad_is_taken : AreListing (at_sign ∷ []) (at_sign ∷ []) → ⊥
-bad_is_taken (inl (steps, others, holds, is, rest)) = no_steps steps holds
-bad_is_taken (inr h) = let n : 1 ≡ 0 = ap (λ (l : List (List ℕ)). length l) h.1 in omega (arith, n)
-
-twice : ListInTurn good (Frames 2 ∷ Frames 2 ∷ [])
-twice = (Frames 2 ∷ [], Frames 2 ∷ [], two_are_held_with_it, refl, (Frames 2 ∷ [], [], two_are_held, refl, refl))
 
 bad_in_turn : (steps : List Step) → ListInTurn (at_sign ∷ []) steps → ⊥
 bad_in_turn steps (first, rest, holds, cut, none) = no_steps first holds
@@ -70,28 +35,6 @@ fits = let n : length two_frames ≡ 8 = refl in omega (arith, n)
 -- 2^64 blanks
 too_long : (n : ℕ) → n ≡ 18446744073709551616 → Fits (replicate n 32) → ⊥
 too_long n is h = let long : length (replicate n 32) ≡ n = length-replicate {A = ℕ} n 32 in omega (arith, is, long, h)
-
-abbrev file : List ℕ
-file = with_return ++ 10 ∷ two_frames
-
-file_has_these_lines : lines_of file ≡ good
-file_has_these_lines = refl
-
--- the steps of the file, computed
-file_holds : Holds file (Frames 2 ∷ Frames 2 ∷ [])
-unfolding lexed
-file_holds = record {
-  tokens =
-      record { start = 0; end = 6; position = record { line = 1; column = 1 } } ∷ record { start = 7; end = 8; position = record { line = 1; column = 8 } }
-      ∷ record { start = 10; end = 16; position = record { line = 2; column = 1 } } ∷ record { start = 17; end = 18; position = record { line = 2; column = 8 } } ∷ [];
-  cut = refl;
-  lexemes = ap (λ (digits : List ℕ). codes "frames" ∷ digits ∷ codes "frames" ∷ digits ∷ []) (sym (decimal_digit 2 (omega arith)));
-  in_range = ((omega arith, omega arith), ((omega arith, omega arith), tt));
-}
-
--- the second line is not left out
-file_of_one : HoldsOneList → Holds file (Frames 2 ∷ []) → ⊥
-file_of_one law h = let n : 1 ≡ 2 = ap (λ (l : List Step). length l) (law file (Frames 2 ∷ []) (Frames 2 ∷ Frames 2 ∷ []) h file_holds) in omega (arith, n)
 
 -- ---- the run over a line, and over the event file
 
@@ -146,5 +89,5 @@ nothing_written law r h =
     omega (arith, none, some)
 
 -- the request has the text of the file
-text_of_request : (r : Request) → (over file r).text ≡ file
+text_of_request : (r : Request) → (over two_frames r).text ≡ two_frames
 text_of_request r = refl

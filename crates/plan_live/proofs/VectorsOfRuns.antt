@@ -2,32 +2,23 @@
 -- where it holds, and where it fails.
 use Rattle.std.proofs.Common.{◌≡◌, ℕ, List, [], ◌∷◌, ◌++◌, length, Option, Some, None, Ok, Err, refl, sym, ap, subst, ◌∙◌, arith, inl, inr, append-nil}
 use Rattle.std.specs.List.{AllByRecursion}
-use Rattle.mux_config.specs.Configuration.{nothing}
 use Rattle.plan_code.specs.declared.fault.CodeFault.TheVariants.{Memory as NoMemoryForCode, Magic}
-use Rattle.plan_runs.proofs.Samples.{all_open, it_starts}
-use Rattle.plan_player.specs.Playing.{Playing, played}
+use Rattle.plan_runs.proofs.Samples.{all_open}
 use Rattle.plan_session.specs.declared.run_fault.RunFault.TheVariants.{Code}
 use Rattle.plan_session.specs.declared.step.Step.{Step}
 use Rattle.plan_session.specs.declared.step.Step.TheVariants.{Frames}
 use Rattle.plan_session.specs.Events.{events_of, HoldsOneList}
-use Rattle.plan_session.specs.Playback.{Request, asked, CanStart, Begins}
-use Rattle.plan_live.specs.declared.fault.Stop.TheVariants.{Read}
-use Rattle.plan_live.specs.declared.fault.LiveFault.TheVariants.{Playback, Stopped}
+use Rattle.plan_session.specs.Playback.{Request, asked}
+use Rattle.plan_live.specs.declared.fault.LiveFault.TheVariants.{Playback}
 use Rattle.plan_live.specs.Lines.{LinesDo}
 use Rattle.plan_live.specs.Living.{kept_bytes, Streamed, streamed, Reached, AreDone, Whole, IsPrompt}
 use Rattle.plan_live.specs.Beginning.{Lives, IsLiveFault}
-use Rattle.plan_live.proofs.Vectors.{waits, fresh, frames, two_frames, two_are_played, only_two, some_steps}
+use Rattle.plan_live.proofs.Vectors.{fresh, frames, two_frames, two_are_played, only_two, some_steps}
 
 -- ---- the bytes that are written
 
-all_bytes : length (kept_bytes 0 fresh (frames 3)) ≡ 288
-all_bytes = refl
-
 but_for_two : length (kept_bytes 2 fresh (frames 3)) ≡ 96
 but_for_two = refl
-
-more_are_skipped : kept_bytes 4 fresh (frames 3) ≡ []
-more_are_skipped = refl
 
 -- ---- the line `frames 2`, of which the first frame is skipped
 
@@ -54,20 +45,6 @@ reached = record { given = refl; steps = Frames 2 ∷ []; does = one_does; out =
 
 abbrev pub reached_first : Reached 1 fresh before before []
 reached_first = record { given = refl; steps = []; does = refl; out = refl }
-
--- reading a line
-no_bytes : (p : Playing) (steps : List Step) → steps ≡ [] → length (kept_bytes 1 p (events_of steps)) ≡ 0
-no_bytes p steps none = ap (λ (l : List Step). length (kept_bytes 1 p (events_of l))) none
-
--- bytes without a line
-unasked_bytes : Reached 1 fresh before (streamed (Some input) (Some (7 ∷ []))) [] → ⊥
-unasked_bytes h =
-    let n : 1 ≡ length (kept_bytes 1 fresh (events_of h.steps)) = ap (λ (l : List ℕ). length l) h.out in
-    omega (arith, n, no_bytes fresh h.steps h.does)
-
--- a line that was read is missing
-line_forgotten : (w : Option (List ℕ)) → Reached 1 fresh before (streamed (Some []) w) [] → ⊥
-line_forgotten w h = let n : 1 ≡ 0 = ap (λ (l : List (List ℕ)). length l) h.given in omega (arith, n)
 
 done : AreDone 1 fresh before after
 done = (one, reached)
@@ -111,19 +88,6 @@ not_prompt law h =
 abbrev request : Request
 request = asked [] [] 0 0 all_open
 
-starts : CanStart waits request → Begins request fresh
-starts h = record {
-  ready = h;
-  begins = record {
-    code_is = refl;
-    state_is = it_starts nothing waits.lines 0 1;
-    none_yet = refl;
-  };
-}
-
-starts_later : Begins request (played fresh (frames 1)) → ⊥
-starts_later h = let e : 1 ≡ 0 = h.begins.none_yet in omega (arith, e)
-
 lives : Lives 1 fresh before after (Ok tt)
 lives = whole
 
@@ -140,6 +104,3 @@ known (Some bytes) = length bytes
 
 something_read : IsLiveFault request before after (Playback (Code NoMemoryForCode)) → ⊥
 something_read h = let n : 0 ≡ 9 = ap (λ (s : Streamed). known s.left) h.1 in omega (arith, n)
-
-stopped : Lives 1 fresh before after (Err (Stopped Read))
-stopped = tt

@@ -1,6 +1,6 @@
 -- What leads to an instruction where paths meet.
 use Rattle.std.proofs.Common.{◌≡◌, true, false, [], ◌∷◌, Some, None, refl}
-use Rattle.plan_code.specs.declared.instr.Instr.TheVariants.{Wait, End, Test, Jump}
+use Rattle.plan_code.specs.declared.instr.Instr.TheVariants.{Wait, Test, Jump}
 use Rattle.plan_map.specs.declared.lead.Lead.TheVariants.{Begin, Wait as Waited, Contact}
 use Rattle.plan_map.specs.declared.lead.Ways.{Ways}
 use Rattle.plan_map.specs.declared.lead.Ways.TheVariants.{Nothing, One, Others}
@@ -22,13 +22,6 @@ the_same_wait = refl
 another_wait : lead_of (at_end (One (Waited 6))) ≡ None
 another_wait = refl
 
--- the other branch ends
-one_path : lead_of (at_end (after End (One (Contact 3 false)))) ≡ Some (Waited 5)
-one_path = refl
-
 -- the branch behind `else` has the contact open
 of_else : lead_of (ways_from 3 (after (Jump 4) (One (Waited 5))) (record { instr = Test 3 3; ways = One Begin } ∷ [])) ≡ Some (Contact 3 false)
 of_else = refl
-
-no_path : lead_of (after End (One Begin)) ≡ None
-no_path = refl

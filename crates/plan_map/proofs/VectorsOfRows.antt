@@ -85,12 +85,6 @@ wrong_row h =
     let is : committed both ≡ h.row = cc (h.there) in
     different (sym (ap (λ (r : Row). r.config) is ∙ h.config))
 
-wrong_line : HasCommit (rows_of 1 drops) (1 + commits_before drops 1) (line 3 (CommitIn 30)) one → ⊥
-wrong_line h =
-    let is : committed one ≡ h.row = cc (h.there) in
-    let lines : 4 ≡ 3 = ap (λ (r : Row). r.line) is ∙ h.line in
-    omega (arith, lines)
-
 abbrev knows : Configuration → Configuration → Known
 knows c n = record { current = c; next = n; pending = Idle; counters = counters 0; allowance = 3 }
 
@@ -130,9 +124,6 @@ commits_no_other h = by h.steps h.within h.reached h.next
     by (suc zero) below reached next = different next
     by (suc (suc zero)) below reached next = omega (arith, reached)
     by (suc (suc (suc k))) below reached next = omega (arith, below)
-
-sends_its_opening : SendsRows (rows_of 1 drops) plan first
-sends_its_opening = record { current = (opening, contains_first opening (committed one ∷ []), refl); next = tt }
 
 abbrev in_notice : State
 in_notice = record first { next = one; left = Some 24 }

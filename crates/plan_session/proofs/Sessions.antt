@@ -3,10 +3,7 @@ use Rattle.std.proofs.Common.{◌≡◌, None, sym, subst}
 use Rattle.plan_code.specs.Program.{Program}
 use Rattle.plan_runs.specs.declared.event.Start.{Start as Starting}
 use Rattle.plan_player.specs.Playing.{Playing, IsAtStart, start_fault}
-use Rattle.plan_session.specs.declared.run_fault.RunFault.{RunFault}
-use Rattle.plan_session.specs.declared.run_fault.RunFault.TheVariants.{Code, Refused, Start as StartFault, Events, Write}
-use Rattle.plan_session.specs.Parts.{IsCodeFault}
-use Rattle.plan_session.specs.Playback.{Request, Opened, start_of, IsTypedFileOf, Begins, IsSessionOf, IsBeginFault}
+use Rattle.plan_session.specs.Playback.{Request, Opened, start_of, IsTypedFileOf, Begins, IsSessionOf}
 use Rattle.plan_session.proofs.Requests.{begins_of}
 
 -- a player of the request is at the start of its code
@@ -21,11 +18,3 @@ session_of r s file only starts none p = (
   (λ h. at_start r s.code s.start p (only p.code h.ready.file) starts h),
   (λ h. begins_of r p s.code s.start file starts none h),
 )
-
--- a fault of the code file is one of the request
-pub fault_of_code : (r : Request) (e : RunFault) → IsCodeFault r.file e → IsBeginFault r e
-fault_of_code r (Code fault) h = h
-fault_of_code r (Refused pc line cause) h = h
-fault_of_code r (StartFault fault) h = absurd h
-fault_of_code r (Events fault) h = absurd h
-fault_of_code r (Write frames bytes) h = absurd h

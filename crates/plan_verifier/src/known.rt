@@ -3,9 +3,9 @@
 ghost use Rattle.std.specs.Prelude.{◌≡◌};
 ghost use Rattle.plan_verifier.specs.Walking.{includes};
 
+use crate::TrackedFlow;
 use mux_config::Store;
 use plan_code::Counters;
-use crate::TrackedFlow;
 
 /// What is known whenever the machine reaches an instruction, with each configuration in a store.
 #[derive(Drop)]

@@ -7,9 +7,9 @@ ghost use Rattle.plan_verifier.specs.Held.{known_of, flow_of_label};
 ghost use Rattle.plan_verifier.specs.Walking.{unless, is_fit, declared_by, entry_cause, label_cause};
 
 use crate::known::{KnownState, includes};
+use crate::{Cause, IndexedFlow};
 use mux_config::Store;
 use plan_code::{Code, Label};
-use crate::{Cause, IndexedFlow};
 
 /// The label at an instruction. Its fields are within their limits.
 pub(crate) fn label_at(code: &Code, pc: u16) -> Option<Label>

@@ -9,12 +9,12 @@ ghost use Rattle.plan_verifier.specs.Held.{known_of};
 ghost use Rattle.plan_verifier.specs.Typing.{leaves, spent, continues};
 ghost use Rattle.plan_verifier.specs.Walking.{unless, flow_cause, target_cause, instr_cause, known_cause, jump_cause, instr_or_end};
 
+use crate::Cause;
 use crate::known::KnownState;
 use crate::labels::{label_at, test_entry};
+use crate::properties::continues;
 use mux_config::Store;
 use plan_code::{Code, Instr, Plan};
-use crate::Cause;
-use crate::properties::continues;
 
 /// Checks a jump to the label at the target. Refusals: `Target`, where there is none, `Mismatch` and `Cost`.
 fn test_jump<S: Store>(code: &Code, target: u16, state: &mut KnownState<S>) -> Result<(), Cause>

@@ -5,10 +5,10 @@ ghost use Rattle.plan_code.specs.Program.{IsProgram};
 ghost use Rattle.plan_verifier.specs.Typing.{IsTyped};
 ghost use Rattle.plan_verifier.specs.Refusals.{IsRefused};
 
+use crate::Cause;
 use crate::walk::refusal;
 use mux_config::Store;
 use plan_code::Code;
-use crate::Cause;
 use std::marker::Model;
 
 /// A code that `verify` has accepted: it is typed. In contracts it is the program that the code represents.

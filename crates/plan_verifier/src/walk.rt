@@ -7,15 +7,15 @@ ghost use Rattle.plan_verifier.specs.Held.{known_of};
 ghost use Rattle.plan_verifier.specs.Typing.{leaves, continues};
 ghost use Rattle.plan_verifier.specs.Walking.{whole_cause, opening_known, known_at_pc, entered, known_if_reached, known_cause, past_end, walk, refusal_of, opening_cause, is_initial, unless, PassesInstr, instr_or_end};
 
-use crate::refusal::Refusal;
+use crate::flow::{is_idle, is_same};
 use crate::known::KnownState;
 use crate::labels::{label_at, take, test_cost, test_entry};
+use crate::properties::continues;
+use crate::refusal::Refusal;
 use crate::step::{instr_at, judge};
+use crate::{Cause, Flow, TrackedFlow, test_opening};
 use mux_config::Store;
 use plan_code::{Code, Counters, Label, Swap};
-use crate::flow::{is_idle, is_same};
-use crate::properties::continues;
-use crate::{Cause, Flow, TrackedFlow, test_opening};
 
 /// Whether a code can start in this state: equal configurations, no pending swap and no counter set.
 fn is_initial<S: Store>(state: &KnownState<S>) -> bool

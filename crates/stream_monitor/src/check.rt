@@ -14,10 +14,10 @@ ghost use Rattle.stream_monitor.specs.declared.options.CheckOptions.{CheckOption
 
 use crate::ending::Ending;
 use crate::fibs::Next;
+use crate::frame_findings::FrameFindings;
 use crate::line::{Cause, Totals};
 use crate::monitor::Monitor;
 use crate::options::CheckOptions;
-use crate::frame_findings::FrameFindings;
 use crate::tally::{Tally, counted, no_tally};
 use console::files::FileFault;
 use stream_check::{CheckFault, Checker, Finding, Summary};
