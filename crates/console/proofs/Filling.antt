@@ -2,7 +2,7 @@
 use Rattle.std.proofs.Common.{◌≡◌, ℕ, ◌+◌, ◌-◌, ◌≤◌, List, ◌++◌, Option, None, Some, arith, length, take, drop, slice_range, refl, sym, ap, ◌∙◌, subst, le_refl, drop_at, length-take-le, append_assoc}
 use Rattle.std.proofs.lemmas.Slice.{take-put_mid_below}
 use Rattle.std.specs.Io.KnownBytes.{Consumes, Keeps, IsAtEnd, prepend_known}
-use Rattle.std.proofs.KnownBytes.{Consumes-trans, Consumes-kept}
+use Rattle.std.proofs.KnownBytes.{Consumes-trans}
 use borrow.Rule.Slice.PartMut.{put_mid, post_of}
 use lib.Seq.{take-add, take-append-le, take-append_seam}
 
@@ -24,20 +24,10 @@ filled_more a b c at room n buffer part within fits before read =
     let joined = take_split at (at + n) buffer (put_mid at room buffer part) (omega arith) (take-put_mid_below _ _ _ _ _ (le_refl _) within) in
     subst (Consumes a c) (ap (λ l. take at buffer ++ l) (sym some) ∙ joined) (Consumes-trans a b c _ _ before read)
 
--- no bytes, on an error
-pub filled_as_before : (a b c : Option (List ℕ)) (at room : ℕ) (buffer part : List ℕ) → at ≤ length buffer → Consumes a b (take at buffer) → Keeps b c → Consumes a c (take at (put_mid at room buffer part))
-filled_as_before a b c at room buffer part within before kept =
-    subst (Consumes a c) (sym (take-put_mid_below _ _ _ _ _ (le_refl _) within)) (Consumes-kept a b c _ before kept)
-
 -- before the first piece nothing is kept
 pub none_kept : (left : Option (List ℕ)) (buffer : List ℕ) → Keeps left (prepend_known (slice_range buffer 0 0) left)
 none_kept None buffer = tt
 none_kept (Some xs) buffer = refl
-
--- the kept bytes are the first of those that are left
-pub kept_first : (left : Option (List ℕ)) (kept : List ℕ) → Consumes (prepend_known kept left) left kept
-kept_first None kept = tt
-kept_first (Some xs) kept = refl
 
 -- a piece, and the bytes that are kept behind it
 pub handed : (before left : Option (List ℕ)) (buffer : List ℕ) (len filled : ℕ) → len ≤ filled → Consumes before left (take filled buffer) → Consumes before (prepend_known (slice_range buffer len filled) left) (take len buffer)

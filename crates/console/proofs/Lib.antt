@@ -3,4 +3,3 @@ mod LineLaws
 mod LineReading
 mod VectorsOfWorlds
 pub mod Worlds
-pub mod Writing

@@ -2,13 +2,6 @@
 use Rattle.std.proofs.Common.{List, ℕ, Option, None, Some, ◌∙◌}
 use Rattle.console.specs.World.{World, Becomes, Stays, IsSameBut, HasWritten}
 
-pub but_then_but : (path : List ℕ) (old mid new : Option World)
-    → Becomes (IsSameBut path) old mid → Becomes (IsSameBut path) mid new → Becomes (IsSameBut path) old new
-but_then_but path None mid new p q = tt
-but_then_but path (Some a) None new p q = absurd p
-but_then_but path (Some a) (Some b) None p q = absurd q
-but_then_but path (Some a) (Some b) (Some c) p q = λ other not. q other not ∙ p other not
-
 pub but_then_written : (path bytes : List ℕ) (old mid new : Option World)
     → Becomes (IsSameBut path) old mid → Becomes (HasWritten path bytes) mid new → Becomes (HasWritten path bytes) old new
 but_then_written path bytes None mid new p q = tt
@@ -21,16 +14,6 @@ pub stays_but : (path : List ℕ) (old new : Option World) → Stays old new →
 stays_but path None new p = tt
 stays_but path (Some a) None p = p
 stays_but path (Some a) (Some b) p = λ other not. p other
-
-pub stays_then_stays : (old mid new : Option World) → Stays old mid → Stays mid new → Stays old new
-stays_then_stays None mid new p q = tt
-stays_then_stays (Some a) None new p q = absurd p
-stays_then_stays (Some a) (Some b) None p q = absurd q
-stays_then_stays (Some a) (Some b) (Some c) p q = λ path. q path ∙ p path
-
-pub stays_then_but : (path : List ℕ) (old mid new : Option World)
-    → Stays old mid → Becomes (IsSameBut path) mid new → Becomes (IsSameBut path) old new
-stays_then_but path old mid new p q = but_then_but path old mid new (stays_but path old mid p) q
 
 pub stays_then_written : (path bytes : List ℕ) (old mid new : Option World)
     → Stays old mid → Becomes (HasWritten path bytes) mid new → Becomes (HasWritten path bytes) old new

@@ -10,7 +10,8 @@ use std::rt::Clock;
 use std::thread;
 use std::time::Duration;
 
-/// The pause between two attempts in milliseconds: a twelfth of a frame.
+/// The pause between two attempts in milliseconds: a twelfth of a frame. The library has no call that waits for a
+/// descriptor.
 const PAUSE: u64 = 2;
 
 /// A reader or writer that may be in non-blocking mode (`O_NONBLOCK`), in which supervisors hand over standard streams.

@@ -1,7 +1,6 @@
 -- The register performs the long division: the rest of the dividend, with the register added at its front, leaves the
 -- remainder that the whole leaves.
-use Rattle.std.proofs.Common.{◌≡◌, ℕ, zero, suc, ◌+◌, ◌-◌, ◌*◌, ◌/◌, ◌%◌, ◌^◌, ◌<◌, ◌≤◌, eqb, List, [], ◌∷◌, ◌++◌, map, length, replicate, refl, sym, ◌∙◌, ap, arith, inl, inr, append_assoc, get_or, drop}
-use Rattle.std.proofs.lemmas.List.{drop_more}
+use Rattle.std.proofs.Common.{◌≡◌, ℕ, zero, suc, ◌+◌, ◌-◌, ◌*◌, ◌/◌, ◌%◌, ◌^◌, ◌<◌, ◌≤◌, eqb, List, [], ◌∷◌, ◌++◌, map, length, replicate, refl, sym, ◌∙◌, ap, arith, inl, inr, append_assoc}
 use Rattle.std.proofs.lemmas.Bool.{cases_Bool, cond-true, cond-false, eqb-true, eqb-false}
 use Rattle.std.proofs.lemmas.Nat.Bits.{bit_at-suc, bit_at_xor, bit_at_cat_low, bit_at-lt, bit_at_ones, shr_and_one}
 use Rattle.std.specs.Prelude.{bit_xor, bit_and}
@@ -192,15 +191,6 @@ taken (b ∷ bs) r m n are =
     ∙ ap (λ t. divided (8 + (8 * length bs + n)) (plus t (low_bits 16 r))) (append_assoc (low_bits 8 b) (bits_of_bytes bs) m)
     ∙ steps 8 b r rest (8 * length bs + n) rest_are
     ∙ taken bs (after 8 b r) m n are
-
-pub after_all-append : (xs ys : List ℕ) (r : ℕ) → after_all (xs ++ ys) r ≡ after_all ys (after_all xs r)
-after_all-append [] ys r = refl
-after_all-append (x ∷ xs) ys r = after_all-append xs ys (after 8 x r)
-
--- an iteration of a loop over the bytes
-pub after_all-more : (bytes : List ℕ) (i r : ℕ) → i < length bytes
-    → after_all (drop i bytes) r ≡ after_all (drop (i + 1) bytes) (after 8 (get_or bytes i 0) r)
-after_all-more bytes i r h = ap (λ t. after_all t r) (drop_more bytes i 0 h)
 
 all_ones : (w : ℕ) → w < 16 → bit_at 65535 w ≡ 1
 all_ones w h = bit_at_ones 16 w h

@@ -1,7 +1,7 @@
 -- The lengths of encodings.
-use Rattle.std.proofs.Common.{◌≡◌, ℕ, zero, suc, drop, ◌+◌, ◌-◌, ◌*◌, ◌≤◌, cond, Option, Some, None, is_some, List, [], ◌∷◌, ◌++◌, length, get_or, take, refl, sym, ◌∙◌, ap, subst, arith, length-append, append_assoc, append-nil, ◌<◌}
+use Rattle.std.proofs.Common.{◌≡◌, ℕ, zero, suc, drop, ◌+◌, ◌-◌, ◌*◌, ◌≤◌, cond, Option, Some, None, is_some, List, [], ◌∷◌, ◌++◌, length, get_or, take, refl, sym, ◌∙◌, ap, arith, length-append, append_assoc, append-nil, ◌<◌}
 use Rattle.std.specs.Prelude.{flat_map}
-use Rattle.std.proofs.lemmas.List.{take_more, length-take-le, take_all, take-append-drop}
+use Rattle.std.proofs.lemmas.List.{take_more, length-take-le, take-append-drop}
 use Rattle.std.specs.List.{AllByRecursion}
 use Rattle.mux_types.specs.declared.numbers.Sid.{Sid}
 use Rattle.mux_types.specs.declared.numbers.Sid.TheVariants.{Short, Long}
@@ -59,11 +59,6 @@ spelled_more f old xs i d h =
     ∙ sym (flat_map-append f (take i xs) (get_or xs i d ∷ []))
     ∙ ap (flat_map f) (sym (take_more xs i d h)))
 
-pub AllByRecursion-more : {T : Type 0} (P : T → Type 0) (xs : List T) (i : ℕ) (d : T) → i < length xs → AllByRecursion P (take i xs) → P (get_or xs i d)
-    → AllByRecursion P (take (i + 1) xs)
-AllByRecursion-more {T} P xs i d h before here =
-    subst (λ (ys : List T). AllByRecursion P ys) (sym (take_more xs i d h)) (AllByRecursion-append P (take i xs) (get_or xs i d ∷ []) before (here, tt))
-
 -- room for one more component, if there was room for all of them
 pub component_fits : (now old : List ℕ) (cs : List ComponentEntry) (i : ℕ) → length old + 2 * length cs ≤ 30 → i < length cs
     → now ≡ old ++ components_bytes (take i cs) → length now + 2 ≤ 30
@@ -78,9 +73,6 @@ pub AllByRecursion-at : {T : Type 0} (P : T → Type 0) (xs : List T) (i : ℕ) 
 AllByRecursion-at P [] i d h lt = absurd (omega arith)
 AllByRecursion-at P (x ∷ xs) zero d h lt = h.0
 AllByRecursion-at P (x ∷ xs) (suc i) d h lt = AllByRecursion-at P xs i d h.1 (omega arith)
-
-pub AllByRecursion-all : {T : Type 0} (P : T → Type 0) (xs : List T) (i : ℕ) → length xs ≤ i → AllByRecursion P (take i xs) → AllByRecursion P xs
-AllByRecursion-all {T} P xs i h each = subst (λ (ys : List T). AllByRecursion P ys) (take_all i xs h) each
 
 pub entries_more : (xs : List Entry) (i : ℕ) (d : Entry) → i < length xs
     → length (entries_bytes (take (i + 1) xs)) ≡ length (entries_bytes (take i xs)) + entry_size (get_or xs i d)

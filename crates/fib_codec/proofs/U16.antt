@@ -9,7 +9,7 @@ use Rattle.fib_codec.specs.Spelling.{checked}
 use borrow.Rule.Slice.PartMut.{put_mid}
 use Rattle.fib_codec.specs.Crc.{low_bits, bits_of_bytes, check_bits, number_of_bits, crc_value, IsChecked, AreBits, divided, dividend, without_leading}
 use Rattle.fib_codec.proofs.Division.{bits_of-suc, bits_of-zero, length-bits_of, bits_of-below, divided-zero, divided-suc}
-use Rattle.fib_codec.proofs.Linear.{one_word, split, length-plus, divided-nil, without_bits, length-without}
+use Rattle.fib_codec.proofs.Linear.{one_word, split, length-plus, divided-nil, length-without}
 
 -- two bytes have the bits of the u16 that they encode
 pub sent_bits : (a b : ℕ) → b < 256 → bits_of_bytes (a ∷ b ∷ []) ≡ low_bits 16 (a * 256 + b)
@@ -55,13 +55,6 @@ word_checked bytes word fits h =
     let small : word % 2 ^ 16 ≡ word = omega arith in
     sym small ∙ sym (word_spelled 16 word) ∙ ap number_of_bits h
 
--- two bytes written after thirty
-pub word_behind : (bytes word : List ℕ) → length bytes ≡ 30 → put_mid 30 2 (bytes ++ 0 ∷ 0 ∷ []) word ≡ bytes ++ word
-word_behind bytes word h =
-    let front : take 30 (bytes ++ 0 ∷ 0 ∷ []) ≡ bytes = take_at bytes (0 ∷ 0 ∷ []) 30 h in
-    let behind : drop 2 (drop 30 (bytes ++ 0 ∷ 0 ∷ [])) ≡ [] = ap (drop 2) (drop_at bytes (0 ∷ 0 ∷ []) 30 h) in
-    ap₂ (λ xs ys. xs ++ (word ++ ys)) front behind ∙ ap (λ t. bytes ++ t) (append-nil word)
-
 -- ---- the CRC is a u16
 length-divided : (n : ℕ) (xs : List ℕ) → length (divided n xs) ≡ length xs - n
 length-divided zero xs =
@@ -73,13 +66,6 @@ length-divided (suc n) [] =
 length-divided (suc n) (b ∷ bits) =
     let less : length bits - n ≡ suc (length bits) - suc n = omega arith in
     ap length (divided-suc n b bits) ∙ length-divided n (without_leading b bits) ∙ ap (λ k. k - n) (length-without b bits) ∙ less
-
-divided_bits : (n : ℕ) (xs : List ℕ) → AreBits xs → AreBits (divided n xs)
-divided_bits zero xs are = subst (λ (ys : List ℕ). AreBits ys) (sym (divided-zero xs)) are
-divided_bits (suc n) [] are = subst (λ (ys : List ℕ). AreBits ys) (sym (divided-nil (suc n))) tt
-divided_bits (suc n) (b ∷ bits) are =
-    subst (λ (ys : List ℕ). AreBits ys) (sym (divided-suc n b bits))
-    (divided_bits n (without_leading b bits) (without_bits b bits are.1))
 
 turned_bits : (xs : List ℕ) → AreBits (map (λ b. 1 - b) xs)
 turned_bits [] = tt
@@ -152,19 +138,6 @@ checked_is bytes h =
     ap bits_of_bytes (drop_at bytes (big_bytes 2 word) 30 h)
     ∙ sent_bits (word / 256 % 256) (word % 256) (omega arith)
     ∙ ap (low_bits 16) whole ∙ check_word_bits bytes ∙ ap check_bits (sym (take_at bytes (big_bytes 2 word) 30 h))
-
--- the same bytes, as written into a buffer of zeros
-pub sealed_bytes : (bytes moved buf : List ℕ) (word : ℕ) → length bytes ≡ 30 → moved ≡ bytes → word < 65536
-    → low_bits 16 word ≡ check_bits bytes
-    → buf ≡ word / 256 % 256 ∷ word % 256 ∷ drop 2 (take 2 (drop 30 (moved ++ 0 ∷ 0 ∷ [])))
-    → put_mid 30 2 (moved ++ 0 ∷ 0 ∷ []) buf ≡ checked bytes
-sealed_bytes bytes moved buf word h same fits bits written =
-    let tail = take 2 (drop 30 (moved ++ 0 ∷ 0 ∷ [])) in
-    let none : drop 2 tail ≡ [] = drop_all 2 tail (omega (arith, length-take 2 (drop 30 (moved ++ 0 ∷ 0 ∷ [])))) in
-    let two : buf ≡ big_bytes 2 word = written ∙ ap (λ t. word / 256 % 256 ∷ word % 256 ∷ t) none in
-    ap₂ (λ xs ys. put_mid 30 2 (xs ++ 0 ∷ 0 ∷ []) ys) same two
-    ∙ word_behind bytes (big_bytes 2 word) h
-    ∙ ap (λ w. bytes ++ big_bytes 2 w) (word_checked bytes word fits bits)
 
 -- the CRC written over the last two of thirty-two bytes
 pub sealed_row : (row buf : List ℕ) (word : ℕ) → length row ≡ 32 → word < 65536

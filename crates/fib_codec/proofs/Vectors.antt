@@ -2,46 +2,12 @@
 use Rattle.std.proofs.Common.{◌≡◌, ℕ, true, false, List, [], ◌∷◌, inl, inr, refl, arith}
 use Rattle.fib_codec.specs.Grammar.{Other, IsEntry, AreEntries, IsCounted, IsFig, AreFigs, is_open}
 
--- ensemble information without flags is 4 bytes, with a flag 5; the short form of a sub-channel 3, the long form 4;
--- a service of one component 5 bytes, 7 with a 32-bit SId; a packet component 5, 7 with CAOrg
-plain_ensemble : IsEntry 0 false (225 ∷ 197 ∷ 0 ∷ 4 ∷ [])
-plain_ensemble = refl
-
+-- ensemble information without flags is 4 bytes, with a flag 5
 flagged_ensemble : IsEntry 0 false (225 ∷ 197 ∷ 64 ∷ 4 ∷ 28 ∷ [])
 flagged_ensemble = refl
 
 flag_without_occurrence : IsEntry 0 false (225 ∷ 197 ∷ 64 ∷ 4 ∷ []) → ⊥
 flag_without_occurrence is = absurd (omega (arith, is))
-
-occurrence_without_flag : IsEntry 0 false (225 ∷ 197 ∷ 0 ∷ 4 ∷ 28 ∷ []) → ⊥
-occurrence_without_flag is = absurd (omega (arith, is))
-
-short_sub : IsEntry 1 false (4 ∷ 0 ∷ 5 ∷ [])
-short_sub = refl
-
-long_sub : IsEntry 1 false (4 ∷ 0 ∷ 136 ∷ 96 ∷ [])
-long_sub = refl
-
-cut_sub : IsEntry 1 false (4 ∷ 0 ∷ 136 ∷ []) → ⊥
-cut_sub is = absurd (omega (arith, is))
-
-short_service : IsEntry 2 false (194 ∷ 33 ∷ 1 ∷ 63 ∷ 6 ∷ [])
-short_service = refl
-
-long_service : IsEntry 2 true (0 ∷ 0 ∷ 194 ∷ 33 ∷ 1 ∷ 63 ∷ 6 ∷ [])
-long_service = refl
-
-short_service_of_long_form : IsEntry 2 true (194 ∷ 33 ∷ 1 ∷ 63 ∷ 6 ∷ []) → ⊥
-short_service_of_long_form is = absurd (omega (arith, is))
-
-packet_component : IsEntry 3 false (0 ∷ 16 ∷ 60 ∷ 4 ∷ 9 ∷ [])
-packet_component = refl
-
-packet_with_access_control : IsEntry 3 false (0 ∷ 17 ∷ 60 ∷ 4 ∷ 9 ∷ 1 ∷ 2 ∷ [])
-packet_with_access_control = refl
-
-cut_packet : IsEntry 3 false (0 ∷ 17 ∷ 60 ∷ 4 ∷ 9 ∷ []) → ⊥
-cut_packet is = absurd (omega (arith, is))
 
 -- the CIF count's high part goes up to 19, its low part up to 249
 last_count : IsCounted (225 ∷ 197 ∷ 19 ∷ 249 ∷ [])
@@ -49,9 +15,6 @@ last_count = (omega arith, omega arith)
 
 high_part_of_20 : IsCounted (225 ∷ 197 ∷ 20 ∷ 0 ∷ []) → ⊥
 high_part_of_20 is = absurd (omega (arith, is.0))
-
-low_part_of_250 : IsCounted (225 ∷ 197 ∷ 0 ∷ 250 ∷ []) → ⊥
-low_part_of_250 is = absurd (omega (arith, is.1))
 
 -- two sub-channels in one FIG
 two_subs : AreEntries 1 false (4 ∷ 0 ∷ 5 ∷ 8 ∷ 96 ∷ 136 ∷ 48 ∷ []) ((4 ∷ 0 ∷ 5 ∷ []) ∷ (8 ∷ 96 ∷ 136 ∷ 48 ∷ []) ∷ [])

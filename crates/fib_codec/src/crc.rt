@@ -54,7 +54,7 @@ fn bytes_step(mut register: u16, bytes: &[u8]) -> u16
     register
 }
 
-/// The register after six bytes of the message.
+/// The register after six bytes of the message. A FIB has thirty data bytes: five such steps, and nothing left over.
 fn six_step(register: u16, a: u8, b: u8, c: u8, d: u8, e: u8, f: u8) -> u16
     ensures { result ≡ after_all (a ∷ b ∷ c ∷ d ∷ e ∷ f ∷ []) register }
 {

@@ -168,9 +168,6 @@ ensemble_cases false false false true long place bytes at p q r s found =
     )
 ensemble_cases false false false false long place bytes at p q r s found = absurd (cc)
 
-abbrev BodyFault : ℕ → Bool → ℕ → List ℕ → ℕ → Type 0
-BodyFault ext long place bytes at = (within : ℕ) × (at ≡ place + within) × IsBodyFault ext long bytes within
-
 pub body_found :
     (b : Bool) (ext : ℕ) (long : Bool) (place : ℕ) (bytes : List ℕ) (at : ℕ) → (ext == 0) ≡ b
     → body_fault ext long place bytes ≡ Some at → (within : ℕ) × (at ≡ place + within) × IsBodyFault ext long bytes within

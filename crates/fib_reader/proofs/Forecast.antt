@@ -9,8 +9,8 @@ use Rattle.mux_config.proofs.Keeping.{length_with}
 use Rattle.fib_codec.specs.Grammar.{Fig, Open, Other, is_next}
 use Rattle.fib_codec.specs.declared.head.Head.{Head}
 use Rattle.fib_reader.specs.Raw.{Raw, entries_in, head_in, ensemble_in}
-use Rattle.fib_reader.specs.Listening.{Pictured, Listening, identifier_of, is_known, kept, has_room, pictured, swapped, is_made, awaiting, at_ensemble, into, picture_of, hear_entry, hear_entries, hear_fig, where_heard}
-use Rattle.fib_reader.specs.Forecast.{IsKnownTo, HasGrown, HasGrownBy, HasGrownFrom, LeavesRoom}
+use Rattle.fib_reader.specs.Listening.{Pictured, Listening, identifier_of, is_known, kept, has_room, pictured, swapped, awaiting, at_ensemble, into, picture_of, hear_entry, hear_entries, hear_fig, where_heard}
+use Rattle.fib_reader.specs.Forecast.{IsKnownTo, HasGrown, HasGrownBy, LeavesRoom}
 use Rattle.fib_reader.proofs.Keeping.{room_for_known, room_for_new}
 
 -- ---- what is known stays known
@@ -175,51 +175,15 @@ stays l e h =
     ∙ ap (awaiting e) (tuned_again l h.tuned)
     ∙ awaits_again (e.change == 0) e l refl h.awaits
 
-known_to_both : (n : ℕ) (old l : Listening) (e : EnsembleInformation) → HasGrownFrom n old l → IsKnownTo old e → IsKnownTo l e
-known_to_both n old l e grown h = record {
-  tuned = grown.tuned ∙ h.tuned;
-  not_made = ap (λ a. is_made a e) grown.awaited ∙ h.not_made;
-  awaits = λ flagged. h.awaits flagged ∙ sym grown.awaited;
-}
-
 -- ---- an entry, heard
-
-heard_ensemble : (next : Bool) (raw : Raw) (l : Listening) → raw.ext ≡ 0 → IsKnownTo l (ensemble_in raw) → hear_entry next raw l ≡ Some l
-heard_ensemble next raw l is h =
-    ap (λ b. cond b (Some (at_ensemble (ensemble_in raw) l)) (cond l.tuned (into next l (pictured raw (picture_of next l))) (Some l))) (eq-eqb raw.ext 0 is)
-    ∙ ap Some (stays l (ensemble_in raw) h)
-
-heard_untuned : (next : Bool) (raw : Raw) (l : Listening) → raw.ext ≢ 0 → l.tuned ≡ false → hear_entry next raw l ≡ Some l
-heard_untuned next raw l other untuned =
-    ap (λ b. cond b (Some (at_ensemble (ensemble_in raw) l)) (cond l.tuned (into next l (pictured raw (picture_of next l))) (Some l))) (ne_eqb raw.ext 0 other)
-    ∙ ap (λ b. cond b (into next l (pictured raw (picture_of next l))) (Some l)) untuned
 
 heard_tuned : (next : Bool) (raw : Raw) (l : Listening) → raw.ext ≢ 0 → l.tuned ≡ true → hear_entry next raw l ≡ into next l (pictured raw (picture_of next l))
 heard_tuned next raw l other tuned =
     ap (λ b. cond b (Some (at_ensemble (ensemble_in raw) l)) (cond l.tuned (into next l (pictured raw (picture_of next l))) (Some l))) (ne_eqb raw.ext 0 other)
     ∙ ap (λ b. cond b (into next l (pictured raw (picture_of next l))) (Some l)) tuned
 
-pub known_ensemble : (next : Bool) (raw : Raw) (l : Listening) → raw.ext ≡ 0 → IsKnownTo l (ensemble_in raw) → hear_entry next raw l ≡ Some l
-known_ensemble = heard_ensemble
-
-pub known_untuned : (next : Bool) (raw : Raw) (l : Listening) → raw.ext ≢ 0 → l.tuned ≡ false → hear_entry next raw l ≡ Some l
-known_untuned = heard_untuned
-
 pub known_next : (raw : Raw) (l : Listening) → raw.ext ≢ 0 → l.tuned ≡ true → pictured raw l.next ≡ Some l.next → hear_entry true raw l ≡ Some l
 known_next raw l other tuned is = heard_tuned true raw l other tuned ∙ ap (into true l) is
-
-pub known_current : (raw : Raw) (l : Listening) → raw.ext ≢ 0 → l.tuned ≡ true → pictured raw l.current ≡ Some l.current → hear_entry false raw l ≡ Some l
-known_current raw l other tuned is = heard_tuned false raw l other tuned ∙ ap (into false l) is
-
-pub leaves_ensemble :
-    (old : Listening) (others : ℕ) (next : Bool) (raw : Raw) → raw.ext ≡ 0 → IsKnownTo old (ensemble_in raw)
-    → LeavesRoom old others others (hear_entry next raw)
-leaves_ensemble old others next raw is known l grown =
-    (l, heard_ensemble next raw l is (known_to_both others old l (ensemble_in raw) grown known), grown)
-
-pub leaves_untuned :
-    (old : Listening) (others : ℕ) (next : Bool) (raw : Raw) → raw.ext ≢ 0 → old.tuned ≡ false → LeavesRoom old others others (hear_entry next raw)
-leaves_untuned old others next raw other untuned l grown = (l, heard_untuned next raw l other (grown.tuned ∙ untuned), grown)
 
 leaves_next :
     (old : Listening) (others all : ℕ) (raw : Raw) → raw.ext ≢ 0 → old.tuned ≡ true → Takes old.next raw others all

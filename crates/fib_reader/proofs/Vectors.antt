@@ -8,7 +8,6 @@ use Rattle.fib_reader.specs.Raw.{Raw, ensemble_in}
 use Rattle.fib_reader.specs.Listening.{Listening, untuned, identifier_of, is_made, at_ensemble}
 use Rattle.fib_reader.specs.Picture.{AreInOrder}
 use Rattle.fib_reader.specs.Forecast.{IsKnownTo}
-use Rattle.fib_reader.proofs.EntryFaults.{too_few}
 use Rattle.fib_reader.proofs.FigFaults.{stands_first, data_given}
 
 -- ---- faults
@@ -28,21 +27,6 @@ overrun_fails h =
 -- a FIG of type 0 without its second byte
 bare_holds : IsEntryFault (0 ∷ []) 0
 bare_holds = inl ([], stands_first 0 [] (λ e. omega arith))
-
--- FIG 0/0 without an entry, before an end marker
-empty_holds : IsEntryFault (1 ∷ 0 ∷ 255 ∷ []) 2
-empty_holds = inr (record {
-  at = 0;
-  second = 0;
-  body = [];
-  after = 255 ∷ [];
-  within = 0;
-  stands = stands_first 1 (0 ∷ 255 ∷ []) (λ e. omega arith);
-  short = omega arith;
-  looked_into = refl;
-  fault = inr (refl, inl (refl, too_few 0 false [] (omega arith)));
-  place_is = refl;
-})
 
 -- a sub-channel in the short form
 good_fails : IsEntryFault (4 ∷ 1 ∷ 4 ∷ 0 ∷ 5 ∷ 255 ∷ []) 2 → ⊥
@@ -67,23 +51,14 @@ its_identifier = refl
 abbrev told : ℕ → ℕ → EnsembleInformation
 told change count = record { eid = 57797; change = change; al = false; count = count; occurrence = Some 28 }
 
-none_is_awaited : is_made None (told 1 28) ≡ false
-none_is_awaited = refl
-
 its_count_has_come : is_made (Some 28) (told 1 278) ≡ true
 its_count_has_come = refl
 
 its_count_is_to_come : is_made (Some 28) (told 1 274) ≡ false
 its_count_is_to_come = refl
 
-no_flag_is_set : is_made (Some 28) (told 0 274) ≡ true
-no_flag_is_set = refl
-
 abbrev after_notice : Listening
 after_notice = at_ensemble (told 1 4) untuned
-
-it_awaits : after_notice.awaited ≡ Some 28
-it_awaits = refl
 
 it_knows : IsKnownTo after_notice (told 1 8)
 it_knows = record { tuned = refl; not_made = refl; awaits = λ flagged. refl }
@@ -109,10 +84,4 @@ services_first_fails : AreInOrder (service 1 ∷ sub 7 ∷ []) → ⊥
 services_first_fails h = elim h.0.0 [
   | inl less ↦ omega arith
   | inr same ↦ (let is = same.0 in omega arith)
-]
-
-twice_fails : AreInOrder (service 1 ∷ service 1 ∷ []) → ⊥
-twice_fails h = elim h.0.0 [
-  | inl less ↦ omega arith
-  | inr same ↦ (let is = same.1 in omega arith)
 ]

@@ -119,6 +119,7 @@ impl<T: TableEntry> EntryTable<T> {
 }
 
 /// The highest eight bits of a multiple of an identifier, which spread even identifiers that differ in only a few bits.
+/// The lowest ones would put SIds that are 16 apart, as those of real multiplexes are, in a few places.
 fn hash(identifier: u64) -> u8 {
     (identifier.wrapping_mul(0x9E37_79B9_7F4A_7C15) >> 56) as u8
 }

@@ -1,7 +1,7 @@
 -- FIGs that agree with a configuration, and FIGs that do not, computed by the checker from the definitions.
 use Rattle.std.proofs.Common.{◌≡◌, true, false, [], ◌∷◌, None, Some, refl}
 use Rattle.fib_reader.specs.Raw.{Raw}
-use Rattle.fib_reader.specs.Listening.{Pictured, blank}
+use Rattle.fib_reader.specs.Listening.{Pictured}
 use Rattle.fig_mentions.specs.declared.mention.Mention.TheVariants.{Nothing, Sub, Packet, OnSub, ByPacket}
 use Rattle.fig_mentions.specs.Mentions.{channel_in, component_size, entry_size, has_bit, is_naming, mentions_in, mentions_of, scid_in, sid_in}
 use Rattle.fig_mentions.specs.Agreeing.{are_there, fig_agrees, is_by, is_judged, is_named, is_nothing, is_on, is_there}
@@ -51,25 +51,9 @@ no_ext_byte = refl
 
 -- ---- entries
 
-access : mentions_of 4 false (1 ∷ 0 ∷ 0 ∷ 66 ∷ 0 ∷ 0 ∷ []) ≡ Some (Sub 1 ∷ Nothing ∷ [])
-unfolding mentions_in
-access = refl
-
-language : mentions_of 5 false (1 ∷ 15 ∷ 128 ∷ 7 ∷ 15 ∷ []) ≡ Some (Sub 1 ∷ Packet 7 ∷ [])
-unfolding mentions_in
-language = refl
-
 component : mentions_of 8 false (194 ∷ 33 ∷ 128 ∷ 1 ∷ 0 ∷ 194 ∷ 33 ∷ 1 ∷ 128 ∷ 7 ∷ []) ≡ Some (OnSub 49697 1 ∷ ByPacket 49697 7 ∷ [])
 unfolding mentions_in
 component = refl
-
-scheme : mentions_of 14 false (5 ∷ []) ≡ Some (Sub 1 ∷ [])
-unfolding mentions_in
-scheme = refl
-
-announcement : mentions_of 19 false (1 ∷ 0 ∷ 1 ∷ 65 ∷ 3 ∷ 1 ∷ 0 ∷ 1 ∷ 130 ∷ []) ≡ Some (Sub 1 ∷ Sub 2 ∷ [])
-unfolding mentions_in
-announcement = refl
 
 not_whole : mentions_of 4 false (1 ∷ 0 ∷ []) ≡ None
 unfolding mentions_in
@@ -130,27 +114,10 @@ judged = refl
 of_another_ensemble : is_judged (4 ∷ 68 ∷ []) ≡ false
 of_another_ensemble = refl
 
-label : is_judged (36 ∷ 4 ∷ []) ≡ false
-label = refl
-
 agrees : fig_agrees current (6 ∷ 8 ∷ 194 ∷ 33 ∷ 0 ∷ 1 ∷ []) ≡ true
 unfolding mentions_in
 agrees = refl
 
-next_too : fig_agrees current (6 ∷ 136 ∷ 194 ∷ 33 ∷ 0 ∷ 1 ∷ []) ≡ true
-unfolding mentions_in
-next_too = refl
-
 does_not : fig_agrees current (6 ∷ 8 ∷ 194 ∷ 33 ∷ 0 ∷ 2 ∷ []) ≡ false
 unfolding mentions_in
 does_not = refl
-
-no_entry : fig_agrees current (1 ∷ 4 ∷ []) ≡ false
-no_entry = refl
-
-before_the_first : fig_agrees blank (4 ∷ 4 ∷ 1 ∷ 0 ∷ 0 ∷ []) ≡ false
-unfolding mentions_in
-before_the_first = refl
-
-others_agree : fig_agrees blank (3 ∷ 9 ∷ 1 ∷ 2 ∷ []) ≡ true
-others_agree = refl

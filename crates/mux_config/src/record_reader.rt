@@ -42,6 +42,7 @@ impl Member for Sub {
         let protection = reader.protection()?;
         let rate_place = reader.place();
         let kbits = reader.u16()?;
+        // The rate is tested before the start: where a sub-channel ends depends on its size.
         let Ok(size) = size_of(protection, kbits) else {
             return Err(RecordFault::Field(rate_place));
         };

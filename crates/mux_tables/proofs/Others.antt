@@ -1,11 +1,11 @@
 -- Edits of services and packet components are those of a configuration without sub-channels.
-use Rattle.std.proofs.Common.{◌≡◌, List, [], Option, Some, None, Result, Ok, Err, refl, sym, ap, ◌∙◌, subst}
+use Rattle.std.proofs.Common.{◌≡◌, List, [], Option, Some, None, Ok, refl, sym, ap, ◌∙◌, subst}
 use Rattle.mux_types.specs.declared.parts.Sub.{Sub}
 use Rattle.mux_config.specs.declared.edit.Edit.{Edit}
 use Rattle.mux_config.specs.declared.edit.Edit.TheVariants.{AddSub, DropSub, MoveSub, RateSub, AddService, DropService, AddComponent, DropComponent, AddPacket, DropPacket}
 use Rattle.mux_config.specs.declared.fault.EditFault.{EditFault}
 use Rattle.mux_config.specs.Configuration.{Configuration, IsConfiguration}
-use Rattle.mux_config.specs.Edits.{outcome, edit_fault, changed, edited, Edits, IsInRange}
+use Rattle.mux_config.specs.Edits.{outcome, edit_fault, changed, IsInRange}
 use Rattle.mux_config.proofs.Keeping.{edits_keep}
 use Rattle.mux_tables.specs.Units.{with_sub_channels}
 
@@ -67,10 +67,3 @@ known_keeps e of within xs old new none c fault is = (
 no_fault : (f : Option EditFault) (d new : Configuration) → outcome f d ≡ Ok new → (f ≡ None) × (new ≡ d)
 no_fault None d new e = (refl, cc)
 no_fault (Some fault) d new e = absurd (cc)
-
-pub edits_keeps : (e : Edit) → IsOfOthers e → IsInRange e → (xs : List Sub) (old new : Configuration) (result : Result (Unit {0}) EditFault) → old.subs ≡ [] → IsConfiguration (with_sub_channels xs old) → Edits old new (edited e old) result
-    → (new.subs ≡ []) × IsConfiguration (with_sub_channels xs new)
-edits_keeps e of within xs old new (Ok done) none c is =
-    let both = no_fault (edit_fault e old) (changed e old) new is in
-    known_keeps e of within xs old new none c both.0 both.1
-edits_keeps e of within xs old new (Err fault) none c is = (ap (λ (d : Configuration). d.subs) is.1 ∙ none, subst (λ (d : Configuration). IsConfiguration (with_sub_channels xs d)) (sym is.1) c)

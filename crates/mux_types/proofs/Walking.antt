@@ -1,5 +1,5 @@
 -- Walking along a list, index by index: what is left of it, of two lists that are compared, and of a search.
-use Rattle.std.proofs.Common.{◌≡◌, ◌≢◌, ℕ, zero, suc, ◌+◌, ◌≤◌, Bool, true, false, ◌&&◌, ◌||◌, List, [], ◌∷◌, length, drop, Some, refl, sym, ap, ◌∙◌, subst, slice_get, add-one, arith}
+use Rattle.std.proofs.Common.{◌≡◌, ℕ, zero, suc, ◌+◌, ◌≤◌, Bool, true, false, ◌&&◌, ◌||◌, List, [], ◌∷◌, length, drop, Some, refl, sym, ap, ◌∙◌, subst, slice_get, add-one}
 use Rattle.std.proofs.Math.ListN.{drop_of_length-le}
 use Rattle.std.specs.List.{list_any, AllByRecursion}
 use Rattle.mux_types.specs.Sameness.{is_same_list}
@@ -28,15 +28,6 @@ same_more same xs ys i x y b left e f here =
 pub same_not : {T : Type 0} (same : T → T → Bool) (xs ys : List T) (i : ℕ) (x y : T) (b : Bool) → is_same_list same (drop i xs) (drop i ys) ≡ b → slice_get xs i ≡ Some x → slice_get ys i ≡ Some y → same x y ≡ false → false ≡ b
 same_not same xs ys i x y b left e f here =
     ap (λ (t : Bool). t && is_same_list same (drop (i + 1) xs) (drop (i + 1) ys)) (sym here) ∙ sym (same_step same xs ys i x y e f) ∙ left
-
-pub same_end : {T : Type 0} (same : T → T → Bool) (xs ys : List T) (i : ℕ) → length xs ≤ i → length ys ≤ i → is_same_list same (drop i xs) (drop i ys) ≡ true
-same_end same xs ys i h k = rw (walked xs i h, walked ys i k) refl
-
-pub same_lengths : {T : Type 0} (same : T → T → Bool) (xs ys : List T) → (length xs ≢ length ys) → is_same_list same xs ys ≡ false
-same_lengths same [] [] differ = absurd (differ refl)
-same_lengths same [] (y ∷ ys) differ = refl
-same_lengths same (x ∷ xs) [] differ = refl
-same_lengths same (x ∷ xs) (y ∷ ys) differ = elim (same x y) as (λ b. (b && is_same_list same xs ys) ≡ false) [ true ↦ same_lengths same xs ys (λ e. differ (omega arith)) | false ↦ refl ]
 
 pub any_step : {T : Type 0} (test : T → Bool) (xs : List T) (i : ℕ) (x : T) → slice_get xs i ≡ Some x → list_any test (drop i xs) ≡ (test x || list_any test (drop (i + 1) xs))
 any_step test xs i x e = rw (cut xs i x e) refl

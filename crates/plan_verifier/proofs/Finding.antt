@@ -1,6 +1,5 @@
 -- The cause found at an instruction is the first of the definition, and none is found where the instruction is fine.
-use Rattle.std.proofs.Common.{◌≡◌, ◌↔◌, ℕ, ◌<◌, ◌≤◌, Bool, true, false, not, Option, Some, None, Result, Ok, Err, IsOk, IfErr, refl, sym, ap, subst, ◌∙◌, arith}
-use Rattle.std.proofs.lemmas.Bool.{false≢true}
+use Rattle.std.proofs.Common.{◌≡◌, ◌↔◌, ℕ, ◌<◌, ◌≤◌, Bool, true, false, not, Option, Some, None, Result, Ok, Err, IfErr, refl, sym, ap, subst, arith}
 use Rattle.mux_config.specs.Configuration.{IsConfiguration}
 use Rattle.mux_config.specs.Sound.{first_fault}
 use Rattle.mux_config.proofs.Sounding.{sound_told, sound_found}
@@ -165,13 +164,6 @@ unless_err (Some cause) given e = let same : given ≡ cause = cc in ap Some (sy
 pub unless_ok : (o : Option Cause) → Ok tt ≡ unless o → o ≡ None
 unless_ok None e = refl
 unless_ok (Some cause) e = absurd cc
-
-ok_none : (r : Result (Unit {0}) Cause) (o : Option Cause) → r ≡ unless o → IsOk r → o ≡ None
-ok_none (Ok done) o e ok = unless_ok o e
-ok_none (Err cause) o e ok = absurd (false≢true ok)
-
-none_ok : (r : Result (Unit {0}) Cause) (o : Option Cause) → r ≡ unless o → o ≡ None → IsOk r
-none_ok r o e none = let is : r ≡ Ok tt = e ∙ ap unless none in rw is refl
 
 pub answers_refused : (plan : Plan) (i : Instr) (t : Known) (r : Result (Unit {0}) Cause) → r ≡ unless (flow_cause plan i t) → IfErr r (λ cause. FlowRefused plan i t cause)
 answers_refused plan i t (Ok done) e = tt

@@ -1,13 +1,12 @@
 -- One step of the walk, as the code makes it.
-use Rattle.std.proofs.Common.{◌≡◌, ℕ, zero, suc, ◌+◌, ◌<◌, ◌≤◌, List, length, drop, Option, Some, None, option_map, Result, Ok, Err, IfErr, OnOk, refl, sym, ap, subst, ◌∙◌, arith}
-use Rattle.std.proofs.lemmas.List.{drop_all}
+use Rattle.std.proofs.Common.{◌≡◌, ℕ, zero, suc, ◌+◌, ◌<◌, List, length, drop, Option, Some, None, option_map, Result, Ok, Err, IfErr, OnOk, refl, sym, ap, subst, ◌∙◌, arith}
 use Rattle.plan_code.specs.declared.label.Label.{Label}
 use Rattle.plan_code.specs.declared.instr.Line.{Line}
 use Rattle.plan_code.specs.declared.instr.Instr.{Instr}
 use Rattle.plan_code.specs.Program.{Program, instr_at, label_at}
 use Rattle.plan_verifier.specs.declared.cause.Cause.{Cause}
 use Rattle.plan_verifier.specs.Typing.{Known, leaves, continues}
-use Rattle.plan_verifier.specs.Walking.{whole_cause, unless, taken, opening_cause, opening_known, known_at_pc, entered, declared_by, known_cause, passed_on, known_if_reached, instr_or_end, refused_at, PassesInstr, past_end, walk, refusal_of}
+use Rattle.plan_verifier.specs.Walking.{whole_cause, unless, taken, opening_cause, opening_known, known_at_pc, entered, declared_by, known_cause, passed_on, known_if_reached, instr_or_end, refused_at, PassesInstr, walk, refusal_of}
 use Rattle.plan_verifier.proofs.Finding.{unless_err, unless_ok}
 use Rattle.plan_verifier.proofs.Verdicts.{dropped, slice_there, stops, passes}
 
@@ -77,6 +76,3 @@ walk_go code pc came left lt walked p =
     ∙ passes pc (entered code pc came) (known_cause code pc line.0.instr) (λ t. walk code (drop (suc pc) code.lines) (pc + 1) (passed_on code.plan line.0.instr t)) p.known p.enters none
     ∙ ap (λ (n : ℕ). walk code (drop n code.lines) (pc + 1) (passed_on code.plan line.0.instr p.known)) up
     ∙ ap (λ (o : Option Known). walk code (drop (pc + 1) code.lines) (pc + 1) o) came_next
-
-pub walk_end : (code : Program) (pc : ℕ) (came : Option Known) → length code.lines ≤ pc → refusal_of code ≡ walk code (drop pc code.lines) pc came → refusal_of code ≡ past_end code
-walk_end code pc came le walked = walked ∙ ap (λ (ls : List Line). walk code ls pc came) (drop_all pc code.lines le)

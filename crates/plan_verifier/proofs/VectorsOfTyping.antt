@@ -1,12 +1,10 @@
 -- Typed codes on a small code: for each definition, an example that holds and one that fails.
-use Rattle.std.proofs.Common.{◌≡◌, ◌≢◌, ℕ, zero, suc, ◌+◌, ◌*◌, ◌<◌, ◌≤◌, List, [], ◌∷◌, slice_get, Contains, Option, Some, None, inl, inr, refl, ap, subst, arith}
+use Rattle.std.proofs.Common.{◌≡◌, ◌≢◌, ℕ, zero, suc, ◌+◌, ◌<◌, ◌≤◌, List, [], ◌∷◌, slice_get, Contains, Option, Some, None, inl, inr, refl, ap, subst, arith}
 use Rattle.std.proofs.lemmas.Bool.{false≢true}
 use Rattle.mux_config.specs.Configuration.{Configuration, nothing}
 use Rattle.mux_config.specs.Sound.{IsSound}
 use Rattle.mux_config.specs.declared.edit.Edit.TheVariants.{AddSub}
-use Rattle.mux_types.specs.declared.parts.Sub.{Sub}
 use Rattle.mux_config.proofs.Sounding.{sound_told}
-use Rattle.mux_eep.specs.declared.sizes.EepSet.TheVariants.{A}
 use Rattle.plan_code.specs.declared.plan.Plan.{Plan}
 use Rattle.plan_code.specs.declared.label.Label.{Label}
 use Rattle.plan_code.specs.declared.label.Swap.{Swap}
@@ -14,7 +12,7 @@ use Rattle.plan_code.specs.declared.label.Swap.TheVariants.{Idle, Within}
 use Rattle.plan_code.specs.declared.instr.Instr.{Instr}
 use Rattle.plan_code.specs.declared.instr.Instr.TheVariants.{CommitIn, Join, End, Edit as Edits}
 use Rattle.plan_code.specs.Program.{Program, instr_at, label_at}
-use Rattle.plan_verifier.proofs.Samples.{plan, sub, one_sub, counters, label, line, code}
+use Rattle.plan_verifier.proofs.Samples.{plan, sub, one_sub, many_subs, counters, label, line, code}
 use Rattle.plan_verifier.specs.Typing.{Known, HasRoom, CanCommit, IsCertain, IsFine, Declares, HasConfigurationsOf, FitsSwap, Fits, CanEnter, IsInitial, IsOpening, HasOpening, IsLabelTyped, Reaches, IsAfter, IsSafe, IsTyping}
 use Rattle.plan_verifier.proofs.DecidingWalks.{decides_initial}
 use Rattle.plan_verifier.proofs.DecidingFlows.{decides_room}
@@ -24,14 +22,6 @@ use Rattle.plan_verifier.proofs.DecidingFlows.{decides_room}
 -- the plan of the samples, but the whole configuration goes out in each frame
 abbrev pub each_frame : Plan
 each_frame = record plan { period = 1 }
-
--- n sub-channels of 8 kbit/s, one after the other
-abbrev pub small_subs : ℕ → ℕ → List Sub
-small_subs zero id = []
-small_subs (suc n) id = record { id = id; start = 6 * id; protection = record { set = A; level = 3 }; kbits = 8 } ∷ small_subs n (id + 1)
-
-abbrev pub many_subs : Configuration
-many_subs = record { subs = small_subs 24 0; services = []; packets = [] }
 
 -- with an empty current configuration
 abbrev pub knows : Configuration → Swap → ℕ → Known
@@ -66,7 +56,7 @@ pending_of (Some t) = t.pending
 room_for_one_sub : HasRoom plan edited
 room_for_one_sub = (decides_room plan edited).told refl
 
--- these take two pages, which need two frames
+-- 24 small sub-channels take two pages, which need two frames
 pub no_room_in_each_frame : HasRoom each_frame (knows many_subs Idle 2) → ⊥
 no_room_in_each_frame h = let e : 2 ≤ 1 = h.within_period in omega (arith, e)
 

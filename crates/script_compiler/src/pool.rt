@@ -107,7 +107,8 @@ impl Pool {
     }
 }
 
-/// The index of a configuration among others, found by fingerprint; None if absent.
+/// The index of a configuration among others, found by fingerprint; None if absent. Configurations that differ in their
+/// last sub-channel alone would be told apart only after 63 comparisons.
 fn find(prints: &[u64], configs: &[Config], print: u64, config: &Tables) -> Option<usize>
     requires prints { prints.now ≡ map print_of configs.now }
     requires print { print ≡ print_of config.now }

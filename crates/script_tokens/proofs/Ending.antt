@@ -1,5 +1,5 @@
 -- The lines of tokens, and the last token of a text.
-use Rattle.std.proofs.Common.{◌≡◌, ℕ, zero, suc, ◌+◌, ◌-◌, ◌≤◌, min, List, [], ◌∷◌, ◌++◌, length, slice_get, get_or, Some, refl, sym, ap, ◌∙◌, append_assoc, arith}
+use Rattle.std.proofs.Common.{◌≡◌, ℕ, zero, suc, ◌+◌, ◌-◌, min, List, [], ◌∷◌, ◌++◌, length, slice_get, get_or, Some, refl, sym, ap, ◌∙◌, append_assoc, arith}
 use Rattle.std.proofs.Math.Nat.{min-eq_left}
 use Rattle.script_tokens.specs.declared.token.Token.{Token}
 use Rattle.script_tokens.specs.Reading.{AreOnScriptLines, AreLastOf, lines_of, shown_lines, lexemes_of, line_of_left}
@@ -25,10 +25,6 @@ length_lines (t ∷ ts) = ap suc (length_lines ts)
 pub length_words : (bytes : List ℕ) (ts : List Token) → length (lexemes_of bytes ts) ≡ length ts
 length_words bytes [] = refl
 length_words bytes (t ∷ ts) = ap suc (length_words bytes ts)
-
-pub some_length : (k : ℕ) (ts : List Token) (t : Token) → slice_get ts k ≡ Some t → 1 ≤ length ts
-some_length k [] t e = absurd cc
-some_length k (x ∷ ts) t e = omega arith
 
 line_behind : (front ts : List Token) (t : Token) → get_or (shown_lines (front ++ t ∷ ts)) (length front) 0 ≡ min t.position.line 65535
 line_behind [] ts t = refl
@@ -56,9 +52,6 @@ no_lines (t ∷ ts) e = absurd (omega (arith, e))
 
 pub passed_last : (all ts : List Token) (t : Token) → AreLastOf all (t ∷ ts) → AreLastOf all ts
 passed_last all ts t h = record { front = h.front ++ t ∷ []; whole = h.whole ∙ sym (append_assoc h.front (t ∷ []) ts) }
-
-pub all_last : (all : List Token) → AreLastOf all all
-all_last all = record { front = []; whole = refl }
 
 pub next_line : (bytes : List ℕ) (all ts : List Token) (t : Token) → AreLastOf all ts → slice_get ts 0 ≡ Some t → min t.position.line 65535 ≡ line_of_left (shown_lines all) (length (lexemes_of bytes ts))
 next_line bytes all [] t h e = absurd cc

@@ -20,17 +20,9 @@ cut_at bs i lt = rw (add-one, drop-cons bs i 0 lt) refl
 abbrev pub Cuts : Type 0
 Cuts = Result (List Token) ScriptFault
 
-added_twice : (limits : Limits) (t : Token) (b : Bool) (r : Cuts) (p : Cuts) → added t (cond b r p) ≡ cond b (added t r) (added t p)
-added_twice limits t true r p = refl
-added_twice limits t false r p = refl
-
 before_before : (limits : Limits) (ts us : List Token) (r : Cuts) → tokens_before limits ts (tokens_before limits us r) ≡ tokens_before limits (ts ++ us) r
 before_before limits [] us r = refl
 before_before limits (t ∷ ts) us r = ap (λ x. cond (fits limits t) (added t x) (Err (Limit t.position))) (before_before limits ts us r)
-
--- tokens that are all within the limits
-pub record AllIn (limits : Limits) (ts : List Token) : Type 0 where
-  pub fit : tokens_before limits ts (Ok []) ≡ Ok ts
 
 not_err : (limits : Limits) (t : Token) (b : Bool) (r : Cuts) (us : List Token) → cond b r (Err (Limit t.position)) ≡ Ok us → (b ≡ true) × (r ≡ Ok us)
 not_err limits t true r us e = (refl, e)

@@ -94,9 +94,6 @@ no_back a b c d n none small e = none (n % 256) (omega arith) (ap two_back e)
 pub not_four : (atom : List ℕ) (n : ℕ) → atom ≡ hex_text n → length atom ≡ 4
 not_four atom n e = ap length e
 
-pub not_eight : (atom : List ℕ) (n : ℕ) → atom ≡ hex_long n → length atom ≡ 8
-not_eight atom n e = ap length e
-
 pub no_long_front : (front back : List ℕ) (n : ℕ) → length front ≡ 4 → ((m : ℕ) → m < 65536 → front ≡ hex_text m → ⊥) → n < 4294967296 → front ++ back ≡ hex_long n → ⊥
 no_long_front front back n len none small e =
     none (n / 65536) (omega arith) (sym (take_at front back 4 len) ∙ ap (take 4) e)

@@ -1,15 +1,14 @@
 -- Short texts that have tokens, and some that have none.
 use Rattle.std.proofs.Common.{◌≡◌, List, [], ◌∷◌, refl, arith, Ok}
-use Rattle.std.specs.Prelude.{Result, None, Some}
+use Rattle.std.specs.Prelude.{None, Some}
 use Rattle.script_tokens.specs.declared.token.Token.{Token}
 use Rattle.script_tokens.specs.declared.token.Place.{Place}
-use Rattle.script_tokens.specs.declared.fault.ScriptFault.{ScriptFault}
 use Rattle.script_tokens.specs.declared.fault.ScriptFault.TheVariants.{Byte}
 use Rattle.script_tokens.specs.Bytes.{first_position, token_at}
 use Rattle.script_tokens.specs.Lexing.{lexed}
 use Rattle.script_tokens.specs.Scanning.{Scan, FindsNext, tokens_left}
 use Rattle.script_tokens.specs.Texts.{AreTokens, script_limits}
-use Rattle.script_tokens.proofs.Pieces.{texts_are_cut, cut_into, not_cut}
+use Rattle.script_tokens.proofs.Pieces.{cut_into, not_cut}
 use Rattle.std.specs.Fmt.{decimal}
 use Rattle.script_tokens.specs.declared.keyword.Keyword.TheVariants as the
 use Rattle.script_tokens.specs.declared.first_keyword.ItemKeyword.TheVariants as item
@@ -24,15 +23,6 @@ use Rattle.script_tokens.proofs.Taking.{number_law, number_out}
 one_atom : AreTokens (97 ∷ 98 ∷ []) (token_at first_position 2 ∷ [])
 unfolding lexed
 one_atom = (omega arith, cut_into script_limits (97 ∷ 98 ∷ []) (token_at first_position 2 ∷ []) refl)
-
--- and not two atoms
-not_two_atoms : (t u : Token) → AreTokens (97 ∷ 98 ∷ []) (t ∷ u ∷ []) → ⊥
-unfolding lexed
-not_two_atoms t u h =
-    let is = (texts_are_cut script_limits (97 ∷ 98 ∷ []) (t ∷ u ∷ [])).1 h.1 in
-    let one : Result (List Token) ScriptFault = Ok (token_at first_position 2 ∷ []) in
-    let same : one ≡ Ok (t ∷ u ∷ []) = is in
-    absurd cc
 
 -- `@` has no tokens
 no_tokens : (ts : List Token) → AreTokens (64 ∷ []) ts → ⊥
@@ -84,15 +74,6 @@ no_item = item_found the.Drop []
 no_name : name_next (letters the.Sub ∷ []) ≡ None
 unfolding name_next letters word_of
 no_name = refl
-
--- nor is a keyword of the waits and the times of day
-or_is_no_name : name_next (letters the.Or ∷ []) ≡ None
-unfolding name_next letters word_of
-or_is_no_name = refl
-
-early_is_no_name : name_next (letters the.Early ∷ []) ≡ None
-unfolding name_next letters word_of
-early_is_no_name = refl
 
 a_name : name_next ((97 ∷ []) ∷ []) ≡ Some (97 ∷ [], [])
 unfolding name_next letters word_of
