@@ -25,9 +25,10 @@ class Clock:
         (self.folder / "refused").write_bytes(b"DABQ")
 
     def start(self, words, stdin=subprocess.DEVNULL):
-        """Starts the script."""
+        """Starts the script, which an interrupt reaches also where these tests run in the background."""
         return subprocess.Popen([sys.executable, CLOCK, *words], cwd=self.folder, env=os.environ | {"DABPLAN": str(self.program)},
-                                stdin=stdin, stdout=subprocess.PIPE, stderr=subprocess.PIPE)
+                                stdin=stdin, stdout=subprocess.PIPE, stderr=subprocess.PIPE,
+                                preexec_fn=lambda: signal.signal(signal.SIGINT, signal.SIG_DFL))
 
     def run(self, words, text=b""):
         """Runs the script to its end, and returns its status, its output and its messages."""
