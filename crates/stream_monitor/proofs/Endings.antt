@@ -1,5 +1,6 @@
 -- The beginning of a check, and its end with the stream.
-use Rattle.std.proofs.Common.{◌≡◌, ℕ, ◌||◌, ◌&&◌, nat_lt, Bool, true, false, not, List, [], ◌∷◌, ◌++◌, length, map, flat_map, refl, sym, ap, ◌∙◌, arith, subst}
+use Rattle.std.proofs.Common.{◌≡◌, ℕ, ◌||◌, ◌&&◌, nat_lt, Bool, true, false, not, List, [], ◌∷◌, ◌++◌, length, map}
+use Rattle.std.proofs.Common.{flat_map, refl, sym, ap, ◌∙◌, arith, subst}
 use Rattle.std.proofs.lemmas.Bool.{false≢true}
 use Rattle.std.proofs.lemmas.List.{append-nil}
 use Rattle.fib_codec.specs.Modes.{fib_count, count_step}
@@ -25,7 +26,8 @@ flat frames = flat_map (λ f. f) frames
 
 -- ---- nothing is framed
 
-pub none_framed : (size : ℕ) (frames : List (List Fib)) (rest : List Fib) → AreFrames size frames rest → flat_map (λ f. f) frames ++ rest ≡ [] → (frames ≡ []) × (rest ≡ [])
+pub none_framed : (size : ℕ) (frames : List (List Fib)) (rest : List Fib) → AreFrames size frames rest
+    → flat_map (λ f. f) frames ++ rest ≡ [] → (frames ≡ []) × (rest ≡ [])
 none_framed size [] rest cut none = (refl, none)
 none_framed size ([] ∷ frames) rest cut none = absurd cut.0
 none_framed size ((x ∷ xs) ∷ frames) rest cut none = absurd cc
@@ -49,9 +51,11 @@ no_frames (f ∷ fs) e = absurd (omega (arith, e))
 
 -- ---- before the first FIB
 
-pub starts : (r : Reading) (o : CheckOptions) (s : State) → Follows r o.mode o.period [] Unknown Unknown s.checker → s.tally ≡ record { swaps = 0; faults = 0 } → IsAfter r o [] [] s
+pub starts : (r : Reading) (o : CheckOptions) (s : State) → Follows r o.mode o.period [] Unknown Unknown s.checker
+    → s.tally ≡ record { swaps = 0; faults = 0 } → IsAfter r o [] [] s
 starts r o s f tally =
-    let empty = none_framed (fib_count o.mode) f.frames (map r.read s.checker.held) f.framed.cut (none_there f.skipped (flat_map (λ g. g) f.frames ++ map r.read s.checker.held) (sym f.framed.whole)) in
+    let empty = none_framed (fib_count o.mode) f.frames (map r.read s.checker.held) f.framed.cut
+    (none_there f.skipped (flat_map (λ g. g) f.frames ++ map r.read s.checker.held) (sym f.framed.whole)) in
     let none : f.frames ≡ [] = empty.0 in
     record {
       sizes = tt;
@@ -72,14 +76,16 @@ starts r o s f tally =
 abbrev pub totals_with : Summary → Tally → Totals
 totals_with summary tally = record { summary = summary; swaps = tally.swaps; faults = tally.faults }
 
-pub ends_counted : (r : Reading) (o : CheckOptions) (fibs : List (List ℕ)) (log : List Line) (s : State) (sum : Summary) (t : Totals) (h : IsAfter r o fibs log s) → is_begun s.checker ≡ true
+pub ends_counted : (r : Reading) (o : CheckOptions) (fibs : List (List ℕ)) (log : List Line) (s : State) (sum : Summary)
+    (t : Totals) (h : IsAfter r o fibs log s) → is_begun s.checker ≡ true
     → IsSummary h.follows.skipped h.follows.frames (map r.read s.checker.held) sum → t ≡ totals_with sum s.tally
     → StopsAtEnd r o fibs [] log (endings.Counted t)
 ends_counted r o fibs log s sum t h begun summary is =
     let f = h.follows in
     let rest = map r.read s.checker.held in
     let totals : t ≡ totals_after o f.skipped f.frames rest =
-    is ∙ ap (λ x. totals_with x s.tally) (summary_is f.skipped f.frames rest sum summary) ∙ ap (totals_with (summary_after f.skipped f.frames rest)) h.tally in
+    is ∙ ap (λ x. totals_with x s.tally) (summary_is f.skipped f.frames rest sum summary)
+    ∙ ap (totals_with (summary_after f.skipped f.frames rest)) h.tally in
     (goes_on r o fibs log s h, refl, some, totals)
   where
     some : HasNoEnsemble (map r.read fibs) → ⊥
@@ -87,17 +93,23 @@ ends_counted r o fibs log s sum t h begun summary is =
         let f = h.follows in
         let later = flat_map (λ g. g) f.frames ++ map r.read s.checker.held in
         let whole = subst HasNoEnsemble (sym h.read ∙ f.framed.whole) none in
-        let empty = none_framed (fib_count o.mode) f.frames (map r.read s.checker.held) f.framed.cut (none_held f.skipped later whole f.framed.begun) in
-        let count : s.checker.state.frames ≡ 0 = frame_count (count_step o.mode) o.period f.frames s.checker.state f.knows ∙ ap length empty.0 in
+        let empty = none_framed (fib_count o.mode) f.frames (map r.read s.checker.held) f.framed.cut
+        (none_held f.skipped later whole f.framed.begun) in
+        let count : s.checker.state.frames ≡ 0 =
+        frame_count (count_step o.mode) o.period f.frames s.checker.state f.knows ∙ ap length empty.0 in
         let held : s.checker.held ≡ [] = none_mapped r s.checker.held empty.1 in
-        false≢true (sym (ap (λ n. nat_lt 0 n || not (is_empty s.checker.held)) count ∙ ap (λ l. nat_lt 0 0 || not (is_empty l)) held) ∙ begun)
+        false≢true (sym (ap (λ n. nat_lt 0 n || not (is_empty s.checker.held)) count
+        ∙ ap (λ l. nat_lt 0 0 || not (is_empty l)) held) ∙ begun)
 
-pub ends_without : (r : Reading) (o : CheckOptions) (fibs : List (List ℕ)) (log : List Line) (s : State) → IsAfter r o fibs log s → is_begun s.checker ≡ false
+pub ends_without : (r : Reading) (o : CheckOptions) (fibs : List (List ℕ)) (log : List Line) (s : State)
+    → IsAfter r o fibs log s → is_begun s.checker ≡ false
     → StopsAtEnd r o fibs [] log (endings.Refused causes.NoEnsemble)
 ends_without r o fibs log s h begun =
     let f = h.follows in
     let un = unbegun s.checker begun in
-    let none : f.frames ≡ [] = no_frames f.frames (sym un.none ∙ frame_count (count_step o.mode) o.period f.frames s.checker.state f.knows) in
+    let none : f.frames ≡ [] =
+    no_frames f.frames (sym un.none ∙ frame_count (count_step o.mode) o.period f.frames s.checker.state f.knows) in
     let all : map r.read fibs ≡ f.skipped =
-    sym h.read ∙ f.framed.whole ∙ ap (λ l. f.skipped ++ (flat_map (λ g. g) l ++ map r.read s.checker.held)) none ∙ ap (λ l. f.skipped ++ map r.read l) un.empty ∙ append-nil f.skipped in
+    sym h.read ∙ f.framed.whole ∙ ap (λ l. f.skipped ++ (flat_map (λ g. g) l ++ map r.read s.checker.held)) none
+    ∙ ap (λ l. f.skipped ++ map r.read l) un.empty ∙ append-nil f.skipped in
     (goes_on r o fibs log s h, refl, subst HasNoEnsemble (sym all) f.framed.before)

@@ -1,5 +1,6 @@
 -- One more frame: what is found, counted and printed.
-use Rattle.std.proofs.Common.{◌≡◌, ℕ, zero, suc, ◌+◌, ◌<◌, nat_lt, lt-ltb, nat_le, Bool, true, false, if◌then◌else◌, List, [], ◌∷◌, ◌++◌, length, ◌⊎◌, inl, inr, refl, sym, ap, ◌∙◌, arith}
+use Rattle.std.proofs.Common.{◌≡◌, ℕ, zero, suc, ◌+◌, ◌<◌, nat_lt, lt-ltb, nat_le, Bool, true, false, if◌then◌else◌}
+use Rattle.std.proofs.Common.{List, [], ◌∷◌, ◌++◌, length, ◌⊎◌, inl, inr, refl, sym, ap, ◌∙◌, arith}
 use Rattle.std.proofs.lemmas.List.{append_assoc, append-nil}
 use Rattle.std.specs.Io.Iter.{u64_saturate}
 use Rattle.fib_codec.specs.Modes.{fib_count, count_step}
@@ -26,24 +27,31 @@ saturated a b = omega arith
 
 pub saturated_some : (n : ℕ) → nat_lt 0 (u64_saturate n) ≡ nat_lt 0 n
 saturated_some zero = refl
-saturated_some (suc n) = let some : 0 < u64_saturate (suc n) = omega arith in let one : 0 < suc n = omega arith in lt-ltb 0 (u64_saturate (suc n)) some ∙ sym (lt-ltb 0 (suc n) one)
+saturated_some (suc n) = let some : 0 < u64_saturate (suc n) = omega arith in let one : 0 < suc n = omega arith in
+    lt-ltb 0 (u64_saturate (suc n)) some ∙ sym (lt-ltb 0 (suc n) one)
 
-pub counted_none : (o : CheckOptions) (frames : List (List Fib)) → counted (tally_after o frames) [] ≡ tally_after o frames
+pub counted_none : (o : CheckOptions) (frames : List (List Fib))
+    → counted (tally_after o frames) [] ≡ tally_after o frames
 counted_none o frames =
-    let s : u64_saturate (u64_saturate (swaps_in (found_in o frames)) + 0) ≡ u64_saturate (swaps_in (found_in o frames)) = omega arith in
-    let f : u64_saturate (u64_saturate (faults_in (found_in o frames)) + 0) ≡ u64_saturate (faults_in (found_in o frames)) = omega arith in
+    let s : u64_saturate (u64_saturate (swaps_in (found_in o frames)) + 0)
+    ≡ u64_saturate (swaps_in (found_in o frames)) = omega arith in
+    let f : u64_saturate (u64_saturate (faults_in (found_in o frames)) + 0)
+    ≡ u64_saturate (faults_in (found_in o frames)) = omega arith in
     cc
 
 pub tally_more : (o : CheckOptions) (frames : List (List Fib)) (frame : List Fib) → is_full o frames ≡ false
     → counted (tally_after o frames) (found_next o frames frame) ≡ tally_after o (frames ++ frame ∷ [])
 tally_more o frames frame room =
     let found = findings_more (fib_count o.mode) (count_step o.mode) o.period [] [] frames frame room in
-    let s : u64_saturate (u64_saturate (swaps_in (found_in o frames)) + swaps_in (found_next o frames frame)) ≡ u64_saturate (swaps_in (found_in o (frames ++ frame ∷ []))) =
+    let s : u64_saturate (u64_saturate (swaps_in (found_in o frames)) + swaps_in (found_next o frames frame))
+    ≡ u64_saturate (swaps_in (found_in o (frames ++ frame ∷ []))) =
     saturated (swaps_in (found_in o frames)) (swaps_in (found_next o frames frame))
     ∙ ap u64_saturate (sym (swaps_append (found_in o frames) (found_next o frames frame)) ∙ ap swaps_in (sym found)) in
-    let f : u64_saturate (u64_saturate (faults_in (found_in o frames)) + faults_in (found_next o frames frame)) ≡ u64_saturate (faults_in (found_in o (frames ++ frame ∷ []))) =
+    let f : u64_saturate (u64_saturate (faults_in (found_in o frames)) + faults_in (found_next o frames frame))
+    ≡ u64_saturate (faults_in (found_in o (frames ++ frame ∷ []))) =
     saturated (faults_in (found_in o frames)) (faults_in (found_next o frames frame))
-    ∙ ap u64_saturate (sym (faults_append (found_in o frames) (found_next o frames frame)) ∙ ap faults_in (sym found)) in
+    ∙ ap u64_saturate (sym (faults_append (found_in o frames) (found_next o frames frame))
+    ∙ ap faults_in (sym found)) in
     cc
 
 -- ---- what was reported
@@ -59,16 +67,24 @@ findings_are found (x ∷ xs) e = chosen (nat_le (length (x ∷ xs)) 1024) e
 -- ---- lines
 
 pub text_more : (o : CheckOptions) (skipped : List Fib) (before frames : List (List Fib)) (frame : List Fib)
-    → frames_lines o skipped before (frames ++ frame ∷ []) ≡ frames_lines o skipped before frames ++ frame_lines o skipped (before ++ frames) frame
-text_more o skipped before [] frame = append-nil (frame_lines o skipped before frame) ∙ ap (λ l. frame_lines o skipped l frame) (sym (append-nil before))
+    → frames_lines o skipped before (frames ++ frame ∷ []) ≡ frames_lines o skipped before frames
+    ++ frame_lines o skipped (before ++ frames) frame
+text_more o skipped before [] frame = append-nil (frame_lines o skipped before frame)
+    ∙ ap (λ l. frame_lines o skipped l frame) (sym (append-nil before))
 text_more o skipped before (f ∷ fs) frame =
     let front = frame_lines o skipped before f in
     ap (λ l. front ++ l) (text_more o skipped (before ++ f ∷ []) fs frame)
-    ∙ sym (append_assoc front (frames_lines o skipped (before ++ f ∷ []) fs) (frame_lines o skipped ((before ++ f ∷ []) ++ fs) frame))
-    ∙ ap (λ l. (front ++ frames_lines o skipped (before ++ f ∷ []) fs) ++ frame_lines o skipped l frame) (append_assoc before (f ∷ []) fs)
+    ∙ sym (append_assoc front (frames_lines o skipped (before ++ f ∷ []) fs)
+    (frame_lines o skipped ((before ++ f ∷ []) ++ fs) frame))
+    ∙ ap (λ l. (front ++ frames_lines o skipped (before ++ f ∷ []) fs) ++ frame_lines o skipped l frame)
+    (append_assoc before (f ∷ []) fs)
 
 -- a FIB that is skipped comes before all frames
-pub text_kept : (o : CheckOptions) (skipped later : List Fib) (frames more : List (List Fib)) → more ≡ frames → (later ≡ skipped) ⊎ (frames ≡ [])
+pub text_kept : (o : CheckOptions) (skipped later : List Fib) (frames more : List (List Fib)) → more ≡ frames
+    → (later ≡ skipped) ⊎ (frames ≡ [])
     → frames_lines o skipped [] frames ≡ frames_lines o later [] more
-text_kept o skipped later frames more same (inl e) = ap (λ s. frames_lines o s [] frames) (sym e) ∙ ap (frames_lines o later []) (sym same)
-text_kept o skipped later frames more same (inr none) = ap (frames_lines o skipped []) none ∙ sym (ap (frames_lines o later []) none) ∙ ap (frames_lines o later []) (sym same)
+text_kept o skipped later frames more same (inl e) = ap (λ s. frames_lines o s [] frames) (sym e)
+    ∙ ap (frames_lines o later []) (sym same)
+text_kept o skipped later frames more same (inr none) =
+    ap (frames_lines o skipped []) none ∙ sym (ap (frames_lines o later []) none)
+    ∙ ap (frames_lines o later []) (sym same)

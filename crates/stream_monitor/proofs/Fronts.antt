@@ -1,5 +1,6 @@
 -- A check goes on as far as a front of a stream goes if it goes on behind it.
-use Rattle.std.proofs.Common.{◌≡◌, ℕ, ◌+◌, ◌<◌, ◌≤◌, ◌&&◌, nat_lt, lt-ltb, le-ltb, Bool, true, false, cond, List, [], ◌∷◌, ◌++◌, length, inl, inr, refl, sym, ap, ◌∙◌, arith}
+use Rattle.std.proofs.Common.{◌≡◌, ℕ, ◌+◌, ◌<◌, ◌≤◌, ◌&&◌, nat_lt, lt-ltb, le-ltb, Bool, true, false, cond, List, []}
+use Rattle.std.proofs.Common.{◌∷◌, ◌++◌, length, inl, inr, refl, sym, ap, ◌∙◌, arith}
 use Rattle.std.proofs.lemmas.Bool.{false≢true, cases_lt}
 use Rattle.std.proofs.lemmas.List.{length-append}
 use Rattle.fib_codec.specs.Modes.{fib_count, count_step}
@@ -8,7 +9,7 @@ use Rattle.stream_check.specs.declared.finding.Finding.{Finding}
 use Rattle.stream_check.specs.Frames.{Fib, AreFrames, IsFramed, is_damaged, damaged_in}
 use Rattle.stream_check.specs.History.{Moment, frame_items}
 use Rattle.stream_check.specs.CheckerState.{most}
-use Rattle.stream_check.specs.Stream.{runs_full, findings_in, findings_from, noted_in, after_frame}
+use Rattle.stream_check.specs.Stream.{runs_full, findings_in, findings_from, noted_in, past_after_frame}
 use Rattle.stream_monitor.specs.declared.options.CheckOptions.{CheckOptions}
 use Rattle.stream_monitor.specs.Findings.{faults_in}
 use Rattle.stream_monitor.specs.Frames.{found_in, is_full, is_stopped}
@@ -20,28 +21,35 @@ use Rattle.stream_check.proofs.Fronts.{room_before}
 -- ---- no frame of a front ends the check
 
 faults_before : (size step period : ℕ) (past : List Moment) (noted : List Contradiction) (f more : List (List Fib))
-    → faults_in (findings_from size step period past noted f) ≤ faults_in (findings_from size step period past noted (f ++ more))
+    → faults_in (findings_from size step period past noted f)
+    ≤ faults_in (findings_from size step period past noted (f ++ more))
 faults_before size step period past noted [] more = omega arith
 faults_before size step period past noted (g ∷ gs) more =
     let here = findings_in size step period past noted g in
-    let front = findings_from size step period (after_frame step past g) (noted_in period past noted g) gs in
-    let whole = findings_from size step period (after_frame step past g) (noted_in period past noted g) (gs ++ more) in
+    let front = findings_from size step period (past_after_frame step past g) (noted_in period past noted g) gs in
+    let whole = findings_from size step period (past_after_frame step past g) (noted_in period past noted g)
+    (gs ++ more) in
     let a = faults_append here (cond (runs_full step period past (frame_items g)) [] front) in
     let b = faults_append here (cond (runs_full step period past (frame_items g)) [] whole) in
-    let c = chosen front whole (faults_before size step period (after_frame step past g) (noted_in period past noted g) gs more) (runs_full step period past (frame_items g)) in
+    let c = chosen front whole
+    (faults_before size step period (past_after_frame step past g) (noted_in period past noted g) gs more)
+    (runs_full step period past (frame_items g)) in
     omega (arith, a, b, c)
   where
-    chosen : (front whole : List Finding) → faults_in front ≤ faults_in whole → (t : Bool) → faults_in (cond t [] front) ≤ faults_in (cond t [] whole)
+    chosen : (front whole : List Finding) → faults_in front ≤ faults_in whole → (t : Bool)
+        → faults_in (cond t [] front) ≤ faults_in (cond t [] whole)
     chosen front whole rest true = omega arith
     chosen front whole rest false = rest
 
 pub full_before : (o : CheckOptions) (f more : List (List Fib)) → is_full o (f ++ more) ≡ false → is_full o f ≡ false
 full_before o f more e = room_before (count_step o.mode) o.period [] f more e
 
-pub stopped_before : (o : CheckOptions) (f more : List (List Fib)) → is_stopped o (f ++ more) ≡ false → is_stopped o f ≡ false
+pub stopped_before : (o : CheckOptions) (f more : List (List Fib)) → is_stopped o (f ++ more) ≡ false
+    → is_stopped o f ≡ false
 stopped_before o f more e = chosen o.until_fault e
   where
-    chosen : (b : Bool) → (b && nat_lt 0 (faults_in (found_in o (f ++ more)))) ≡ false → (b && nat_lt 0 (faults_in (found_in o f))) ≡ false
+    chosen : (b : Bool) → (b && nat_lt 0 (faults_in (found_in o (f ++ more)))) ≡ false
+        → (b && nat_lt 0 (faults_in (found_in o f))) ≡ false
     chosen false h = refl
     chosen true h = elim (cases_lt 0 (faults_in (found_in o f))) [
       | inl some ↦
@@ -61,16 +69,20 @@ damaged_few (x ∷ xs) = let rest = damaged_few xs in let one = at_most (is_dama
     at_most true = omega arith
     at_most false = omega arith
 
-frames_few : (size : ℕ) (frames : List (List Fib)) (rest : List Fib) → AreFrames size frames rest → length frames ≤ length (flat frames)
+frames_few : (size : ℕ) (frames : List (List Fib)) (rest : List Fib) → AreFrames size frames rest
+    → length frames ≤ length (flat frames)
 frames_few size [] rest cut = omega arith
 frames_few size ([] ∷ frames) rest cut = absurd cut.0
-frames_few size ((x ∷ xs) ∷ frames) rest cut = let more = frames_few size frames rest cut.3 in let len = length-append (x ∷ xs) (flat frames) in omega (arith, more, len)
+frames_few size ((x ∷ xs) ∷ frames) rest cut = let more = frames_few size frames rest cut.3 in let len =
+    length-append (x ∷ xs) (flat frames) in omega (arith, more, len)
 
 -- a stream of fewer FIBs is not too long
-pub not_long : (size : ℕ) (stream skipped : List Fib) (frames : List (List Fib)) (rest : List Fib) → IsFramed size stream skipped frames rest → length stream < most → IsTooLong skipped frames → ⊥
+pub not_long : (size : ℕ) (stream skipped : List Fib) (frames : List (List Fib)) (rest : List Fib)
+    → IsFramed size stream skipped frames rest → length stream < most → IsTooLong skipped frames → ⊥
 not_long size stream skipped frames rest framed short long =
     let len : length stream ≡ length skipped + (length (flat frames) + length rest) =
-    ap length framed.whole ∙ length-append skipped (flat frames ++ rest) ∙ ap (λ n. length skipped + n) (length-append (flat frames) rest) in
+    ap length framed.whole ∙ length-append skipped (flat frames ++ rest)
+    ∙ ap (λ n. length skipped + n) (length-append (flat frames) rest) in
     let few = frames_few size frames rest framed.cut in
     let damaged = damaged_few (flat frames) in
     elim long [

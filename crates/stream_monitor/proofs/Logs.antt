@@ -12,10 +12,12 @@ pub no_lines : (a : Option Log) → LogsLines a a []
 no_lines None = refl
 no_lines (Some x) = sym (ap (λ l. Some (log_of x.options x.fibs l)) (append-nil x.lines))
 
-pub more_lines : (a b c : Option Log) (one two : List Line) → LogsLines a b one → LogsLines b c two → LogsLines a c (one ++ two)
+pub more_lines : (a b c : Option Log) (one two : List Line) → LogsLines a b one → LogsLines b c two
+    → LogsLines a c (one ++ two)
 more_lines None b c one two p q = q ∙ ap (option_map (λ l. after_lines l two)) p
 more_lines (Some x) b c one two p q =
-    q ∙ ap (option_map (λ l. after_lines l two)) p ∙ ap (λ l. Some (log_of x.options x.fibs l)) (append_assoc x.lines one two)
+    q ∙ ap (option_map (λ l. after_lines l two)) p ∙ ap (λ l. Some (log_of x.options x.fibs l))
+    (append_assoc x.lines one two)
 
 -- a log with these FIBs and lines, and then one more FIB
 pub one_more_fib : (o : CheckOptions) (fibs : List (List ℕ)) (log : List Line) (a b : Option Log) (fib : List ℕ)
@@ -32,7 +34,8 @@ lines_logged o fibs log more (Some x) b is told =
     subst (IsLog o fibs (log ++ more)) (sym told) (ap (λ l. after_lines l more) is)
 
 -- the lines at the end
-pub has_lines : (o : CheckOptions) (fibs : List (List ℕ)) (log : List Line) (a : Option Log) → IsLog o fibs log a → HasLines o log a
+pub has_lines : (o : CheckOptions) (fibs : List (List ℕ)) (log : List Line) (a : Option Log) → IsLog o fibs log a
+    → HasLines o log a
 has_lines o fibs log None is = tt
 has_lines o fibs log (Some x) is = (ap (λ l. l.options) is, ap (λ l. l.lines) is)
 

@@ -1,5 +1,6 @@
 -- What is taken of the bytes that are buffered.
-use Rattle.std.proofs.Common.{◌≡◌, ℕ, ◌+◌, ◌-◌, ◌<◌, ◌≤◌, List, [], ◌∷◌, ◌++◌, length, take, drop, min, inl, inr, Option, None, Some, refl, sym, ap, ◌∙◌, arith, subst, take-append-drop, length-take-le}
+use Rattle.std.proofs.Common.{◌≡◌, ℕ, ◌+◌, ◌-◌, ◌<◌, ◌≤◌, List, [], ◌∷◌, ◌++◌, length, take, drop, min, inl, inr}
+use Rattle.std.proofs.Common.{Option, None, Some, refl, sym, ap, ◌∙◌, arith, subst, take-append-drop, length-take-le}
 use Rattle.std.proofs.lemmas.List.{append_assoc, append-nil, length-drop, drop-drop, drop_all, take_all}
 use Rattle.std.proofs.lemmas.Bool.{cases_lt}
 use Rattle.std.specs.Io.KnownBytes.{Consumes, IsAtEnd, prepend_known}
@@ -9,7 +10,8 @@ use Rattle.stream_monitor.specs.declared.fibs.Next.{Next}
 use Rattle.stream_monitor.specs.declared.fibs.Next.TheVariants.{Fib, Part, End}
 
 -- the front of what is buffered
-pub front_consumed : (front rest : List ℕ) (behind : Option (List ℕ)) → Consumes (prepend_known (front ++ rest) behind) (prepend_known rest behind) front
+pub front_consumed : (front rest : List ℕ) (behind : Option (List ℕ))
+    → Consumes (prepend_known (front ++ rest) behind) (prepend_known rest behind) front
 front_consumed front rest None = tt
 front_consumed front rest (Some x) = append_assoc front rest x
 
@@ -22,40 +24,50 @@ nothing_there [] e = refl
 nothing_there (x ∷ xs) e = absurd (omega (arith, e))
 
 -- these bytes begin so, and 32 of them are passed over, or all
-pub taken : (bytes : List ℕ) (behind : Option (List ℕ)) (next : Next) → (length bytes < 32 → IsAtEnd behind) → BeginsWith bytes next
+pub taken : (bytes : List ℕ) (behind : Option (List ℕ)) (next : Next) → (length bytes < 32 → IsAtEnd behind)
+    → BeginsWith bytes next
     → Gives (prepend_known bytes behind) (prepend_known (drop 32 bytes) behind) next
 taken bytes behind (Fib fib) end h = (
   ap length h.1 ∙ length-take-le 32 bytes h.0,
-  subst (λ (l : List ℕ). Consumes (prepend_known l behind) (prepend_known (drop 32 bytes) behind) fib) (ap (λ l. l ++ drop 32 bytes) h.1 ∙ take-append-drop 32 bytes) (front_consumed fib (drop 32 bytes) behind),
+  subst (λ (l : List ℕ). Consumes (prepend_known l behind) (prepend_known (drop 32 bytes) behind) fib)
+      (ap (λ l. l ++ drop 32 bytes) h.1 ∙ take-append-drop 32 bytes) (front_consumed fib (drop 32 bytes) behind),
 )
 taken bytes behind Part end h =
     let none : drop 32 bytes ≡ [] = nothing_there (drop 32 bytes) (length-drop 32 bytes ∙ omega (arith, h.1)) in (
       bytes,
       h.0,
       h.1,
-      subst (λ (l : List ℕ). Consumes (prepend_known l behind) (prepend_known (drop 32 bytes) behind) bytes) (ap (λ l. bytes ++ l) none ∙ append-nil bytes) (front_consumed bytes (drop 32 bytes) behind),
+      subst (λ (l : List ℕ). Consumes (prepend_known l behind) (prepend_known (drop 32 bytes) behind) bytes)
+          (ap (λ l. bytes ++ l) none ∙ append-nil bytes) (front_consumed bytes (drop 32 bytes) behind),
       subst (λ (l : List ℕ). IsAtEnd (prepend_known l behind)) (sym none) (none_left behind (end h.1)),
     )
 taken bytes behind End end h =
     let none : drop 32 bytes ≡ [] = ap (drop 32) h in
     let few : length bytes < 32 = omega (arith, ap length h) in (
-      subst (λ (l : List ℕ). Consumes (prepend_known l behind) (prepend_known (drop 32 bytes) behind) []) (none ∙ sym h) (front_consumed [] (drop 32 bytes) behind),
+      subst (λ (l : List ℕ). Consumes (prepend_known l behind) (prepend_known (drop 32 bytes) behind) []) (none ∙ sym h)
+          (front_consumed [] (drop 32 bytes) behind),
       subst (λ (l : List ℕ). IsAtEnd (prepend_known l behind)) (sym none) (none_left behind (end few)),
     )
 
 -- the offset in a piece, up to its end
 pub further : (at to : ℕ) (piece : List ℕ) → to ≡ min (length piece) (at + 32) → drop to piece ≡ drop 32 (drop at piece)
 further at to piece is = elim (cases_lt (at + 32) (length piece)) [
-  | inl lt ↦ let same : to ≡ at + 32 = omega (arith, is, lt) in ap (λ n. drop n piece) same ∙ sym (drop-drop 32 at piece)
-  | inr ge ↦ let last : length piece ≤ to = omega (arith, is, ge) in drop_all to piece last ∙ sym (drop_all (at + 32) piece ge) ∙ sym (drop-drop 32 at piece)
+  | inl lt ↦ let same : to ≡ at + 32 = omega (arith, is, lt) in
+      ap (λ n. drop n piece) same ∙ sym (drop-drop 32 at piece)
+  | inr ge ↦ let last : length piece ≤ to = omega (arith, is, ge) in
+      drop_all to piece last ∙ sym (drop_all (at + 32) piece ge) ∙ sym (drop-drop 32 at piece)
 ]
 
 -- the rest of a piece
 pub rest_is : (at : ℕ) (piece shown : List ℕ) → shown ≡ piece → take (length shown - at) (drop at shown) ≡ drop at piece
-rest_is at piece shown is = take_all (length shown - at) (drop at shown) (omega (arith, length-drop at shown)) ∙ ap (drop at) is
+rest_is at piece shown is = take_all (length shown - at) (drop at shown) (omega (arith, length-drop at shown))
+    ∙ ap (drop at) is
 
-pub takes : (at to : ℕ) (piece rest : List ℕ) (behind : Option (List ℕ)) (next : Next) → (length (drop at piece) < 32 → IsAtEnd behind) → rest ≡ drop at piece
-    → to ≡ min (length piece) (at + 32) → BeginsWith rest next → Gives (prepend_known (drop at piece) behind) (prepend_known (drop to piece) behind) next
+pub takes : (at to : ℕ) (piece rest : List ℕ) (behind : Option (List ℕ)) (next : Next)
+    → (length (drop at piece) < 32 → IsAtEnd behind) → rest ≡ drop at piece
+    → to ≡ min (length piece) (at + 32) → BeginsWith rest next
+    → Gives (prepend_known (drop at piece) behind) (prepend_known (drop to piece) behind) next
 takes at to piece rest behind next end same is h =
-    subst (λ (l : List ℕ). Gives (prepend_known (drop at piece) behind) (prepend_known l behind) next) (sym (further at to piece is))
+    subst (λ (l : List ℕ). Gives (prepend_known (drop at piece) behind) (prepend_known l behind) next)
+    (sym (further at to piece is))
     (taken (drop at piece) behind next end (subst (λ (l : List ℕ). BeginsWith l next) same h))

@@ -20,11 +20,23 @@ use Rattle.stream_monitor.proofs.Endings.{none_framed, none_there}
 
 -- in mode I, with totals after each second frame; the check does not end with a fault
 abbrev pub options : CheckOptions
-options = record { mode = modes.I; period = 250; every = Some 2; until_fault = false; form = record { is_json = false; start = None } }
+options = record {
+  mode = modes.I;
+  period = 250;
+  every = Some 2;
+  until_fault = false;
+  form = record { is_json = false; start = None };
+}
 
 -- the same up to a fault
 abbrev until_fault : CheckOptions
-until_fault = record { mode = modes.I; period = 250; every = Some 2; until_fault = true; form = record { is_json = false; start = None } }
+until_fault = record {
+  mode = modes.I;
+  period = 250;
+  every = Some 2;
+  until_fault = true;
+  form = record { is_json = false; start = None };
+}
 
 -- a frame of three damaged FIBs
 abbrev damaged : List Fib
@@ -43,7 +55,8 @@ two = record { summary = record { frames = 2; skipped = 0; left_over = 0; damage
 
 -- totals after the second frame, and not after the first
 two_frames : frames_lines options [] [] (damaged ∷ damaged ∷ [])
-    ≡ (finding_lines first_found ++ []) ++ ((finding_lines (found 1 (whats.Fault (faults.Damaged 3)) ∷ []) ++ lines.Alive two ∷ []) ++ [])
+    ≡ (finding_lines first_found ++ [])
+    ++ ((finding_lines (found 1 (whats.Fault (faults.Damaged 3)) ∷ []) ++ lines.Alive two ∷ []) ++ [])
 two_frames = refl
 
 not_due : alive_lines options [] (damaged ∷ []) ≡ []
@@ -83,7 +96,8 @@ tells_nothing r log g =
     g.lines ∙ ap (frames_lines options g.skipped []) none.0
 
 -- no frame ends before it has a FIB
-no_frame_ends : (r : Reading) (fib : List ℕ) (log : List Line) (skipped : List Fib) → EndsFrame r options [] fib log skipped [] → ⊥
+no_frame_ends : (r : Reading) (fib : List ℕ) (log : List Line) (skipped : List Fib)
+    → EndsFrame r options [] fib log skipped [] → ⊥
 no_frame_ends r fib log skipped e = last e.before.frames e.frame e.one_more
   where
     last : (frames : List (List Fib)) (frame : List Fib) → [] ≡ frames ++ frame ∷ [] → ⊥

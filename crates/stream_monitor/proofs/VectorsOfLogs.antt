@@ -37,7 +37,8 @@ logs_a_fib = refl
 logs_no_part : LogsNext (Some (log_of options [] [])) None Part → ⊥
 logs_no_part h = absurd cc
 
-logs_a_line : LogsLines (Some (log_of options [] [])) (Some (log_of options [] (lines.Alive two ∷ []))) (lines.Alive two ∷ [])
+logs_a_line : LogsLines (Some (log_of options [] [])) (Some (log_of options [] (lines.Alive two ∷ [])))
+    (lines.Alive two ∷ [])
 logs_a_line = refl
 
 logs_no_line : LogsLines (Some (log_of options [] [])) (Some (log_of options [] [])) (lines.Alive two ∷ []) → ⊥

@@ -7,11 +7,11 @@ use Rattle.stream_check.specs.declared.finding.What.{What}
 use Rattle.stream_check.specs.declared.finding.What.TheVariants as whats
 use Rattle.stream_monitor.specs.declared.tally.Tally.{Tally}
 
-abbrev pub is_swap : What → Bool
-is_swap (whats.Event (events.Ensemble eid)) = false
-is_swap (whats.Event (events.Announced change low)) = false
-is_swap (whats.Event events.Swap) = true
-is_swap (whats.Fault fault) = false
+abbrev pub reports_swap : What → Bool
+reports_swap (whats.Event (events.Ensemble eid)) = false
+reports_swap (whats.Event (events.Announced change low)) = false
+reports_swap (whats.Event events.Swap) = true
+reports_swap (whats.Fault fault) = false
 
 abbrev pub is_fault : What → Bool
 is_fault (whats.Event event) = false
@@ -20,7 +20,7 @@ is_fault (whats.Fault fault) = true
 -- the numbers of swaps and of faults
 abbrev pub swaps_in : List Finding → ℕ
 swaps_in [] = 0
-swaps_in (f ∷ fs) = (if is_swap f.what then 1 else 0) + swaps_in fs
+swaps_in (f ∷ fs) = (if reports_swap f.what then 1 else 0) + swaps_in fs
 
 abbrev pub faults_in : List Finding → ℕ
 faults_in [] = 0

@@ -1,5 +1,6 @@
-//! Hints on a stream of FIBs that is checked in another transmission mode than its own, and on one of which bytes were
-//! lost. Each is given once at most, on standard error; what is found in the stream stays as it is.
+//! Hints on a stream of FIBs that is checked in another transmission mode than its own, and on one
+//! of which bytes were lost. Each is given once at most, on standard error; what is found in the
+//! stream stays as it is.
 
 use console::escaped::Escaped;
 use console::files::Files;
@@ -17,7 +18,7 @@ const COUNTS: u16 = 5000;
 const MANY: u8 = 30;
 
 /// What is advised on a stream.
-#[derive(Clone, Copy, Debug, PartialEq, Eq)]
+#[derive(Clone, Copy)]
 enum Advice {
     /// FIG 0/0 comes at steps of this many frames, as in another mode.
     OtherMode(u16),
@@ -26,7 +27,7 @@ enum Advice {
 }
 
 /// Some advice, and the path of the file.
-#[derive(Clone, Copy, Debug, PartialEq, Eq)]
+#[derive(Clone, Copy)]
 struct AdviceLine<'a> {
     path: &'a str,
     advice: Advice,
@@ -45,7 +46,8 @@ impl Display for AdviceLine<'_> {
             }
             Advice::LostBytes { from, to: Some(to) } => write!(
                 f,
-                "{path}: FIBs are damaged from byte {from} on: if bytes were lost there, the stream goes on at byte {to}"
+                "{path}: FIBs are damaged from byte {from} on: if bytes were lost there, the \
+                 stream goes on at byte {to}"
             ),
         }
     }
@@ -76,7 +78,8 @@ impl StepWatch {
         }
     }
 
-    /// Watches the next FIB; returns the step of the stream as soon as it is clear that it is another one than wanted.
+    /// Watches the next FIB; returns the step of the stream as soon as it is clear that it is
+    /// another one than wanted.
     fn see(&mut self, fib: &[u8; 32]) -> Option<u16> {
         if self.is_done {
             return None;
@@ -157,7 +160,8 @@ impl LossWatch {
         }
     }
 
-    /// Watches the next FIB; returns the offset of the first damaged one, once so many came that bytes were lost.
+    /// Watches the next FIB; returns the offset of the first damaged one, once so many came that
+    /// bytes were lost.
     fn see(&mut self, fib: &[u8; 32]) -> Option<u64> {
         let at = self.at;
         self.at = at.saturating_add(32);
@@ -178,7 +182,8 @@ impl LossWatch {
     }
 }
 
-/// The offset of the first place behind `from` in a piece at which three FIBs in a row are not damaged.
+/// The offset of the first place behind `from` in a piece at which three FIBs in a row are not
+/// damaged.
 fn resumed_in(piece: &[u8], from: usize) -> Option<usize> {
     for place in from.saturating_add(1)..piece.len() {
         if is_resumed(piece.get(place..)) {
@@ -246,8 +251,8 @@ impl<'a> Adviser<'a> {
     }
 }
 
-/// The advice on bytes that were lost at the byte `from` of a stream, where a piece that begins at the byte `begin` is at
-/// hand.
+/// The advice on bytes that were lost at the byte `from` of a stream, where a piece that begins at
+/// the byte `begin` is at hand.
 fn lost_from(piece: &[u8], begin: u64, from: u64) -> Advice {
     let to = match usize::try_from(from.saturating_sub(begin)) {
         Ok(behind) => resumed_in(piece, behind),

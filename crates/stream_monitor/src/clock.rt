@@ -9,7 +9,7 @@ const FRAMES: u64 = 3_600_000;
 const DAY: u64 = 86_400_000;
 
 /// A time of day, printed as `HH:MM:SS.mmm`.
-#[derive(Clone, Copy, Debug, PartialEq, Eq)]
+#[derive(Clone, Copy)]
 pub(crate) struct Clock {
     /// In milliseconds, 0 to 86,399,999.
     ms: u64,

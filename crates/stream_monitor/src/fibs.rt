@@ -11,7 +11,7 @@ use std::marker::Model;
 const FIB: usize = 32;
 
 /// What a stream of FIBs has next.
-#[derive(Clone, Copy, Debug, PartialEq, Eq)]
+#[derive(Clone, Copy)]
 pub enum Next {
     /// A FIB.
     Fib([u8; 32]),

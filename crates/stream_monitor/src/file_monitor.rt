@@ -20,8 +20,9 @@ use std::io::{Read, Write};
 use stream_check::Finding;
 
 /// A file that is checked, and the output that is told what is found in it. Before the file is
-/// asked for more bytes, all lines so far are written. Where it is no stream of FIBs, one of another
-/// mode, or one of which bytes were lost, a hint is given on standard error as soon as that is clear.
+/// asked for more bytes, all lines so far are written. Where it is no stream of FIBs, one of
+/// another mode, or one of which bytes were lost, a hint is given on standard error as soon as that
+/// is clear.
 #[derive(Drop)]
 pub struct FileMonitor<'a, 'f, 'o, R: Read + Drop, F, W> {
     fibs: FileFibs<R>,

@@ -10,7 +10,7 @@ use std::fmt::{self, Display, Formatter};
 const MANY: u64 = 2048;
 
 /// Why a file is no stream of FIBs, as far as it is known.
-#[derive(Clone, Copy, Debug, PartialEq, Eq)]
+#[derive(Clone, Copy)]
 enum Hint {
     /// It looks like nothing that is known.
     NoFibs,
@@ -21,7 +21,7 @@ enum Hint {
 }
 
 /// A hint, and the path of the file.
-#[derive(Clone, Copy, Debug, PartialEq, Eq)]
+#[derive(Clone, Copy)]
 struct HintLine<'a> {
     /// The path of the file.
     path: &'a str,
@@ -37,7 +37,8 @@ impl Display for HintLine<'_> {
             Hint::NoFibs => write!(f, "{path}: no whole FIB: 32 bytes each are expected"),
             Hint::Eti => write!(
                 f,
-                "{path}: no whole FIB: 32 bytes each are expected (ETI: dabplan-bridge fic takes out its FIBs)"
+                "{path}: no whole FIB: 32 bytes each are expected (ETI: dabplan-bridge fic takes \
+                 out its FIBs)"
             ),
             Hint::Digits => write!(
                 f,

@@ -1,12 +1,13 @@
 //! Lines of JSON: one object each, without blanks outside of strings.
 
 use crate::clock::Clock;
+use crate::description::{Detail, event, fault};
 use crate::line::{Line, Totals};
 use crate::sid::Sid;
 use fig_mentions::Mention;
 use std::fmt::{self, Display, Formatter};
 use std::io::{self, Write};
-use stream_check::{Contradiction, EntryName, Fault, Finding, StreamEvent, What};
+use stream_check::{EntryName, Finding, What};
 
 /// Prints a line of JSON.
 pub(crate) fn print_json<W: Write>(start: Option<u32>, line: &Line, out: &mut W) -> io::Result<()> {
@@ -22,83 +23,35 @@ pub(crate) fn print_json<W: Write>(start: Option<u32>, line: &Line, out: &mut W)
 /// was found.
 fn print_finding<W: Write>(start: Option<u32>, finding: &Finding, out: &mut W) -> io::Result<()> {
     let Finding { frame, count, what } = *finding;
-    write!(out, "{{\"kind\":\"{}\",", kind_of(what))?;
+    let (kind, found) = match what {
+        What::Event(found) => (event(found).name, event(found)),
+        What::Fault(found) => ("fault", fault(found)),
+    };
+    write!(out, "{{\"kind\":\"{kind}\",")?;
     if let Some(start) = start {
         write!(out, "\"time\":\"{}\",", Clock::at(start, frame))?;
     }
     write!(out, "\"frame\":{frame},\"count\":{count}")?;
-    match what {
-        What::Event(event) => writeln!(out, "{}}}", EventFields(event)),
-        What::Fault(fault) => writeln!(out, ",\"fault\":\"{}}}", FaultFields(fault)),
+    if let What::Fault(_) = what {
+        write!(out, ",\"fault\":\"{}\"", found.name)?;
     }
+    let [one, other] = found.details;
+    writeln!(out, "{}{}}}", DetailFields(one), DetailFields(other))
 }
 
-/// The kind of a finding.
-fn kind_of(what: What) -> &'static str {
-    match what {
-        What::Event(StreamEvent::Ensemble(_)) => "ensemble",
-        What::Event(StreamEvent::Announced(_, _)) => "announced",
-        What::Event(StreamEvent::Swap) => "swap",
-        What::Fault(_) => "fault",
-    }
-}
-
-/// The fields of an event.
+/// What a finding is about, as fields.
 #[derive(Clone, Copy)]
-struct EventFields(StreamEvent);
+struct DetailFields(Detail);
 
-impl Display for EventFields {
+impl Display for DetailFields {
     fn fmt<W: fmt::Write>(&self, f: &mut Formatter<W>) -> fmt::Result {
         match self.0 {
-            StreamEvent::Ensemble(eid) => write!(f, ",\"eid\":\"{eid:04X}\""),
-            StreamEvent::Announced(change, low) => {
-                write!(f, ",\"change\":{change},\"low\":{low}")
-            }
-            StreamEvent::Swap => Ok(()),
-        }
-    }
-}
-
-/// The name of a fault, to the end of its string, and its fields.
-#[derive(Clone, Copy)]
-struct FaultFields(Fault);
-
-impl Display for FaultFields {
-    fn fmt<W: fmt::Write>(&self, f: &mut Formatter<W>) -> fmt::Result {
-        match self.0 {
-            Fault::ShortFrame(fibs) => write!(f, "short-frame\",\"fibs\":{fibs}"),
-            Fault::Damaged(fibs) => write!(f, "damaged\",\"fibs\":{fibs}"),
-            Fault::NoEnsemble => f.write_str("no-ensemble\""),
-            Fault::OtherEnsemble(eid) => write!(f, "other-ensemble\",\"eid\":\"{eid:04X}\""),
-            Fault::Count(due) => write!(f, "count\",\"due\":{due}"),
-            Fault::OutOfPlace => f.write_str("out-of-place\""),
-            Fault::AnnouncedAgain(change, low) => {
-                write!(f, "announced-again\",\"change\":{change},\"low\":{low}")
-            }
-            Fault::NoSwapAt(low) => write!(f, "no-swap-at\",\"low\":{low}"),
-            Fault::NextUnannounced => f.write_str("next-unannounced\""),
-            Fault::Changed(name) => write!(f, "changed\"{}", NameField(name)),
-            Fault::NextChanged(name) => write!(f, "next-changed\"{}", NameField(name)),
-            Fault::Appeared(name) => write!(f, "appeared\"{}", NameField(name)),
-            Fault::AnnouncedFor(low) => write!(f, "announced-for\",\"low\":{low}"),
-            Fault::AnnouncedTimes(times) => write!(f, "announced-times\",\"times\":{times}"),
-            Fault::NextHeard(times) => write!(f, "next-heard\",\"times\":{times}"),
-            Fault::Flags(change, changes) => {
-                write!(f, "flags\",\"change\":{change},\"changes\":{changes}")
-            }
-            Fault::Overlap(one, other) => write!(f, "overlap\",\"subs\":[{one},{other}]"),
-            Fault::PastEnd(sub) => write!(f, "past-end\",\"sub\":{sub}"),
-            Fault::Silent(name) => write!(f, "silent\"{}", NameField(name)),
-            Fault::Contradicts(Contradiction::NotThere(ext, mention)) => {
-                write!(
-                    f,
-                    "not-there\",\"extension\":{ext}{}",
-                    MentionFields(mention)
-                )
-            }
-            Fault::Contradicts(Contradiction::NotWhole(ext)) => {
-                write!(f, "not-whole\",\"extension\":{ext}")
-            }
+            Detail::Nothing => Ok(()),
+            Detail::Number(field, value) => write!(f, ",\"{field}\":{value}"),
+            Detail::Ensemble(eid) => write!(f, ",\"eid\":\"{eid:04X}\""),
+            Detail::Entry(name) => NameField(name).fmt(f),
+            Detail::Named(mention) => MentionFields(mention).fmt(f),
+            Detail::Subs(one, other) => write!(f, ",\"subs\":[{one},{other}]"),
         }
     }
 }

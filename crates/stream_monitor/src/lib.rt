@@ -9,6 +9,7 @@
 mod advice;
 mod check;
 mod clock;
+mod description;
 mod ending;
 mod fibs;
 mod file_monitor;

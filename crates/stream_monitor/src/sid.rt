@@ -5,8 +5,8 @@ use std::fmt::{self, Display, Formatter};
 /// The number of SIds of 16 bits.
 const SHORT: u64 = 1 << 16;
 
-/// An SId as it is printed: four hexadecimal digits, or eight for one of 32 bits, to which 65,536 is added
-/// here.
+/// An SId as it is printed: four hexadecimal digits, or eight for one of 32 bits, to which 65,536
+/// is added here.
 #[derive(Clone, Copy)]
 pub(crate) struct Sid(pub(crate) u64);
 

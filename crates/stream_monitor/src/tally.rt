@@ -2,7 +2,7 @@
 
 ghost use Rattle.std.specs.Prelude.{◌≡◌, ◌+◌, [], if◌then◌else◌};
 ghost use Rattle.std.specs.Io.Iter.{u64_saturate};
-ghost use Rattle.stream_monitor.specs.Findings.{counted, is_swap, is_fault};
+ghost use Rattle.stream_monitor.specs.Findings.{counted, reports_swap, is_fault};
 
 use stream_check::{Finding, StreamEvent, What};
 
@@ -61,7 +61,7 @@ fn more(count: u64, is_one: bool) -> u64
 
 /// Whether this is a swap.
 fn is_swap(what: What) -> bool
-    ensures { result ≡ is_swap what }
+    ensures { result ≡ reports_swap what }
 {
     match what {
         What::Event(StreamEvent::Swap) => true,

@@ -1,12 +1,13 @@
 //! Lines of text.
 
 use crate::clock::Clock;
+use crate::description::{Description, Detail, event, fault};
 use crate::line::{Line, Totals};
 use crate::sid::Sid;
 use fig_mentions::Mention;
 use std::fmt::{self, Display, Formatter};
 use std::io::{self, Write};
-use stream_check::{Contradiction, EntryName, Fault, Finding, StreamEvent, What};
+use stream_check::{EntryName, Finding, What};
 
 /// Prints a line of text.
 pub(crate) fn print_text<W: Write>(start: Option<u32>, line: &Line, out: &mut W) -> io::Result<()> {
@@ -26,65 +27,47 @@ fn print_finding<W: Write>(start: Option<u32>, finding: &Finding, out: &mut W) -
     }
     let Finding { frame, count, what } = *finding;
     match what {
-        What::Event(event) => writeln!(out, "{frame} {count} {}", EventText(event)),
-        What::Fault(fault) => writeln!(out, "{frame} {count} fault: {}", FaultText(fault)),
-    }
-}
-
-/// An event as text.
-#[derive(Clone, Copy)]
-struct EventText(StreamEvent);
-
-impl Display for EventText {
-    fn fmt<W: fmt::Write>(&self, f: &mut Formatter<W>) -> fmt::Result {
-        match self.0 {
-            StreamEvent::Ensemble(eid) => write!(f, "ensemble {eid:04X}"),
-            StreamEvent::Announced(change, low) => {
-                write!(f, "announced {change} swap at low {low}")
-            }
-            StreamEvent::Swap => f.write_str("swap"),
+        What::Event(found) => writeln!(out, "{frame} {count} {}", DescriptionText(event(found))),
+        What::Fault(found) => {
+            writeln!(
+                out,
+                "{frame} {count} fault: {}",
+                DescriptionText(fault(found))
+            )
         }
     }
 }
 
-/// A fault as text.
+/// A description as text.
 #[derive(Clone, Copy)]
-struct FaultText(Fault);
+struct DescriptionText(Description);
 
-impl Display for FaultText {
+impl Display for DescriptionText {
+    fn fmt<W: fmt::Write>(&self, f: &mut Formatter<W>) -> fmt::Result {
+        let Description { words, details, .. } = self.0;
+        let ([before, between, after], [one, other]) = (words, details);
+        write!(
+            f,
+            "{before}{}{between}{}{after}",
+            DetailText(one),
+            DetailText(other)
+        )
+    }
+}
+
+/// What a finding is about, as text.
+#[derive(Clone, Copy)]
+struct DetailText(Detail);
+
+impl Display for DetailText {
     fn fmt<W: fmt::Write>(&self, f: &mut Formatter<W>) -> fmt::Result {
         match self.0 {
-            Fault::ShortFrame(fibs) => write!(f, "frame of {fibs} FIBs"),
-            Fault::Damaged(fibs) => write!(f, "damaged {fibs}"),
-            Fault::NoEnsemble => f.write_str("FIG 0/0 is missing"),
-            Fault::OtherEnsemble(eid) => write!(f, "ensemble {eid:04X}"),
-            Fault::Count(due) => write!(f, "count: {due} was due"),
-            Fault::OutOfPlace => f.write_str("FIG 0/0 out of place"),
-            Fault::AnnouncedAgain(change, low) => {
-                write!(f, "announced again: {change} at low {low}")
-            }
-            Fault::NoSwapAt(low) => write!(f, "no swap can fall at low {low}"),
-            Fault::NextUnannounced => f.write_str("next without change flags"),
-            Fault::Changed(name) => write!(f, "changed: {}", NameText(name)),
-            Fault::NextChanged(name) => write!(f, "next changed: {}", NameText(name)),
-            Fault::Appeared(name) => write!(f, "appeared: {}", NameText(name)),
-            Fault::AnnouncedFor(low) => write!(f, "announced for low {low}"),
-            Fault::AnnouncedTimes(times) => write!(f, "announced {times} times"),
-            Fault::NextHeard(times) => write!(f, "next heard {times} times"),
-            Fault::Flags(change, changes) => write!(f, "flags {change}, but {changes} changes"),
-            Fault::Overlap(one, other) => write!(f, "overlap {one} {other}"),
-            Fault::PastEnd(sub) => write!(f, "past the end: {sub}"),
-            Fault::Silent(name) => write!(f, "silent: {}", NameText(name)),
-            Fault::Contradicts(Contradiction::NotThere(ext, mention)) => {
-                write!(
-                    f,
-                    "FIG 0/{ext} names {}, which is not there",
-                    MentionText(mention)
-                )
-            }
-            Fault::Contradicts(Contradiction::NotWhole(ext)) => {
-                write!(f, "FIG 0/{ext} is not whole entries")
-            }
+            Detail::Nothing => Ok(()),
+            Detail::Number(_, value) => write!(f, "{value}"),
+            Detail::Ensemble(eid) => write!(f, "{eid:04X}"),
+            Detail::Entry(name) => NameText(name).fmt(f),
+            Detail::Named(mention) => MentionText(mention).fmt(f),
+            Detail::Subs(one, other) => write!(f, "{one} {other}"),
         }
     }
 }

@@ -4,4 +4,5 @@ use Rattle.stream_monitor.proofs.check.check_stream.Given as goal
 
 abbrev pub invariant-loop : goal.invariant-loop
 invariant-loop g l =
-    ChecksSoFar l.options (g.M.Monitor.left l.fn.monitor) (g.M.Monitor.left l.monitor) l.state (g.M.Monitor.log l.monitor)
+    ChecksSoFar l.options (g.M.Monitor.left l.fn.monitor) (g.M.Monitor.left l.monitor) l.state
+    (g.M.Monitor.log l.monitor)

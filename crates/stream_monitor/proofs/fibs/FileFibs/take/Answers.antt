@@ -11,6 +11,9 @@ returns g c =
     let piece = inside.pieces.piece in
     let shown = c.piece-piece.result.now in
     let end = subst (λ (b : Buffered). length b.ahead < 32 → IsAtEnd b.behind) (sym c.self.view_is) c.requires.end in
-    let to : c.min-self-inside.result ≡ min (length piece) (inside.at + 32) = c.min-self-inside.ensures ∙ ap (λ l. min (length l) (inside.at + 32)) c.piece-piece.ensures in
-    subst (λ (b : Buffered). Gives (left_of b) (prepend_known (drop c.min-self-inside.result piece) inside.pieces.left) c.next_of-next.result) c.self.view_is
-    (takes inside.at c.min-self-inside.result piece _ inside.pieces.left c.next_of-next.result end (rest_is inside.at piece shown c.piece-piece.ensures) to c.next_of-next.ensures)
+    let to : c.min-self-inside.result ≡ min (length piece) (inside.at + 32) =
+    c.min-self-inside.ensures ∙ ap (λ l. min (length l) (inside.at + 32)) c.piece-piece.ensures in
+    subst (λ (b : Buffered). Gives (left_of b) (prepend_known (drop c.min-self-inside.result piece) inside.pieces.left)
+    c.next_of-next.result) c.self.view_is
+    (takes inside.at c.min-self-inside.result piece _ inside.pieces.left c.next_of-next.result end
+    (rest_is inside.at piece shown c.piece-piece.ensures) to c.next_of-next.ensures)
