@@ -1,5 +1,6 @@
 -- Reading a line byte by byte.
-use Rattle.std.proofs.Common.{◌≡◌, ℕ, ◌==◌, ◌<◌, false, List, [], ◌∷◌, ◌++◌, length, Option, None, Some, refl, sym, ap, ◌∙◌, arith, append-nil, length-append, subst, Bool, true, true≢false, ◌≤◌}
+use Rattle.std.proofs.Common.{◌≡◌, ℕ, ◌==◌, ◌<◌, false, List, [], ◌∷◌, ◌++◌, length, Option, None, Some, refl, sym, ap}
+use Rattle.std.proofs.Common.{◌∙◌, arith, append-nil, length-append, subst, Bool, true, true≢false, ◌≤◌}
 use Rattle.std.proofs.lemmas.Bool.{eqb-true}
 use Rattle.std.proofs.KnownBytes.{Consumes-trans, Consumes-nil}
 use Rattle.std.specs.Io.KnownBytes.{Consumes, Keeps, IsAtEnd}
@@ -22,13 +23,16 @@ line_to_end : (b : ℕ) (bs : List ℕ) → NoFeed (b ∷ bs) → lines_of (b �
 line_to_end b [] h = rw (h.0) refl
 line_to_end b (c ∷ cs) h = rw (h.0, line_to_end c cs h.1) refl
 
-pub gives_to_feed : (before mid after : Option (List ℕ)) (bs : List ℕ) → NoFeed bs → Consumes before mid bs → Consumes mid after (10 ∷ []) → GivesLine before bs after
+pub gives_to_feed : (before mid after : Option (List ℕ)) (bs : List ℕ) → NoFeed bs → Consumes before mid bs
+    → Consumes mid after (10 ∷ []) → GivesLine before bs after
 gives_to_feed None mid after bs h p q = tt
 gives_to_feed (Some x) None after bs h p q = absurd p
 gives_to_feed (Some x) (Some y) None bs h p q = absurd q
-gives_to_feed (Some x) (Some y) (Some z) bs h p q = ap lines_of (p ∙ ap (λ (l : List ℕ). bs ++ l) q) ∙ line_to_feed bs z h
+gives_to_feed (Some x) (Some y) (Some z) bs h p q = ap lines_of (p ∙ ap (λ (l : List ℕ). bs ++ l) q)
+    ∙ line_to_feed bs z h
 
-pub gives_to_end : (before mid after : Option (List ℕ)) (bs : List ℕ) → NoFeed bs → 0 < length bs → Consumes before mid bs → Consumes mid after [] → IsAtEnd after → GivesLine before bs after
+pub gives_to_end : (before mid after : Option (List ℕ)) (bs : List ℕ) → NoFeed bs → 0 < length bs
+    → Consumes before mid bs → Consumes mid after [] → IsAtEnd after → GivesLine before bs after
 gives_to_end None mid after bs h n p q e = tt
 gives_to_end (Some x) None after bs h n p q e = absurd p
 gives_to_end (Some x) (Some y) None bs h n p q e = absurd q
@@ -63,11 +67,14 @@ held_first a b line same none = record {
   bound = let n = ap (λ (l : List ℕ). length l) none in omega (arith, n);
 }
 
-long_bytes : (is_long : Bool) (line bytes : List ℕ) → (is_long ≡ false → line ≡ bytes) → (is_long ≡ true → 65536 < length bytes) → length line ≡ 65536 → 65536 ≤ length bytes
+long_bytes : (is_long : Bool) (line bytes : List ℕ) → (is_long ≡ false → line ≡ bytes)
+    → (is_long ≡ true → 65536 < length bytes) → length line ≡ 65536 → 65536 ≤ length bytes
 long_bytes false line bytes short long n = let e = ap (λ (l : List ℕ). length l) (short refl) in omega (arith, e, n)
 long_bytes true line bytes short long n = let more = long refl in omega (arith, more)
 
-pub held_full : (before mid after : Option (List ℕ)) (line : List ℕ) (is_long : Bool) (b : ℕ) → Held before mid line is_long → Consumes mid after (b ∷ []) → (b == 10) ≡ false → length line ≡ 65536 → Held before after line true
+pub held_full : (before mid after : Option (List ℕ)) (line : List ℕ) (is_long : Bool) (b : ℕ)
+    → Held before mid line is_long → Consumes mid after (b ∷ []) → (b == 10) ≡ false → length line ≡ 65536
+    → Held before after line true
 held_full before mid after line is_long b h p e n =
     let least = long_bytes is_long line h.bytes h.short h.long n in
     let more = length-append h.bytes (b ∷ []) in
@@ -81,7 +88,9 @@ held_full before mid after line is_long b h p e n =
       bound = h.bound;
     }
 
-pub held_pushed : (before mid after : Option (List ℕ)) (line more : List ℕ) (is_long : Bool) (b : ℕ) → Held before mid line is_long → Consumes mid after (b ∷ []) → (b == 10) ≡ false → length line < 65536 → more ≡ line ++ b ∷ [] → Held before after more is_long
+pub held_pushed : (before mid after : Option (List ℕ)) (line more : List ℕ) (is_long : Bool) (b : ℕ)
+    → Held before mid line is_long → Consumes mid after (b ∷ []) → (b == 10) ≡ false → length line < 65536 → more ≡ line
+    ++ b ∷ [] → Held before after more is_long
 held_pushed before mid after line more is_long b h p e n is =
     let longer = length-append h.bytes (b ∷ []) in
     let kept = ap (λ (l : List ℕ). length l) is ∙ length-append line (b ∷ []) in
@@ -95,30 +104,41 @@ held_pushed before mid after line more is_long b h p e n is =
       bound = omega (arith, n, kept, one);
     }
 
-pub line_at_feed : (before mid after : Option (List ℕ)) (line : List ℕ) (is_long : Bool) (b : ℕ) → Held before mid line is_long → is_long ≡ false → b ≡ 10 → Consumes mid after (b ∷ []) → GivesLine before line after
+pub line_at_feed : (before mid after : Option (List ℕ)) (line : List ℕ) (is_long : Bool) (b : ℕ)
+    → Held before mid line is_long → is_long ≡ false → b ≡ 10 → Consumes mid after (b ∷ [])
+    → GivesLine before line after
 line_at_feed before mid after line is_long b h short e p =
     let feed : Consumes mid after (10 ∷ []) = subst (λ (x : ℕ). Consumes mid after (x ∷ [])) e p in
-    subst (λ (l : List ℕ). GivesLine before l after) (sym (h.short short)) (gives_to_feed before mid after h.bytes h.no_feed h.taken feed)
+    subst (λ (l : List ℕ). GivesLine before l after) (sym (h.short short))
+    (gives_to_feed before mid after h.bytes h.no_feed h.taken feed)
 
-pub long_at_feed : (before mid after : Option (List ℕ)) (line : List ℕ) (is_long : Bool) (b : ℕ) → Held before mid line is_long → is_long ≡ true → b ≡ 10 → Consumes mid after (b ∷ []) → (l : List ℕ) × (65536 < length l) × GivesLine before l after
+pub long_at_feed : (before mid after : Option (List ℕ)) (line : List ℕ) (is_long : Bool) (b : ℕ)
+    → Held before mid line is_long → is_long ≡ true → b ≡ 10 → Consumes mid after (b ∷ []) → (l : List ℕ)
+    × (65536 < length l) × GivesLine before l after
 long_at_feed before mid after line is_long b h long e p =
     let feed : Consumes mid after (10 ∷ []) = subst (λ (x : ℕ). Consumes mid after (x ∷ [])) e p in
     (h.bytes, h.long long, gives_to_feed before mid after h.bytes h.no_feed h.taken feed)
 
-pub line_at_end : (before mid after : Option (List ℕ)) (line : List ℕ) (is_long : Bool) → Held before mid line is_long → is_long ≡ false → 0 < length line → Consumes mid after [] → IsAtEnd after → GivesLine before line after
+pub line_at_end : (before mid after : Option (List ℕ)) (line : List ℕ) (is_long : Bool) → Held before mid line is_long
+    → is_long ≡ false → 0 < length line → Consumes mid after [] → IsAtEnd after → GivesLine before line after
 line_at_end before mid after line is_long h short some p end =
     let e = h.short short in
     let n = ap (λ (l : List ℕ). length l) e in
     let more : 0 < length h.bytes = omega (arith, n, some) in
-    subst (λ (l : List ℕ). GivesLine before l after) (sym e) (gives_to_end before mid after h.bytes h.no_feed more h.taken p end)
+    subst (λ (l : List ℕ). GivesLine before l after) (sym e)
+    (gives_to_end before mid after h.bytes h.no_feed more h.taken p end)
 
-pub long_at_end : (before mid after : Option (List ℕ)) (line : List ℕ) (is_long : Bool) → Held before mid line is_long → is_long ≡ true → Consumes mid after [] → IsAtEnd after → (l : List ℕ) × (65536 < length l) × GivesLine before l after
+pub long_at_end : (before mid after : Option (List ℕ)) (line : List ℕ) (is_long : Bool) → Held before mid line is_long
+    → is_long ≡ true → Consumes mid after [] → IsAtEnd after → (l : List ℕ) × (65536 < length l)
+    × GivesLine before l after
 long_at_end before mid after line is_long h long p end =
     let most = h.long long in
     let more : 0 < length h.bytes = omega (arith, most) in
     (h.bytes, most, gives_to_end before mid after h.bytes h.no_feed more h.taken p end)
 
-pub none_at_end : (before mid after : Option (List ℕ)) (line : List ℕ) (is_long : Bool) → Held before mid line is_long → is_long ≡ false → (length line == 0) ≡ true → Consumes mid after [] → IsAtEnd after → Keeps before after × IsAtEnd after
+pub none_at_end : (before mid after : Option (List ℕ)) (line : List ℕ) (is_long : Bool) → Held before mid line is_long
+    → is_long ≡ false → (length line == 0) ≡ true → Consumes mid after [] → IsAtEnd after → Keeps before after
+    × IsAtEnd after
 none_at_end before mid after [] is_long h short none p end =
     (none_taken before mid after (subst (λ (l : List ℕ). Consumes before mid l) (sym (h.short short)) h.taken) p, end)
 none_at_end before mid after (b ∷ bs) is_long h short none p end =

@@ -1,4 +1,5 @@
--- The relations of worlds in small cases, computed by the checker from the definitions: examples that hold and that fail.
+-- The relations of worlds in small cases, computed by the checker from the definitions: examples that hold and that
+-- fail.
 use Rattle.std.proofs.Common.{◌≡◌, ℕ, List, [], ◌∷◌, Option, None, Some, refl}
 use Rattle.console.specs.World.{World, Exists, IsSame, IsSameBut, HasWritten, HasTouched, Stays}
 

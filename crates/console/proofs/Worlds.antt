@@ -3,7 +3,8 @@ use Rattle.std.proofs.Common.{List, ℕ, Option, None, Some, ◌∙◌}
 use Rattle.console.specs.World.{World, Becomes, Stays, IsSameBut, HasWritten}
 
 pub but_then_written : (path bytes : List ℕ) (old mid new : Option World)
-    → Becomes (IsSameBut path) old mid → Becomes (HasWritten path bytes) mid new → Becomes (HasWritten path bytes) old new
+    → Becomes (IsSameBut path) old mid → Becomes (HasWritten path bytes) mid new
+    → Becomes (HasWritten path bytes) old new
 but_then_written path bytes None mid new p q = tt
 but_then_written path bytes (Some a) None new p q = absurd p
 but_then_written path bytes (Some a) (Some b) None p q = absurd q

@@ -4,7 +4,8 @@ use Rattle.console.specs.declared.files.Source.{Source}
 use Rattle.console.specs.declared.files.Source.TheVariants.{File, Input}
 
 -- what is left of the file or of standard input
-abbrev pub left_of_source : {F I : Type 0} → (F → Option (List ℕ)) → (I → Option (List ℕ)) → Source F I → Option (List ℕ)
+abbrev pub left_of_source : {F I : Type 0} → (F → Option (List ℕ)) → (I → Option (List ℕ)) → Source F I
+    → Option (List ℕ)
 left_of_source file input (File f) = file f
 left_of_source file input (Input i) = input i
 

@@ -8,12 +8,12 @@ use crate::exit::{Failure, read_file, read_input};
 use crate::files::Files;
 use std::alloc::Global;
 
-/// More bytes than any code file has: 256 configurations, 1,024 labels and 4,096 instructions, each of the greatest
-/// length, take 943,889.
+/// More bytes than any code file has: 256 configurations, 1,024 labels and 4,096 instructions, each
+/// of the greatest length, take 943,889.
 const MOST_BYTES: usize = 1_048_576;
 
-/// Reads a code file, or returns why it can't be read. A file longer than any code file is read only as far as
-/// its first fault needs. Files keep their bytes.
+/// Reads a code file, or returns why it can't be read. A file longer than any code file is read
+/// only as far as its first fault needs. Files keep their bytes.
 pub fn read_code<'a, F: Files>(
     alloc: Global,
     files: &mut F,

@@ -5,16 +5,18 @@ use std::fmt::{self, Display, Formatter, Write};
 /// Where a text is shown.
 #[derive(Clone, Copy, Debug, PartialEq, Eq)]
 pub enum Form {
-    /// In a line of text. A control byte, 00 to 1F or 7F, is `\x` and two digits 0-9 A-F; a control character from U+0080
-    /// to U+009F, or one that turns the direction of writing, is `\u{9B}` with its digits.
+    /// In a line of text. A control byte, 00 to 1F or 7F, is `\x` and two digits 0-9 A-F; a control
+    /// character from U+0080 to U+009F, or one that turns the direction of writing, is `\u{9B}`
+    /// with its digits.
     Line = 1,
-    /// In a string of JSON (RFC 8259 clause 7). `"` and `\` have a `\` before them; of the bytes below 20, 08, 09, 0A,
-    /// 0C and 0D are `\b`, `\t`, `\n`, `\f` and `\r`, others `\u00` and two digits 0-9 a-f.
+    /// In a string of JSON (RFC 8259 clause 7). `"` and `\` have a `\` before them; of the bytes
+    /// below 20, 08, 09, 0A, 0C and 0D are `\b`, `\t`, `\n`, `\f` and `\r`, others `\u00` and two
+    /// digits 0-9 a-f.
     Json = 2,
 }
 
-/// A text without the characters that would break the line or the string that it is part of. All others are as they
-/// are.
+/// A text without the characters that would break the line or the string that it is part of. All
+/// others are as they are.
 #[derive(Clone, Copy, Debug, Drop, PartialEq, Eq)]
 pub struct Escaped<'a> {
     text: &'a str,
@@ -60,7 +62,8 @@ fn write_in_line<W: Write>(character: char, f: &mut Formatter<W>) -> fmt::Result
     }
 }
 
-/// Whether a terminal obeys a character rather than shows it: C1 controls, and the marks of the direction of writing.
+/// Whether a terminal obeys a character rather than shows it: C1 controls, and the marks of the
+/// direction of writing.
 fn turns_a_terminal(character: char) -> bool {
     matches!(character,
         '\u{80}'..='\u{9F}' | '\u{61C}' | '\u{200E}' | '\u{200F}'

@@ -51,8 +51,8 @@ impl Display for Failure<'_> {
 
 impl error::Error for Failure<'_> {}
 
-/// A failure as an object of JSON, `{"kind":"refused","cause":"cannot read PATH"}`: the cause is its line, with PATH as
-/// in a string of JSON.
+/// A failure as an object of JSON, `{"kind":"refused","cause":"cannot read PATH"}`: the cause is
+/// its line, with PATH as in a string of JSON.
 #[derive(Debug, Drop)]
 pub struct JsonFailure<'f, 'a>(pub &'f Failure<'a>);
 
@@ -103,8 +103,8 @@ impl From<io::Error> for Failure<'_> {
     }
 }
 
-/// Opens the file of this path, or standard input if the path is `-`. Other files keep their bytes, and so does standard
-/// input where a file is opened.
+/// Opens the file of this path, or standard input if the path is `-`. Other files keep their bytes,
+/// and so does standard input where a file is opened.
 pub fn open_input<'a, F: Files>(files: &mut F, path: &'a str) -> Result<F::In, Failure<'a>>
     ensures input { path.now ≡ codes "-" → IfOk result (λ source.
         Keeps (F.known_input files.old) (F.In.remaining source)) }
@@ -145,8 +145,8 @@ pub fn pieces_of<'a, F: Files>(
 
 /// The first bytes of the file of this path, at most `most`. Files keep their bytes.
 ///
-/// If `most` is one more than the longest valid file, a longer file is recognised by its length, and the rest of it is
-/// not read.
+/// If `most` is one more than the longest valid file, a longer file is recognised by its length,
+/// and the rest of it is not read.
 pub fn read_file<'a, F: Files>(
     alloc: Global,
     files: &mut F,
@@ -164,7 +164,8 @@ pub fn read_file<'a, F: Files>(
     read_within(alloc, file, most).map_err(|fault| Failure::of_file(fault, path))
 }
 
-/// Like [`read_file`], with standard input for the path `-`: at most `most` of the bytes that it has left.
+/// Like [`read_file`], with standard input for the path `-`: at most `most` of the bytes that it
+/// has left.
 pub fn read_input<'a, F: Files>(
     alloc: Global,
     files: &mut F,
@@ -183,8 +184,8 @@ pub fn read_input<'a, F: Files>(
     read_within(alloc, source, most).map_err(|fault| Failure::of_file(fault, path))
 }
 
-/// Creates the file of this path, or truncates it. `Create` on a system error, `Memory` if out of memory: all files are
-/// as they were then. Other files are as they were in any case.
+/// Creates the file of this path, or truncates it. `Create` on a system error, `Memory` if out of
+/// memory: all files are as they were then. Other files are as they were in any case.
 pub fn create_file<'a, F: Files>(files: &mut F, path: &'a str) -> Result<F::Out, Failure<'a>>
     ensures empty { IfOk result (λ file. IfSome (F.world files.old)
         (λ _. F.Out.contents file ≡ Some [])) }
@@ -195,7 +196,8 @@ pub fn create_file<'a, F: Files>(files: &mut F, path: &'a str) -> Result<F::Out,
         .map_err(|fault| Failure::of_output(fault, path))
 }
 
-/// Gives the file of this path these bytes, or leaves it as it was. Other files are as they were in any case.
+/// Gives the file of this path these bytes, or leaves it as it was. Other files are as they were in
+/// any case.
 ///
 /// `Create` if it can't be created or written to the end, `Memory` if out of memory.
 pub fn write_file<'a, F: Files>(
@@ -212,8 +214,8 @@ pub fn write_file<'a, F: Files>(
         .map_err(|fault| Failure::of_output(fault, path))
 }
 
-/// Creates an empty file of this path if there is none. A file that is there keeps its bytes. `Create` on a system
-/// error, `Memory` if out of memory: all files are as they were then.
+/// Creates an empty file of this path if there is none. A file that is there keeps its bytes.
+/// `Create` on a system error, `Memory` if out of memory: all files are as they were then.
 pub fn touch_file<'a, F: Files>(files: &mut F, path: &'a str) -> Result<(), Failure<'a>>
     ensures touched { OnOk result
         (Becomes (HasTouched path.now) (F.world files.old) (F.world files.new)) }

@@ -21,9 +21,11 @@ pub enum FileFault {
 
 /// Access to the program's files.
 pub trait Files {
-    ghost use Rattle.std.specs.Prelude.{◌≡◌, ◌↔◌, List, [], Option, None, Some, ℕ, IsTrue, IfOk, OnOk, OnErr, IfSome};
+    ghost use Rattle.std.specs.Prelude.{◌≡◌, ◌↔◌, List, [], Option, None, Some, ℕ, IsTrue, IfOk};
+    ghost use Rattle.std.specs.Prelude.{OnOk, OnErr, IfSome};
     ghost use Rattle.std.specs.Io.KnownBytes.{Keeps};
-    ghost use Rattle.console.specs.World.{World, Exists, Becomes, Stays, IsSameBut, HasWritten, HasTouched};
+    ghost use Rattle.console.specs.World.{World, Exists, Becomes, Stays, IsSameBut, HasWritten};
+    ghost use Rattle.console.specs.World.{HasTouched};
 
     /// The bytes of the file of a path, if known.
     ghost known: { Self → List ℕ → Option (List ℕ) } = { λ _ _. None };
@@ -40,8 +42,8 @@ pub trait Files {
     /// A file opened for writing.
     type Out: Write + Drop;
 
-    /// Opens the file of this path for reading, from its first byte; `Failed` on a system error. Other files, and
-    /// standard input, keep their bytes.
+    /// Opens the file of this path for reading, from its first byte; `Failed` on a system error.
+    /// Other files, and standard input, keep their bytes.
     fn open(&mut self, path: &str) -> Result<Self::In, FileFault>
         ensures bytes { IfOk result (λ file. Keeps (known self.old path.now)
             (Self.In.remaining file)) }
@@ -49,38 +51,40 @@ pub trait Files {
         ensures input { Keeps (known_input self.old) (known_input self.new) }
         ensures world { Stays (world self.old) (world self.new) };
 
-    /// Whether the file of this path can be opened again for the same bytes: whether there is a file of its own, and
-    /// no pipe or device, of which what was read is gone.
+    /// Whether the file of this path can be opened again for the same bytes: whether there is a
+    /// file of its own, and no pipe or device, of which what was read is gone.
     fn can_reread(&self, path: &str) -> bool
         ensures { IfSome (world self.now)
             (λ w. IsTrue result ↔ Exists (w.files path.now)) };
 
-    /// Standard input, from its current position; `Failed` on a system error. Files keep their bytes.
+    /// Standard input, from its current position; `Failed` on a system error. Files keep their
+    /// bytes.
     fn input(&mut self) -> Result<Self::In, FileFault>
         ensures bytes { IfOk result (λ file. Keeps (known_input self.old)
             (Self.In.remaining file)) }
         ensures files { (other : List ℕ) → Keeps (known self.old other) (known self.new other) }
         ensures world { Stays (world self.old) (world self.new) };
 
-    /// Creates the file of this path for writing, or truncates it. `Failed` on a system error, `Memory` if out of
-    /// memory: all files are as they were then. Other files are as they were in any case. What the file holds is known
-    /// again when it is closed.
+    /// Creates the file of this path for writing, or truncates it. `Failed` on a system error,
+    /// `Memory` if out of memory: all files are as they were then. Other files are as they were in
+    /// any case. What the file holds is known again when it is closed.
     fn create(&mut self, path: &str) -> Result<Self::Out, FileFault>
         ensures empty { IfOk result (λ file. IfSome (world self.old)
             (λ _. Self.Out.contents file ≡ Some [])) }
         ensures others { Becomes (IsSameBut path.now) (world self.old) (world self.new) }
         ensures failed { OnErr result (Stays (world self.old) (world self.new)) };
 
-    /// Closes a file that was created for this path: what was written to it is what the file of the path holds.
-    /// `Failed` on a system error, `Memory` if out of memory: nothing is known of this file then. Other files are as
-    /// they were in any case.
+    /// Closes a file that was created for this path: what was written to it is what the file of the
+    /// path holds. `Failed` on a system error, `Memory` if out of memory: nothing is known of this
+    /// file then. Other files are as they were in any case.
     fn close(&mut self, path: &str, file: Self::Out) -> Result<(), FileFault>
         ensures written { OnOk result (IfSome (Self.Out.contents file)
             (λ bytes. Becomes (HasWritten path.now bytes) (world self.old) (world self.new))) }
         ensures others { Becomes (IsSameBut path.now) (world self.old) (world self.new) };
 
-    /// Gives the file of this path these bytes, or leaves it as it was: `Failed` on a system error, `Memory` if out of
-    /// memory. What is no regular file, as a pipe or a device, takes the bytes as they are written.
+    /// Gives the file of this path these bytes, or leaves it as it was: `Failed` on a system error,
+    /// `Memory` if out of memory. What is no regular file, as a pipe or a device, takes the bytes
+    /// as they are written.
     fn replace(&mut self, path: &str, bytes: &[u8]) -> Result<(), FileFault>
         ensures written { OnOk result
             (Becomes (HasWritten path.now bytes.now) (world self.old) (world self.new)) }
@@ -92,28 +96,31 @@ pub trait Files {
     /// Whether a path is of something else than a regular file, as a device or a pipe.
     fn is_special(&self, path: &str) -> bool;
 
-    /// Why the file of a path can't be opened for reading, in the words of the system; `None` if it can, or for another
-    /// reason.
+    /// Why the file of a path can't be opened for reading, in the words of the system; `None` if it
+    /// can, or for another reason.
     fn obstacle(&self, path: &str) -> Option<&'static str>;
 
-    /// Creates an empty file of this path if there is none; a file that is there keeps its bytes. `Failed` on a system
-    /// error, as where the file can't be opened for writing, `Memory` if out of memory: all files are as they were
-    /// then.
+    /// Creates an empty file of this path if there is none; a file that is there keeps its bytes.
+    /// `Failed` on a system error, as where the file can't be opened for writing, `Memory` if out
+    /// of memory: all files are as they were then.
     fn touch(&mut self, path: &str) -> Result<(), FileFault>
         ensures touched { OnOk result
             (Becomes (HasTouched path.now) (world self.old) (world self.new)) }
         ensures failed { OnErr result (Stays (world self.old) (world self.new)) };
 
-    /// Writes a line on standard error. Where standard error fails, the rest of it is lost. Files are as they were.
+    /// Writes a line on standard error. Where standard error fails, the rest of it is lost. Files
+    /// are as they were.
     fn report<D: Display + Drop>(&mut self, line: D)
         ensures world { Stays (world self.old) (world self.new) };
 }
 
-/// The files of the system. Its standard streams may be in non-blocking mode: reads and messages wait for them.
+/// The files of the system. Its standard streams may be in non-blocking mode: reads and messages
+/// wait for them.
 #[derive(Drop)]
 pub struct System<'a, R> {
     rt: &'a R,
-    /// Whether standard input was closed at the start: a file that is opened later takes its descriptor.
+    /// Whether standard input was closed at the start: a file that is opened later takes its
+    /// descriptor.
     has_no_input: bool,
 }
 
@@ -251,7 +258,8 @@ impl<'a, R: rt::Files + rt::Clock + Input + Eprint + AllocGlobal> Files for Syst
         }
     }
 
-    /// Standard error may be in non-blocking mode: a line that would block is retried, as a whole, until it is written.
+    /// Standard error may be in non-blocking mode: a line that would block is retried, as a whole,
+    /// until it is written.
     fn report<D: Display + Drop>(&mut self, line: D) {
         for _ in 0..u64::MAX {
             match self.rt.eprintln(&line) {

@@ -1,5 +1,5 @@
-//! What all commands share: files, standard output and standard error, reading line by line, exit statuses,
-//! hexadecimal digits, and texts of unknown origin in messages.
+//! What all commands share: files, standard output and standard error, reading line by line, exit
+//! statuses, hexadecimal digits, and texts of unknown origin in messages.
 #![tactic(auto)]
 
 pub mod code_file;

@@ -4,7 +4,8 @@ ghost use Rattle.std.specs.Prelude.{◌≡◌, ◌<◌, ◌≤◌, ℕ, List, le
 ghost use Rattle.std.specs.Io.KnownBytes.{Keeps, IsAtEnd};
 ghost use Rattle.console.specs.Lines.{GivesLine};
 ghost use Rattle.console.specs.LineBytes.{TakesByte};
-ghost use Rattle.console.specs.declared.lines.Heard.TheVariants.{Line as IsLine, Long as IsLong, End as IsEnd};
+ghost use Rattle.console.specs.declared.lines.Heard.TheVariants.{Line as IsLine, Long as IsLong};
+ghost use Rattle.console.specs.declared.lines.Heard.TheVariants.{End as IsEnd};
 
 use arrayvec::ArrayVec;
 use std::io::{ErrorKind, Read};
@@ -23,11 +24,13 @@ pub enum Heard {
     Failed = 4,
 }
 
-/// The lines of a reader: the bytes up to each line feed, and those after the last one. A line is returned before any
-/// byte after its line feed is read, and nothing is read after the end of the reader.
+/// The lines of a reader: the bytes up to each line feed, and those after the last one. A line is
+/// returned before any byte after its line feed is read, and nothing is read after the end of the
+/// reader.
 ///
-/// The reader is read byte by byte: use one that returns as soon as a byte is available, at low cost, as a
-/// `BufReader` does. Contracts refer to the bytes that are left in the reader, if it reports them.
+/// The reader is read byte by byte: use one that returns as soon as a byte is available, at low
+/// cost, as a `BufReader` does. Contracts refer to the bytes that are left in the reader, if it
+/// reports them.
 #[derive(Drop)]
 pub struct Lines<R: Read + Drop> {
     inner: R,
@@ -49,7 +52,8 @@ impl<R: Read + Drop> Lines<R> {
     ghost use Rattle.std.specs.Prelude.{◌≡◌, ◌<◌, ◌≤◌, ℕ, List, length};
     ghost use Rattle.std.specs.Io.KnownBytes.{Keeps, IsAtEnd};
     ghost use Rattle.console.specs.Lines.{GivesLine};
-    ghost use Rattle.console.specs.declared.lines.Heard.TheVariants.{Line as IsLine, Long as IsLong, End as IsEnd};
+    ghost use Rattle.console.specs.declared.lines.Heard.TheVariants.{Line as IsLine};
+    ghost use Rattle.console.specs.declared.lines.Heard.TheVariants.{Long as IsLong, End as IsEnd};
 
     /// The lines of the remaining bytes of this reader.
     pub fn new(inner: R) -> Self
@@ -61,8 +65,8 @@ impl<R: Read + Drop> Lines<R> {
         }
     }
 
-    /// Reads up to the next line feed and no byte further, and puts the line, without its line feed, into `line`. With
-    /// any result but `Line` the content of `line` is unspecified.
+    /// Reads up to the next line feed and no byte further, and puts the line, without its line
+    /// feed, into `line`. With any result but `Line` the content of `line` is unspecified.
     pub fn next(&mut self, line: &mut ArrayVec<u8, 65536>) -> Heard
         ensures line { result ≡ IsLine → GivesLine self.old line.new.items self.new }
         ensures bound { result ≡ IsLine → length line.new.items ≤ 65536 }

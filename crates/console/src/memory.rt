@@ -1,5 +1,5 @@
-//! Files in memory, all of which is known: a world in which commands can be tested, and of which all contracts over
-//! files say something.
+//! Files in memory, all of which is known: a world in which commands can be tested, and of which
+//! all contracts over files say something.
 
 ghost use Rattle.std.specs.Prelude.{◌≡◌, [], IfSome, IfNone, IfOk, OnOk, OnErr, None, Some};
 ghost use Rattle.std.specs.Io.Cursor.{cursor_remaining};
@@ -20,8 +20,8 @@ pub struct Version {
     bytes: Vec<u8>,
 }
 
-/// Files in memory, with a standard input and a standard error. A path has a file once it is put, created or touched;
-/// what is written to a file that is not closed is lost.
+/// Files in memory, with a standard input and a standard error. A path has a file once it is put,
+/// created or touched; what is written to a file that is not closed is lost.
 ///
 /// Each change of a file adds a version of it, and the newest one counts.
 #[derive(Drop)]
@@ -47,8 +47,8 @@ impl MemoryFiles {
         }
     }
 
-    /// Gives the file of a path these bytes, in place of those that it has. `AllocError` if out of memory: all files
-    /// are as they were then.
+    /// Gives the file of a path these bytes, in place of those that it has. `AllocError` if out of
+    /// memory: all files are as they were then.
     pub fn put(&mut self, path: &str, bytes: &[u8]) -> Result<(), AllocError>
         ensures put { OnOk result
             (HasWritten path.now bytes.now (world_of self.old) (world_of self.new)) }

@@ -9,9 +9,9 @@ use std::io::{self, Error, ErrorKind, Write};
 
 /// A writer that buffers what is printed and writes it to `out` in pieces of up to 2,048 bytes.
 ///
-/// A write that fails, takes nothing or is interrupted is not retried: nothing is written to `out` after it,
-/// and each later flush returns an error. The bytes in `out` followed by the buffered ones are always all that was
-/// printed.
+/// A write that fails, takes nothing or is interrupted is not retried: nothing is written to `out`
+/// after it, and each later flush returns an error. The bytes in `out` followed by the buffered
+/// ones are always all that was printed.
 #[derive(Drop)]
 pub struct Output<W> {
     out: W,

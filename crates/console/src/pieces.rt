@@ -1,6 +1,7 @@
 //! Reads a file piece by piece, as its bytes come.
 
-ghost use Rattle.std.specs.Prelude.{◌≡◌, ◌≤◌, ◌<◌, ◌-◌, ◌+◌, ◌%◌, ℕ, List, Option, take, slice_range, length, IfOk, OnErr, IfSome};
+ghost use Rattle.std.specs.Prelude.{◌≡◌, ◌≤◌, ◌<◌, ◌-◌, ◌+◌, ◌%◌, ℕ, List, Option, take};
+ghost use Rattle.std.specs.Prelude.{slice_range, length, IfOk, OnErr, IfSome};
 ghost use Rattle.std.specs.Io.KnownBytes.{Consumes, IsAtEnd, prepend_known};
 
 use crate::files::{FileFault, fault_of};
@@ -14,10 +15,11 @@ pub const PIECE: usize = 262_144;
 /// The size of a FIB.
 const FIB: usize = 32;
 
-/// The bytes of a file or of standard input in pieces of whole FIBs of 32 bytes, at most [`PIECE`] bytes each. A piece
-/// has what a read returns, so that nothing waits for bytes that are still to come; the bytes of a FIB that a read
-/// cuts are kept for the next piece. The last piece has all remaining bytes, which may end within a FIB. One piece
-/// is in memory at a time, however long the file is.
+/// The bytes of a file or of standard input in pieces of whole FIBs of 32 bytes, at most [`PIECE`]
+/// bytes each. A piece has what a read returns, so that nothing waits for bytes that are still to
+/// come; the bytes of a FIB that a read cuts are kept for the next piece. The last piece has all
+/// remaining bytes, which may end within a FIB. One piece is in memory at a time, however long the
+/// file is.
 ///
 /// Contracts refer to the bytes that are left, if known, and to the last piece read.
 #[derive(Drop)]
@@ -45,10 +47,12 @@ impl<R: Read + Drop> Model for Pieces<R> {
 }
 
 impl<R: Read + Drop> Pieces<R> {
-    ghost use Rattle.std.specs.Prelude.{◌≡◌, ◌≢◌, ◌%◌, ◌≤◌, ◌<◌, true, false, [], length, IfOk, OnOk, OnErr};
+    ghost use Rattle.std.specs.Prelude.{◌≡◌, ◌≢◌, ◌%◌, ◌≤◌, ◌<◌, true, false, [], length, IfOk};
+    ghost use Rattle.std.specs.Prelude.{OnOk, OnErr};
     ghost use Rattle.std.specs.Io.KnownBytes.{Consumes, IsAtEnd, Keeps};
 
-    /// The pieces of the remaining bytes of a source, before the first; `AllocError` if out of memory for one.
+    /// The pieces of the remaining bytes of a source, before the first; `AllocError` if out of
+    /// memory for one.
     #[tactic(auto, using(crate::proofs::Filling::none_kept))]
     pub fn new(alloc: Global, source: R) -> Result<Self, AllocError>
         ensures left { IfOk result (λ p. Keeps (R.remaining source) p.left) }
@@ -64,8 +68,9 @@ impl<R: Read + Drop> Pieces<R> {
         })
     }
 
-    /// Reads the next piece, and returns whether there was one. The source is read until a FIB is whole, and no
-    /// further; so a piece is empty only at the end, and ends within a FIB only there.
+    /// Reads the next piece, and returns whether there was one. The source is read until a FIB is
+    /// whole, and no further; so a piece is empty only at the end, and ends within a FIB only
+    /// there.
     ///
     /// `Failed` if the source fails. The piece is empty then, and what was read of it is lost.
     #[tactic(auto, using(crate::proofs::Filling::handed, crate::proofs::Filling::none_behind))]
@@ -97,8 +102,8 @@ impl<R: Read + Drop> Pieces<R> {
     }
 }
 
-/// Moves these bytes of a buffer to its front, reads behind them until a FIB is whole or the source ends, and returns
-/// the number of bytes that the buffer then has; `Failed` if the source fails.
+/// Moves these bytes of a buffer to its front, reads behind them until a FIB is whole or the source
+/// ends, and returns the number of bytes that the buffer then has; `Failed` if the source fails.
 fn refill<R: Read>(
     source: &mut R,
     buffer: &mut [u8],
@@ -130,7 +135,8 @@ fn keep(buffer: &mut [u8], start: usize, end: usize)
     buffer.copy_within(start..end, 0);
 }
 
-/// How many of the first bytes are handed out: those of whole FIBs, and at the end of the source all of them.
+/// How many of the first bytes are handed out: those of whole FIBs, and at the end of the source
+/// all of them.
 fn handed_of(filled: usize) -> usize
     ensures bound { result ≤ filled }
     ensures some { 0 < filled → 0 < result }
@@ -145,8 +151,8 @@ fn handed_of(filled: usize) -> usize
     }
 }
 
-/// Reads until a FIB is whole or the source ends, behind the first `kept` bytes of a buffer, and returns the number of
-/// bytes that it then has; `Failed` if the source fails.
+/// Reads until a FIB is whole or the source ends, behind the first `kept` bytes of a buffer, and
+/// returns the number of bytes that it then has; `Failed` if the source fails.
 fn fill<R: Read>(source: &mut R, buffer: &mut [u8], kept: usize) -> Result<usize, FileFault>
     requires cut { kept < 32 }
     requires room { 32 ≤ length buffer.old }
@@ -175,8 +181,8 @@ fn fill<R: Read>(source: &mut R, buffer: &mut [u8], kept: usize) -> Result<usize
     Err(FileFault::Failed)
 }
 
-/// Reads once, behind the first `filled` bytes of a buffer, which are less than a FIB: no byte is asked for while a
-/// whole FIB is to be handed out.
+/// Reads once, behind the first `filled` bytes of a buffer, which are less than a FIB: no byte is
+/// asked for while a whole FIB is to be handed out.
 fn read_behind<R: Read>(source: &mut R, buffer: &mut [u8], filled: usize) -> io::Result<usize>
     requires cut { filled < 32 }
     requires room { 32 ≤ length buffer.old }
@@ -193,7 +199,8 @@ fn read_behind<R: Read>(source: &mut R, buffer: &mut [u8], filled: usize) -> io:
     source.read(&mut buffer[filled..])
 }
 
-/// The remaining bytes of a source, at most `most`; `Failed` if it fails, `Memory` if out of memory.
+/// The remaining bytes of a source, at most `most`; `Failed` if it fails, `Memory` if out of
+/// memory.
 pub fn read_within<R: Read + Drop>(
     alloc: Global,
     source: R,

@@ -7,9 +7,9 @@ use std::rt::Files;
 /// How many names are tried for the file beside another.
 const NAMES: usize = 100;
 
-/// Gives the file of this path these bytes: they are written to a file beside it, which is renamed when they are whole.
-/// A file that is there keeps its permissions; where nothing can be created beside it, it is written as it is, and so is
-/// what is no regular file.
+/// Gives the file of this path these bytes: they are written to a file beside it, which is renamed
+/// when they are whole. A file that is there keeps its permissions; where nothing can be created
+/// beside it, it is written as it is, and so is what is no regular file.
 pub(crate) fn replaced<R: Files + AllocGlobal>(rt: &R, path: &str, bytes: &[u8]) -> io::Result<()> {
     let Some(place) = place_of(rt, path)? else {
         return fs::write(rt, path, bytes);
@@ -33,8 +33,9 @@ pub(crate) fn replaced<R: Files + AllocGlobal>(rt: &R, path: &str, bytes: &[u8])
     moved
 }
 
-/// The path at which a new regular file is put: that behind links, where there is such a file. `None` if there is
-/// something else, as a pipe, a device, or a link to nothing. The error of a file that can't be written.
+/// The path at which a new regular file is put: that behind links, where there is such a file.
+/// `None` if there is something else, as a pipe, a device, or a link to nothing. The error of a
+/// file that can't be written.
 fn place_of<R: Files + AllocGlobal>(rt: &R, path: &str) -> io::Result<Option<String>> {
     match fs::metadata(rt, path) {
         Ok(found) if found.is_file() => {

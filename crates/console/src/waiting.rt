@@ -10,14 +10,15 @@ use std::rt::Clock;
 use std::thread;
 use std::time::Duration;
 
-/// The pause between two attempts in milliseconds: a twelfth of a frame. The library has no call that waits for a
-/// descriptor.
+/// The pause between two attempts in milliseconds: a twelfth of a frame. The library has no call
+/// that waits for a descriptor.
 const PAUSE: u64 = 2;
 
-/// A reader or writer that may be in non-blocking mode (`O_NONBLOCK`), in which supervisors hand over standard streams.
+/// A reader or writer that may be in non-blocking mode (`O_NONBLOCK`), in which supervisors hand
+/// over standard streams.
 ///
-/// A read or write that would block is retried after a pause, until the stream is ready, as a stream in blocking mode
-/// waits. All other results are those of the inner stream.
+/// A read or write that would block is retried after a pause, until the stream is ready, as a
+/// stream in blocking mode waits. All other results are those of the inner stream.
 #[derive(Drop)]
 pub struct Waiting<'a, C, T> {
     clock: &'a C,

@@ -1,5 +1,6 @@
 -- The components of a service, one after another in its entry.
-use Rattle.std.proofs.Common.{◌≡◌, ℕ, ◌+◌, ◌*◌, ◌<◌, ◌≤◌, ◌==◌, true, false, List, [], ◌∷◌, ◌++◌, zero, suc, length, take, map, get_or, refl, sym, ◌∙◌, ap, arith, append_assoc, append-nil}
+use Rattle.std.proofs.Common.{◌≡◌, ℕ, ◌+◌, ◌*◌, ◌<◌, ◌≤◌, ◌==◌, true, false, List, [], ◌∷◌, ◌++◌, zero, suc, length}
+use Rattle.std.proofs.Common.{take, map, get_or, refl, sym, ◌∙◌, ap, arith, append_assoc, append-nil}
 use Rattle.std.proofs.lemmas.List.{take_more, length-append, length-take-le, map-append}
 use Rattle.std.proofs.lemmas.Bool.{ne_eqb}
 use Rattle.byteorder.specs.Endian.{big_bytes}
@@ -12,7 +13,8 @@ use Rattle.fib_codec.proofs.Lengths.{components_len, flat_map-append}
 
 -- one more component after the previous ones
 entries_more : (cs : List Component) (i : ℕ) (d : Component) → i < length cs
-    → component_entries (take (i + 1) cs) ≡ component_entries (take i cs) ++ component_entry (i == 0) (get_or cs i d) ∷ []
+    → component_entries (take (i + 1) cs) ≡ component_entries (take i cs)
+    ++ component_entry (i == 0) (get_or cs i d) ∷ []
 entries_more [] i d h = absurd (omega (arith, h))
 entries_more (c ∷ cs) zero d h = refl
 entries_more (c ∷ cs) (suc i) d h =
@@ -20,10 +22,13 @@ entries_more (c ∷ cs) (suc i) d h =
     ap (λ n. component_entries (take n (c ∷ cs))) count
     ∙ ap (λ xs. component_entry true c ∷ map (component_entry false) xs) (take_more cs i d (omega (arith, h)))
     ∙ ap (λ ys. component_entry true c ∷ ys) (map-append (component_entry false) (take i cs) (get_or cs i d ∷ []))
-    ∙ ap (λ b. component_entries (take (suc i) (c ∷ cs)) ++ component_entry b (get_or cs i d) ∷ []) (sym (ne_eqb (suc i) 0 (λ q. omega (arith, q))))
+    ∙ ap (λ b. component_entries (take (suc i) (c ∷ cs)) ++ component_entry b (get_or cs i d) ∷ [])
+    (sym (ne_eqb (suc i) 0 (λ q. omega (arith, q))))
 
-pub bytes_more : (old now after : List ℕ) (cs : List Component) (i : ℕ) (d : Component) (entry : ComponentEntry) → i < length cs → d ≡ get_or cs i d
-    → entry ≡ component_entry (i == 0) d → now ≡ old ++ components_bytes (component_entries (take i cs)) → after ≡ now ++ big_bytes 2 (component_u16 entry)
+pub bytes_more : (old now after : List ℕ) (cs : List Component) (i : ℕ) (d : Component) (entry : ComponentEntry)
+    → i < length cs → d ≡ get_or cs i d
+    → entry ≡ component_entry (i == 0) d → now ≡ old ++ components_bytes (component_entries (take i cs)) → after ≡ now
+    ++ big_bytes 2 (component_u16 entry)
     → after ≡ old ++ components_bytes (component_entries (take (i + 1) cs))
 bytes_more old now after cs i d entry lt there is before written =
     let Lexeme : ComponentEntry → List ℕ = λ e. big_bytes 2 (component_u16 e) in
@@ -43,6 +48,8 @@ pub room_for_more : (old now : List ℕ) (cs : List Component) (i : ℕ) → i <
 room_for_more old now cs i lt room before =
     let long : length now ≡ length old + length (components_bytes (component_entries (take i cs))) =
     ap length before ∙ length-append old (components_bytes (component_entries (take i cs))) in
-    let words : length (components_bytes (component_entries (take i cs))) ≡ 2 * length (component_entries (take i cs)) = components_len (component_entries (take i cs)) in
-    let count : length (component_entries (take i cs)) ≡ i = length-component_entries (take i cs) ∙ length-take-le i cs (omega (arith, lt)) in
+    let words : length (components_bytes (component_entries (take i cs))) ≡ 2 * length (component_entries (take i cs)) =
+    components_len (component_entries (take i cs)) in
+    let count : length (component_entries (take i cs)) ≡ i =
+    length-component_entries (take i cs) ∙ length-take-le i cs (omega (arith, lt)) in
     omega (arith, long, words, count, lt, room)

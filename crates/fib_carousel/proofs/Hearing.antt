@@ -1,5 +1,8 @@
 -- What a receiver decodes from the bytes of a page.
-use Rattle.std.proofs.Common.{◌≡◌, ℕ, ◌+◌, ◌*◌, ◌≤◌, ◌==◌, ◌↔◌, Bool, true, false, List, [], ◌∷◌, ◌++◌, zero, suc, length, take, drop, map, flat_map, Option, Some, None, IfSome, IsSome, Contains, ◌%◌, ◌/◌, refl, sym, ◌∙◌, ap, subst, inl, inr, ◌⊎◌, if◌then◌else◌, arith, append_assoc, ◌-◌, ◌<◌, replicate}
+use Rattle.std.proofs.Common.{◌≡◌, ℕ, ◌+◌, ◌*◌, ◌≤◌, ◌==◌, ◌↔◌, Bool, true, false, List, [], ◌∷◌, ◌++◌, zero, suc}
+use Rattle.std.proofs.Common.{length, take, drop, map, flat_map, Option, Some, None, IfSome, IsSome, Contains, ◌%◌, ◌/◌}
+use Rattle.std.proofs.Common.{refl, sym, ◌∙◌, ap, subst, inl, inr, ◌⊎◌, if◌then◌else◌, arith, append_assoc, ◌-◌, ◌<◌}
+use Rattle.std.proofs.Common.{replicate}
 use Rattle.fib_codec.specs.declared.frame_layout.FrameLayout.{FrameLayout}
 use Rattle.std.proofs.lemmas.List.{length-append, length-replicate, append-nil, take_at, drop_at, drop_all, drop-drop}
 use Rattle.std.proofs.lemmas.Grind.{flat_map-append}
@@ -11,7 +14,8 @@ use Rattle.mux_types.specs.Facts.{Marked, marked}
 use Rattle.mux_types.specs.declared.entry.Entry.TheVariants.{Ensemble as EnsembleOf}
 use Rattle.fib_codec.specs.declared.head.Head.{Head}
 use Rattle.fib_codec.specs.Ranges.{IsEnsembleInformation}
-use Rattle.fib_codec.specs.Spelling.{Written, IsWritten, head_of, ext_of, fig_bytes, figs_bytes, fib_bytes, filled, occurrence_bytes}
+use Rattle.fib_codec.specs.Spelling.{Written, IsWritten, head_of, ext_of, fig_bytes, figs_bytes, fib_bytes, filled}
+use Rattle.fib_codec.specs.Spelling.{occurrence_bytes}
 use Rattle.fib_codec.specs.Grammar.{Fig, Open, Other, IsFig, AreFigs, IsValid, IsOurs, fig_of}
 use Rattle.fib_codec.specs.Heard.{IsInFib, IsHeardInRow, IsEnsembleHeardInRow, fib_at, marked_of}
 use Rattle.fib_codec.proofs.Finished.{length-filled, fib_is, valid_is}
@@ -24,7 +28,8 @@ use Rattle.fib_codec.proofs.Layouts.{layouts_divide}
 use Rattle.fib_carousel.proofs.Widths.{some_fibs, first_of_page}
 use Rattle.std.proofs.lemmas.List.{length-map}
 use Rattle.std.proofs.lemmas.List.FromFn.{length-range_with_len}
-use Rattle.fib_carousel.specs.Bytes.{with_entry_first, figs_of, ensemble_figs, used_figs, reserved_figs, page_figs, page_bytes, figs_by, AreFibs}
+use Rattle.fib_carousel.specs.Bytes.{with_entry_first, figs_of, ensemble_figs, used_figs, reserved_figs, page_figs}
+use Rattle.fib_carousel.specs.Bytes.{page_bytes, figs_by, AreFibs}
 use Rattle.fib_carousel.specs.Carried.{IsSendable, AreSendable}
 use Rattle.fib_carousel.specs.Carried.{IsPageable, PagesKeepReserve}
 use Rattle.fib_carousel.proofs.Least.{of_packing}
@@ -34,11 +39,13 @@ use Rattle.fib_carousel.proofs.Sendable.{each_append, sendable_page_set}
 use Rattle.fib_carousel.proofs.Sent.{written_figs, fib_fits, fib_room}
 
 -- the FIGs of entries contain exactly these entries
-joined_says : (m : Marked) (fs : List Written) → AllByRecursion IsOurs fs → marked_of (with_entry_first m fs) ≡ m ∷ marked_of fs
+joined_says : (m : Marked) (fs : List Written) → AllByRecursion IsOurs fs
+    → marked_of (with_entry_first m fs) ≡ m ∷ marked_of fs
 joined_says m [] ours = refl
 joined_says m (f ∷ fs) ours = by (same_head (head_of m) f.head) refl
   where
-    by : (b : Bool) → same_head (head_of m) f.head ≡ b → marked_of (with_entry_first m (f ∷ fs)) ≡ m ∷ marked_of (f ∷ fs)
+    by : (b : Bool) → same_head (head_of m) f.head ≡ b
+        → marked_of (with_entry_first m (f ∷ fs)) ≡ m ∷ marked_of (f ∷ fs)
     by true e =
         let same : head_of m ≡ f.head = same_head_is (head_of m) f.head e in
         let next : f.head.next ≡ m.next = ap (λ (g : Head). g.next) (sym same) in
@@ -49,13 +56,16 @@ joined_says m (f ∷ fs) ours = by (same_head (head_of m) f.head) refl
         let whole : marked_of (written_of (head_of m) (m.entry ∷ []) ∷ f ∷ fs) ≡ m ∷ marked_of (f ∷ fs) = refl in
         rw e whole
 
-ours_joined : (m : Marked) (fs : List Written) → AllByRecursion IsOurs fs → AllByRecursion IsOurs (with_entry_first m fs)
+ours_joined : (m : Marked) (fs : List Written) → AllByRecursion IsOurs fs
+    → AllByRecursion IsOurs (with_entry_first m fs)
 ours_joined m [] ours = (refl, tt)
 ours_joined m (f ∷ fs) ours = by (same_head (head_of m) f.head) refl
   where
     by : (b : Bool) → same_head (head_of m) f.head ≡ b → AllByRecursion IsOurs (with_entry_first m (f ∷ fs))
-    by true e = let all : AllByRecursion IsOurs (written_of f.head (m.entry ∷ f.entries) ∷ fs) = (ours.0, ours.1) in rw e all
-    by false e = let all : AllByRecursion IsOurs (written_of (head_of m) (m.entry ∷ []) ∷ f ∷ fs) = (refl, ours) in rw e all
+    by true e = let all : AllByRecursion IsOurs (written_of f.head (m.entry ∷ f.entries) ∷ fs) = (ours.0, ours.1) in
+        rw e all
+    by false e = let all : AllByRecursion IsOurs (written_of (head_of m) (m.entry ∷ []) ∷ f ∷ fs) = (refl, ours) in
+        rw e all
 
 ours_figs : (ms : List Marked) → AllByRecursion IsOurs (figs_of ms)
 ours_figs [] = tt
@@ -66,19 +76,28 @@ figs_say [] = refl
 figs_say (m ∷ ms) = joined_says m (figs_of ms) (ours_figs ms) ∙ ap (λ xs. m ∷ xs) (figs_say ms)
 
 -- a selection of sendable entries is sendable
-pub sendable_where : (test : ℕ → Bool) (ms : List Marked) (ns : List ℕ) → AreSendable ms → AreSendable (entries_where test ms ns)
+pub sendable_where : (test : ℕ → Bool) (ms : List Marked) (ns : List ℕ) → AreSendable ms
+    → AreSendable (entries_where test ms ns)
 sendable_where test [] ns h = tt
 sendable_where test (m ∷ ms) [] h = tt
 sendable_where test (m ∷ ms) (n ∷ ns) h = by (test n) (sendable_where test ms ns h.1)
   where
-    by : (b : Bool) → AreSendable (entries_where test ms ns) → AreSendable (if b then m ∷ entries_where test ms ns else entries_where test ms ns)
+    by : (b : Bool) → AreSendable (entries_where test ms ns)
+        → AreSendable (if b then m ∷ entries_where test ms ns else entries_where test ms ns)
     by true again = (h.0, again)
     by false again = again
 
 -- FIG 0/0, if given
-ensemble_written : (o : Option EnsembleInformation) → IfSome o IsEnsembleInformation → AllByRecursion IsWritten (ensemble_figs o)
+ensemble_written : (o : Option EnsembleInformation) → IfSome o IsEnsembleInformation
+    → AllByRecursion IsWritten (ensemble_figs o)
 ensemble_written None h = tt
-ensemble_written (Some e) h = (record { formed = record { some = omega arith; under = (refl, tt); alone = λ z. refl }; within = (h, tt) }, tt)
+ensemble_written (Some e) h = (
+  record {
+    formed = record { some = omega arith; under = (refl, tt); alone = λ z. refl };
+    within = (h, tt);
+  },
+  tt,
+)
 
 ensemble_ours : (o : Option EnsembleInformation) → AllByRecursion IsOurs (ensemble_figs o)
 ensemble_ours None = tt
@@ -102,24 +121,31 @@ pub record Fits (figs : List Written) : Type 0 where
   pub ours : AllByRecursion IsOurs figs
   pub short : length (figs_bytes figs) ≤ 30
 
-length-figs_bytes : (xs ys : List Written) → length (figs_bytes (xs ++ ys)) ≡ length (figs_bytes xs) + length (figs_bytes ys)
+length-figs_bytes : (xs ys : List Written) → length (figs_bytes (xs ++ ys)) ≡ length (figs_bytes xs)
+    + length (figs_bytes ys)
 length-figs_bytes [] ys = omega arith
 length-figs_bytes (f ∷ xs) ys =
     length-append (fig_bytes f.head f.entries) (figs_bytes (xs ++ ys))
     ∙ omega (arith, length-figs_bytes xs ys, length-append (fig_bytes f.head f.entries) (figs_bytes xs))
 
-fits_in : (layout : FrameLayout) (o : Option EnsembleInformation) (n : ℕ) (ms : List Marked) → IsPageable o ms → (IsSome o → n % used_fibs layout ≡ 0) → Fits (ensemble_figs o ++ figs_of (fib_entries layout n ms))
+fits_in : (layout : FrameLayout) (o : Option EnsembleInformation) (n : ℕ) (ms : List Marked) → IsPageable o ms
+    → (IsSome o → n % used_fibs layout ≡ 0) → Fits (ensemble_figs o ++ figs_of (fib_entries layout n ms))
 fits_in layout o n ms h first =
     let here : List Marked = fib_entries layout n ms in
-    let cost : length (figs_bytes (figs_of here)) ≤ room layout n = rw (figs_cost here) (fib_fits layout ms n h.entries) in
+    let cost : length (figs_bytes (figs_of here)) ≤ room layout n =
+    rw (figs_cost here) (fib_fits layout ms n h.entries) in
     record {
-      written = each_append IsWritten (ensemble_figs o) (figs_of here) (ensemble_written o h.ensemble_within) (written_figs here (sendable_where (λ m. m == n) ms (packing layout ms) h.entries));
+      written = each_append IsWritten (ensemble_figs o) (figs_of here) (ensemble_written o h.ensemble_within)
+          (written_figs here (sendable_where (λ m. m == n) ms (packing layout ms) h.entries));
       ours = each_append IsOurs (ensemble_figs o) (figs_of here) (ensemble_ours o) (ours_figs here);
-      short = rw (length-figs_bytes (ensemble_figs o) (figs_of here)) (fib_room layout o n (length (figs_bytes (ensemble_figs o))) (length (figs_bytes (figs_of here))) (ensemble_low o) (ensemble_none o) first cost);
+      short = rw (length-figs_bytes (ensemble_figs o) (figs_of here))
+          (fib_room layout o n (length (figs_bytes (ensemble_figs o))) (length (figs_bytes (figs_of here)))
+          (ensemble_low o) (ensemble_none o) first cost);
     }
 
 -- the FIBs of a page
-each_of : {A B : Type 0} (P : B → Type 0) (f : A → B) → ((x : A) → P (f x)) → (xs : List A) → AllByRecursion P (map f xs)
+each_of : {A B : Type 0} (P : B → Type 0) (f : A → B) → ((x : A) → P (f x)) → (xs : List A)
+    → AllByRecursion P (map f xs)
 each_of P f h [] = tt
 each_of P f h (x ∷ xs) = (h x, each_of P f h xs)
 
@@ -131,11 +157,14 @@ each_front : {A : Type 0} (P : A → Type 0) (xs ys : List A) → AllByRecursion
 each_front P [] ys h = tt
 each_front P (x ∷ xs) ys h = (h.0, each_front P xs ys h.1)
 
-pub page_fits : (layout : FrameLayout) (o : Option EnsembleInformation) (k : ℕ) (ms : List Marked) → IsPageable o ms → AllByRecursion Fits (page_figs layout o k ms)
+pub page_fits : (layout : FrameLayout) (o : Option EnsembleInformation) (k : ℕ) (ms : List Marked) → IsPageable o ms
+    → AllByRecursion Fits (page_figs layout o k ms)
 page_fits layout o k ms h =
     let plain : IsPageable None ms = record { entries = h.entries; ensemble_within = tt } in
-    let first : Fits (ensemble_figs o ++ figs_of (fib_entries layout (first_fib layout k) ms)) = fits_in layout o (first_fib layout k) ms h (λ _. first_of_page layout k) in
-    let other : (n : ℕ) → Fits (figs_of (fib_entries layout n ms)) = λ n. fits_in layout None n ms plain (λ e. absurd (cc e)) in
+    let first : Fits (ensemble_figs o ++ figs_of (fib_entries layout (first_fib layout k) ms)) =
+    fits_in layout o (first_fib layout k) ms h (λ _. first_of_page layout k) in
+    let other : (n : ℕ) → Fits (figs_of (fib_entries layout n ms)) =
+    λ n. fits_in layout None n ms plain (λ e. absurd (cc e)) in
     each_append Fits (used_figs layout (packing layout ms) o k ms) (reserved_figs layout)
     (first, each_of Fits (λ n. figs_of (fib_entries layout n ms)) other (later_fibs layout k))
     (each_replicate Fits [] (record { written = tt; ours = tt; short = omega arith }) (reserved_fibs layout))
@@ -150,8 +179,11 @@ are_fibs : (all : List (List Written)) → AllByRecursion Fits all → AreFibs a
 are_fibs [] f = refl
 are_fibs (figs ∷ rest) f =
     let long = length-fib_bytes figs f.0 in (
-      subst (λ (bytes : List ℕ). IsValid bytes (map fig_of figs)) (sym (take_at (fib_bytes figs) (flat_map fib_bytes rest) 32 long)) (valid_is figs f.0.written f.0.short f.0.ours),
-      subst (λ (bytes : List ℕ). AreFibs rest bytes) (sym (drop_at (fib_bytes figs) (flat_map fib_bytes rest) 32 long)) (are_fibs rest f.1),
+      subst (λ (bytes : List ℕ). IsValid bytes (map fig_of figs))
+          (sym (take_at (fib_bytes figs) (flat_map fib_bytes rest) 32 long))
+          (valid_is figs f.0.written f.0.short f.0.ours),
+      subst (λ (bytes : List ℕ). AreFibs rest bytes) (sym (drop_at (fib_bytes figs) (flat_map fib_bytes rest) 32 long))
+          (are_fibs rest f.1),
     )
 
 length-fibs : (all : List (List Written)) → AllByRecursion Fits all → length (flat_map fib_bytes all) ≡ 32 * length all
@@ -160,13 +192,16 @@ length-fibs (figs ∷ rest) f =
     length-append (fib_bytes figs) (flat_map fib_bytes rest)
     ∙ omega (arith, length-fib_bytes figs f.0, length-fibs rest f.1)
 
-pub length-used_figs : (layout : FrameLayout) (o : Option EnsembleInformation) (k : ℕ) (ms : List Marked) → length (used_figs layout (packing layout ms) o k ms) ≡ used_fibs layout
+pub length-used_figs : (layout : FrameLayout) (o : Option EnsembleInformation) (k : ℕ) (ms : List Marked)
+    → length (used_figs layout (packing layout ms) o k ms) ≡ used_fibs layout
 length-used_figs layout o k ms =
     let later : length (map (λ n. figs_of (fib_entries layout n ms)) (later_fibs layout k)) ≡ used_fibs layout - 1 =
-    length-map (later_fibs layout k) (λ n. figs_of (fib_entries layout n ms)) ∙ length-range_with_len (first_fib layout k + 1) (used_fibs layout - 1) in
+    length-map (later_fibs layout k) (λ n. figs_of (fib_entries layout n ms))
+    ∙ length-range_with_len (first_fib layout k + 1) (used_fibs layout - 1) in
     omega (arith, later, some_fibs layout)
 
-length-page_figs : (layout : FrameLayout) (o : Option EnsembleInformation) (k : ℕ) (ms : List Marked) → length (page_figs layout o k ms) ≡ frame_fibs layout
+length-page_figs : (layout : FrameLayout) (o : Option EnsembleInformation) (k : ℕ) (ms : List Marked)
+    → length (page_figs layout o k ms) ≡ frame_fibs layout
 length-page_figs layout o k ms =
     let reserved : length (reserved_figs layout) ≡ reserved_fibs layout = length-replicate (reserved_fibs layout) [] in
     omega (
@@ -177,7 +212,9 @@ length-page_figs layout o k ms =
       (layouts_divide layout).0,
     )
 
-pub pages_are_valid : (layout : FrameLayout) (o : Option EnsembleInformation) (k : ℕ) (ms : List Marked) → IsPageable o ms → AreFibs (page_figs layout o k ms) (page_bytes layout o k ms) × (length (page_bytes layout o k ms) ≡ 32 * frame_fibs layout)
+pub pages_are_valid : (layout : FrameLayout) (o : Option EnsembleInformation) (k : ℕ) (ms : List Marked)
+    → IsPageable o ms → AreFibs (page_figs layout o k ms) (page_bytes layout o k ms)
+    × (length (page_bytes layout o k ms) ≡ 32 * frame_fibs layout)
 pages_are_valid layout o k ms h = (
   are_fibs (page_figs layout o k ms) (page_fits layout o k ms h),
   length-fibs (page_figs layout o k ms) (page_fits layout o k ms h) ∙ ap (λ n. 32 * n) (length-page_figs layout o k ms),
@@ -207,7 +244,8 @@ nothing_said m (figs, fig, fib, in_list, said) = by figs in_list fib.1
 fib_front : (figs : List Written) (rest : List ℕ) → Fits figs → fib_at (fib_bytes figs ++ rest) 0 ≡ fib_bytes figs
 fib_front figs rest f = take_at (fib_bytes figs) rest 32 (length-fib_bytes figs f)
 
-fib_later : (figs : List Written) (rest : List ℕ) (place : ℕ) → Fits figs → fib_at (fib_bytes figs ++ rest) (suc place) ≡ fib_at rest place
+fib_later : (figs : List Written) (rest : List ℕ) (place : ℕ) → Fits figs
+    → fib_at (fib_bytes figs ++ rest) (suc place) ≡ fib_at rest place
 fib_later figs rest place f =
     let count : 32 * suc place ≡ 32 + 32 * place = omega arith in
     ap (λ n. take 32 (drop n (fib_bytes figs ++ rest))) count
@@ -217,23 +255,35 @@ fib_later figs rest place f =
 abbrev IsSentIn : List ℕ → Marked → Type 0
 IsSentIn bytes m = (place : ℕ) × IsInFib (fib_at bytes place) m
 
-row_heard : (all : List (List Written)) (m : Marked) → AllByRecursion Fits all → (place : ℕ) → IsInFib (fib_at (flat_map fib_bytes all) place) m → Contains (flat_map marked_of all) m
-row_heard [] m f place h = absurd (nothing_said m (subst (λ (bytes : List ℕ). IsInFib bytes m) (ap (λ xs. take 32 xs) (drop_all (32 * place) [] (omega arith))) h))
+row_heard : (all : List (List Written)) (m : Marked) → AllByRecursion Fits all → (place : ℕ)
+    → IsInFib (fib_at (flat_map fib_bytes all) place) m → Contains (flat_map marked_of all) m
+row_heard [] m f place h = absurd (nothing_said m (subst (λ (bytes : List ℕ). IsInFib bytes m)
+    (ap (λ xs. take 32 xs) (drop_all (32 * place) [] (omega arith))) h))
 row_heard (figs ∷ rest) m f zero h =
     Contains-append_left (marked_of figs) (flat_map marked_of rest) m
-    ((fib_says figs m f.0).0 (subst (λ (bytes : List ℕ). IsInFib bytes m) (fib_front figs (flat_map fib_bytes rest) f.0) h))
+    ((fib_says figs m f.0).0 (subst (λ (bytes : List ℕ). IsInFib bytes m) (fib_front figs (flat_map fib_bytes rest) f.0)
+    h))
 row_heard (figs ∷ rest) m f (suc place) h =
     Contains-append_right (marked_of figs) (flat_map marked_of rest) m
-    (row_heard rest m f.1 place (subst (λ (bytes : List ℕ). IsInFib bytes m) (fib_later figs (flat_map fib_bytes rest) place f.0) h))
+    (row_heard rest m f.1 place
+    (subst (λ (bytes : List ℕ). IsInFib bytes m) (fib_later figs (flat_map fib_bytes rest) place f.0) h))
 
-row_sent : (all : List (List Written)) (m : Marked) → AllByRecursion Fits all → Contains (flat_map marked_of all) m → IsSentIn (flat_map fib_bytes all) m
+row_sent : (all : List (List Written)) (m : Marked) → AllByRecursion Fits all → Contains (flat_map marked_of all) m
+    → IsSentIn (flat_map fib_bytes all) m
 row_sent [] m f h = absurd (omega (arith, h.1))
 row_sent (figs ∷ rest) m f h =
     elim (Contains-append_cases (marked_of figs) (flat_map marked_of rest) m h) [
-      | inl here ↦ (0, subst (λ (bytes : List ℕ). IsInFib bytes m) (sym (fib_front figs (flat_map fib_bytes rest) f.0)) ((fib_says figs m f.0).1 here))
+      | inl here ↦ (
+        0,
+        subst (λ (bytes : List ℕ). IsInFib bytes m) (sym (fib_front figs (flat_map fib_bytes rest) f.0))
+            ((fib_says figs m f.0).1 here),
+      )
       | inr later ↦
-          let found : IsSentIn (flat_map fib_bytes rest) m = row_sent rest m f.1 later in
-          (suc found.0, subst (λ (bytes : List ℕ). IsInFib bytes m) (sym (fib_later figs (flat_map fib_bytes rest) found.0 f.0)) found.1)
+          let found : IsSentIn (flat_map fib_bytes rest) m = row_sent rest m f.1 later in (
+            suc found.0,
+            subst (λ (bytes : List ℕ). IsInFib bytes m)
+                (sym (fib_later figs (flat_map fib_bytes rest) found.0 f.0)) found.1,
+          )
     ]
 
 -- the FIGs of a page contain the ensemble information given and the entries of the page
@@ -241,21 +291,25 @@ abbrev ensemble_marked : Option EnsembleInformation → List Marked
 ensemble_marked None = []
 ensemble_marked (Some e) = marked false (EnsembleOf e) ∷ []
 
-first_says : (o : Option EnsembleInformation) (ms : List Marked) → marked_of (ensemble_figs o ++ figs_of ms) ≡ ensemble_marked o ++ ms
+first_says : (o : Option EnsembleInformation) (ms : List Marked)
+    → marked_of (ensemble_figs o ++ figs_of ms) ≡ ensemble_marked o ++ ms
 first_says None ms = figs_say ms
 first_says (Some e) ms = ap (λ xs. marked false (EnsembleOf e) ∷ xs) (figs_say ms)
 
-later_say : (layout : FrameLayout) (ms : List Marked) (ns : List ℕ) → flat_map marked_of (map (λ n. figs_of (fib_entries layout n ms)) ns) ≡ flat_map (λ n. fib_entries layout n ms) ns
+later_say : (layout : FrameLayout) (ms : List Marked) (ns : List ℕ)
+    → flat_map marked_of (map (λ n. figs_of (fib_entries layout n ms)) ns) ≡ flat_map (λ n. fib_entries layout n ms) ns
 later_say layout ms [] = refl
 later_say layout ms (n ∷ ns) =
-    ap (λ xs. xs ++ flat_map marked_of (map (λ n. figs_of (fib_entries layout n ms)) ns)) (figs_say (fib_entries layout n ms))
+    ap (λ xs. xs ++ flat_map marked_of (map (λ n. figs_of (fib_entries layout n ms)) ns))
+    (figs_say (fib_entries layout n ms))
     ∙ ap (λ xs. fib_entries layout n ms ++ xs) (later_say layout ms ns)
 
 reserved_say : (n : ℕ) → flat_map marked_of (replicate n []) ≡ []
 reserved_say zero = refl
 reserved_say (suc n) = reserved_say n
 
-page_says : (layout : FrameLayout) (o : Option EnsembleInformation) (k : ℕ) (ms : List Marked) → flat_map marked_of (page_figs layout o k ms) ≡ ensemble_marked o ++ page_entries layout k ms
+page_says : (layout : FrameLayout) (o : Option EnsembleInformation) (k : ℕ) (ms : List Marked)
+    → flat_map marked_of (page_figs layout o k ms) ≡ ensemble_marked o ++ page_entries layout k ms
 page_says layout o k ms =
     let first : List Marked = fib_entries layout (first_fib layout k) ms in
     let later : List Marked = flat_map (λ n. fib_entries layout n ms) (later_fibs layout k) in
@@ -263,19 +317,26 @@ page_says layout o k ms =
     flat_map-append marked_of used (reserved_figs layout)
     ∙ ap (λ xs. flat_map marked_of used ++ xs) (reserved_say (reserved_fibs layout))
     ∙ append-nil (flat_map marked_of used)
-    ∙ ap (λ xs. xs ++ flat_map marked_of (map (λ n. figs_of (fib_entries layout n ms)) (later_fibs layout k))) (first_says o first)
+    ∙ ap (λ xs. xs ++ flat_map marked_of (map (λ n. figs_of (fib_entries layout n ms)) (later_fibs layout k)))
+    (first_says o first)
     ∙ ap (λ xs. (ensemble_marked o ++ first) ++ xs) (later_say layout ms (later_fibs layout k))
     ∙ append_assoc (ensemble_marked o) first later
     ∙ ap (λ xs. ensemble_marked o ++ xs) (sym (page_is_fibs layout ms k))
 
-in_page : (layout : FrameLayout) (o : Option EnsembleInformation) (k : ℕ) (ms : List Marked) (m : Marked) → IsPageable o ms → IsSentIn (page_bytes layout o k ms) m → Contains (ensemble_marked o) m ⊎ Contains (page_entries layout k ms) m
+in_page : (layout : FrameLayout) (o : Option EnsembleInformation) (k : ℕ) (ms : List Marked) (m : Marked)
+    → IsPageable o ms → IsSentIn (page_bytes layout o k ms) m → Contains (ensemble_marked o) m
+    ⊎ Contains (page_entries layout k ms) m
 in_page layout o k ms m h (place, inside) =
     Contains-append_cases (ensemble_marked o) (page_entries layout k ms) m
-    (subst (λ (xs : List Marked). Contains xs m) (page_says layout o k ms) (row_heard (page_figs layout o k ms) m (page_fits layout o k ms h) place inside))
+    (subst (λ (xs : List Marked). Contains xs m) (page_says layout o k ms)
+    (row_heard (page_figs layout o k ms) m (page_fits layout o k ms h) place inside))
 
-of_page : (layout : FrameLayout) (o : Option EnsembleInformation) (k : ℕ) (ms : List Marked) (m : Marked) → IsPageable o ms → Contains (ensemble_marked o ++ page_entries layout k ms) m → IsSentIn (page_bytes layout o k ms) m
+of_page : (layout : FrameLayout) (o : Option EnsembleInformation) (k : ℕ) (ms : List Marked) (m : Marked)
+    → IsPageable o ms → Contains (ensemble_marked o ++ page_entries layout k ms) m
+    → IsSentIn (page_bytes layout o k ms) m
 of_page layout o k ms m h inside =
-    row_sent (page_figs layout o k ms) m (page_fits layout o k ms h) (subst (λ (xs : List Marked). Contains xs m) (sym (page_says layout o k ms)) inside)
+    row_sent (page_figs layout o k ms) m (page_fits layout o k ms h)
+    (subst (λ (xs : List Marked). Contains xs m) (sym (page_says layout o k ms)) inside)
 
 -- entries of a page are of FIG 0/1 to 0/3, and ensemble information is not
 each_contains : {A : Type 0} (P : A → Type 0) (xs : List A) (x : A) → AllByRecursion P xs → Contains xs x → P x
@@ -283,17 +344,21 @@ each_contains P [] x h inside = absurd (omega (arith, inside.1))
 each_contains P (y ∷ xs) x h (zero, lt, is) = subst P is h.0
 each_contains P (y ∷ xs) x h (suc i, lt, is) = each_contains P xs x h.1 (i, omega (arith, lt), is)
 
-organized : (layout : FrameLayout) (k : ℕ) (ms : List Marked) (m : Marked) → AreSendable ms → Contains (page_entries layout k ms) m → 1 ≤ ext_of m.entry
+organized : (layout : FrameLayout) (k : ℕ) (ms : List Marked) (m : Marked) → AreSendable ms
+    → Contains (page_entries layout k ms) m → 1 ≤ ext_of m.entry
 organized layout k ms m h inside =
-    let s : IsSendable m = each_contains IsSendable (page_entries layout k ms) m (sendable_where (λ n. n / used_fibs layout == k) ms (packing layout ms) h) inside in
+    let s : IsSendable m = each_contains IsSendable (page_entries layout k ms) m
+    (sendable_where (λ n. n / used_fibs layout == k) ms (packing layout ms) h) inside in
     s.organization
 
-ensemble_is : (o : Option EnsembleInformation) (m : Marked) → Contains (ensemble_marked o) m → (e : EnsembleInformation) × (o ≡ Some e) × (m ≡ marked false (EnsembleOf e))
+ensemble_is : (o : Option EnsembleInformation) (m : Marked) → Contains (ensemble_marked o) m → (e : EnsembleInformation)
+    × (o ≡ Some e) × (m ≡ marked false (EnsembleOf e))
 ensemble_is None m inside = absurd (omega (arith, inside.1))
 ensemble_is (Some e) m (zero, lt, is) = (e, refl, sym is)
 ensemble_is (Some e) m (suc i, lt, is) = absurd (omega (arith, lt))
 
-pub pages_are_heard : (layout : FrameLayout) (o : Option EnsembleInformation) (k : ℕ) (ms : List Marked) → IsPageable o ms → (m : Marked) → IsHeardInRow (page_bytes layout o k ms) m ↔ Contains (page_entries layout k ms) m
+pub pages_are_heard : (layout : FrameLayout) (o : Option EnsembleInformation) (k : ℕ) (ms : List Marked)
+    → IsPageable o ms → (m : Marked) → IsHeardInRow (page_bytes layout o k ms) m ↔ Contains (page_entries layout k ms) m
 pages_are_heard layout o k ms h m = (
   λ heard.
       elim (in_page layout o k ms m h (heard.0, heard.1.inside)) [
@@ -304,11 +369,14 @@ pages_are_heard layout o k ms h m = (
         | inr here ↦ here
       ],
   λ here.
-      let found = of_page layout o k ms m h (Contains-append_right (ensemble_marked o) (page_entries layout k ms) m here) in
+      let found = of_page layout o k ms m h
+      (Contains-append_right (ensemble_marked o) (page_entries layout k ms) m here) in
       (found.0, record { organization = organized layout k ms m h.entries here; inside = found.1 }),
 )
 
-pub ensemble_is_heard : (layout : FrameLayout) (o : Option EnsembleInformation) (k : ℕ) (ms : List Marked) → IsPageable o ms → (next : Bool) (e : EnsembleInformation) → IsEnsembleHeardInRow (page_bytes layout o k ms) next e ↔ ((next ≡ false) × (o ≡ Some e))
+pub ensemble_is_heard : (layout : FrameLayout) (o : Option EnsembleInformation) (k : ℕ) (ms : List Marked)
+    → IsPageable o ms → (next : Bool) (e : EnsembleInformation) → IsEnsembleHeardInRow (page_bytes layout o k ms) next e
+    ↔ ((next ≡ false) × (o ≡ Some e))
 ensemble_is_heard layout o k ms h next e = (
   λ heard.
       elim (in_page layout o k ms (marked next (EnsembleOf e)) h (heard.0, heard.1)) [
@@ -322,27 +390,37 @@ ensemble_is_heard layout o k ms h next e = (
       ],
   λ told.
       let marks : ensemble_marked o ≡ marked next (EnsembleOf e) ∷ [] =
-      ap (λ (x : Option EnsembleInformation). ensemble_marked x) told.1 ∙ ap (λ (b : Bool). marked b (EnsembleOf e) ∷ []) (sym told.0) in
+      ap (λ (x : Option EnsembleInformation). ensemble_marked x) told.1
+      ∙ ap (λ (b : Bool). marked b (EnsembleOf e) ∷ []) (sym told.0) in
       let inside : Contains (ensemble_marked o) (marked next (EnsembleOf e)) =
       subst (λ (xs : List Marked). Contains xs (marked next (EnsembleOf e))) (sym marks) (0, omega arith, refl) in
-      let found = of_page layout o k ms (marked next (EnsembleOf e)) h (Contains-append_left (ensemble_marked o) (page_entries layout k ms) (marked next (EnsembleOf e)) inside) in
+      let found = of_page layout o k ms (marked next (EnsembleOf e)) h
+      (Contains-append_left (ensemble_marked o) (page_entries layout k ms) (marked next (EnsembleOf e)) inside) in
       (found.0, found.1),
 )
 
-pub page_sets_are_pageable : (c : Configuration) (n : Option Configuration) (o : Option EnsembleInformation) → IsConfiguration c → IfSome n IsConfiguration → IfSome o IsEnsembleInformation → IsPageable o (page_set c n)
+pub page_sets_are_pageable : (c : Configuration) (n : Option Configuration) (o : Option EnsembleInformation)
+    → IsConfiguration c → IfSome n IsConfiguration → IfSome o IsEnsembleInformation → IsPageable o (page_set c n)
 page_sets_are_pageable c n o h next e = record { entries = sendable_page_set c n h next; ensemble_within = e }
 
 -- the bytes of a page, if its entries are given by an equal list
-pub valid_page : (layout : FrameLayout) (o : Option EnsembleInformation) (k : ℕ) (ms known : List Marked) (bytes : List ℕ) → known ≡ ms → IsPageable o known → bytes ≡ page_bytes layout o k known → AreFibs (page_figs layout o k ms) bytes
+pub valid_page : (layout : FrameLayout) (o : Option EnsembleInformation) (k : ℕ) (ms known : List Marked)
+    (bytes : List ℕ) → known ≡ ms → IsPageable o known → bytes ≡ page_bytes layout o k known
+    → AreFibs (page_figs layout o k ms) bytes
 valid_page layout o k ms known bytes e h b =
     subst (λ (xs : List Marked). AreFibs (page_figs layout o k xs) bytes) e
     (subst (λ (xs : List ℕ). AreFibs (page_figs layout o k known) xs) (sym b) (pages_are_valid layout o k known h).0)
 
-pub packed_page : (layout : FrameLayout) (o : Option EnsembleInformation) (k : ℕ) (ms : List Marked) (bytes : List ℕ) → AreFibs (page_figs layout o k ms) bytes → (ns : List ℕ) → IsPacking layout ms ns → AreFibs (figs_by layout ns o k ms) bytes
-packed_page layout o k ms bytes valid ns p = subst (λ (numbers : List ℕ). AreFibs (figs_by layout numbers o k ms) bytes) (of_packing layout (λ (numbers : List ℕ). numbers) ms ns p) valid
+pub packed_page : (layout : FrameLayout) (o : Option EnsembleInformation) (k : ℕ) (ms : List Marked) (bytes : List ℕ)
+    → AreFibs (page_figs layout o k ms) bytes → (ns : List ℕ) → IsPacking layout ms ns
+    → AreFibs (figs_by layout ns o k ms) bytes
+packed_page layout o k ms bytes valid ns p =
+    subst (λ (numbers : List ℕ). AreFibs (figs_by layout numbers o k ms) bytes)
+    (of_packing layout (λ (numbers : List ℕ). numbers) ms ns p) valid
 
 -- the FIBs after those that carry FIGs
-fib_in_rest : (all : List (List Written)) (rest : List ℕ) (place : ℕ) → AllByRecursion Fits all → fib_at (flat_map fib_bytes all ++ rest) (length all + place) ≡ fib_at rest place
+fib_in_rest : (all : List (List Written)) (rest : List ℕ) (place : ℕ) → AllByRecursion Fits all
+    → fib_at (flat_map fib_bytes all ++ rest) (length all + place) ≡ fib_at rest place
 fib_in_rest [] rest place f = let same : 0 + place ≡ place = omega arith in ap (λ n. fib_at rest n) same
 fib_in_rest (figs ∷ all) rest place f =
     let count : suc (length all) + place ≡ suc (length all + place) = omega arith in
@@ -353,9 +431,11 @@ fib_in_rest (figs ∷ all) rest place f =
 
 empty_at : (count place : ℕ) → place < count → fib_at (flat_map fib_bytes (replicate count [])) place ≡ empty_fib
 empty_at zero place few = absurd (omega (arith, few))
-empty_at (suc count) zero few = fib_front [] (flat_map fib_bytes (replicate count [])) (record { written = tt; ours = tt; short = omega arith })
+empty_at (suc count) zero few =
+    fib_front [] (flat_map fib_bytes (replicate count [])) (record { written = tt; ours = tt; short = omega arith })
 empty_at (suc count) (suc place) few =
-    fib_later [] (flat_map fib_bytes (replicate count [])) place (record { written = tt; ours = tt; short = omega arith })
+    fib_later [] (flat_map fib_bytes (replicate count [])) place
+    (record { written = tt; ours = tt; short = omega arith })
     ∙ empty_at count place (omega (arith, few))
 
 pub pages_keep_reserve : PagesKeepReserve

@@ -1,6 +1,8 @@
 -- The three sets of a configuration in the list of its entries, and runs of entries in them.
-use Rattle.std.proofs.Common.{◌≡◌, ℕ, suc, ◌+◌, ◌-◌, ◌*◌, ◌<◌, ◌≤◌, Bool, false, List, [], ◌∷◌, ◌++◌, length, map, take, drop, slice_get, Some, refl, sym, ◌∙◌, ap, subst, arith, append_assoc, append-nil}
-use Rattle.std.proofs.lemmas.List.{length-append, length-map, length-drop, take-map, drop-map, take-append-le, drop-append-le, length-take-le}
+use Rattle.std.proofs.Common.{◌≡◌, ℕ, suc, ◌+◌, ◌-◌, ◌*◌, ◌<◌, ◌≤◌, Bool, false, List, [], ◌∷◌, ◌++◌, length, map, take}
+use Rattle.std.proofs.Common.{drop, slice_get, Some, refl, sym, ◌∙◌, ap, subst, arith, append_assoc, append-nil}
+use Rattle.std.proofs.lemmas.List.{length-append, length-map, length-drop, take-map, drop-map, take-append-le}
+use Rattle.std.proofs.lemmas.List.{drop-append-le, length-take-le}
 use Rattle.std.proofs.Math.Seq.{drop-append-add}
 use Rattle.mux_types.specs.declared.parts.Sub.{Sub}
 use Rattle.mux_types.specs.declared.parts.Service.{Service}
@@ -22,59 +24,79 @@ use Rattle.fib_carousel.proofs.Walk.{take_here}
 use Rattle.fib_carousel.proofs.Together.{in_run, run_shape, run_length, same_shape}
 
 -- ---- pieces of a list
-pub piece_front : {A : Type 0} (xs ys : List A) (i n : ℕ) → i + n ≤ length xs → take n (drop i (xs ++ ys)) ≡ take n (drop i xs)
+pub piece_front : {A : Type 0} (xs ys : List A) (i n : ℕ) → i + n ≤ length xs
+    → take n (drop i (xs ++ ys)) ≡ take n (drop i xs)
 piece_front xs ys i n h =
     ap (λ zs. take n zs) (drop-append-le i xs ys (omega (arith, h)))
     ∙ take-append-le n (drop i xs) ys (omega (arith, h, length-drop i xs))
 
-pub piece_behind : {A : Type 0} (xs ys : List A) (i n : ℕ) → take n (drop (length xs + i) (xs ++ ys)) ≡ take n (drop i ys)
+pub piece_behind : {A : Type 0} (xs ys : List A) (i n : ℕ)
+    → take n (drop (length xs + i) (xs ++ ys)) ≡ take n (drop i ys)
 piece_behind xs ys i n = ap (λ zs. take n zs) (drop-append-add xs ys i)
 
-pub piece_map : {A B : Type 0} (f : A → B) (xs : List A) (i n : ℕ) → take n (drop i (map f xs)) ≡ map f (take n (drop i xs))
+pub piece_map : {A B : Type 0} (f : A → B) (xs : List A) (i n : ℕ)
+    → take n (drop i (map f xs)) ≡ map f (take n (drop i xs))
 piece_map f xs i n = ap (λ ys. take n ys) (drop-map f i xs) ∙ take-map f n (drop i xs)
 
 -- pieces of a configuration's entries that lie within one of its sets
 abbrev pub marked_all : {A : Type 0} → Bool → (A → Entry) → List A → List Marked
 marked_all next f xs = map (marked next) (map f xs)
 
-pub subs_piece : (c : Configuration) (next : Bool) (i n : ℕ) → i + n ≤ length c.subs → piece (facts_of c next) i n ≡ marked_all next sub_entry (take n (drop i c.subs))
+pub subs_piece : (c : Configuration) (next : Bool) (i n : ℕ) → i + n ≤ length c.subs
+    → piece (facts_of c next) i n ≡ marked_all next sub_entry (take n (drop i c.subs))
 subs_piece c next i n h =
     piece_map (marked next) (config_entries c) i n
     ∙ ap (map (marked next)) (piece_front (map sub_entry c.subs) _ i n (omega (arith, h, length-map c.subs sub_entry)))
     ∙ ap (map (marked next)) (piece_map sub_entry c.subs i n)
 
-pub services_piece : (c : Configuration) (next : Bool) (i n : ℕ) → i + n ≤ length c.services → piece (facts_of c next) (length c.subs + i) n ≡ marked_all next service_entry (take n (drop i c.services))
+pub services_piece : (c : Configuration) (next : Bool) (i n : ℕ) → i + n ≤ length c.services
+    → piece (facts_of c next) (length c.subs + i) n ≡ marked_all next service_entry (take n (drop i c.services))
 services_piece c next i n h =
     let subs : List Entry = map sub_entry c.subs in
     let services : List Entry = map service_entry c.services in
     let packets : List Entry = map packet_entry c.packets in
     piece_map (marked next) (config_entries c) (length c.subs + i) n
-    ∙ ap (λ k. map (marked next) (take n (drop (k + i) (subs ++ (services ++ packets))))) (sym (length-map c.subs sub_entry))
+    ∙ ap (λ k. map (marked next) (take n (drop (k + i) (subs ++ (services ++ packets)))))
+    (sym (length-map c.subs sub_entry))
     ∙ ap (map (marked next)) (piece_behind subs (services ++ packets) i n)
     ∙ ap (map (marked next)) (piece_front services packets i n (omega (arith, h, length-map c.services service_entry)))
     ∙ ap (map (marked next)) (piece_map service_entry c.services i n)
 
-pub packets_piece : (c : Configuration) (next : Bool) (i n : ℕ) → piece (facts_of c next) (length c.subs + (length c.services + i)) n ≡ marked_all next packet_entry (take n (drop i c.packets))
+pub packets_piece : (c : Configuration) (next : Bool) (i n : ℕ)
+    → piece (facts_of c next) (length c.subs + (length c.services + i)) n
+    ≡ marked_all next packet_entry (take n (drop i c.packets))
 packets_piece c next i n =
     let subs : List Entry = map sub_entry c.subs in
     let services : List Entry = map service_entry c.services in
     let packets : List Entry = map packet_entry c.packets in
     piece_map (marked next) (config_entries c) (length c.subs + (length c.services + i)) n
-    ∙ ap (λ k. map (marked next) (take n (drop (k + (length c.services + i)) (subs ++ (services ++ packets))))) (sym (length-map c.subs sub_entry))
+    ∙ ap (λ k. map (marked next) (take n (drop (k + (length c.services + i)) (subs ++ (services ++ packets)))))
+    (sym (length-map c.subs sub_entry))
     ∙ ap (map (marked next)) (piece_behind subs (services ++ packets) (length c.services + i) n)
-    ∙ ap (λ k. map (marked next) (take n (drop (k + i) (services ++ packets)))) (sym (length-map c.services service_entry))
+    ∙ ap (λ k. map (marked next) (take n (drop (k + i) (services ++ packets))))
+    (sym (length-map c.services service_entry))
     ∙ ap (map (marked next)) (piece_behind services packets i n)
     ∙ ap (map (marked next)) (piece_map packet_entry c.packets i n)
 
-pub facts_length : (c : Configuration) (next : Bool) → length (facts_of c next) ≡ length c.subs + (length c.services + length c.packets)
+pub facts_length : (c : Configuration) (next : Bool) → length (facts_of c next) ≡ length c.subs
+    + (length c.services + length c.packets)
 facts_length c next =
     let subs : List Entry = map sub_entry c.subs in
     let services : List Entry = map service_entry c.services in
     let packets : List Entry = map packet_entry c.packets in
-    omega (arith, length-map (config_entries c) (marked next), length-append subs (services ++ packets), length-append services packets, length-map c.subs sub_entry, length-map c.services service_entry, length-map c.packets packet_entry)
+    omega (
+      arith,
+      length-map (config_entries c) (marked next),
+      length-append subs (services ++ packets),
+      length-append services packets,
+      length-map c.subs sub_entry,
+      length-map c.services service_entry,
+      length-map c.packets packet_entry,
+    )
 
 -- ---- their bytes and shapes
-pub all_bytes : {A : Type 0} (next : Bool) (f : A → Entry) (xs : List A) → marked_bytes (marked_all next f xs) ≡ entries_bytes (map f xs)
+pub all_bytes : {A : Type 0} (next : Bool) (f : A → Entry) (xs : List A)
+    → marked_bytes (marked_all next f xs) ≡ entries_bytes (map f xs)
 all_bytes next f [] = refl
 all_bytes next f (x ∷ xs) = ap (λ t. entry_bytes (f x) ++ t) (all_bytes next f xs)
 
@@ -86,27 +108,33 @@ packets_alike : (next : Bool) (xs : List Packet) → AreAlike (packet_shape next
 packets_alike next [] = tt
 packets_alike next (x ∷ xs) = (refl, packets_alike next xs)
 
-pub subs_run : (c : Configuration) (next : Bool) (i n : ℕ) → i + n ≤ length c.subs → IsRun (facts_of c next) i n (sub_shape next)
+pub subs_run : (c : Configuration) (next : Bool) (i n : ℕ) → i + n ≤ length c.subs
+    → IsRun (facts_of c next) i n (sub_shape next)
 subs_run c next i n h = record {
   inside = omega (arith, h, facts_length c next);
-  alike = subst (λ (ms : List Marked). AreAlike (sub_shape next) ms) (sym (subs_piece c next i n h)) (subs_alike next (take n (drop i c.subs)));
+  alike = subst (λ (ms : List Marked). AreAlike (sub_shape next) ms) (sym (subs_piece c next i n h))
+      (subs_alike next (take n (drop i c.subs)));
 }
 
-pub packets_run : (c : Configuration) (next : Bool) (i n : ℕ) → i + n ≤ length c.packets → IsRun (facts_of c next) (length c.subs + (length c.services + i)) n (packet_shape next)
+pub packets_run : (c : Configuration) (next : Bool) (i n : ℕ) → i + n ≤ length c.packets
+    → IsRun (facts_of c next) (length c.subs + (length c.services + i)) n (packet_shape next)
 packets_run c next i n h = record {
   inside = omega (arith, h, facts_length c next);
-  alike = subst (λ (ms : List Marked). AreAlike (packet_shape next) ms) (sym (packets_piece c next i n)) (packets_alike next (take n (drop i c.packets)));
+  alike = subst (λ (ms : List Marked). AreAlike (packet_shape next) ms) (sym (packets_piece c next i n))
+      (packets_alike next (take n (drop i c.packets)));
 }
 
 -- ---- runs put into a FIB
-pub first_size : (ms : List Marked) (i n : ℕ) (s : EntryShape) (room : ℕ) (d : Marked) → IsRun ms i n s → 1 ≤ n → ((m : Marked) → slice_get ms i ≡ Some m → size_of m ≤ room) → s.size ≤ room
+pub first_size : (ms : List Marked) (i n : ℕ) (s : EntryShape) (room : ℕ) (d : Marked) → IsRun ms i n s → 1 ≤ n
+    → ((m : Marked) → slice_get ms i ≡ Some m → size_of m ≤ room) → s.size ≤ room
 first_size ms i n s room d r some fits =
     let at : i + 0 ≡ i = omega arith in
     let first = in_run ms i n s d r 0 (omega (arith, some)) in
     let size : size_of first.entry ≡ s.size = ap (λ (t : EntryShape). t.size) first.shape in
     omega (arith, size, fits first.entry (ap (λ j. slice_get ms j) (sym at) ∙ first.here))
 
-pub run_put : (ms : List Marked) (i n room : ℕ) (old new : List ℕ) (s : EntryShape) → IsRun ms i n s → 1 ≤ n → n * s.size ≤ room → new ≡ old ++ marked_bytes (piece ms i n)
+pub run_put : (ms : List Marked) (i n room : ℕ) (old new : List ℕ) (s : EntryShape) → IsRun ms i n s → 1 ≤ n
+    → n * s.size ≤ room → new ≡ old ++ marked_bytes (piece ms i n)
     → (t : EntryShape) → IsShapeAt ms i t → PutsRun ms i t room n old new
 run_put ms i n room old new s r some fits bytes t at =
     let same : s ≡ t = sym (run_shape ms i n t s at r some) in
@@ -117,22 +145,29 @@ run_put ms i n room old new s r some fits bytes t at =
       bytes = bytes;
     }
 
-pub subs_put : (c : Configuration) (next : Bool) (i n room : ℕ) (old new : List ℕ) → i + n ≤ length c.subs → 1 ≤ n → n * 4 ≤ room → new ≡ old ++ entries_bytes (map sub_entry (take n (drop i c.subs)))
+pub subs_put : (c : Configuration) (next : Bool) (i n room : ℕ) (old new : List ℕ) → i + n ≤ length c.subs → 1 ≤ n
+    → n * 4 ≤ room → new ≡ old ++ entries_bytes (map sub_entry (take n (drop i c.subs)))
     → (t : EntryShape) → IsShapeAt (facts_of c next) i t → PutsRun (facts_of c next) i t room n old new
 subs_put c next i n room old new there some fits bytes =
     run_put (facts_of c next) i n room old new (sub_shape next) (subs_run c next i n there) some fits
-    (bytes ∙ ap (λ t. old ++ t) (sym (all_bytes next sub_entry (take n (drop i c.subs)))) ∙ ap (λ (ms : List Marked). old ++ marked_bytes ms) (sym (subs_piece c next i n there)))
+    (bytes ∙ ap (λ t. old ++ t) (sym (all_bytes next sub_entry (take n (drop i c.subs))))
+    ∙ ap (λ (ms : List Marked). old ++ marked_bytes ms) (sym (subs_piece c next i n there)))
 
-pub packets_put : (c : Configuration) (next : Bool) (i n room index : ℕ) (old new : List ℕ) → index ≡ length c.subs + (length c.services + i) → i + n ≤ length c.packets → 1 ≤ n → n * 5 ≤ room
+pub packets_put : (c : Configuration) (next : Bool) (i n room index : ℕ) (old new : List ℕ)
+    → index ≡ length c.subs + (length c.services + i) → i + n ≤ length c.packets → 1 ≤ n → n * 5 ≤ room
     → new ≡ old ++ entries_bytes (map packet_entry (take n (drop i c.packets)))
     → (t : EntryShape) → IsShapeAt (facts_of c next) index t → PutsRun (facts_of c next) index t room n old new
 packets_put c next i n room index old new at there some fits bytes =
-    subst (λ j. (t : EntryShape) → IsShapeAt (facts_of c next) j t → PutsRun (facts_of c next) j t room n old new) (sym at)
-    (run_put (facts_of c next) (length c.subs + (length c.services + i)) n room old new (packet_shape next) (packets_run c next i n there) some fits
-    (bytes ∙ ap (λ t. old ++ t) (sym (all_bytes next packet_entry (take n (drop i c.packets)))) ∙ ap (λ (ms : List Marked). old ++ marked_bytes ms) (sym (packets_piece c next i n))))
+    subst (λ j. (t : EntryShape) → IsShapeAt (facts_of c next) j t → PutsRun (facts_of c next) j t room n old new)
+    (sym at)
+    (run_put (facts_of c next) (length c.subs + (length c.services + i)) n room old new (packet_shape next)
+    (packets_run c next i n there) some fits
+    (bytes ∙ ap (λ t. old ++ t) (sym (all_bytes next packet_entry (take n (drop i c.packets))))
+    ∙ ap (λ (ms : List Marked). old ++ marked_bytes ms) (sym (packets_piece c next i n))))
 
 -- a run with one more entry
-pub one_more : {A : Type 0} (f : A → Entry) (xs : List A) (from at : ℕ) (x : A) (old now new : List ℕ) → from ≤ at → slice_get xs at ≡ Some x → now ≡ old ++ entries_bytes (map f (take (at - from) (drop from xs)))
+pub one_more : {A : Type 0} (f : A → Entry) (xs : List A) (from at : ℕ) (x : A) (old now new : List ℕ) → from ≤ at
+    → slice_get xs at ≡ Some x → now ≡ old ++ entries_bytes (map f (take (at - from) (drop from xs)))
     → new ≡ now ++ entry_bytes (f x) → new ≡ old ++ entries_bytes (map f (take (at + 1 - from) (drop from xs)))
 one_more f xs from at x old now new le here before put =
     let part = take (at - from) (drop from xs) in
@@ -142,40 +177,55 @@ one_more f xs from at x old now new le here before put =
     ∙ ap (λ t. old ++ t) (more f part x)
     ∙ ap (λ ys. old ++ entries_bytes (map f ys)) (sym (take_here xs from at x le here))
   where
-    more : {A : Type 0} (f : A → Entry) (xs : List A) (x : A) → entries_bytes (map f xs) ++ entry_bytes (f x) ≡ entries_bytes (map f (xs ++ x ∷ []))
+    more : {A : Type 0} (f : A → Entry) (xs : List A) (x : A) → entries_bytes (map f xs)
+        ++ entry_bytes (f x) ≡ entries_bytes (map f (xs ++ x ∷ []))
     more f [] x = sym (append-nil (entry_bytes (f x)))
-    more f (y ∷ ys) x = append_assoc (entry_bytes (f y)) (entries_bytes (map f ys)) (entry_bytes (f x)) ∙ ap (λ t. entry_bytes (f y) ++ t) (more f ys x)
+    more f (y ∷ ys) x = append_assoc (entry_bytes (f y)) (entries_bytes (map f ys)) (entry_bytes (f x))
+        ∙ ap (λ t. entry_bytes (f y) ++ t) (more f ys x)
 
 -- ---- services
-pub service_formed : (c : Configuration) (i : ℕ) (x : Service) → IsConfiguration c → slice_get c.services i ≡ Some x → IsService x
+pub service_formed : (c : Configuration) (i : ℕ) (x : Service) → IsConfiguration c → slice_get c.services i ≡ Some x
+    → IsService x
 service_formed c i x is here =
     subst (λ (s : Service). IsService s) (get_or_from_slice_get c.services i x x here)
     (AllByRecursion-at IsService c.services i x is.services_formed (slice_get_within c.services i x here))
 
-pub service_shaped : (next : Bool) (x : Service) (s : EntryShape) → s.head.next ≡ next → s.head.oe ≡ false → s.head.long ≡ is_long_entry (service_entry x) → s.head.ext ≡ 2 → s.size ≡ entry_size (service_entry x)
+pub service_shaped : (next : Bool) (x : Service) (s : EntryShape) → s.head.next ≡ next → s.head.oe ≡ false
+    → s.head.long ≡ is_long_entry (service_entry x) → s.head.ext ≡ 2 → s.size ≡ entry_size (service_entry x)
     → shape_of (marked next (service_entry x)) ≡ s
 service_shaped next x s n oe long ext size =
-    sym (same_shape s (shape_of (marked next (service_entry x))) (same_fields s.head (head_of (marked next (service_entry x))) n oe long ext) size)
+    sym (same_shape s (shape_of (marked next (service_entry x)))
+    (same_fields s.head (head_of (marked next (service_entry x))) n oe long ext) size)
 
-pub services_run : (c : Configuration) (next : Bool) (i n : ℕ) (s : EntryShape) → i + n ≤ length c.services → AreAlike s (marked_all next service_entry (take n (drop i c.services))) → IsRun (facts_of c next) (length c.subs + i) n s
+pub services_run : (c : Configuration) (next : Bool) (i n : ℕ) (s : EntryShape) → i + n ≤ length c.services
+    → AreAlike s (marked_all next service_entry (take n (drop i c.services)))
+    → IsRun (facts_of c next) (length c.subs + i) n s
 services_run c next i n s h alike = record {
   inside = omega (arith, h, facts_length c next);
   alike = subst (λ (ms : List Marked). AreAlike s ms) (sym (services_piece c next i n h)) alike;
 }
 
-pub services_put : (c : Configuration) (next : Bool) (i n room : ℕ) (old new : List ℕ) (s : EntryShape) → i + n ≤ length c.services → AreAlike s (marked_all next service_entry (take n (drop i c.services))) → 1 ≤ n → n * s.size ≤ room
+pub services_put : (c : Configuration) (next : Bool) (i n room : ℕ) (old new : List ℕ) (s : EntryShape)
+    → i + n ≤ length c.services → AreAlike s (marked_all next service_entry (take n (drop i c.services))) → 1 ≤ n
+    → n * s.size ≤ room
     → new ≡ old ++ entries_bytes (map service_entry (take n (drop i c.services)))
-    → (t : EntryShape) → IsShapeAt (facts_of c next) (length c.subs + i) t → PutsRun (facts_of c next) (length c.subs + i) t room n old new
+    → (t : EntryShape) → IsShapeAt (facts_of c next) (length c.subs + i) t
+    → PutsRun (facts_of c next) (length c.subs + i) t room n old new
 services_put c next i n room old new s there alike some fits bytes =
     run_put (facts_of c next) (length c.subs + i) n room old new s (services_run c next i n s there alike) some fits
-    (bytes ∙ ap (λ t. old ++ t) (sym (all_bytes next service_entry (take n (drop i c.services)))) ∙ ap (λ (ms : List Marked). old ++ marked_bytes ms) (sym (services_piece c next i n there)))
+    (bytes ∙ ap (λ t. old ++ t) (sym (all_bytes next service_entry (take n (drop i c.services))))
+    ∙ ap (λ (ms : List Marked). old ++ marked_bytes ms) (sym (services_piece c next i n there)))
 
-alike_more : (next : Bool) (s : EntryShape) (xs : List Service) (from at : ℕ) (x : Service) → from ≤ at → slice_get xs at ≡ Some x → shape_of (marked next (service_entry x)) ≡ s → AreAlike s (marked_all next service_entry (take (at - from) (drop from xs)))
+alike_more : (next : Bool) (s : EntryShape) (xs : List Service) (from at : ℕ) (x : Service) → from ≤ at
+    → slice_get xs at ≡ Some x → shape_of (marked next (service_entry x)) ≡ s
+    → AreAlike s (marked_all next service_entry (take (at - from) (drop from xs)))
     → AreAlike s (marked_all next service_entry (take (at + 1 - from) (drop from xs)))
 alike_more next s xs from at x le here is before =
-    subst (λ (ys : List Service). AreAlike s (marked_all next service_entry ys)) (sym (take_here xs from at x le here)) (more (take (at - from) (drop from xs)) before)
+    subst (λ (ys : List Service). AreAlike s (marked_all next service_entry ys)) (sym (take_here xs from at x le here))
+    (more (take (at - from) (drop from xs)) before)
   where
-    more : (ys : List Service) → AreAlike s (marked_all next service_entry ys) → AreAlike s (marked_all next service_entry (ys ++ x ∷ []))
+    more : (ys : List Service) → AreAlike s (marked_all next service_entry ys)
+        → AreAlike s (marked_all next service_entry (ys ++ x ∷ []))
     more [] h = (is, tt)
     more (y ∷ ys) h = (h.0, more ys h.1)
 
@@ -185,91 +235,129 @@ pub record NextService (c : Configuration) (next : Bool) (from place : ℕ) (s :
   pub times : (place + 1 - from) * s.size ≡ (place - from) * s.size + s.size
   pub room : length now + s.size ≤ 30
 
-pub next_service : (c : Configuration) (next : Bool) (from place room left : ℕ) (x : Service) (s : EntryShape) (old now : List ℕ) → from ≤ place → slice_get c.services place ≡ Some x → shape_of (marked next (service_entry x)) ≡ s
-    → AreAlike s (marked_all next service_entry (take (place - from) (drop from c.services))) → now ≡ old ++ entries_bytes (map service_entry (take (place - from) (drop from c.services)))
-    → (place - from) * s.size + left ≡ room → s.size ≤ left → TakesRuns (facts_of c next) (length c.subs + from) room old → NextService c next from place s now
+pub next_service : (c : Configuration) (next : Bool) (from place room left : ℕ) (x : Service) (s : EntryShape)
+    (old now : List ℕ) → from ≤ place → slice_get c.services place ≡ Some x
+    → shape_of (marked next (service_entry x)) ≡ s
+    → AreAlike s (marked_all next service_entry (take (place - from) (drop from c.services))) → now ≡ old
+    ++ entries_bytes (map service_entry (take (place - from) (drop from c.services)))
+    → (place - from) * s.size + left ≡ room → s.size ≤ left
+    → TakesRuns (facts_of c next) (length c.subs + from) room old → NextService c next from place s now
 next_service c next from place room left x s old now le here is alike bytes counts fits takes =
     let there : place < length c.services = slice_get_within c.services place x here in
     let more = alike_more next s c.services from place x le here is alike in
     let n : place + 1 - from ≡ suc (place - from) = omega (arith, le) in
     let times : (place + 1 - from) * s.size ≡ (place - from) * s.size + s.size = ap (λ k. k * s.size) n ∙ omega arith in
     let within : from + (place + 1 - from) ≤ length c.services = omega (arith, le, there) in
-    let all : length old + (place + 1 - from) * s.size ≤ 30 = takes (place + 1 - from) s (services_run c next from (place + 1 - from) s within more) (omega (arith, times, counts, fits)) in
+    let all : length old + (place + 1 - from) * s.size ≤ 30 =
+    takes (place + 1 - from) s (services_run c next from (place + 1 - from) s within more)
+    (omega (arith, times, counts, fits)) in
     let part : List Service = take (place - from) (drop from c.services) in
     let count : length (marked_all next service_entry part) ≡ place - from =
-    length-map (map service_entry part) (marked next) ∙ length-map part service_entry ∙ length-take-le (place - from) (drop from c.services) (omega (arith, le, there, length-drop from c.services)) in
+    length-map (map service_entry part) (marked next) ∙ length-map part service_entry
+    ∙ length-take-le (place - from) (drop from c.services)
+    (omega (arith, le, there, length-drop from c.services)) in
     let long : length now ≡ length old + (place - from) * s.size =
     ap length bytes ∙ length-append old (entries_bytes (map service_entry part))
     ∙ ap (λ k. length old + k)
-    (ap length (sym (all_bytes next service_entry part)) ∙ run_length s (marked_all next service_entry part) alike ∙ ap (λ k. k * s.size) count) in
+    (ap length (sym (all_bytes next service_entry part)) ∙ run_length s (marked_all next service_entry part) alike
+    ∙ ap (λ k. k * s.size) count) in
     record { alike = more; times = times; room = omega (arith, all, times, long) }
 
-pub first_service : (c : Configuration) (next : Bool) (from room : ℕ) (x : Service) (s : EntryShape) (old : List ℕ) → slice_get c.services from ≡ Some x → shape_of (marked next (service_entry x)) ≡ s
-    → ((m : Marked) → slice_get (facts_of c next) (length c.subs + from) ≡ Some m → size_of m ≤ room) → TakesRuns (facts_of c next) (length c.subs + from) room old
+pub first_service : (c : Configuration) (next : Bool) (from room : ℕ) (x : Service) (s : EntryShape) (old : List ℕ)
+    → slice_get c.services from ≡ Some x → shape_of (marked next (service_entry x)) ≡ s
+    → ((m : Marked) → slice_get (facts_of c next) (length c.subs + from) ≡ Some m → size_of m ≤ room)
+    → TakesRuns (facts_of c next) (length c.subs + from) room old
     → NextService c next from from s old × (s.size ≤ room)
 first_service c next from room x s old here is first takes =
     let there : from < length c.services = slice_get_within c.services from x here in
     let none : from - from ≡ 0 = omega arith in
     let nothing : take (from - from) (drop from c.services) ≡ [] = ap (λ k. take k (drop from c.services)) none in
-    let alike : AreAlike s (marked_all next service_entry (take (from - from) (drop from c.services))) = subst (λ (ys : List Service). AreAlike s (marked_all next service_entry ys)) (sym nothing) tt in
+    let alike : AreAlike s (marked_all next service_entry (take (from - from) (drop from c.services))) =
+    subst (λ (ys : List Service). AreAlike s (marked_all next service_entry ys)) (sym nothing) tt in
     let bytes : old ≡ old ++ entries_bytes (map service_entry (take (from - from) (drop from c.services))) =
     sym (append-nil old) ∙ ap (λ ys. old ++ entries_bytes (map service_entry ys)) (sym nothing) in
-    let one : AreAlike s (marked_all next service_entry (take (from + 1 - from) (drop from c.services))) = alike_more next s c.services from from x (omega arith) here is alike in
+    let one : AreAlike s (marked_all next service_entry (take (from + 1 - from) (drop from c.services))) =
+    alike_more next s c.services from from x (omega arith) here is alike in
     let n : from + 1 - from ≡ 1 = omega arith in
     let run : IsRun (facts_of c next) (length c.subs + from) 1 s =
-    services_run c next from 1 s (omega (arith, there)) (subst (λ k. AreAlike s (marked_all next service_entry (take k (drop from c.services)))) n one) in
-    let fits : s.size ≤ room = first_size (facts_of c next) (length c.subs + from) 1 s room (marked next (service_entry x)) run (omega arith) first in
-    let times : (from - from) * s.size ≡ 0 = ap (λ k. k * s.size) none ∙ omega arith in
-    (next_service c next from from room room x s old old (omega arith) here is alike bytes (omega (arith, times)) fits takes, fits)
+    services_run c next from 1 s (omega (arith, there))
+    (subst (λ k. AreAlike s (marked_all next service_entry (take k (drop from c.services)))) n one) in
+    let fits : s.size ≤ room =
+    first_size (facts_of c next) (length c.subs + from) 1 s room (marked next (service_entry x)) run (omega arith)
+    first in
+    let times : (from - from) * s.size ≡ 0 = ap (λ k. k * s.size) none ∙ omega arith in (
+      next_service c next from from room room x s old old (omega arith) here is alike bytes (omega (arith, times)) fits
+          takes,
+      fits,
+    )
 
 -- ---- in the terms of the code
 some_of : (ms : List Marked) → 0 < length ms → Marked
 some_of [] h = absurd (omega (arith, h))
 some_of (m ∷ ms) h = m
 
-pub subs_done : (c : Configuration) (next : Bool) (index i n room : ℕ) (old new : List ℕ) → i ≡ index → i + n ≤ length c.subs → 1 ≤ n → n * 4 ≤ room → new ≡ old ++ entries_bytes (map sub_entry (take (i + n - i) (drop i c.subs)))
+pub subs_done : (c : Configuration) (next : Bool) (index i n room : ℕ) (old new : List ℕ) → i ≡ index
+    → i + n ≤ length c.subs → 1 ≤ n → n * 4 ≤ room → new ≡ old
+    ++ entries_bytes (map sub_entry (take (i + n - i) (drop i c.subs)))
     → (t : EntryShape) → IsShapeAt (facts_of c next) index t → PutsRun (facts_of c next) index t room n old new
 subs_done c next index i n room old new at there some fits bytes =
     let count : i + n - i ≡ n = omega arith in
     subst (λ j. (t : EntryShape) → IsShapeAt (facts_of c next) j t → PutsRun (facts_of c next) j t room n old new) at
-    (subs_put c next i n room old new there some fits (bytes ∙ ap (λ k. old ++ entries_bytes (map sub_entry (take k (drop i c.subs)))) count))
+    (subs_put c next i n room old new there some fits (bytes
+    ∙ ap (λ k. old ++ entries_bytes (map sub_entry (take k (drop i c.subs)))) count))
 
-pub packets_done : (c : Configuration) (next : Bool) (index i n room : ℕ) (old new : List ℕ) → index ≡ length c.subs + (length c.services + i) → i + n ≤ length c.packets → 1 ≤ n → n * 5 ≤ room
+pub packets_done : (c : Configuration) (next : Bool) (index i n room : ℕ) (old new : List ℕ)
+    → index ≡ length c.subs + (length c.services + i) → i + n ≤ length c.packets → 1 ≤ n → n * 5 ≤ room
     → new ≡ old ++ entries_bytes (map packet_entry (take (i + n - i) (drop i c.packets)))
     → (t : EntryShape) → IsShapeAt (facts_of c next) index t → PutsRun (facts_of c next) index t room n old new
 packets_done c next index i n room old new at there some fits bytes =
     let count : i + n - i ≡ n = omega arith in
-    packets_put c next i n room index old new at there some fits (bytes ∙ ap (λ k. old ++ entries_bytes (map packet_entry (take k (drop i c.packets)))) count)
+    packets_put c next i n room index old new at there some fits
+    (bytes ∙ ap (λ k. old ++ entries_bytes (map packet_entry (take k (drop i c.packets)))) count)
 
 -- there is room for the first entry, and for as many as fit
-pub subs_room : (c : Configuration) (next : Bool) (index i room : ℕ) (old : List ℕ) → i ≡ index → i < length c.subs → ((m : Marked) → slice_get (facts_of c next) index ≡ Some m → size_of m ≤ room) → TakesRuns (facts_of c next) index room old
+pub subs_room : (c : Configuration) (next : Bool) (index i room : ℕ) (old : List ℕ) → i ≡ index → i < length c.subs
+    → ((m : Marked) → slice_get (facts_of c next) index ≡ Some m → size_of m ≤ room)
+    → TakesRuns (facts_of c next) index room old
     → (4 ≤ room) × ((n : ℕ) → i + n ≤ length c.subs → n * 4 ≤ room → length old + (i + n - i) * 4 ≤ 30)
 subs_room c next index i room old at there first takes =
-    let first' : (m : Marked) → slice_get (facts_of c next) i ≡ Some m → size_of m ≤ room = λ m h. first m (ap (λ j. slice_get (facts_of c next) j) (sym at) ∙ h) in
-    let takes' : TakesRuns (facts_of c next) i room old = subst (λ j. TakesRuns (facts_of c next) j room old) (sym at) takes in
+    let first' : (m : Marked) → slice_get (facts_of c next) i ≡ Some m → size_of m ≤ room =
+    λ m h. first m (ap (λ j. slice_get (facts_of c next) j) (sym at) ∙ h) in
+    let takes' : TakesRuns (facts_of c next) i room old =
+    subst (λ j. TakesRuns (facts_of c next) j room old) (sym at) takes in
     let d : Marked = some_of (facts_of c next) (omega (arith, there, facts_length c next)) in (
-      first_size (facts_of c next) i 1 (sub_shape next) room d (subs_run c next i 1 (omega (arith, there))) (omega arith) first',
+      first_size (facts_of c next) i 1 (sub_shape next) room d (subs_run c next i 1 (omega (arith, there)))
+          (omega arith) first',
       λ n h fits.
           let all : length old + n * 4 ≤ 30 = takes' n (sub_shape next) (subs_run c next i n h) fits in
           omega (arith, all),
     )
 
-pub packets_room : (c : Configuration) (next : Bool) (index i room : ℕ) (old : List ℕ) → index ≡ length c.subs + (length c.services + i) → i < length c.packets → ((m : Marked) → slice_get (facts_of c next) index ≡ Some m → size_of m ≤ room) → TakesRuns (facts_of c next) index room old
+pub packets_room : (c : Configuration) (next : Bool) (index i room : ℕ) (old : List ℕ)
+    → index ≡ length c.subs + (length c.services + i) → i < length c.packets
+    → ((m : Marked) → slice_get (facts_of c next) index ≡ Some m → size_of m ≤ room)
+    → TakesRuns (facts_of c next) index room old
     → (5 ≤ room) × ((n : ℕ) → i + n ≤ length c.packets → n * 5 ≤ room → length old + (i + n - i) * 5 ≤ 30)
 packets_room c next index i room old at there first takes =
     let place : ℕ = length c.subs + (length c.services + i) in
-    let first' : (m : Marked) → slice_get (facts_of c next) place ≡ Some m → size_of m ≤ room = λ m h. first m (ap (λ j. slice_get (facts_of c next) j) at ∙ h) in
-    let takes' : TakesRuns (facts_of c next) place room old = subst (λ j. TakesRuns (facts_of c next) j room old) at takes in
+    let first' : (m : Marked) → slice_get (facts_of c next) place ≡ Some m → size_of m ≤ room =
+    λ m h. first m (ap (λ j. slice_get (facts_of c next) j) at ∙ h) in
+    let takes' : TakesRuns (facts_of c next) place room old =
+    subst (λ j. TakesRuns (facts_of c next) j room old) at takes in
     let d : Marked = some_of (facts_of c next) (omega (arith, there, facts_length c next)) in (
-      first_size (facts_of c next) place 1 (packet_shape next) room d (packets_run c next i 1 (omega (arith, there))) (omega arith) first',
+      first_size (facts_of c next) place 1 (packet_shape next) room d (packets_run c next i 1 (omega (arith, there)))
+          (omega arith) first',
       λ n h fits.
           let all : length old + n * 5 ≤ 30 = takes' n (packet_shape next) (packets_run c next i n h) fits in
           omega (arith, all),
     )
 
 -- the index of an entry after those of the sub-channels, and of one after those of the services too
-pub behind_subs : (c : Configuration) (index i subs : ℕ) → i ≡ index → subs ≡ length c.subs → subs ≤ i → index ≡ length c.subs + (i - subs)
+pub behind_subs : (c : Configuration) (index i subs : ℕ) → i ≡ index → subs ≡ length c.subs → subs ≤ i
+    → index ≡ length c.subs + (i - subs)
 behind_subs c index i subs at count le = omega (arith, at, count, le)
 
-pub behind_services : (c : Configuration) (index i subs services : ℕ) → i ≡ index → subs ≡ length c.subs → services ≡ length c.services → subs + services ≤ i → index ≡ length c.subs + (length c.services + (i - subs - services))
+pub behind_services : (c : Configuration) (index i subs services : ℕ) → i ≡ index → subs ≡ length c.subs
+    → services ≡ length c.services → subs + services ≤ i
+    → index ≡ length c.subs + (length c.services + (i - subs - services))
 behind_services c index i subs services at count counts le = omega (arith, at, count, counts, le)

@@ -1,11 +1,14 @@
 -- Pages can carry every entry of a configuration.
-use Rattle.std.proofs.Common.{◌≡◌, ℕ, ◌+◌, ◌*◌, ◌<◌, ◌≤◌, Bool, true, false, List, [], ◌∷◌, ◌++◌, suc, length, map, Option, Some, None, IfSome, refl, ap, arith}
+use Rattle.std.proofs.Common.{◌≡◌, ℕ, ◌+◌, ◌*◌, ◌<◌, ◌≤◌, Bool, true, false, List, [], ◌∷◌, ◌++◌, suc, length, map}
+use Rattle.std.proofs.Common.{Option, Some, None, IfSome, refl, ap, arith}
 use Rattle.std.proofs.lemmas.List.{length-map}
 use Rattle.mux_eep.specs.declared.sizes.EepSet.{EepSet}
 use Rattle.mux_eep.specs.declared.sizes.EepSet.TheVariants.{A, B}
-use Rattle.mux_config.specs.Configuration.{Configuration, IsConfiguration, IsPlaced, IsService, IsAddressed, IsComponent, component_limit}
+use Rattle.mux_config.specs.Configuration.{Configuration, IsConfiguration, IsPlaced, IsService, IsAddressed}
+use Rattle.mux_config.specs.Configuration.{IsComponent, component_limit}
 use Rattle.std.specs.List.{AllByRecursion}
-use Rattle.mux_types.specs.Facts.{marked, facts_of, sub_entry, service_entry, packet_entry, sub_entries, service_entries, component_entry, component_entries, option_of}
+use Rattle.mux_types.specs.Facts.{marked, facts_of, sub_entry, service_entry, packet_entry, sub_entries}
+use Rattle.mux_types.specs.Facts.{service_entries, component_entry, component_entries, option_of}
 use Rattle.mux_types.specs.declared.parts.Sub.{Sub}
 use Rattle.mux_types.specs.declared.parts.Service.{Service}
 use Rattle.mux_types.specs.declared.parts.Packet.{Packet}
@@ -19,11 +22,13 @@ use Rattle.fib_codec.specs.Spelling.{sid_size}
 use Rattle.fib_carousel.specs.Pages.{page_set}
 use Rattle.fib_carousel.specs.Carried.{IsSendable, AreSendable}
 
-pub each_append : {A : Type 0} (P : A → Type 0) (xs ys : List A) → AllByRecursion P xs → AllByRecursion P ys → AllByRecursion P (xs ++ ys)
+pub each_append : {A : Type 0} (P : A → Type 0) (xs ys : List A) → AllByRecursion P xs → AllByRecursion P ys
+    → AllByRecursion P (xs ++ ys)
 each_append P [] ys p q = q
 each_append P (x ∷ xs) ys p q = (p.0, each_append P xs ys p.1 q)
 
-pub each_map : {A B : Type 0} (f : A → B) (Q : A → Type 0) (P : B → Type 0) (xs : List A) → ((x : A) → Q x → P (f x)) → AllByRecursion Q xs → AllByRecursion P (map f xs)
+pub each_map : {A B : Type 0} (f : A → B) (Q : A → Type 0) (P : B → Type 0) (xs : List A) → ((x : A) → Q x → P (f x))
+    → AllByRecursion Q xs → AllByRecursion P (map f xs)
 each_map f Q P [] h q = tt
 each_map f Q P (x ∷ xs) h q = (h x q.0, each_map f Q P xs h q.1)
 
@@ -49,9 +54,14 @@ sendable_component primary (Sound ty sub) h = h
 sendable_component primary (Stream ty sub) h = h
 sendable_component primary (InPackets scid) h = h
 
-sendable_components : (cs : List Component) → AllByRecursion IsComponent cs → AllByRecursion IsComponentEntry (component_entries cs)
+sendable_components : (cs : List Component) → AllByRecursion IsComponent cs
+    → AllByRecursion IsComponentEntry (component_entries cs)
 sendable_components [] h = tt
-sendable_components (c ∷ cs) h = (sendable_component true c h.0, each_map (component_entry false) IsComponent IsComponentEntry cs (sendable_component false) h.1)
+sendable_components (c ∷ cs) h = (
+  sendable_component true c h.0,
+  each_map (component_entry false) IsComponent IsComponentEntry cs
+      (sendable_component false) h.1,
+)
 
 pub length-component_entries : (cs : List Component) → length (component_entries cs) ≡ length cs
 length-component_entries [] = refl
@@ -93,12 +103,18 @@ sendable_packet next p h = record {
 pub sendable_facts : (c : Configuration) (next : Bool) → IsConfiguration c → AreSendable (facts_of c next)
 sendable_facts c next h =
     let Fine : Entry → Type 0 = λ e. IsSendable (marked next e) in
-    let subs : AllByRecursion Fine (sub_entries c) = each_map sub_entry IsPlaced Fine c.subs (sendable_sub next) h.subs_placed in
-    let services : AllByRecursion Fine (map service_entry c.services) = each_map service_entry IsService Fine c.services (sendable_service next) h.services_formed in
-    let packets : AllByRecursion Fine (map packet_entry c.packets) = each_map packet_entry IsAddressed Fine c.packets (sendable_packet next) h.packets_addressed in
+    let subs : AllByRecursion Fine (sub_entries c) =
+    each_map sub_entry IsPlaced Fine c.subs (sendable_sub next) h.subs_placed in
+    let services : AllByRecursion Fine (map service_entry c.services) =
+    each_map service_entry IsService Fine c.services (sendable_service next) h.services_formed in
+    let packets : AllByRecursion Fine (map packet_entry c.packets) =
+    each_map packet_entry IsAddressed Fine c.packets (sendable_packet next) h.packets_addressed in
     each_map (marked next) Fine IsSendable (sub_entries c ++ service_entries c) (λ e p. p)
-    (each_append Fine (sub_entries c) (service_entries c) subs (each_append Fine (map service_entry c.services) (map packet_entry c.packets) services packets))
+    (each_append Fine (sub_entries c) (service_entries c) subs
+    (each_append Fine (map service_entry c.services) (map packet_entry c.packets) services packets))
 
-pub sendable_page_set : (c : Configuration) (o : Option Configuration) → IsConfiguration c → IfSome o IsConfiguration → AreSendable (page_set c o)
+pub sendable_page_set : (c : Configuration) (o : Option Configuration) → IsConfiguration c → IfSome o IsConfiguration
+    → AreSendable (page_set c o)
 sendable_page_set c None h n = sendable_facts c false h
-sendable_page_set c (Some d) h n = each_append IsSendable (facts_of c false) (facts_of d true) (sendable_facts c false h) (sendable_facts d true n)
+sendable_page_set c (Some d) h n =
+    each_append IsSendable (facts_of c false) (facts_of d true) (sendable_facts c false h) (sendable_facts d true n)

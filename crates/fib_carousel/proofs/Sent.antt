@@ -1,11 +1,13 @@
 -- The entries of a FIB sent as FIGs.
-use Rattle.std.proofs.Common.{◌≡◌, ℕ, ◌+◌, ◌≤◌, Bool, true, false, List, [], ◌∷◌, Option, Some, None, IsSome, ◌%◌, refl, ap, subst, inl, inr, arith, eq-eqb}
+use Rattle.std.proofs.Common.{◌≡◌, ℕ, ◌+◌, ◌≤◌, Bool, true, false, List, [], ◌∷◌, Option, Some, None, IsSome, ◌%◌, refl}
+use Rattle.std.proofs.Common.{ap, subst, inl, inr, arith, eq-eqb}
 use Rattle.fib_codec.specs.declared.frame_layout.FrameLayout.{FrameLayout}
 use Rattle.std.specs.List.{AllByRecursion}
 use Rattle.mux_types.specs.Entries.{EnsembleInformation}
 use Rattle.mux_types.specs.Facts.{Marked}
 use Rattle.mux_types.specs.declared.entry.Entry.{Entry}
-use Rattle.mux_types.specs.declared.entry.Entry.TheVariants.{Ensemble as EnsembleOf, Sub as SubOf, Short as ShortOf, Service as ServiceOf, Packet as PacketOf}
+use Rattle.mux_types.specs.declared.entry.Entry.TheVariants.{Ensemble as EnsembleOf, Sub as SubOf, Short as ShortOf}
+use Rattle.mux_types.specs.declared.entry.Entry.TheVariants.{Service as ServiceOf, Packet as PacketOf}
 use Rattle.fib_codec.specs.declared.head.Head.{Head}
 use Rattle.fib_codec.specs.Layouts.{used_fibs}
 use Rattle.fib_codec.specs.Spelling.{Written, IsWritten, IsUnder, head_of, ext_of}
@@ -21,7 +23,8 @@ small_all [] h = tt
 small_all (m ∷ ms) h = (h.0.small, small_all ms h.1)
 
 -- what the packing puts into a FIB fits there
-pub fib_fits : (layout : FrameLayout) (ms : List Marked) (n : ℕ) → AreSendable ms → figs_size None (fib_entries layout n ms) ≤ room layout n
+pub fib_fits : (layout : FrameLayout) (ms : List Marked) (n : ℕ) → AreSendable ms
+    → figs_size None (fib_entries layout n ms) ≤ room layout n
 fib_fits layout ms n h = (greedy_is_packing layout ms (small_all ms h)).division.fits n
 
 -- a head is the same as itself
@@ -49,7 +52,8 @@ written_one m h = record {
   within = (h.within, tt);
 }
 
-written_joined : (m : Marked) (fs : List Written) → IsSendable m → AllByRecursion IsWritten fs → AllByRecursion IsWritten (with_entry_first m fs)
+written_joined : (m : Marked) (fs : List Written) → IsSendable m → AllByRecursion IsWritten fs
+    → AllByRecursion IsWritten (with_entry_first m fs)
 written_joined m [] h w = (written_one m h, tt)
 written_joined m (f ∷ fs) h w = by (same_head (head_of m) f.head) refl
   where
@@ -59,7 +63,11 @@ written_joined m (f ∷ fs) h w = by (same_head (head_of m) f.head) refl
         let under : IsUnder f.head m.entry = subst (λ (g : Head). IsUnder g m.entry) same (under_own m) in
         let ext : ext_of m.entry ≡ f.head.ext = ap (λ (g : Head). g.ext) same in
         let first : IsWritten (written_of f.head (m.entry ∷ f.entries)) = record {
-          formed = record { some = omega arith; under = (under, w.0.formed.under); alone = λ z. absurd (omega (arith, z, ext, h.organization)) };
+          formed = record {
+            some = omega arith;
+            under = (under, w.0.formed.under);
+            alone = λ z. absurd (omega (arith, z, ext, h.organization));
+          };
           within = (h.within, w.0.within);
         } in
         let all : AllByRecursion IsWritten (written_of f.head (m.entry ∷ f.entries) ∷ fs) = (first, w.1) in
@@ -73,7 +81,9 @@ written_figs [] h = tt
 written_figs (m ∷ ms) h = written_joined m (figs_of ms) h.0 (written_figs ms h.1)
 
 -- what FIG 0/0 leaves of a FIB has room for what the packing puts there
-pub fib_room : (layout : FrameLayout) (ensemble : Option EnsembleInformation) (number used size : ℕ) → used ≤ 7 → (ensemble ≡ None → used ≡ 0) → (IsSome ensemble → number % used_fibs layout ≡ 0) → size ≤ room layout number → used + size ≤ 30
+pub fib_room : (layout : FrameLayout) (ensemble : Option EnsembleInformation) (number used size : ℕ) → used ≤ 7
+    → (ensemble ≡ None → used ≡ 0) → (IsSome ensemble → number % used_fibs layout ≡ 0) → size ≤ room layout number
+    → used + size ≤ 30
 fib_room layout None number used size low none first fits = omega (arith, none refl, fits, room_high layout number)
 fib_room layout (Some e) number used size low none first fits =
     elim (room_cases layout number) [

@@ -1,8 +1,10 @@
 -- The entries of a configuration, each with its C/N flag, and those of two side by side.
-use Rattle.std.proofs.Common.{◌≡◌, ℕ, ◌+◌, ◌-◌, ◌<◌, ◌≤◌, Bool, true, false, List, ◌++◌, length, slice_get, get_or, subst, Option, Some, None, option_map, refl, sym, ◌∙◌, ap, arith}
+use Rattle.std.proofs.Common.{◌≡◌, ℕ, ◌+◌, ◌-◌, ◌<◌, ◌≤◌, Bool, true, false, List, ◌++◌, length, slice_get, get_or}
+use Rattle.std.proofs.Common.{subst, Option, Some, None, option_map, refl, sym, ◌∙◌, ap, arith}
 use Rattle.std.proofs.lemmas.List.{length-append, length-map, get_or_append_left}
 use Rattle.std.proofs.Math.Seq.{get_or-append_right}
-use Rattle.std.proofs.lemmas.Option.{slice_get-map, slice_get-get_or, slice_get_within, slice_get_read, get_or_from_slice_get}
+use Rattle.std.proofs.lemmas.Option.{slice_get-map, slice_get-get_or, slice_get_within, slice_get_read}
+use Rattle.std.proofs.lemmas.Option.{get_or_from_slice_get}
 use Rattle.mux_config.specs.Configuration.{Configuration}
 use Rattle.mux_types.specs.Facts.{marked, facts_of}
 use Rattle.mux_types.specs.declared.entry.Entry.{Entry}
@@ -17,8 +19,10 @@ use Rattle.fib_carousel.specs.Shapes.{piece, AreAlike, IsRun, marked_bytes, Puts
 use Rattle.fib_carousel.proofs.Filling.{same_there}
 use Rattle.fib_carousel.proofs.Sections.{piece_front, piece_behind}
 
-pub marked_at : (c : Configuration) (next : Bool) (place : ℕ) (e : Entry) → slice_get (config_entries c) place ≡ Some e → slice_get (facts_of c next) place ≡ Some (marked next e)
-marked_at c next place e h = slice_get-map (marked next) (config_entries c) place ∙ ap (λ o. option_map (marked next) o) h
+pub marked_at : (c : Configuration) (next : Bool) (place : ℕ) (e : Entry) → slice_get (config_entries c) place ≡ Some e
+    → slice_get (facts_of c next) place ≡ Some (marked next e)
+marked_at c next place e h = slice_get-map (marked next) (config_entries c) place
+    ∙ ap (λ o. option_map (marked next) o) h
 
 -- the element at an index of two concatenated lists
 front_get : {A : Type 0} (xs ys : List A) (i : ℕ) (x : A) → slice_get xs i ≡ Some x → slice_get (xs ++ ys) i ≡ Some x
@@ -28,7 +32,8 @@ front_get xs ys i x h =
     slice_get_read (xs ++ ys) (length (xs ++ ys)) i x refl (omega (arith, within, both))
     (sym (get_or_append_left xs ys x i within ∙ get_or_from_slice_get xs i x x h))
 
-behind_get : {A : Type 0} (xs ys : List A) (i : ℕ) (x : A) → length xs ≤ i → slice_get ys (i - length xs) ≡ Some x → slice_get (xs ++ ys) i ≡ Some x
+behind_get : {A : Type 0} (xs ys : List A) (i : ℕ) (x : A) → length xs ≤ i → slice_get ys (i - length xs) ≡ Some x
+    → slice_get (xs ++ ys) i ≡ Some x
 behind_get xs ys i x le h =
     let within : i - length xs < length ys = slice_get_within ys (i - length xs) x h in
     let both : length (xs ++ ys) ≡ length xs + length ys = length-append xs ys in
@@ -47,7 +52,8 @@ behind_piece xs ys i n le =
     let at : i ≡ length xs + (i - length xs) = omega (arith, le) in
     ap (λ j. piece (xs ++ ys) j n) at ∙ piece_behind xs ys (i - length xs) n
 
-run_behind : (xs ys : List Marked) (i n : ℕ) (s : EntryShape) → length xs ≤ i → IsRun ys (i - length xs) n s → IsRun (xs ++ ys) i n s
+run_behind : (xs ys : List Marked) (i n : ℕ) (s : EntryShape) → length xs ≤ i → IsRun ys (i - length xs) n s
+    → IsRun (xs ++ ys) i n s
 run_behind xs ys i n s le r = record {
   inside = omega (arith, le, r.inside, length-append xs ys);
   alike = subst (λ (ms : List Marked). AreAlike s ms) (sym (behind_piece xs ys i n le)) r.alike;
@@ -76,26 +82,36 @@ behind_side xs ys i le = record {
 whole_side : (xs : List Marked) (i : ℕ) → OneSide xs xs i i
 whole_side xs i = record { run = λ n s r. r; same = λ n h. refl; get = λ m h. h }
 
-pub current_side : (c : Configuration) (next : Option Configuration) (i : ℕ) → OneSide (page_set c next) (facts_of c false) i i
+pub current_side : (c : Configuration) (next : Option Configuration) (i : ℕ)
+    → OneSide (page_set c next) (facts_of c false) i i
 current_side c None i = whole_side (facts_of c false) i
 current_side c (Some d) i = front_side (facts_of c false) (facts_of d true) i
 
-pub next_side : (c d : Configuration) (next : Option Configuration) (count i : ℕ) → next ≡ Some d → count ≡ length (config_entries c) → count ≤ i → OneSide (page_set c next) (facts_of d true) i (i - count)
+pub next_side : (c d : Configuration) (next : Option Configuration) (count i : ℕ) → next ≡ Some d
+    → count ≡ length (config_entries c) → count ≤ i → OneSide (page_set c next) (facts_of d true) i (i - count)
 next_side c d next count i is same le =
     let long : length (facts_of c false) ≡ count = length-map (config_entries c) (marked false) ∙ sym same in
     subst (λ (o : Option Configuration). OneSide (page_set c o) (facts_of d true) i (i - count)) (sym is)
     (subst (λ k. OneSide (facts_of c false ++ facts_of d true) (facts_of d true) i (i - k)) long
     (behind_side (facts_of c false) (facts_of d true) i (omega (arith, long, le))))
 
-pub side_takes : (all side : List Marked) (i j room : ℕ) (old : List ℕ) → OneSide all side i j → TakesRuns all i room old → TakesRuns side j room old
+pub side_takes : (all side : List Marked) (i j room : ℕ) (old : List ℕ) → OneSide all side i j
+    → TakesRuns all i room old → TakesRuns side j room old
 side_takes all side i j room old o takes n s r fits = takes n s (o.run n s r) fits
 
-pub side_puts : (all side : List Marked) (i j room n : ℕ) (old new : List ℕ) → OneSide all side i j → j < length side → ((s : EntryShape) → IsShapeAt side j s → PutsRun side j s room n old new)
+pub side_puts : (all side : List Marked) (i j room n : ℕ) (old new : List ℕ) → OneSide all side i j → j < length side
+    → ((s : EntryShape) → IsShapeAt side j s → PutsRun side j s room n old new)
     → (s : EntryShape) → IsShapeAt all i s → PutsRun all i s room n old new
 side_puts all side i j room n old new o there puts s at =
     let here : slice_get side j ≡ Some (get_or side j at.entry) = slice_get-get_or side j at.entry there in
-    let same : at.entry ≡ get_or side j at.entry = same_there all i at.entry (get_or side j at.entry) at.here (o.get (get_or side j at.entry) here) in
-    let p = puts s (record { entry = get_or side j at.entry; here = here; head = at.head ∙ ap head_of same; size = at.size ∙ ap size_of same }) in
+    let same : at.entry ≡ get_or side j at.entry =
+    same_there all i at.entry (get_or side j at.entry) at.here (o.get (get_or side j at.entry) here) in
+    let p = puts s (record {
+      entry = get_or side j at.entry;
+      here = here;
+      head = at.head ∙ ap head_of same;
+      size = at.size ∙ ap size_of same;
+    }) in
     record {
       some = p.some;
       run = o.run n s p.run;
@@ -103,7 +119,9 @@ side_puts all side i j room n old new o there puts s at =
       bytes = p.bytes ∙ ap (λ (ms : List Marked). old ++ marked_bytes ms) (sym (o.same n p.run.inside));
     }
 
-pub next_within : (c d : Configuration) (next : Option Configuration) (count i : ℕ) → next ≡ Some d → count ≡ length (config_entries c) → count ≤ i → i < length (page_set c next) → i - count < length (facts_of d true)
+pub next_within : (c d : Configuration) (next : Option Configuration) (count i : ℕ) → next ≡ Some d
+    → count ≡ length (config_entries c) → count ≤ i → i < length (page_set c next)
+    → i - count < length (facts_of d true)
 next_within c d next count i is same le inside =
     let long : length (facts_of c false) ≡ count = length-map (config_entries c) (marked false) ∙ sym same in
     let all : length (page_set c next) ≡ length (facts_of c false) + length (facts_of d true) =

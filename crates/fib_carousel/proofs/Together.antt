@@ -1,6 +1,9 @@
 -- Successive entries with the same head and size: the position after all of them, and their FIG with all of them.
-use Rattle.std.proofs.Common.{◌≡◌, ℕ, zero, suc, ◌+◌, ◌-◌, ◌*◌, ◌<◌, ◌≤◌, true, false, Bool, Option, Some, None, List, [], ◌∷◌, ◌++◌, length, map, take, drop, slice_get, get_or, slice_index_or, slice_set, refl, sym, ◌∙◌, ap, subst, inl, inr, arith, append_assoc, append-nil}
-use Rattle.std.proofs.lemmas.List.{length-append, length-set, length-drop, length-take-le, get_or-take, get_or-drop, drop-drop}
+use Rattle.std.proofs.Common.{◌≡◌, ℕ, zero, suc, ◌+◌, ◌-◌, ◌*◌, ◌<◌, ◌≤◌, true, false, Bool, Option, Some, None, List}
+use Rattle.std.proofs.Common.{[], ◌∷◌, ◌++◌, length, map, take, drop, slice_get, get_or, slice_index_or, slice_set}
+use Rattle.std.proofs.Common.{refl, sym, ◌∙◌, ap, subst, inl, inr, arith, append_assoc, append-nil}
+use Rattle.std.proofs.lemmas.List.{length-append, length-set, length-drop, length-take-le, get_or-take, get_or-drop}
+use Rattle.std.proofs.lemmas.List.{drop-drop}
 use Rattle.std.proofs.lemmas.Option.{slice_get-get_or}
 use Rattle.std.proofs.Math.Seq.{get_or-append_seam, set-append_seam, take-add}
 use Rattle.mux_types.specs.Facts.{Marked}
@@ -26,7 +29,8 @@ use Rattle.fib_carousel.proofs.Sharing.{same_head_is, figs_cost, written_of}
 use Rattle.fib_carousel.proofs.Sent.{same_head_own}
 use Rattle.fib_carousel.proofs.Runs.{placed_step, step_stays}
 use Rattle.fib_carousel.proofs.Walk.{Passed, Walked, walked_in, drop_here, rest_in}
-use Rattle.fib_carousel.proofs.Filling.{IsFilled, FilledTo, Entered, figs_added, added, added_same, figs_bytes_last, put_step, same_there, figs_size_part}
+use Rattle.fib_carousel.proofs.Filling.{IsFilled, FilledTo, Entered, figs_added, added, added_same, figs_bytes_last}
+use Rattle.fib_carousel.proofs.Filling.{put_step, same_there, figs_size_part}
 
 -- ---- an entry of a run
 pub same_shape : (s t : EntryShape) → s.head ≡ t.head → s.size ≡ t.size → s ≡ t
@@ -39,15 +43,18 @@ pub record InRun (ms : List Marked) (at : ℕ) (s : EntryShape) : Type 0 where
   pub here : slice_get ms at ≡ Some entry
   pub shape : shape_of entry ≡ s
 
-pub in_run : (ms : List Marked) (i n : ℕ) (s : EntryShape) (d : Marked) → IsRun ms i n s → (j : ℕ) → j < n → InRun ms (i + j) s
+pub in_run : (ms : List Marked) (i n : ℕ) (s : EntryShape) (d : Marked) → IsRun ms i n s → (j : ℕ) → j < n
+    → InRun ms (i + j) s
 in_run ms i n s d r j lt =
     let long : length (drop i ms) ≡ length ms - i = length-drop i ms in
     let count : length (piece ms i n) ≡ n = length-take-le n (drop i ms) (omega (arith, long, r.inside)) in
-    let is : get_or (piece ms i n) j d ≡ get_or ms (i + j) d = get_or-take n (drop i ms) j d lt ∙ get_or-drop i ms j d in
+    let is : get_or (piece ms i n) j d ≡ get_or ms (i + j) d =
+    get_or-take n (drop i ms) j d lt ∙ get_or-drop i ms j d in
     record {
       entry = get_or ms (i + j) d;
       here = slice_get-get_or ms (i + j) d (omega (arith, r.inside, lt));
-      shape = subst (λ (m : Marked). shape_of m ≡ s) is (AllByRecursion-at (λ m. shape_of m ≡ s) (piece ms i n) j d r.alike (omega (arith, count, lt)));
+      shape = subst (λ (m : Marked). shape_of m ≡ s) is
+          (AllByRecursion-at (λ m. shape_of m ≡ s) (piece ms i n) j d r.alike (omega (arith, count, lt)));
     }
 
 -- a shorter run
@@ -65,14 +72,16 @@ run_part ms i n k s le r = record {
     front (x ∷ xs) (suc k) (suc n) le h = (h.0, front xs k n (omega (arith, le)) h.1)
 
 -- ---- the position after a run that fits in FIB n whole
-same_state : (p : PackState) (s : EntryShape) (fib used : ℕ) → p.fib ≡ fib → p.used ≡ used → p.head ≡ Some s.head → p ≡ state_at s fib used
+same_state : (p : PackState) (s : EntryShape) (fib used : ℕ) → p.fib ≡ fib → p.used ≡ used → p.head ≡ Some s.head
+    → p ≡ state_at s fib used
 same_state p s fib used f u h =
     ap (λ k. let r : PackState = record { fib = k; used = p.used; head = p.head } in r) f
     ∙ ap (λ k. let r : PackState = record { fib = fib; used = k; head = p.head } in r) u
     ∙ ap (λ (x : Option Head). let r : PackState = record { fib = fib; used = used; head = x } in r) h
 
 -- the state after placing the first of them, and the position after this many more
-pub record Goes (layout : FrameLayout) (ms : List Marked) (n : ℕ) (c : Position) (q : PackState) (s : EntryShape) (k : ℕ) (d : Position) : Type 0 where
+pub record Goes (layout : FrameLayout) (ms : List Marked) (n : ℕ) (c : Position) (q : PackState) (s : EntryShape)
+    (k : ℕ) (d : Position) : Type 0 where
   pub index : d.index ≡ c.index + 1 + k
   pub fib : d.state.fib ≡ n
   pub used : d.state.used ≡ q.used + k * s.size
@@ -84,14 +93,18 @@ pub record Goes (layout : FrameLayout) (ms : List Marked) (n : ℕ) (c : Positio
   pub own : q.head ≡ Some s.head
   pub near : q.fib ≤ c.state.fib + 2
 
-pub walked_run : (layout : FrameLayout) (ms : List Marked) (n from : ℕ) (c : Position) (q : PackState) (s : EntryShape) (k : ℕ) (d : Position) → Goes layout ms n c q s k d → Walked layout ms n from c → Walked layout ms n from d
+pub walked_run : (layout : FrameLayout) (ms : List Marked) (n from : ℕ) (c : Position) (q : PackState) (s : EntryShape)
+    (k : ℕ) (d : Position) → Goes layout ms n c q s k d → Walked layout ms n from c → Walked layout ms n from d
 walked_run layout ms n from c q s zero d g w =
     let used : q.used + zero * s.size ≡ q.used = omega arith in
     let low : q.used ≤ 30 = omega (arith, g.fits, used, room_high layout n) in
     let at : d.index ≡ c.index + 1 = omega (arith, g.index) in
-    let same : d.state ≡ q = same_state d.state s n (q.used + zero * s.size) g.fib g.used g.head ∙ ap (state_at s n) used ∙ sym (same_state q s n q.used g.into refl g.own) in
-    let first : Passed layout ms c.index c.state d.state = subst (λ (r : PackState). Passed layout ms c.index c.state r) (sym same) g.first in
-    walked_in layout ms n from c d first at g.fib (omega (arith, low, g.used, used)) (omega (arith, g.fib, g.into, g.near)) (omega (arith, g.run.inside)) w
+    let same : d.state ≡ q = same_state d.state s n (q.used + zero * s.size) g.fib g.used g.head
+    ∙ ap (state_at s n) used ∙ sym (same_state q s n q.used g.into refl g.own) in
+    let first : Passed layout ms c.index c.state d.state =
+    subst (λ (r : PackState). Passed layout ms c.index c.state r) (sym same) g.first in
+    walked_in layout ms n from c d first at g.fib (omega (arith, low, g.used, used))
+    (omega (arith, g.fib, g.into, g.near)) (omega (arith, g.run.inside)) w
 walked_run layout ms n from c q s (suc k) d g w =
     let e : Position = record { index = c.index + 1 + k; state = state_at s n (q.used + k * s.size) } in
     let more : suc k * s.size ≡ k * s.size + s.size = omega arith in
@@ -107,7 +120,8 @@ walked_run layout ms n from c q s (suc k) d g w =
       own = g.own;
       near = g.near;
     } in
-    let there : InRun ms (c.index + (suc k)) s = in_run ms c.index (suc (suc k)) s g.first.entry g.run (suc k) (omega arith) in
+    let there : InRun ms (c.index + (suc k)) s =
+    in_run ms c.index (suc (suc k)) s g.first.entry g.run (suc k) (omega arith) in
     let at : c.index + (suc k) ≡ c.index + 1 + k = omega arith in
     let here : slice_get ms e.index ≡ Some there.entry = ap (λ i. slice_get ms i) (sym at) ∙ there.here in
     let fits : q.used + k * s.size + s.size ≤ room layout n = omega (arith, g.fits, more) in
@@ -124,12 +138,15 @@ walked_run layout ms n from c q s (suc k) d g w =
       row = drop_here ms e.index there.entry here;
       next = next;
     } in
-    walked_in layout ms n from e d one (omega (arith, g.index)) g.fib (omega (arith, g.used, g.fits, room_high layout n)) (omega (arith, g.fib)) (omega (arith, g.run.inside))
+    walked_in layout ms n from e d one (omega (arith, g.index)) g.fib
+    (omega (arith, g.used, g.fits, room_high layout n)) (omega (arith, g.fib)) (omega (arith, g.run.inside))
     (walked_run layout ms n from c q s k e before w)
 
 -- ---- the FIG with the rest of a run after its entries
-figs_run : (here rest : List Marked) (before : List Written) (h : Head) (entries : List Entry) (s : EntryShape) → h ≡ s.head → AreAlike s rest
-    → figs_of here ≡ before ++ written_of h entries ∷ [] → figs_of (here ++ rest) ≡ before ++ written_of h (entries ++ map (λ (m : Marked). m.entry) rest) ∷ []
+figs_run : (here rest : List Marked) (before : List Written) (h : Head) (entries : List Entry) (s : EntryShape)
+    → h ≡ s.head → AreAlike s rest
+    → figs_of here ≡ before ++ written_of h entries ∷ [] → figs_of (here ++ rest) ≡ before
+    ++ written_of h (entries ++ map (λ (m : Marked). m.entry) rest) ∷ []
 figs_run here [] before h entries s same alike is =
     ap figs_of (append-nil here) ∙ is ∙ ap (λ es. before ++ written_of h es ∷ []) (sym (append-nil entries))
 figs_run here (m ∷ rest) before h entries s same alike is =
@@ -139,7 +156,8 @@ figs_run here (m ∷ rest) before h entries s same alike is =
     figs_added here m ∙ ap (λ fs. added fs m) is ∙ added_same before (written_of h entries) m joins in
     ap figs_of (sym (append_assoc here (m ∷ []) rest))
     ∙ figs_run (here ++ m ∷ []) rest before h (entries ++ m.entry ∷ []) s same alike.1 one
-    ∙ ap (λ es. before ++ written_of h es ∷ []) (append_assoc entries (m.entry ∷ []) (map (λ (x : Marked). x.entry) rest))
+    ∙ ap (λ es. before ++ written_of h es ∷ [])
+    (append_assoc entries (m.entry ∷ []) (map (λ (x : Marked). x.entry) rest))
 
 pub run_length : (s : EntryShape) (ms : List Marked) → AreAlike s ms → length (marked_bytes ms) ≡ length ms * s.size
 run_length s [] h = omega arith
@@ -151,10 +169,12 @@ run_length s (m ∷ ms) h =
 -- the entries of a run after its first
 pub record Behind (old : List ℕ) (here rest : List Marked) (fig : OpenFig) (bytes : List ℕ) (more : ℕ) : Type 0 where
   pub place : fig.place < length bytes
-  pub filled : IsFilled old (here ++ rest) (Some fig) (slice_set bytes fig.place (slice_index_or bytes fig.place 0 + more))
+  pub filled : IsFilled old (here ++ rest) (Some fig)
+      (slice_set bytes fig.place (slice_index_or bytes fig.place 0 + more))
   pub byte : slice_index_or bytes fig.place 0 + more < length bytes
 
-behind_all : (old after : List ℕ) (here rest : List Marked) (fig : OpenFig) (s : EntryShape) (more : ℕ) → IsFilled old here (Some fig) after → fig.head ≡ s.head → AreAlike s rest → more ≡ length rest * s.size
+behind_all : (old after : List ℕ) (here rest : List Marked) (fig : OpenFig) (s : EntryShape) (more : ℕ)
+    → IsFilled old here (Some fig) after → fig.head ≡ s.head → AreAlike s rest → more ≡ length rest * s.size
     → Behind old here rest fig (after ++ marked_bytes rest) more
 behind_all old after here rest fig s more f headed alike sized =
     let last = f.end in
@@ -177,17 +197,21 @@ behind_all old after here rest fig s more f headed alike sized =
     ∙ get_or-append_seam front (1 + length own) (head_byte fig.head ∷ (own ++ b)) 0 in
     let long : length b ≡ more = run_length s rest alike ∙ sym sized in
     let whole : entries_bytes es ≡ own ++ b = flat_map-append entry_bytes last.entries tail in
-    let count : slice_index_or bytes fig.place 0 + more ≡ 1 + length (entries_bytes es) = omega (arith, byte, long, ap length whole, length-append own b) in
+    let count : slice_index_or bytes fig.place 0 + more ≡ 1 + length (entries_bytes es) =
+    omega (arith, byte, long, ap length whole, length-append own b) in
     let total : length bytes ≡ length front + length ((1 + length own) ∷ head_byte fig.head ∷ (own ++ b)) =
     ap length is ∙ length-append front ((1 + length own) ∷ head_byte fig.head ∷ (own ++ b)) in
-    let figs : figs_of (here ++ rest) ≡ last.before ++ written_of fig.head es ∷ [] = figs_run here rest last.before fig.head last.entries s headed alike last.figs in
+    let figs : figs_of (here ++ rest) ≡ last.before ++ written_of fig.head es ∷ [] =
+    figs_run here rest last.before fig.head last.entries s headed alike last.figs in
     record {
       place = omega (arith, last.place, total);
       filled = record {
         is =
             ap (λ xs. slice_set xs fig.place (slice_index_or bytes fig.place 0 + more)) is
-            ∙ ap (λ n. slice_set (front ++ (1 + length own) ∷ head_byte fig.head ∷ (own ++ b)) n (slice_index_or bytes fig.place 0 + more)) last.place
-            ∙ set-append_seam front (1 + length own) (head_byte fig.head ∷ (own ++ b)) (slice_index_or bytes fig.place 0 + more)
+            ∙ ap (λ n. slice_set (front ++ (1 + length own) ∷ head_byte fig.head ∷ (own ++ b)) n
+            (slice_index_or bytes fig.place 0 + more)) last.place
+            ∙ set-append_seam front (1 + length own) (head_byte fig.head ∷ (own ++ b))
+            (slice_index_or bytes fig.place 0 + more)
             ∙ ap (λ n. front ++ n ∷ head_byte fig.head ∷ (own ++ b)) count
             ∙ ap (λ t. front ++ (1 + length (entries_bytes es)) ∷ head_byte fig.head ∷ t) (sym whole)
             ∙ append_assoc old (figs_bytes last.before) (fig_bytes fig.head es)
@@ -199,7 +223,8 @@ behind_all old after here rest fig s more f headed alike sized =
     }
 
 -- ---- a run put into FIB n
-grown_head : (last : Option OpenFig) (s : EntryShape) (bytes mid : List ℕ) (fig : OpenFig) → Grows last s bytes fig mid → fig.head ≡ s.head
+grown_head : (last : Option OpenFig) (s : EntryShape) (bytes mid : List ℕ) (fig : OpenFig) → Grows last s bytes fig mid
+    → fig.head ≡ s.head
 grown_head None s bytes mid fig g = g.head
 grown_head (Some f) s bytes mid fig g = by (same_head f.head s.head) refl g
   where
@@ -208,27 +233,35 @@ grown_head (Some f) s bytes mid fig g = by (same_head f.head s.head) refl g
     by false e g = g.head
 
 -- the bytes of a run, and its shape by that of its first entry
-pub piece_bytes : (ms : List Marked) (i n : ℕ) (s : EntryShape) → IsRun ms i n s → length (marked_bytes (piece ms i n)) ≡ n * s.size
+pub piece_bytes : (ms : List Marked) (i n : ℕ) (s : EntryShape) → IsRun ms i n s
+    → length (marked_bytes (piece ms i n)) ≡ n * s.size
 piece_bytes ms i n s r =
     let count : length (piece ms i n) ≡ n = length-take-le n (drop i ms) (omega (arith, length-drop i ms, r.inside)) in
     run_length s (piece ms i n) r.alike ∙ ap (λ j. j * s.size) count
 
-pub run_shape : (ms : List Marked) (i n : ℕ) (shape s : EntryShape) → IsShapeAt ms i shape → IsRun ms i n s → 1 ≤ n → shape ≡ s
+pub run_shape : (ms : List Marked) (i n : ℕ) (shape s : EntryShape) → IsShapeAt ms i shape → IsRun ms i n s → 1 ≤ n
+    → shape ≡ s
 run_shape ms i n shape s sh r some =
     let first : InRun ms (i + 0) s = in_run ms i n s sh.entry r 0 (omega (arith, some)) in
     let at : i + 0 ≡ i = omega arith in
-    let same : sh.entry ≡ first.entry = same_there ms i sh.entry first.entry sh.here (ap (λ j. slice_get ms j) (sym at) ∙ first.here) in
+    let same : sh.entry ≡ first.entry =
+    same_there ms i sh.entry first.entry sh.here (ap (λ j. slice_get ms j) (sym at) ∙ first.here) in
     same_shape shape (shape_of sh.entry) sh.head sh.size ∙ ap shape_of same ∙ first.shape
 
 -- the FIB after a run
-pub record RunIn (layout : FrameLayout) (ms : List Marked) (n : ℕ) (old : List ℕ) (d : Position) (fig : OpenFig) (bytes : List ℕ) (more : ℕ) : Type 0 where
+pub record RunIn (layout : FrameLayout) (ms : List Marked) (n : ℕ) (old : List ℕ) (d : Position) (fig : OpenFig)
+    (bytes : List ℕ) (more : ℕ) : Type 0 where
   pub place : fig.place < length bytes
   pub byte : slice_index_or bytes fig.place 0 + more ≤ 255
-  pub filled : FilledTo layout ms n old d (Some fig) (slice_set bytes fig.place (slice_index_or bytes fig.place 0 + more))
+  pub filled : FilledTo layout ms n old d (Some fig)
+      (slice_set bytes fig.place (slice_index_or bytes fig.place 0 + more))
   pub low : length bytes ≤ 30
 
-pub run_in : (layout : FrameLayout) (ms : List Marked) (n : ℕ) (old bytes mid : List ℕ) (c e d : Position) (last : Option OpenFig) (fig : OpenFig) (shape : EntryShape) (sh : IsShapeAt ms c.index shape) (en : Entered layout ms n old c e)
-    → (w : FilledTo layout ms n old c last bytes) → Grows last shape bytes fig mid → (k : ℕ) → Goes layout ms n c e.state shape k d
+pub run_in : (layout : FrameLayout) (ms : List Marked) (n : ℕ) (old bytes mid : List ℕ) (c e d : Position)
+    (last : Option OpenFig) (fig : OpenFig) (shape : EntryShape) (sh : IsShapeAt ms c.index shape)
+    (en : Entered layout ms n old c e)
+    → (w : FilledTo layout ms n old c last bytes) → Grows last shape bytes fig mid → (k : ℕ)
+    → Goes layout ms n c e.state shape k d
     → RunIn layout ms n old d fig (mid ++ marked_bytes (piece ms c.index (suc k))) (k * shape.size)
 run_in layout ms n old bytes mid c e d last fig shape sh en w g k go =
     let here : List Marked = take (c.index - w.from) (drop w.from ms) in
@@ -236,11 +269,14 @@ run_in layout ms n old bytes mid c e d last fig shape sh en w g k go =
     let rest : List Marked = take k (drop (c.index + 1) ms) in
     let cut : piece ms c.index (suc k) ≡ m ∷ rest = ap (λ xs. take (suc k) xs) en.step.row in
     let after : List ℕ = mid ++ entry_bytes m.entry in
-    let one : IsFilled old (here ++ m ∷ []) (Some fig) after = (put_step layout ms n old bytes mid c e last fig shape sh en w g).filled after refl in
+    let one : IsFilled old (here ++ m ∷ []) (Some fig) after =
+    (put_step layout ms n old bytes mid c e last fig shape sh en w g).filled after refl in
     let alike : AreAlike shape (m ∷ rest) = subst (λ (xs : List Marked). AreAlike shape xs) cut go.run.alike in
-    let count : length rest ≡ k = length-take-le k (drop (c.index + 1) ms) (omega (arith, length-drop (c.index + 1) ms, go.run.inside)) in
+    let count : length rest ≡ k =
+    length-take-le k (drop (c.index + 1) ms) (omega (arith, length-drop (c.index + 1) ms, go.run.inside)) in
     let sized : k * shape.size ≡ length rest * shape.size = ap (λ j. j * shape.size) (sym count) in
-    let b = behind_all old after (here ++ m ∷ []) rest fig shape (k * shape.size) one (grown_head last shape bytes mid fig g) alike.1 sized in
+    let b = behind_all old after (here ++ m ∷ []) rest fig shape (k * shape.size) one
+    (grown_head last shape bytes mid fig g) alike.1 sized in
     let with_entry_first : after ++ marked_bytes rest ≡ mid ++ marked_bytes (piece ms c.index (suc k)) =
     append_assoc mid (entry_bytes m.entry) (marked_bytes rest) ∙ ap (λ xs. mid ++ marked_bytes xs) (sym cut) in
     let walked : Walked layout ms n w.from d = walked_run layout ms n w.from c e.state shape k d go w.walked in
@@ -249,14 +285,23 @@ run_in layout ms n old bytes mid c e d last fig shape sh en w g k go =
     ∙ ap (λ xs. here ++ xs) (sym cut)
     ∙ sym (pieces ms w.from c.index (suc k) w.walked.order)
     ∙ ap (λ i. take (i - w.from) (drop w.from ms)) (omega (arith, go.index)) in
-    let filled : IsFilled old (take (d.index - w.from) (drop w.from ms)) (Some fig) (slice_set (after ++ marked_bytes rest) fig.place (slice_index_or (after ++ marked_bytes rest) fig.place 0 + k * shape.size)) =
-    subst (λ (xs : List Marked). IsFilled old xs (Some fig) (slice_set (after ++ marked_bytes rest) fig.place (slice_index_or (after ++ marked_bytes rest) fig.place 0 + k * shape.size))) grown b.filled in
-    let cost : length (figs_bytes (figs_of (take (d.index - w.from) (drop w.from ms)))) ≡ figs_size None (take (d.index - w.from) (drop w.from ms)) = figs_cost (take (d.index - w.from) (drop w.from ms)) in
+    let filled : IsFilled old (take (d.index - w.from) (drop w.from ms)) (Some fig)
+    (slice_set (after ++ marked_bytes rest) fig.place
+    (slice_index_or (after ++ marked_bytes rest) fig.place 0 + k * shape.size)) =
+    subst (λ (xs : List Marked). IsFilled old xs (Some fig)
+    (slice_set (after ++ marked_bytes rest) fig.place
+    (slice_index_or (after ++ marked_bytes rest) fig.place 0 + k * shape.size))) grown b.filled in
+    let cost : length (figs_bytes (figs_of (take (d.index - w.from) (drop w.from ms))))
+    ≡ figs_size None (take (d.index - w.from) (drop w.from ms)) =
+    figs_cost (take (d.index - w.from) (drop w.from ms)) in
     let part : figs_size None (take (d.index - w.from) (drop w.from ms)) ≤ figs_size None (fib_entries layout n ms) =
-    subst (λ (xs : List Marked). figs_size None (take (d.index - w.from) (drop w.from ms)) ≤ figs_size None xs) walked.here
+    subst (λ (xs : List Marked). figs_size None (take (d.index - w.from) (drop w.from ms)) ≤ figs_size None xs)
+    walked.here
     (figs_size_part None (take (d.index - w.from) (drop w.from ms)) (rest_in layout n ms d.index d.state)) in
-    let long : length (after ++ marked_bytes rest) ≡ length old + length (figs_bytes (figs_of (take (d.index - w.from) (drop w.from ms)))) =
-    sym (length-set (after ++ marked_bytes rest) fig.place (slice_index_or (after ++ marked_bytes rest) fig.place 0 + k * shape.size))
+    let long : length (after ++ marked_bytes rest) ≡ length old
+    + length (figs_bytes (figs_of (take (d.index - w.from) (drop w.from ms)))) =
+    sym (length-set (after ++ marked_bytes rest) fig.place
+    (slice_index_or (after ++ marked_bytes rest) fig.place 0 + k * shape.size))
     ∙ ap length filled.is ∙ length-append old (figs_bytes (figs_of (take (d.index - w.from) (drop w.from ms)))) in
     let low : length (after ++ marked_bytes rest) ≤ 30 = omega (arith, long, cost, part, en.room) in
     subst (λ bs. RunIn layout ms n old d fig bs (k * shape.size)) with_entry_first (record {
@@ -266,19 +311,25 @@ run_in layout ms n old bytes mid c e d last fig shape sh en w g k go =
       low = low;
     })
   where
-    pieces : (ms : List Marked) (from at n : ℕ) → from ≤ at → take (at + n - from) (drop from ms) ≡ take (at - from) (drop from ms) ++ take n (drop at ms)
+    pieces : (ms : List Marked) (from at n : ℕ) → from ≤ at
+        → take (at + n - from) (drop from ms) ≡ take (at - from) (drop from ms) ++ take n (drop at ms)
     pieces ms from at n le =
         let count : at + n - from ≡ at - from + n = omega (arith, le) in
         let whole : from + (at - from) ≡ at = omega (arith, le) in
         ap (λ j. take j (drop from ms)) count ∙ take-add (at - from) n (drop from ms)
-        ∙ ap (λ xs. take (at - from) (drop from ms) ++ take n xs) (drop-drop (at - from) from ms ∙ ap (λ i. drop i ms) whole)
+        ∙ ap (λ xs. take (at - from) (drop from ms) ++ take n xs)
+        (drop-drop (at - from) from ms ∙ ap (λ i. drop i ms) whole)
 
 -- so a FIB takes each run that fits in the room
-pub takes_runs : (layout : FrameLayout) (ms : List Marked) (n : ℕ) (old bytes mid : List ℕ) (c e : Position) (last : Option OpenFig) (fig : OpenFig) (shape : EntryShape) (sh : IsShapeAt ms c.index shape) (en : Entered layout ms n old c e)
-    → (w : FilledTo layout ms n old c last bytes) → Grows last shape bytes fig mid → e.state.head ≡ Some shape.head → e.state.used ≤ room layout n → (free : ℕ) → free ≡ shape.size + (room layout n - e.state.used)
+pub takes_runs : (layout : FrameLayout) (ms : List Marked) (n : ℕ) (old bytes mid : List ℕ) (c e : Position)
+    (last : Option OpenFig) (fig : OpenFig) (shape : EntryShape) (sh : IsShapeAt ms c.index shape)
+    (en : Entered layout ms n old c e)
+    → (w : FilledTo layout ms n old c last bytes) → Grows last shape bytes fig mid → e.state.head ≡ Some shape.head
+    → e.state.used ≤ room layout n → (free : ℕ) → free ≡ shape.size + (room layout n - e.state.used)
     → TakesRuns ms c.index free mid
 takes_runs layout ms n old bytes mid c e last fig shape sh en w g headed within free is zero s r fits =
-    let room : length mid + size_of en.step.entry ≤ 30 = (put_step layout ms n old bytes mid c e last fig shape sh en w g).room in
+    let room : length mid + size_of en.step.entry ≤ 30 =
+    (put_step layout ms n old bytes mid c e last fig shape sh en w g).room in
     omega (arith, room)
 takes_runs layout ms n old bytes mid c e last fig shape sh en w g headed within free is (suc k) s r fits =
     let own : shape ≡ s = run_shape ms c.index (suc k) shape s sh r (omega arith) in
@@ -300,7 +351,8 @@ takes_runs layout ms n old bytes mid c e last fig shape sh en w g headed within 
     } in
     let done = run_in layout ms n old bytes mid c e d last fig shape sh en w g k go in
     let long : length (mid ++ marked_bytes (piece ms c.index (suc k))) ≡ length mid + (suc k) * shape.size =
-    length-append mid (marked_bytes (piece ms c.index (suc k))) ∙ ap (λ j. length mid + j) (piece_bytes ms c.index (suc k) shape r') in
+    length-append mid (marked_bytes (piece ms c.index (suc k)))
+    ∙ ap (λ j. length mid + j) (piece_bytes ms c.index (suc k) shape r') in
     let low : length mid + (suc k) * shape.size ≤ 30 = omega (arith, long, done.low) in
     subst (λ (t : EntryShape). length mid + suc k * t.size ≤ 30) own low
 
@@ -317,15 +369,18 @@ pub record IsFirst (layout : FrameLayout) (q : PackState) (shape : EntryShape) :
   pub within : q.used ≤ room layout q.fib
   pub head : q.head ≡ Some shape.head
 
-pub first_of_run : (layout : FrameLayout) (ms : List Marked) (at : ℕ) (p q : PackState) (shape : EntryShape) → IsShapeAt ms at shape → shape.size ≤ 28 → Passed layout ms at p q → IsFirst layout q shape
+pub first_of_run : (layout : FrameLayout) (ms : List Marked) (at : ℕ) (p q : PackState) (shape : EntryShape)
+    → IsShapeAt ms at shape → shape.size ≤ 28 → Passed layout ms at p q → IsFirst layout q shape
 first_of_run layout ms at p q shape sh small s =
     let same : sh.entry ≡ s.entry = same_there ms at sh.entry s.entry sh.here s.here in
     let size : size_of s.entry ≡ shape.size = ap size_of (sym same) ∙ sym sh.size in
     let head : head_of s.entry ≡ shape.head = ap head_of (sym same) ∙ sym sh.head in
     subst (λ (r : PackState). IsFirst layout r shape) (sym s.next)
     (elim (placed_cases layout s.entry p) [
-      | inl c ↦ subst (λ (r : PackState). IsFirst layout r shape) (sym c.is) (record { within = c.fits; head = ap Some head })
-      | inr c ↦ subst (λ (r : PackState). IsFirst layout r shape) (sym c.is) (record { within = c.fits (omega (arith, size, small)); head = ap Some head })
+      | inl c ↦ subst (λ (r : PackState). IsFirst layout r shape) (sym c.is)
+          (record { within = c.fits; head = ap Some head })
+      | inr c ↦ subst (λ (r : PackState). IsFirst layout r shape) (sym c.is)
+          (record { within = c.fits (omega (arith, size, small)); head = ap Some head })
     ])
 
 -- the room for a run, and what is put there
@@ -338,16 +393,22 @@ pub record Counted (layout : FrameLayout) (n : ℕ) (q : PackState) (shape : Ent
   pub times : count * shape.size ≡ shape.size + (count - 1) * shape.size
   pub fits : q.used + (count - 1) * shape.size ≤ room layout n
 
-pub counted : (layout : FrameLayout) (ms : List Marked) (i n : ℕ) (q : PackState) (shape : EntryShape) (free count : ℕ) (mid new : List ℕ) → Room layout n q shape free → PutsRun ms i shape free count mid new → Counted layout n q shape count
+pub counted : (layout : FrameLayout) (ms : List Marked) (i n : ℕ) (q : PackState) (shape : EntryShape) (free count : ℕ)
+    (mid new : List ℕ) → Room layout n q shape free → PutsRun ms i shape free count mid new
+    → Counted layout n q shape count
 counted layout ms i n q shape free count mid new r p =
     let times : count * shape.size ≡ shape.size + (count - 1) * shape.size = times_less count shape.size p.some in
     let within : q.used ≤ room layout n = subst (λ k. q.used ≤ room layout k) r.into r.first.within in
     record { times = times; fits = omega (arith, times, within, r.is, p.fits) }
 
-pub takes : (layout : FrameLayout) (ms : List Marked) (n : ℕ) (old bytes mid : List ℕ) (c e : Position) (last : Option OpenFig) (fig : OpenFig) (shape : EntryShape) (sh : IsShapeAt ms c.index shape) (en : Entered layout ms n old c e)
-    → FilledTo layout ms n old c last bytes → Grows last shape bytes fig mid → (free : ℕ) → Room layout n e.state shape free → TakesRuns ms c.index free mid
+pub takes : (layout : FrameLayout) (ms : List Marked) (n : ℕ) (old bytes mid : List ℕ) (c e : Position)
+    (last : Option OpenFig) (fig : OpenFig) (shape : EntryShape) (sh : IsShapeAt ms c.index shape)
+    (en : Entered layout ms n old c e)
+    → FilledTo layout ms n old c last bytes → Grows last shape bytes fig mid → (free : ℕ)
+    → Room layout n e.state shape free → TakesRuns ms c.index free mid
 takes layout ms n old bytes mid c e last fig shape sh en w g free r =
-    takes_runs layout ms n old bytes mid c e last fig shape sh en w g r.first.head (subst (λ k. e.state.used ≤ room layout k) r.into r.first.within) free r.is
+    takes_runs layout ms n old bytes mid c e last fig shape sh en w g r.first.head
+    (subst (λ k. e.state.used ≤ room layout k) r.into r.first.within) free r.is
 
 -- the position after it
 pub record Moved (c e d : Position) (size count : ℕ) : Type 0 where
@@ -356,8 +417,11 @@ pub record Moved (c e d : Position) (size count : ℕ) : Type 0 where
   pub used : d.state.used ≡ e.state.used + (count - 1) * size
   pub head : d.state.head ≡ e.state.head
 
-pub all_in : (layout : FrameLayout) (ms : List Marked) (n : ℕ) (old bytes mid new : List ℕ) (c e d : Position) (last : Option OpenFig) (fig : OpenFig) (shape : EntryShape) (sh : IsShapeAt ms c.index shape) (en : Entered layout ms n old c e)
-    → FilledTo layout ms n old c last bytes → Grows last shape bytes fig mid → (free count : ℕ) → Room layout n e.state shape free → PutsRun ms c.index shape free count mid new → Moved c e d shape.size count
+pub all_in : (layout : FrameLayout) (ms : List Marked) (n : ℕ) (old bytes mid new : List ℕ) (c e d : Position)
+    (last : Option OpenFig) (fig : OpenFig) (shape : EntryShape) (sh : IsShapeAt ms c.index shape)
+    (en : Entered layout ms n old c e)
+    → FilledTo layout ms n old c last bytes → Grows last shape bytes fig mid → (free count : ℕ)
+    → Room layout n e.state shape free → PutsRun ms c.index shape free count mid new → Moved c e d shape.size count
     → RunIn layout ms n old d fig new ((count - 1) * shape.size)
 all_in layout ms n old bytes mid new c e d last fig shape sh en w g free count r p m =
     let k : ℕ = count - 1 in
@@ -374,5 +438,7 @@ all_in layout ms n old bytes mid new c e d last fig shape sh en w g free count r
       own = r.first.head;
       near = en.near;
     } in
-    let same : mid ++ marked_bytes (piece ms c.index (suc k)) ≡ new = ap (λ j. mid ++ marked_bytes (piece ms c.index j)) whole ∙ sym p.bytes in
-    subst (λ (bs : List ℕ). RunIn layout ms n old d fig bs (k * shape.size)) same (run_in layout ms n old bytes mid c e d last fig shape sh en w g k go)
+    let same : mid ++ marked_bytes (piece ms c.index (suc k)) ≡ new =
+    ap (λ j. mid ++ marked_bytes (piece ms c.index j)) whole ∙ sym p.bytes in
+    subst (λ (bs : List ℕ). RunIn layout ms n old d fig bs (k * shape.size)) same
+    (run_in layout ms n old bytes mid c e d last fig shape sh en w g k go)

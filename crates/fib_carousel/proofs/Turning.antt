@@ -1,5 +1,6 @@
 -- A cursor advances from page to page.
-use Rattle.std.proofs.Common.{◌≡◌, ℕ, ◌+◌, ◌-◌, ◌/◌, ◌<◌, ◌≤◌, List, length, inl, inr, if◌then◌else◌, ap, arith, lt-ltb, le-ltb}
+use Rattle.std.proofs.Common.{◌≡◌, ℕ, ◌+◌, ◌-◌, ◌/◌, ◌<◌, ◌≤◌, List, length, inl, inr, if◌then◌else◌, ap, arith, lt-ltb}
+use Rattle.std.proofs.Common.{le-ltb}
 use Rattle.mux_types.specs.Facts.{Marked}
 use Rattle.fib_codec.specs.Layouts.{used_fibs}
 use Rattle.fib_codec.specs.declared.frame_layout.FrameLayout.{FrameLayout}
@@ -12,8 +13,10 @@ use Rattle.fib_carousel.proofs.Walk.{last_end}
 use Rattle.fib_carousel.proofs.Widths.{last_in, last_over}
 
 -- if no entry is left, that was the last page
-pub after_last : (layout : FrameLayout) (ms : List Marked) (k : ℕ) (p : Position) → k < rounds layout ms → length ms ≤ p.index
-    → IsAtFib layout ms (first_fib layout k + used_fibs layout) p → HasPassed layout ms (first_fib layout k + used_fibs layout - 1) p → page_after (rounds layout ms) k ≡ 0
+pub after_last : (layout : FrameLayout) (ms : List Marked) (k : ℕ) (p : Position) → k < rounds layout ms
+    → length ms ≤ p.index
+    → IsAtFib layout ms (first_fib layout k + used_fibs layout) p
+    → HasPassed layout ms (first_fib layout k + used_fibs layout - 1) p → page_after (rounds layout ms) k ≡ 0
 after_last layout ms k p within done before passed =
     let top : ℕ = last_number 0 (packing layout ms) in
     let last : p.state.fib ≡ top = last_end layout ms p.index p.state top done before.last in
@@ -21,12 +24,14 @@ after_last layout ms k p within done before passed =
     ap (λ b. if b then k + 1 else 0) (le-ltb (k + 1) (rounds layout ms) (omega (arith, few)))
 
 -- if some are left, another page follows
-pub another : (layout : FrameLayout) (ms : List Marked) (k : ℕ) (p : Position) → p.index < length ms → HasPassed layout ms (first_fib layout k + used_fibs layout - 1) p → k + 1 < rounds layout ms
+pub another : (layout : FrameLayout) (ms : List Marked) (k : ℕ) (p : Position) → p.index < length ms
+    → HasPassed layout ms (first_fib layout k + used_fibs layout - 1) p → k + 1 < rounds layout ms
 another layout ms k p left passed =
     elim passed.left [
       | inl none ↦ absurd (omega (arith, none, left))
       | inr over ↦ omega (arith, last_over layout k (last_number 0 (packing layout ms)) over)
     ]
 
-pub after_another : (layout : FrameLayout) (ms : List Marked) (k : ℕ) → k + 1 < rounds layout ms → page_after (rounds layout ms) k ≡ k + 1
+pub after_another : (layout : FrameLayout) (ms : List Marked) (k : ℕ) → k + 1 < rounds layout ms
+    → page_after (rounds layout ms) k ≡ k + 1
 after_another layout ms k h = ap (λ b. if b then k + 1 else 0) (lt-ltb (k + 1) (rounds layout ms) h)

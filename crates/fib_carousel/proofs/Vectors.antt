@@ -1,5 +1,6 @@
 -- Examples of runs: for each definition one that satisfies it, and one that does not.
-use Rattle.std.proofs.Common.{◌≡◌, ℕ, ◌+◌, ◌*◌, ◌<◌, ◌≤◌, true, false, List, [], ◌∷◌, replicate, refl, sym, ◌∙◌, ap, subst, arith}
+use Rattle.std.proofs.Common.{◌≡◌, ℕ, ◌+◌, ◌*◌, ◌<◌, ◌≤◌, true, false, List, [], ◌∷◌, replicate, refl, sym, ◌∙◌, ap}
+use Rattle.std.proofs.Common.{subst, arith}
 use Rattle.mux_types.specs.Facts.{Marked, marked}
 use Rattle.mux_types.specs.declared.entry.Entry.TheVariants.{Sub as SubOf}
 use Rattle.fib_codec.specs.declared.modes.Mode.TheVariants.{I}
@@ -33,7 +34,12 @@ the_next_is_none_of_it r =
     absurd (cc other)
 
 one_is_put : PutsRun (now ∷ []) 0 shape 4 1 [] (4 ∷ 0 ∷ 136 ∷ 96 ∷ [])
-one_is_put = record { some = omega arith; run = record { inside = omega arith; alike = (refl, tt) }; fits = omega arith; bytes = refl }
+one_is_put = record {
+  some = omega arith;
+  run = record { inside = omega arith; alike = (refl, tt) };
+  fits = omega arith;
+  bytes = refl;
+}
 
 three_bytes_are_too_few : (new : List ℕ) → PutsRun (now ∷ []) 0 shape 3 1 [] new → ⊥
 three_bytes_are_too_few new p =
@@ -50,11 +56,18 @@ a_full_one_does_not takes =
     absurd (omega (arith, fits))
 
 -- an entry of this shape is placed as its shape alone would be
-by_shape : (p : PackState) (m : Marked) → shape.head ≡ head_of m → shape.size ≡ size_of m → placed (Whole I) m p ≡ step (Whole I) shape p
-by_shape p m head size = placed_step (Whole I) m p ∙ ap (λ (t : EntryShape). step (Whole I) t p) (sym (same_shape shape (shape_of m) head size))
+by_shape : (p : PackState) (m : Marked) → shape.head ≡ head_of m → shape.size ≡ size_of m
+    → placed (Whole I) m p ≡ step (Whole I) shape p
+by_shape p m head size = placed_step (Whole I) m p ∙ ap (λ (t : EntryShape). step (Whole I) t p)
+    (sym (same_shape shape (shape_of m) head size))
 
 the_first_is_within : IsThenWithin (Whole I) shape 0 start (state_at shape 0 6)
-the_first_is_within = record { is = λ m head size. sym (by_shape start m head size); used = omega arith; low = omega arith; near = omega arith }
+the_first_is_within = record {
+  is = λ m head size. sym (by_shape start m head size);
+  used = omega arith;
+  low = omega arith;
+  near = omega arith;
+}
 
 fib_1_is_not : IsThenWithin (Whole I) shape 0 start (state_at shape 1 6) → ⊥
 fib_1_is_not w =
@@ -62,7 +75,8 @@ fib_1_is_not w =
     absurd (omega (arith, low))
 
 behind_twenty : IsPlacedAfter (Whole I) shape 0 (state_at shape 0 20)
-behind_twenty = λ m head size. subst (λ (q : PackState). 0 < q.fib) (sym (by_shape (state_at shape 0 20) m head size)) (omega arith)
+behind_twenty = λ m head size. subst (λ (q : PackState). 0 < q.fib) (sym (by_shape (state_at shape 0 20) m head size))
+    (omega arith)
 
 the_first_is_not_behind : IsPlacedAfter (Whole I) shape 0 start → ⊥
 the_first_is_not_behind behind =

@@ -1,5 +1,6 @@
 -- The bytes of the FIBs of a page (EN 300 401 clauses 5.2.1, 5.2.2 and 6.4).
-use Rattle.std.specs.Prelude.{◌≡◌, map, flat_map, take, drop, replicate, ℕ, false, if◌then◌else◌, Option, Some, None, List, [], ◌∷◌, ◌++◌}
+use Rattle.std.specs.Prelude.{◌≡◌, map, flat_map, take, drop, replicate, ℕ, false, if◌then◌else◌, Option, Some, None}
+use Rattle.std.specs.Prelude.{List, [], ◌∷◌, ◌++◌}
 use Rattle.mux_types.specs.Entries.{EnsembleInformation}
 use Rattle.mux_types.specs.Facts.{Marked, marked}
 use Rattle.mux_types.specs.declared.entry.Entry.TheVariants.{Ensemble as EnsembleOf}

@@ -1,5 +1,6 @@
 -- How an entry is added to the FIGs of a FIB. No public contract depends on this.
-use Rattle.std.specs.Prelude.{◌≡◌, ℕ, ◌+◌, ◌<◌, ◌≤◌, Bool, true, false, Option, Some, None, List, [], ◌∷◌, ◌++◌, length, slice_index_or, slice_set}
+use Rattle.std.specs.Prelude.{◌≡◌, ℕ, ◌+◌, ◌<◌, ◌≤◌, Bool, true, false, Option, Some, None, List, [], ◌∷◌, ◌++◌, length}
+use Rattle.std.specs.Prelude.{slice_index_or, slice_set}
 use Rattle.fib_codec.specs.Spelling.{head_byte}
 use Rattle.fib_carousel.specs.declared.pack_state.EntryShape.{EntryShape}
 use Rattle.fib_carousel.specs.declared.page_writer.OpenFig.{OpenFig}

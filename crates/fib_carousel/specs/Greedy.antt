@@ -40,4 +40,5 @@ GreedyIsPacking = (layout : FrameLayout) (es : List Marked) → AreSmall es → 
 abbrev pub NoFewer : Type 0
 NoFewer =
     (layout : FrameLayout) (es : List Marked) (ms : List ℕ) → IsDivision layout es ms
-    → (last_number 0 (packing layout es) ≤ last_number 0 ms) × (rounds_of layout (packing layout es) ≤ rounds_of layout ms)
+    → (last_number 0 (packing layout es) ≤ last_number 0 ms)
+    × (rounds_of layout (packing layout es) ≤ rounds_of layout ms)

@@ -4,7 +4,8 @@ use Rattle.mux_config.specs.Configuration.{Configuration, IsPlaced, IsService, I
 use Rattle.mux_types.specs.Facts.{sub_entry, service_entry, packet_entry, sub_entries, service_entries}
 use Rattle.mux_types.specs.declared.entry.Entry.{Entry}
 use Rattle.fib_carousel.specs.declared.page_set.Item.{Item}
-use Rattle.fib_carousel.specs.declared.page_set.Item.TheVariants.{Sub as SubItem, Service as ServiceItem, Packet as PacketItem}
+use Rattle.fib_carousel.specs.declared.page_set.Item.TheVariants.{Sub as SubItem, Service as ServiceItem}
+use Rattle.fib_carousel.specs.declared.page_set.Item.TheVariants.{Packet as PacketItem}
 
 abbrev pub item_entry : Item → Entry
 item_entry (SubItem s) = sub_entry s

@@ -16,4 +16,5 @@ most_together fibs = if fibs == 2 then 155 else if fibs == 3 then 81 else 55
 abbrev pub MostPages : Type 0
 MostPages =
     (layout : FrameLayout) (c d : Configuration) → IsConfiguration c → IsConfiguration d
-    → (rounds layout (page_set c None) ≤ most_alone (used_fibs layout)) × (rounds layout (page_set c (Some d)) ≤ most_together (used_fibs layout))
+    → (rounds layout (page_set c None) ≤ most_alone (used_fibs layout))
+    × (rounds layout (page_set c (Some d)) ≤ most_together (used_fibs layout))

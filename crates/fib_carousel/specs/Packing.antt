@@ -1,6 +1,7 @@
 -- How a list of entries is divided over a sequence of FIBs, and which division is the packing. A page has as many FIBs
 -- as a frame has that are not reserved.
-use Rattle.std.specs.Prelude.{◌≡◌, ℕ, ◌+◌, ◌/◌, ◌%◌, ◌≤◌, ◌==◌, Bool, true, false, ◌&&◌, List, [], ◌∷◌, length, slice_index, Option, Some, None, if◌then◌else◌}
+use Rattle.std.specs.Prelude.{◌≡◌, ℕ, ◌+◌, ◌/◌, ◌%◌, ◌≤◌, ◌==◌, Bool, true, false, ◌&&◌, List, [], ◌∷◌, length}
+use Rattle.std.specs.Prelude.{slice_index, Option, Some, None, if◌then◌else◌}
 use Rattle.mux_types.specs.Facts.{Marked}
 use Rattle.std.specs.List.{AllByRecursion}
 use Rattle.fib_codec.specs.Layouts.{used_fibs}

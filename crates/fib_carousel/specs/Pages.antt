@@ -1,5 +1,6 @@
 -- The entries of each page.
-use Rattle.std.specs.Prelude.{◌≡◌, ℕ, ◌+◌, ◌-◌, ◌*◌, ◌<◌, ◌≤◌, zero, suc, true, false, List, [], ◌∷◌, ◌++◌, flat_map, Option, Some, None, Contains, if◌then◌else◌, nat_lt, option_map}
+use Rattle.std.specs.Prelude.{◌≡◌, ℕ, ◌+◌, ◌-◌, ◌*◌, ◌<◌, ◌≤◌, zero, suc, true, false, List, [], ◌∷◌, ◌++◌, flat_map}
+use Rattle.std.specs.Prelude.{Option, Some, None, Contains, if◌then◌else◌, nat_lt, option_map}
 use Rattle.std.specs.List.{range_with_len}
 use Rattle.mux_types.specs.Facts.{Marked, facts_of}
 use Rattle.mux_config.specs.Configuration.{Configuration}

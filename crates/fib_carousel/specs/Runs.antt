@@ -1,6 +1,7 @@
 -- Placing entries one after another, and runs of entries with the same head and size. No public contract depends on
 -- this.
-use Rattle.std.specs.Prelude.{◌≡◌, ℕ, zero, suc, ◌+◌, ◌<◌, ◌≤◌, Bool, false, List, [], ◌∷◌, Option, Some, None, if◌then◌else◌, nat_le}
+use Rattle.std.specs.Prelude.{◌≡◌, ℕ, zero, suc, ◌+◌, ◌<◌, ◌≤◌, Bool, false, List, [], ◌∷◌, Option, Some, None}
+use Rattle.std.specs.Prelude.{if◌then◌else◌, nat_le}
 use Rattle.mux_types.specs.Facts.{Marked}
 use Rattle.fib_codec.specs.Spelling.{head_of}
 use Rattle.fib_codec.specs.declared.head.Head.{Head}
@@ -31,7 +32,8 @@ state_at s fib used = record { fib = fib; used = used; head = Some s.head }
 abbrev pub step : FrameLayout → EntryShape → PackState → PackState
 step layout s p =
     if nat_le (p.used + shape_cost p.head s) (room layout p.fib) then state_at s p.fib (p.used + shape_cost p.head s)
-    else (if nat_le (2 + s.size) (room layout (p.fib + 1)) then state_at s (p.fib + 1) (2 + s.size) else state_at s (p.fib + 2) (2 + s.size))
+    else (if nat_le (2 + s.size) (room layout (p.fib + 1)) then state_at s (p.fib + 1) (2 + s.size) else state_at s
+    (p.fib + 2) (2 + s.size))
 
 -- the state after placing this many entries of one shape
 abbrev pub steps : FrameLayout → EntryShape → ℕ → PackState → PackState
@@ -56,4 +58,5 @@ pub record IsThenWithin (layout : FrameLayout) (s : EntryShape) (number : ℕ) (
 
 -- an entry of this shape goes into a FIB after FIB `number`
 abbrev pub IsPlacedAfter : FrameLayout → EntryShape → ℕ → PackState → Type 0
-IsPlacedAfter layout s number p = (m : Marked) → s.head ≡ head_of m → s.size ≡ size_of m → number < (placed layout m p).fib
+IsPlacedAfter layout s number p = (m : Marked) → s.head ≡ head_of m → s.size ≡ size_of m
+    → number < (placed layout m p).fib

@@ -24,7 +24,8 @@ abbrev pub marked_bytes : List Marked → List ℕ
 marked_bytes ms = entries_bytes (map (λ (m : Marked). m.entry) ms)
 
 -- a run of this shape is appended: at least one entry, and no more than fit in the room
-pub record PutsRun (ms : List Marked) (index : ℕ) (shape : EntryShape) (room count : ℕ) (old new : List ℕ) : Type 0 where
+pub record PutsRun (ms : List Marked) (index : ℕ) (shape : EntryShape) (room count : ℕ) (old new : List ℕ) : Type
+    0 where
   pub some : 1 ≤ count
   pub run : IsRun ms index count shape
   pub fits : count * shape.size ≤ room
@@ -32,4 +33,5 @@ pub record PutsRun (ms : List Marked) (index : ℕ) (shape : EntryShape) (room c
 
 -- a FIB has space for each run from an index on that fits in the room
 abbrev pub TakesRuns : List Marked → ℕ → ℕ → List ℕ → Type 0
-TakesRuns ms index room old = (n : ℕ) (s : EntryShape) → IsRun ms index n s → n * s.size ≤ room → length old + n * s.size ≤ 30
+TakesRuns ms index room old = (n : ℕ) (s : EntryShape) → IsRun ms index n s → n * s.size ≤ room
+    → length old + n * s.size ≤ 30

@@ -24,7 +24,8 @@ pub record IsAtFib (layout : FrameLayout) (ms : List Marked) (n : ℕ) (p : Posi
   pub used : p.state.used ≤ 30
   pub fib : p.state.fib ≤ 2 * p.index
   pub below : p.state.fib ≤ n
-  pub rest : (m : ℕ) → n ≤ m → entries_in_fib m (drop p.index ms) (numbers_from layout p.state (drop p.index ms)) ≡ fib_entries layout m ms
+  pub rest : (m : ℕ) → n ≤ m → entries_in_fib m (drop p.index ms) (numbers_from layout p.state (drop p.index ms))
+      ≡ fib_entries layout m ms
   pub last : last_number p.state.fib (numbers_from layout p.state (drop p.index ms)) ≡ last_number 0 (packing layout ms)
 
 -- no entry is left after FIB n, or the last one is past it

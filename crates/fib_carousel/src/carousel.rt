@@ -13,8 +13,9 @@ use crate::page_writer::write_page;
 use fib_codec::{FibFrame, FrameLayout};
 use mux_config::{Ensemble, Store};
 
-/// The number of pages that the entries of the current configuration and, if given, of the next one take with
-/// this layout: at least 1. No division of the entries into the FIBs that are not reserved takes fewer.
+/// The number of pages that the entries of the current configuration and, if given, of the next one
+/// take with this layout: at least 1. No division of the entries into the FIBs that are not
+/// reserved takes fewer.
 pub fn pages<'a, 'b, S: Store>(layout: FrameLayout, current: &'a S, next: Option<&'b S>) -> usize
     ensures value { let ms = page_set_of S.content current.now (option_copied next.entry) in
         result ≡ rounds layout ms }
@@ -25,9 +26,9 @@ pub fn pages<'a, 'b, S: Store>(layout: FrameLayout, current: &'a S, next: Option
     page_count::pages(layout, current, next)
 }
 
-/// The FIBs of a page, pages counting from 0: three, or four in mode III. The only FIG 0/0 is the one given, if any,
-/// at the start of the first FIB; the entries follow as the packing places them. A FIB without entries is empty, and
-/// so are the reserved ones, which come last.
+/// The FIBs of a page, pages counting from 0: three, or four in mode III. The only FIG 0/0 is the
+/// one given, if any, at the start of the first FIB; the entries follow as the packing places them.
+/// A FIB without entries is empty, and so are the reserved ones, which come last.
 pub fn page<'a, 'b, S: Store>(
     layout: FrameLayout,
     current: &'a S,

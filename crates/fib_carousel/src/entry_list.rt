@@ -30,8 +30,8 @@ pub(crate) trait EntryList {
         ensures some { 1 ≤ result.size }
         ensures small { result.size ≤ 28 };
 
-    /// Appends the entry at an index to a FIB, possibly with entries of the same head and size that follow it, in at
-    /// most `room` bytes altogether. Returns the number of entries appended.
+    /// Appends the entry at an index to a FIB, possibly with entries of the same head and size that
+    /// follow it, in at most `room` bytes altogether. Returns the number of entries appended.
     fn put_run(&self, index: u16, room: u8, fib: &mut Fib) -> u8
         requires here { index < length (entries self.now) }
         requires first { (m : Marked) → slice_get (entries self.now) index ≡ Some m

@@ -1,6 +1,7 @@
 //! Runs of entries with the same head and size, appended to a FIB together.
 
-ghost use Rattle.std.specs.Prelude.{◌≡◌, ◌+◌, ◌-◌, ◌*◌, ◌<◌, ◌≤◌, ◌++◌, length, map, take, drop, slice_get, Some};
+ghost use Rattle.std.specs.Prelude.{◌≡◌, ◌+◌, ◌-◌, ◌*◌, ◌<◌, ◌≤◌, ◌++◌, length, map, take, drop};
+ghost use Rattle.std.specs.Prelude.{slice_get, Some};
 ghost use Rattle.mux_types.specs.Facts.{Marked, facts_of, sub_entry, packet_entry};
 ghost use Rattle.fib_codec.specs.Spelling.{entries_bytes};
 ghost use Rattle.fib_carousel.specs.declared.pack_state.EntryShape.{EntryShape};
@@ -57,8 +58,8 @@ fn put_packets<S: Store>(store: &S, from: usize, end: usize, fib: &mut Fib)
     }
 }
 
-/// Appends the entry of the service at an index, with this C/N flag, and those of the same head and size that follow
-/// it, as far as they fit in `room` bytes. Returns the number of entries appended.
+/// Appends the entry of the service at an index, with this C/N flag, and those of the same head and
+/// size that follow it, as far as they fit in `room` bytes. Returns the number of entries appended.
 fn put_services<S: Store>(store: &S, next: bool, from: usize, room: u8, fib: &mut Fib) -> usize
     requires there { let c = S.content store.now in from < length c.services }
     requires first { let c = S.content store.now in
@@ -91,8 +92,9 @@ fn put_services<S: Store>(store: &S, next: bool, from: usize, room: u8, fib: &mu
     place - from
 }
 
-/// Appends the entry at an index of a store's configuration, with this C/N flag, and those of the same head and size
-/// that follow it, as far as they fit in `room` bytes. Returns the number of entries appended.
+/// Appends the entry at an index of a store's configuration, with this C/N flag, and those of the
+/// same head and size that follow it, as far as they fit in `room` bytes. Returns the number of
+/// entries appended.
 #[inline(always)]
 pub(crate) fn put_run_at<S: Store>(store: &S, next: bool, index: u16, room: u8, fib: &mut Fib) -> u8
     requires here { index < length (config_entries (S.content store.now)) }

@@ -12,15 +12,16 @@ use byteorder::{BigEndian, ByteOrder};
 use fib_codec::{FibFrame, fig0_0};
 use mux_config::Ensemble;
 
-/// A page computed once by a cursor and sent in several frames, in each with that frame's own FIG 0/0 or without one.
-/// Only the first FIB changes with the FIG 0/0, so only its CRC is computed again.
+/// A page computed once by a cursor and sent in several frames, in each with that frame's own FIG
+/// 0/0 or without one. Only the first FIB changes with the FIG 0/0, so only its CRC is computed
+/// again.
 #[derive(Clone, Copy, Debug, PartialEq, Eq)]
 pub struct KeptPage {
     plain: FibFrame,
 }
 
-/// Overwrites the first FIB of a frame with FIG 0/0 and the FIGs of `plain`, which leave room for it. The bytes of
-/// `plain` that are cut off are padding.
+/// Overwrites the first FIB of a frame with FIG 0/0 and the FIGs of `plain`, which leave room for
+/// it. The bytes of `plain` that are cut off are padding.
 fn put_first(ensemble: Ensemble, plain: &[u8; 32], frame: &mut FibFrame)
     requires { 32 ≤ length frame.old }
     ensures { let fig = figs_bytes (ensemble_figs (Some ensemble)) in

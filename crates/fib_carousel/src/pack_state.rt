@@ -5,7 +5,8 @@ ghost use Rattle.mux_types.specs.Facts.{Marked};
 ghost use Rattle.fib_codec.specs.Spelling.{head_of};
 ghost use Rattle.fib_carousel.specs.Packing.{cost, room, same_head, size_of};
 ghost use Rattle.fib_carousel.specs.Greedy.{start, placed};
-ghost use Rattle.fib_carousel.specs.Runs.{shape_cost, step, steps, closed, IsThenWithin, IsPlacedAfter};
+ghost use Rattle.fib_carousel.specs.Runs.{shape_cost, step, steps, closed, IsThenWithin};
+ghost use Rattle.fib_carousel.specs.Runs.{IsPlacedAfter};
 
 use fib_codec::{FrameLayout, Head};
 
@@ -16,7 +17,7 @@ pub(crate) const MOST_USED: u8 = 30;
 pub(crate) const FIRST_ROOM: u8 = 23;
 
 /// What the packing needs to know about an entry: the head of its FIG, and its size.
-#[derive(Clone, Copy, Debug, PartialEq, Eq)]
+#[derive(Clone, Copy)]
 pub(crate) struct EntryShape {
     /// The head of its FIG.
     pub head: Head,
@@ -24,8 +25,8 @@ pub(crate) struct EntryShape {
     pub size: u8,
 }
 
-/// Where the previous entry was placed: the number of its FIB in the sequence of pages, the bytes of that FIB taken so
-/// far, and the head of its FIG.
+/// Where the previous entry was placed: the number of its FIB in the sequence of pages, the bytes
+/// of that FIB taken so far, and the head of its FIG.
 #[derive(Clone, Copy, Debug, PartialEq, Eq)]
 pub(crate) struct PackState {
     /// The number of the FIB, from 0.
@@ -36,7 +37,8 @@ pub(crate) struct PackState {
     pub head: Option<Head>,
 }
 
-/// The progress through the list: the index of the next entry, and where the previous one was placed.
+/// The progress through the list: the index of the next entry, and where the previous one was
+/// placed.
 #[derive(Clone, Copy, Debug, PartialEq, Eq)]
 pub(crate) struct Position {
     /// The index of the next entry, from 0.
@@ -45,8 +47,8 @@ pub(crate) struct Position {
     pub state: PackState,
 }
 
-/// The bytes that the FIGs of entries may take in a FIB of the sequence. The first FIB of a page reserves 7 bytes for
-/// FIG 0/0, even if none is sent.
+/// The bytes that the FIGs of entries may take in a FIB of the sequence. The first FIB of a page
+/// reserves 7 bytes for FIG 0/0, even if none is sent.
 fn room(layout: FrameLayout, fib: usize) -> u8
     ensures value { result ≡ room layout fib }
     ensures bound { result ≤ 30 }
@@ -73,8 +75,8 @@ pub(crate) fn is_same_shape(one: EntryShape, other: EntryShape) -> bool
     same_head(one.head, other.head) && one.size == other.size
 }
 
-/// The state in FIB `number` with `used` bytes taken and this head of its last FIG; None if they exceed the room of
-/// that FIB, `known`.
+/// The state in FIB `number` with `used` bytes taken and this head of its last FIG; None if they
+/// exceed the room of that FIB, `known`.
 #[inline(always)]
 fn state_within(number: usize, used: u8, head: Head, known: u8) -> Option<PackState>
     ensures within { IfSome result (λ q. (used ≤ known)
@@ -124,7 +126,8 @@ impl PackState {
         }
     }
 
-    /// The state after placing the next entry: in the same FIB if it fits, else in the next FIB in which it fits.
+    /// The state after placing the next entry: in the same FIB if it fits, else in the next FIB in
+    /// which it fits.
     pub(crate) fn then(self, layout: FrameLayout, shape: EntryShape) -> PackState
         requires small { shape.size ≤ 28 }
         requires used { self.used ≤ 30 }
@@ -156,7 +159,8 @@ impl PackState {
         }
     }
 
-    /// The state after placing the next entry, as [`PackState::then`] gives it; None if that is past FIB `number`.
+    /// The state after placing the next entry, as [`PackState::then`] gives it; None if that is
+    /// past FIB `number`.
     #[inline(never)]
     fn then_from_before(
         &self,
@@ -177,9 +181,9 @@ impl PackState {
         Some(state)
     }
 
-    /// The state after placing the next entry, as [`PackState::then`] gives it; None if that is past FIB `number`. The
-    /// room of that FIB is passed in, so that it is not computed again for each entry; if the previous FIB was closed,
-    /// no other room is needed.
+    /// The state after placing the next entry, as [`PackState::then`] gives it; None if that is
+    /// past FIB `number`. The room of that FIB is passed in, so that it is not computed again for
+    /// each entry; if the previous FIB was closed, no other room is needed.
     #[inline(always)]
     pub(crate) fn then_within(
         &self,
@@ -207,7 +211,8 @@ impl PackState {
         self.then_from_before(layout, shape, number)
     }
 
-    /// The state with its FIB closed: the next entry starts a later FIB, as it does if this one has no room for it.
+    /// The state with its FIB closed: the next entry starts a later FIB, as it does if this one has
+    /// no room for it.
     fn closed(self) -> PackState
         ensures { result ≡ closed self }
     {
@@ -218,8 +223,8 @@ impl PackState {
         }
     }
 
-    /// The state after placing this many entries of one shape, as many to a FIB as fit. Such an entry fits in every
-    /// FIB.
+    /// The state after placing this many entries of one shape, as many to a FIB as fit. Such an
+    /// entry fits in every FIB.
     pub(crate) fn run(self, layout: FrameLayout, shape: EntryShape, count: usize) -> PackState
         requires some { 1 ≤ shape.size }
         requires small { shape.size ≤ 21 }

@@ -1,6 +1,7 @@
 //! The number of pages that configurations take.
 //!
-//! Entries of sub-channels have one size and entries of packet components another, so both are counted in runs.
+//! Entries of sub-channels have one size and entries of packet components another, so both are
+//! counted in runs.
 
 ghost use Rattle.std.specs.Prelude.{◌≡◌, ◌+◌, ◌/◌, ◌≤◌, map};
 ghost use Rattle.mux_types.specs.Facts.{facts_of, marked, service_entry};

@@ -6,7 +6,8 @@ ghost use Rattle.fib_codec.specs.Layouts.{used_fibs};
 ghost use Rattle.fib_carousel.specs.Pages.{page_set_of, page_after, rounds, first_fib};
 ghost use Rattle.fib_carousel.specs.Bytes.{page_bytes};
 ghost use Rattle.fib_carousel.specs.Kept.{IsKept};
-ghost use Rattle.fib_carousel.specs.Walk.{IsAtFirstPage, IsAtPageStart, IsAtPage, cursor_page, IsAtFib, HasPassed};
+ghost use Rattle.fib_carousel.specs.Walk.{IsAtFirstPage, IsAtPageStart, IsAtPage, cursor_page};
+ghost use Rattle.fib_carousel.specs.Walk.{IsAtFib, HasPassed};
 
 use crate::entry_list::EntryList;
 use crate::kept_page::KeptPage;
@@ -16,9 +17,10 @@ use crate::page_writer::write_page;
 use fib_codec::{FibFrame, FrameLayout};
 use mux_config::{Ensemble, Store};
 
-/// Yields the pages of a page set in order, and page 0 again after the last. It keeps the position in the list of
-/// entries at which the next page starts, so a page is packed from there and not from the first entry. It keeps none of
-/// the entries: the configurations are passed in for each page. When they or the layout change, it must be restarted.
+/// Yields the pages of a page set in order, and page 0 again after the last. It keeps the position
+/// in the list of entries at which the next page starts, so a page is packed from there and not
+/// from the first entry. It keeps none of the entries: the configurations are passed in for each
+/// page. When they or the layout change, it must be restarted.
 #[derive(Clone, Copy, Debug, PartialEq, Eq)]
 pub struct Cursor {
     page: usize,
@@ -79,8 +81,9 @@ impl Cursor {
         }
     }
 
-    /// Returns the current page, with FIG 0/0 first if given (the bytes that `page` gives for it), and advances,
-    /// wrapping after the last. The configurations and the layout are those with which the cursor came to this page.
+    /// Returns the current page, with FIG 0/0 first if given (the bytes that `page` gives for it),
+    /// and advances, wrapping after the last. The configurations and the layout are those with
+    /// which the cursor came to this page.
     pub fn page<'a, 'b, S: Store>(
         &mut self,
         layout: FrameLayout,
@@ -109,8 +112,9 @@ impl Cursor {
         frame
     }
 
-    /// Returns the current page, to be sent in several frames with FIG 0/0 or without it, and advances, wrapping after
-    /// the last. The configurations and the layout are those with which the cursor came to this page.
+    /// Returns the current page, to be sent in several frames with FIG 0/0 or without it, and
+    /// advances, wrapping after the last. The configurations and the layout are those with which
+    /// the cursor came to this page.
     pub fn kept_page<'a, 'b, S: Store>(
         &mut self,
         layout: FrameLayout,

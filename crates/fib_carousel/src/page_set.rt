@@ -1,4 +1,5 @@
-//! The entries of the pages: those of the current configuration, and those of the next one if given.
+//! The entries of the pages: those of the current configuration, and those of the next one if
+//! given.
 
 ghost use Rattle.std.specs.Prelude.{◌≡◌, ◌+◌, ◌<◌, ◌≤◌, Bool, true, false, length};
 ghost use Rattle.std.specs.Option.{option_copied};
@@ -83,8 +84,8 @@ fn packet_item<S: Store>(store: &S, index: usize) -> Item<'_>
     Item::Packet(store.packet_at(index - store.sub_count() - store.service_count()))
 }
 
-/// The member of a store's configuration at an index, counting sub-channels, services and packet components in this
-/// order from 0.
+/// The member of a store's configuration at an index, counting sub-channels, services and packet
+/// components in this order from 0.
 fn item_at<S: Store>(store: &S, index: u16) -> Item<'_>
     requires { index < length (config_entries (S.content store.now)) }
     ensures { IsItemAt (S.content store.now) index result }
@@ -110,7 +111,8 @@ fn shape_at<S: Store>(store: &S, next: bool, index: u16) -> EntryShape
     item_at(store, index).shape(next)
 }
 
-/// The entries of the pages: those of the current configuration with C/N 0, then those of the next one with C/N 1.
+/// The entries of the pages: those of the current configuration with C/N 0, then those of the next
+/// one with C/N 1.
 #[derive(Drop)]
 pub(crate) struct PageSet<'a, 'b, S: Store> {
     current: &'a S,

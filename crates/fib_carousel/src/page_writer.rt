@@ -1,12 +1,14 @@
 //! Puts entries into the FIGs of a FIB, and writes the FIBs of a page.
 
-ghost use Rattle.std.specs.Prelude.{◌≡◌, [], take, flat_map, ◌+◌, ◌-◌, ◌*◌, ◌%◌, ◌<◌, ◌≤◌, ◌++◌, length, IsSome, IfSome, Option, None};
+ghost use Rattle.std.specs.Prelude.{◌≡◌, [], take, flat_map, ◌+◌, ◌-◌, ◌*◌, ◌%◌, ◌<◌, ◌≤◌, ◌++◌};
+ghost use Rattle.std.specs.Prelude.{length, IsSome, IfSome, Option, None};
 ghost use Rattle.fib_codec.specs.Layouts.{used_fibs, frame_fibs};
 ghost use Rattle.fib_codec.specs.Spelling.{figs_bytes, fib_bytes};
 ghost use Rattle.fib_codec.specs.Ranges.{IsEnsembleInformation};
 ghost use Rattle.fib_carousel.specs.Packing.{figs_size, room};
 ghost use Rattle.fib_carousel.specs.Pages.{fib_entries, first_fib, rounds};
-ghost use Rattle.fib_carousel.specs.Bytes.{figs_of, ensemble_figs, used_figs, reserved_figs, page_bytes};
+ghost use Rattle.fib_carousel.specs.Bytes.{figs_of, ensemble_figs, used_figs, reserved_figs};
+ghost use Rattle.fib_carousel.specs.Bytes.{page_bytes};
 ghost use Rattle.fib_carousel.specs.Greedy.{packing};
 ghost use Rattle.fib_carousel.specs.Filling.{Begins, Grows, TakesEntry};
 ghost use Rattle.fib_carousel.specs.Walk.{IsAtFib, HasPassed, NextIsAfter};
@@ -21,7 +23,7 @@ use mux_config::{Ensemble, Entry};
 const SHORTEST: u8 = 3;
 
 /// The last FIG of a FIB, to which entries with its head are appended.
-#[derive(Clone, Copy, Debug, PartialEq, Eq)]
+#[derive(Clone, Copy)]
 struct OpenFig {
     /// Its head.
     head: Head,
@@ -43,7 +45,8 @@ fn begin_for(fib: &mut Fib, shape: EntryShape) -> OpenFig
     }
 }
 
-/// The FIG for the next entry of this head and size: the last FIG, lengthened, if it has that head, else a new one.
+/// The FIG for the next entry of this head and size: the last FIG, lengthened, if it has that head,
+/// else a new one.
 fn fig_for(fib: &mut Fib, last: Option<OpenFig>, shape: EntryShape) -> OpenFig
     requires ext { shape.head.ext < 32 }
     requires room { TakesEntry last shape fib.old }
@@ -63,7 +66,7 @@ fn fig_for(fib: &mut Fib, last: Option<OpenFig>, shape: EntryShape) -> OpenFig
 }
 
 /// The position of a FIB.
-#[derive(Clone, Copy, Debug, PartialEq, Eq)]
+#[derive(Clone, Copy)]
 struct FibPlace {
     /// Its number in the sequence of pages, from 0.
     number: usize,
@@ -73,8 +76,8 @@ struct FibPlace {
     room: u8,
 }
 
-/// Appends the FIGs of the entries of the FIB at `place`, which fit in what is left of it. `position` moves from before
-/// that FIB to after it. The list has `len` entries.
+/// Appends the FIGs of the entries of the FIB at `place`, which fit in what is left of it.
+/// `position` moves from before that FIB to after it. The list has `len` entries.
 fn put_figs<L: EntryList>(
     list: &L,
     len: u16,
@@ -147,8 +150,8 @@ fn put_ensemble(fib: &mut Fib, ensemble: Option<Ensemble>)
     }
 }
 
-/// Overwrites the FIB at `place` of a frame, with FIG 0/0 first if given. `position` moves from before that FIB to
-/// after it. The list has `len` entries.
+/// Overwrites the FIB at `place` of a frame, with FIG 0/0 first if given. `position` moves from
+/// before that FIB to after it. The list has `len` entries.
 fn write_fib<L: EntryList>(
     list: &L,
     len: u16,
@@ -179,8 +182,8 @@ fn write_fib<L: EntryList>(
     frame.finish_fib(place.index, &fib);
 }
 
-/// Overwrites the FIBs of a frame that are not reserved with those of a page, FIG 0/0 first if given. `position` moves
-/// from before the page's first FIB to after its last.
+/// Overwrites the FIBs of a frame that are not reserved with those of a page, FIG 0/0 first if
+/// given. `position` moves from before the page's first FIB to after its last.
 fn write_used<L: EntryList>(
     list: &L,
     layout: FrameLayout,
@@ -230,8 +233,8 @@ fn write_reserved(layout: FrameLayout, frame: &mut FibFrame)
     }
 }
 
-/// Overwrites the FIBs of a frame with a page, FIG 0/0 first if given, and with the reserved FIBs, which are empty.
-/// `position` moves from before the page's first FIB to after its last.
+/// Overwrites the FIBs of a frame with a page, FIG 0/0 first if given, and with the reserved FIBs,
+/// which are empty. `position` moves from before the page's first FIB to after its last.
 pub(crate) fn write_page<L: EntryList>(
     list: &L,
     layout: FrameLayout,

@@ -1,13 +1,15 @@
 //! Converts the members of a configuration into entries.
 //!
-//! Each sub-channel gives an entry of FIG 0/1, each service one of FIG 0/2, and each packet component one of FIG 0/3
-//! (EN 300 401 clauses 6.2.1, 6.3.1 and 6.3.2).
+//! Each sub-channel gives an entry of FIG 0/1, each service one of FIG 0/2, and each packet
+//! component one of FIG 0/3 (EN 300 401 clauses 6.2.1, 6.3.1 and 6.3.2).
 
 ghost use Rattle.std.specs.Prelude.{◌≡◌, ◌+◌, ◌*◌, ◌<◌, ◌≤◌, ◌^◌, ◌++◌, length};
 ghost use Rattle.fib_codec.specs.Spelling.{components_bytes, entry_bytes, entry_size};
 ghost use Rattle.mux_config.specs.Configuration.{IsPlaced, IsService, IsAddressed};
-ghost use Rattle.mux_types.specs.declared.entry.Entry.TheVariants.{Sub as SubOf, Packet as PacketOf};
-ghost use Rattle.mux_types.specs.Facts.{sub_entry, service_entry, packet_entry, component_entry, component_entries};
+ghost use Rattle.mux_types.specs.declared.entry.Entry.TheVariants.{Sub as SubOf};
+ghost use Rattle.mux_types.specs.declared.entry.Entry.TheVariants.{Packet as PacketOf};
+ghost use Rattle.mux_types.specs.Facts.{sub_entry, service_entry, packet_entry, component_entry};
+ghost use Rattle.mux_types.specs.Facts.{component_entries};
 
 use fib_codec::Fib;
 use mux_config::{Bits, Component, ComponentEntry, Packet, PacketEntry, Service, Sub, SubEntry};

@@ -1,17 +1,22 @@
 -- A FIB that is being written, byte by byte.
-use Rattle.std.proofs.Common.{◌≡◌, ℕ, suc, ◌+◌, ◌-◌, ◌<◌, ◌≤◌, List, ◌∷◌, ◌++◌, length, take, drop, replicate, slice_set, lt-ltb, le-ltb, inl, inr, sym, ◌∙◌, ap, arith}
-use Rattle.std.proofs.lemmas.List.{drop-drop, drop-set, drop-set-lt, drop-replicate, take-replicate, take-append-drop, length-set, length-take-le}
+use Rattle.std.proofs.Common.{◌≡◌, ℕ, suc, ◌+◌, ◌-◌, ◌<◌, ◌≤◌, List, ◌∷◌, ◌++◌, length, take, drop, replicate}
+use Rattle.std.proofs.Common.{slice_set, lt-ltb, le-ltb, inl, inr, sym, ◌∙◌, ap, arith}
+use Rattle.std.proofs.lemmas.List.{drop-drop, drop-set, drop-set-lt, drop-replicate, take-replicate, take-append-drop}
+use Rattle.std.proofs.lemmas.List.{length-set, length-take-le}
 use Rattle.std.proofs.lemmas.Bool.{cases_lt}
 use Rattle.std.proofs.Math.Seq.{take-append-add}
 use Rattle.fib_codec.specs.Begun.{IsBegun}
 use Rattle.fib_codec.specs.Spelling.{filled}
 
 -- the zeros after this many more bytes
-zeros_after : (size more : ℕ) (bytes : List ℕ) → IsBegun size bytes → drop (size + suc more) bytes ≡ replicate (31 - size - more) 0
-zeros_after size more bytes is = sym (drop-drop (suc more) size bytes) ∙ ap (drop (suc more)) is.rest ∙ drop-replicate more (31 - size) 0
+zeros_after : (size more : ℕ) (bytes : List ℕ) → IsBegun size bytes
+    → drop (size + suc more) bytes ≡ replicate (31 - size - more) 0
+zeros_after size more bytes is = sym (drop-drop (suc more) size bytes) ∙ ap (drop (suc more)) is.rest
+    ∙ drop-replicate more (31 - size) 0
 
 -- the end marker after the data bytes, if zeros follow it
-marked : (size : ℕ) (bytes : List ℕ) → length bytes ≡ 32 → size ≤ 30 → drop (size + 1) bytes ≡ replicate (31 - size) 0 → IsBegun size (slice_set bytes size 255)
+marked : (size : ℕ) (bytes : List ℕ) → length bytes ≡ 32 → size ≤ 30 → drop (size + 1) bytes ≡ replicate (31 - size) 0
+    → IsBegun size (slice_set bytes size 255)
 marked size bytes whole within rest = record {
   within = within;
   whole = length-set bytes size 255 ∙ whole;
@@ -19,20 +24,24 @@ marked size bytes whole within rest = record {
 }
 
 -- one byte more
-pub begun_more : (size : ℕ) (bytes : List ℕ) (byte : ℕ) → IsBegun size bytes → size < 30 → IsBegun (size + 1) (slice_set (slice_set bytes size byte) (size + 1) 255)
+pub begun_more : (size : ℕ) (bytes : List ℕ) (byte : ℕ) → IsBegun size bytes → size < 30
+    → IsBegun (size + 1) (slice_set (slice_set bytes size byte) (size + 1) 255)
 begun_more size bytes byte is fits =
     let count : size + 1 + 1 ≡ size + suc 1 = omega arith in
     let less : 31 - size - 1 ≡ 31 - (size + 1) = omega arith in
     marked (size + 1) (slice_set bytes size byte) (length-set bytes size byte ∙ is.whole) (omega (arith, fits))
-    (drop-set-lt (size + 1 + 1) bytes size byte (omega arith) ∙ ap (λ n. drop n bytes) count ∙ zeros_after size 1 bytes is ∙ ap (λ n. replicate n 0) less)
+    (drop-set-lt (size + 1 + 1) bytes size byte (omega arith) ∙ ap (λ n. drop n bytes) count
+    ∙ zeros_after size 1 bytes is ∙ ap (λ n. replicate n 0) less)
 
 -- two bytes more
-pub begun_two : (size : ℕ) (bytes : List ℕ) (a b : ℕ) → IsBegun size bytes → size < 29 → IsBegun (size + 2) (slice_set (slice_set (slice_set bytes size a) (size + 1) b) (size + 2) 255)
+pub begun_two : (size : ℕ) (bytes : List ℕ) (a b : ℕ) → IsBegun size bytes → size < 29
+    → IsBegun (size + 2) (slice_set (slice_set (slice_set bytes size a) (size + 1) b) (size + 2) 255)
 begun_two size bytes a b is fits =
     let one = slice_set bytes size a in
     let count : size + 2 + 1 ≡ size + suc 2 = omega arith in
     let less : 31 - size - 2 ≡ 31 - (size + 2) = omega arith in
-    marked (size + 2) (slice_set one (size + 1) b) (length-set one (size + 1) b ∙ length-set bytes size a ∙ is.whole) (omega (arith, fits))
+    marked (size + 2) (slice_set one (size + 1) b) (length-set one (size + 1) b ∙ length-set bytes size a ∙ is.whole)
+    (omega (arith, fits))
     (drop-set-lt (size + 2 + 1) one (size + 1) b (omega arith) ∙ drop-set-lt (size + 2 + 1) bytes size a (omega arith)
     ∙ ap (λ n. drop n bytes) count ∙ zeros_after size 2 bytes is ∙ ap (λ n. replicate n 0) less)
 
@@ -45,7 +54,8 @@ begun_is_filled size bytes is = elim (cases_lt size 30) [ inl lt ↦ short lt | 
         let front = take size bytes in
         let long : length front ≡ size = length-take-le size bytes (omega (arith, is.within, is.whole)) in
         let count : 30 ≡ length front + suc (29 - size) = omega (arith, long, fits) in
-        let parts : bytes ≡ front ++ 255 ∷ replicate (31 - size) 0 = sym (take-append-drop size bytes) ∙ ap (λ t. front ++ t) is.rest in
+        let parts : bytes ≡ front ++ 255 ∷ replicate (31 - size) 0 =
+        sym (take-append-drop size bytes) ∙ ap (λ t. front ++ t) is.rest in
         let cut : take (29 - size) (replicate (31 - size) 0) ≡ replicate (29 - length front) 0 =
         take-replicate (29 - size) (31 - size) 0 (omega arith) ∙ ap (λ n. replicate (29 - n) 0) (sym long) in
         let less : length front < 30 = omega (arith, long, fits) in

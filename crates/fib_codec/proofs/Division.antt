@@ -1,11 +1,13 @@
 -- The register performs the long division: the rest of the dividend, with the register added at its front, leaves the
 -- remainder that the whole leaves.
-use Rattle.std.proofs.Common.{◌≡◌, ℕ, zero, suc, ◌+◌, ◌-◌, ◌*◌, ◌/◌, ◌%◌, ◌^◌, ◌<◌, ◌≤◌, eqb, List, [], ◌∷◌, ◌++◌, map, length, replicate, refl, sym, ◌∙◌, ap, arith, inl, inr, append_assoc}
+use Rattle.std.proofs.Common.{◌≡◌, ℕ, zero, suc, ◌+◌, ◌-◌, ◌*◌, ◌/◌, ◌%◌, ◌^◌, ◌<◌, ◌≤◌, eqb, List, [], ◌∷◌, ◌++◌, map}
+use Rattle.std.proofs.Common.{length, replicate, refl, sym, ◌∙◌, ap, arith, inl, inr, append_assoc}
 use Rattle.std.proofs.lemmas.Bool.{cases_Bool, cond-true, cond-false, eqb-true, eqb-false}
 use Rattle.std.proofs.lemmas.Nat.Bits.{bit_at-suc, bit_at_xor, bit_at_cat_low, bit_at-lt, bit_at_ones, shr_and_one}
 use Rattle.std.specs.Prelude.{bit_xor, bit_and}
 use Rattle.std.specs.Int.{bit_at}
-use Rattle.fib_codec.specs.Crc.{low_bits, bits_of_bytes, AreBits, plus, generator, without_leading, divided, dividend, check_bits}
+use Rattle.fib_codec.specs.Crc.{low_bits, bits_of_bytes, AreBits, plus, generator, without_leading, divided, dividend}
+use Rattle.fib_codec.specs.Crc.{check_bits}
 use Rattle.fib_codec.specs.Register.{next, after, after_all}
 
 -- ---- bits of numbers
@@ -39,7 +41,8 @@ bits_of-moved zero n = let low : n * 2 / 2 ^ 0 % 2 ≡ 0 = omega arith in rw low
 bits_of-moved (suc w) n =
     let half : n * 2 / 2 ≡ n = omega arith in
     let top : bit_at (n * 2) (suc w) ≡ bit_at n w = bit_at-suc (n * 2) w ∙ ap (λ k. bit_at k w) half in
-    let e : bit_at (n * 2) (suc w) ∷ low_bits (suc w) (n * 2) ≡ bit_at n w ∷ (low_bits w n ++ 0 ∷ []) = rw (top, bits_of-moved w n) refl in
+    let e : bit_at (n * 2) (suc w) ∷ low_bits (suc w) (n * 2) ≡ bit_at n w ∷ (low_bits w n ++ 0 ∷ []) =
+    rw (top, bits_of-moved w n) refl in
     e
 
 -- multiples of a power of two do not change the bits below it
@@ -114,10 +117,12 @@ no_place : (r b : ℕ) (m : List ℕ) (n : ℕ) → AreBits m → b < 2 → bit_
     → divided (suc n) (plus (b ∷ m) (low_bits 16 r)) ≡ divided n (plus m (low_bits 16 (r * 2 % 65536)))
 no_place r b m n are bit same =
     let zero_on_top : (b + bit_at r 15) % 2 ≡ 0 = omega arith in
-    let moved : low_bits 16 (r * 2 % 65536) ≡ low_bits 15 r ++ 0 ∷ [] = bits_of-word 16 (r * 2) (omega arith) ∙ bits_of-moved 15 r in
+    let moved : low_bits 16 (r * 2 % 65536) ≡ low_bits 15 r ++ 0 ∷ [] =
+    bits_of-word 16 (r * 2) (omega arith) ∙ bits_of-moved 15 r in
     let left : plus (b ∷ m) (low_bits 16 r) ≡ 0 ∷ plus m (low_bits 15 r) =
     ap (λ t. plus (b ∷ m) t) (bits_of-suc 15 r) ∙ ap (λ t. t ∷ plus m (low_bits 15 r)) zero_on_top in
-    let right : plus m (low_bits 16 (r * 2 % 65536)) ≡ plus m (low_bits 15 r) = ap (plus m) moved ∙ plus-push_zero m (low_bits 15 r) are in
+    let right : plus m (low_bits 16 (r * 2 % 65536)) ≡ plus m (low_bits 15 r) =
+    ap (plus m) moved ∙ plus-push_zero m (low_bits 15 r) are in
     ap (divided (suc n)) left ∙ divided-suc n 0 (plus m (low_bits 15 r)) ∙ ap (divided n) (sym right)
 
 -- it is 1
@@ -125,7 +130,8 @@ a_place : (r b : ℕ) (m : List ℕ) (n : ℕ) → AreBits m → b < 2 → (bit_
     → divided (suc n) (plus (b ∷ m) (low_bits 16 r)) ≡ divided n (plus m (low_bits 16 (bit_xor (r * 2 % 65536) 4129)))
 a_place r b m n are bit differ =
     let one_on_top : (b + bit_at r 15) % 2 ≡ 1 = omega (arith, bit_at-lt r 15) in
-    let moved : low_bits 16 (r * 2 % 65536) ≡ low_bits 15 r ++ 0 ∷ [] = bits_of-word 16 (r * 2) (omega arith) ∙ bits_of-moved 15 r in
+    let moved : low_bits 16 (r * 2 % 65536) ≡ low_bits 15 r ++ 0 ∷ [] =
+    bits_of-word 16 (r * 2) (omega arith) ∙ bits_of-moved 15 r in
     let left : plus (b ∷ m) (low_bits 16 r) ≡ 1 ∷ plus m (low_bits 15 r) =
     ap (λ t. plus (b ∷ m) t) (bits_of-suc 15 r) ∙ ap (λ t. t ∷ plus m (low_bits 15 r)) one_on_top in
     let long : length (low_bits 16 (r * 2 % 65536)) ≡ length generator = length-bits_of 16 (r * 2 % 65536) in
@@ -173,13 +179,15 @@ steps (suc w) k r m n are =
     let cut : low_bits (suc w) k ++ m ≡ bit_at k w ∷ (low_bits w k ++ m) = ap (λ t. t ++ m) (bits_of-suc w k) in
     ap (λ c. divided c (plus (low_bits (suc w) k ++ m) (low_bits 16 r))) count
     ∙ ap (λ t. divided (suc (w + n)) (plus t (low_bits 16 r))) cut
-    ∙ place_divides r (bit_at k w) (low_bits w k ++ m) (w + n) (AreBits-append (low_bits w k) m (bits_of_are w k) are) (bit_at-lt k w)
+    ∙ place_divides r (bit_at k w) (low_bits w k ++ m) (w + n) (AreBits-append (low_bits w k) m (bits_of_are w k) are)
+    (bit_at-lt k w)
     ∙ steps w k (next r (bit_at k w)) m n are
     ∙ ap (λ s. divided n (plus m (low_bits 16 s))) (sym (after-suc w k r))
 
 -- ---- the whole message
 pub taken : (bytes : List ℕ) (r : ℕ) (m : List ℕ) (n : ℕ) → AreBits m
-    → divided (8 * length bytes + n) (plus (bits_of_bytes bytes ++ m) (low_bits 16 r)) ≡ divided n (plus m (low_bits 16 (after_all bytes r)))
+    → divided (8 * length bytes + n) (plus (bits_of_bytes bytes ++ m) (low_bits 16 r))
+    ≡ divided n (plus m (low_bits 16 (after_all bytes r)))
 taken [] r m n are =
     let count : 8 * 0 + n ≡ n = omega arith in
     ap (λ c. divided c (plus m (low_bits 16 r))) count
@@ -188,7 +196,8 @@ taken (b ∷ bs) r m n are =
     let rest_are : AreBits rest = AreBits-append (bits_of_bytes bs) m (AreBits-bytes bs) are in
     let count : 8 * suc (length bs) + n ≡ 8 + (8 * length bs + n) = omega arith in
     ap (λ c. divided c (plus (bits_of_bytes (b ∷ bs) ++ m) (low_bits 16 r))) count
-    ∙ ap (λ t. divided (8 + (8 * length bs + n)) (plus t (low_bits 16 r))) (append_assoc (low_bits 8 b) (bits_of_bytes bs) m)
+    ∙ ap (λ t. divided (8 + (8 * length bs + n)) (plus t (low_bits 16 r)))
+    (append_assoc (low_bits 8 b) (bits_of_bytes bs) m)
     ∙ steps 8 b r rest (8 * length bs + n) rest_are
     ∙ taken bs (after 8 b r) m n are
 
@@ -223,7 +232,8 @@ all_ones_start : low_bits 16 65535 ≡ replicate 16 1
 unfolding low_bits
 all_ones_start = refl
 
-pub word_checks : (bytes : List ℕ) (r : ℕ) → r ≡ after_all bytes 65535 → low_bits 16 (bit_xor r 65535) ≡ check_bits bytes
+pub word_checks : (bytes : List ℕ) (r : ℕ) → r ≡ after_all bytes 65535
+    → low_bits 16 (bit_xor r 65535) ≡ check_bits bytes
 word_checks bytes r is =
     let message = bits_of_bytes bytes ++ replicate 16 0 in
     let count : 8 * length bytes ≡ 8 * length bytes + 0 = omega arith in

@@ -1,23 +1,34 @@
 -- A FIB that is written is in the grammar with exactly the FIGs that were appended.
-use Rattle.std.proofs.Common.{◌≡◌, ◌≢◌, inl, inr, ℕ, zero, suc, ◌+◌, ◌-◌, ◌*◌, ◌/◌, ◌%◌, ◌<◌, ◌≤◌, ◌↔◌, Bool, true, false, cond, eqb, ltb, Option, Some, None, is_some, List, [], ◌∷◌, ◌++◌, map, length, replicate, refl, sym, ◌∙◌, ap, ap₂, subst, subst₂, arith, length-append, append_assoc, append-nil, take_at, lt-ltb, le-ltb, eq-eqb, ne_eqb}
+use Rattle.std.proofs.Common.{◌≡◌, ◌≢◌, inl, inr, ℕ, zero, suc, ◌+◌, ◌-◌, ◌*◌, ◌/◌, ◌%◌, ◌<◌, ◌≤◌, ◌↔◌, Bool, true}
+use Rattle.std.proofs.Common.{false, cond, eqb, ltb, Option, Some, None, is_some, List, [], ◌∷◌, ◌++◌, map, length}
+use Rattle.std.proofs.Common.{replicate, refl, sym, ◌∙◌, ap, ap₂, subst, subst₂, arith, length-append, append_assoc}
+use Rattle.std.proofs.Common.{append-nil, take_at, lt-ltb, le-ltb, eq-eqb, ne_eqb}
 use Rattle.std.specs.Prelude.{flat_map, IsSome}
 use Rattle.std.proofs.lemmas.List.{length-replicate}
-use Rattle.std.proofs.lemmas.Bool.{and_from, and_left, and_right, cases_lt, cond-true, cond-false, cond_both, ltb-true, ltb-false}
+use Rattle.std.proofs.lemmas.Bool.{and_from, and_left, and_right, cases_lt, cond-true, cond-false, cond_both, ltb-true}
+use Rattle.std.proofs.lemmas.Bool.{ltb-false}
 use Rattle.std.specs.List.{AllByRecursion}
 use Rattle.mux_types.specs.Entries.{EnsembleInformation}
 use Rattle.mux_types.specs.declared.numbers.Sid.{Sid}
 use Rattle.mux_types.specs.declared.numbers.Sid.TheVariants.{Short, Long}
 use Rattle.mux_types.specs.declared.entry.Entry.{Entry}
-use Rattle.mux_types.specs.declared.entry.Entry.TheVariants.{Ensemble as EnsembleOf, Sub as SubOf, Short as ShortOf, Service as ServiceOf, Packet as PacketOf}
+use Rattle.mux_types.specs.declared.entry.Entry.TheVariants.{Ensemble as EnsembleOf, Sub as SubOf, Short as ShortOf}
+use Rattle.mux_types.specs.declared.entry.Entry.TheVariants.{Service as ServiceOf, Packet as PacketOf}
 use Rattle.mux_types.specs.declared.entry.SubEntry.{SubEntry}
 use Rattle.mux_types.specs.declared.entry.ShortEntry.{ShortEntry}
 use Rattle.mux_types.specs.declared.entry.ServiceEntry.{ServiceEntry}
 use Rattle.mux_types.specs.declared.entry.PacketEntry.{PacketEntry}
 use Rattle.mux_types.specs.declared.entry.ComponentEntry.{ComponentEntry}
-use Rattle.fib_codec.specs.Ranges.{IsWithin, IsEnsembleInformation, IsSubEntry, IsShortEntry, IsServiceEntry, IsPacketEntry}
+use Rattle.fib_codec.specs.Ranges.{IsWithin, IsEnsembleInformation, IsSubEntry, IsShortEntry, IsServiceEntry}
+use Rattle.fib_codec.specs.Ranges.{IsPacketEntry}
 use Rattle.fib_codec.specs.declared.head.Head.{Head}
-use Rattle.fib_codec.specs.Spelling.{bit_of, ensemble_bytes, sub_bytes, short_bytes, service_bytes, packet_bytes, components_bytes, occurrence_bytes, ca_org_bytes, sid_bytes, is_long_sid, entry_bytes, entries_bytes, head_byte, fig_bytes, figs_bytes, IsUnder, Written, IsWritten, filled, checked}
-use Rattle.fib_codec.specs.Grammar.{ensemble_len, sub_len, service_len, packet_len, entry_len, IsEntry, AreEntries, IsCounted, IsBody, Open, Other, is_open, is_long, is_next, IsFig, AreFigs, IsFib, IsValid, IsOpen, fig_spelled, fig_of, IsOurs}
+use Rattle.fib_codec.specs.Spelling.{bit_of, ensemble_bytes, sub_bytes, short_bytes, service_bytes, packet_bytes}
+use Rattle.fib_codec.specs.Spelling.{components_bytes, occurrence_bytes, ca_org_bytes, sid_bytes, is_long_sid}
+use Rattle.fib_codec.specs.Spelling.{entry_bytes, entries_bytes, head_byte, fig_bytes, figs_bytes, IsUnder, Written}
+use Rattle.fib_codec.specs.Spelling.{IsWritten, filled, checked}
+use Rattle.fib_codec.specs.Grammar.{ensemble_len, sub_len, service_len, packet_len, entry_len, IsEntry, AreEntries}
+use Rattle.fib_codec.specs.Grammar.{IsCounted, IsBody, Open, Other, is_open, is_long, is_next, IsFig, AreFigs, IsFib}
+use Rattle.fib_codec.specs.Grammar.{IsValid, IsOpen, fig_spelled, fig_of, IsOurs}
 use Rattle.fib_codec.proofs.Lengths.{components_len, ext_small}
 use Rattle.fib_codec.proofs.U16.{checked_is}
 
@@ -36,7 +47,8 @@ occurrence_counts x (suc change) None e h =
 occurrence_counts x (suc change) (Some low) e h =
     sym (cond-false (eqb (x / 64) 0) 4 5 (ne_eqb _ _ (λ zero_flags. omega (arith, e, zero_flags))))
 
-ensemble_is : (e : EnsembleInformation) → IsEnsembleInformation e → length (ensemble_bytes e) ≡ ensemble_len (ensemble_bytes e)
+ensemble_is : (e : EnsembleInformation) → IsEnsembleInformation e
+    → length (ensemble_bytes e) ≡ ensemble_len (ensemble_bytes e)
 ensemble_is e h =
     let x = e.change * 64 + bit_of e.al * 32 + e.count / 250 in
     let high : x / 64 ≡ e.change = omega (arith, bit_small e.al, h.count) in
@@ -59,7 +71,8 @@ short_is s h =
     let short : x / 128 ≡ 0 = omega (arith, bit_small s.switch, h.table) in
     sym (cond-false (eqb (x / 128) 1) 4 3 (ne_eqb _ _ (λ one. omega (arith, short, one))))
 
-ca_org_counts : (x : ℕ) (o : Option ℕ) → x % 2 ≡ bit_of (is_some o) → 5 + length (ca_org_bytes o) ≡ cond (eqb (x % 2) 1) 7 5
+ca_org_counts : (x : ℕ) (o : Option ℕ) → x % 2 ≡ bit_of (is_some o)
+    → 5 + length (ca_org_bytes o) ≡ cond (eqb (x % 2) 1) 7 5
 ca_org_counts x None e = sym (cond-false (eqb (x % 2) 1) 7 5 (ne_eqb _ _ (λ one. omega (arith, e, one))))
 ca_org_counts x (Some org) e = sym (cond-true (eqb (x % 2) 1) 7 5 (eq-eqb _ _ e))
 
@@ -70,11 +83,13 @@ packet_is p h =
     omega (arith, ca_org_counts (x % 256) p.ca_org flag)
 
 service_at : (sid : Sid) (x : ℕ) (cs : List ComponentEntry) → x % 16 ≡ length cs
-    → length (sid_bytes sid ++ x ∷ components_bytes cs) ≡ service_len (is_long_sid sid) (sid_bytes sid ++ x ∷ components_bytes cs)
+    → length (sid_bytes sid ++ x ∷ components_bytes cs)
+    ≡ service_len (is_long_sid sid) (sid_bytes sid ++ x ∷ components_bytes cs)
 service_at (Short n) x cs e = omega (arith, components_len cs)
 service_at (Long n) x cs e = omega (arith, components_len cs)
 
-service_is : (s : ServiceEntry) → IsServiceEntry s → length (service_bytes s) ≡ service_len (is_long_sid s.sid) (service_bytes s)
+service_is : (s : ServiceEntry) → IsServiceEntry s → length (service_bytes s)
+    ≡ service_len (is_long_sid s.sid) (service_bytes s)
 service_is s h =
     let x = bit_of s.rfa * 128 + s.ca_id * 16 + length s.components in
     let count : x % 16 ≡ length s.components = omega (arith, h.few) in
@@ -102,13 +117,16 @@ counted_alone head (ShortOf s) under h zero_ext = absurd (omega arith)
 counted_alone head (ServiceOf s) under h zero_ext = absurd (omega (arith, under.0))
 counted_alone head (PacketOf p) under h zero_ext = absurd (omega arith)
 
-one_alone : (head : Head) (es : List Entry) → AllByRecursion (IsUnder head) es → AllByRecursion IsWithin es → length es ≡ 1 → head.ext ≡ 0
+one_alone : (head : Head) (es : List Entry) → AllByRecursion (IsUnder head) es → AllByRecursion IsWithin es
+    → length es ≡ 1 → head.ext ≡ 0
     → (e : List ℕ) × (map entry_bytes es ≡ e ∷ []) × IsCounted e
 one_alone head [] under within one zero_ext = absurd (omega arith)
-one_alone head (e ∷ []) under within one zero_ext = (entry_bytes e, refl, counted_alone head e under.0 within.0 zero_ext)
+one_alone head (e ∷ []) under within one zero_ext =
+    (entry_bytes e, refl, counted_alone head e under.0 within.0 zero_ext)
 one_alone head (e ∷ f ∷ es) under within one zero_ext = absurd (omega arith)
 
-pub body_is : (w : Written) → IsWritten w → IsBody w.head.ext w.head.long (entries_bytes w.entries) (map entry_bytes w.entries)
+pub body_is : (w : Written) → IsWritten w → IsBody w.head.ext w.head.long (entries_bytes w.entries)
+    (map entry_bytes w.entries)
 body_is w h = (
   entries_are w.head w.entries h.formed.under h.within,
   λ zero_ext. one_alone w.head w.entries h.formed.under h.within (h.formed.alone zero_ext) zero_ext,
@@ -145,7 +163,8 @@ head_closed h small other =
     and_left _ _ (ne_eqb (head_byte h / 64 % 2) 0 (λ none. omega (arith, one, none)))
 
 fig_is_by : (oe : Bool) (w : Written) → w.head.oe ≡ oe → IsWritten w → length (entries_bytes w.entries) < 31
-    → IsFig (fig_bytes w.head w.entries) (cond oe (Other (fig_bytes w.head w.entries)) (Open (head_byte w.head) (map entry_bytes w.entries)))
+    → IsFig (fig_bytes w.head w.entries)
+    (cond oe (Other (fig_bytes w.head w.entries)) (Open (head_byte w.head) (map entry_bytes w.entries)))
 fig_is_by false w ours h short =
     let small = ext_small w.head w.entries h.formed in
     let body = body_is w h in (
@@ -162,15 +181,18 @@ fig_is_by true w other h short =
     let counted : (1 + length (entries_bytes w.entries)) % 32 ≡ 1 + length (entries_bytes w.entries) = omega arith in
     (refl, (marked, counted, and_right _ _ (head_closed w.head small other)))
 
-pub fig_is : (w : Written) → IsWritten w → length (fig_bytes w.head w.entries) ≤ 30 → IsFig (fig_bytes w.head w.entries) (fig_of w)
+pub fig_is : (w : Written) → IsWritten w → length (fig_bytes w.head w.entries) ≤ 30
+    → IsFig (fig_bytes w.head w.entries) (fig_of w)
 fig_is w h short = fig_is_by w.head.oe w refl h (omega arith)
 
-figs_are : (figs : List Written) (tail : List ℕ) → AllByRecursion IsWritten figs → length (figs_bytes figs) ≤ 30 → AreFigs tail []
+figs_are : (figs : List Written) (tail : List ℕ) → AllByRecursion IsWritten figs → length (figs_bytes figs) ≤ 30
+    → AreFigs tail []
     → AreFigs (figs_bytes figs ++ tail) (map fig_of figs)
 figs_are [] tail written short ends = ends
 figs_are (w ∷ ws) tail written short ends =
     let front = fig_bytes w.head w.entries in
-    let whole : length (figs_bytes (w ∷ ws)) ≡ length front + length (figs_bytes ws) = length-append front (figs_bytes ws) in (
+    let whole : length (figs_bytes (w ∷ ws)) ≡ length front + length (figs_bytes ws) =
+    length-append front (figs_bytes ws) in (
       front,
       figs_bytes ws ++ tail,
       append_assoc front (figs_bytes ws) tail,
@@ -208,7 +230,8 @@ fib_is figs written short =
     let bytes = filled (figs_bytes figs) in
     let long : length bytes ≡ 30 = length-filled (figs_bytes figs) short in (
       checked_is bytes long,
-      subst (λ (xs : List ℕ). AreFigs xs (map fig_of figs)) (sym (take_at bytes _ 30 long)) (filled_figs figs written short),
+      subst (λ (xs : List ℕ). AreFigs xs (map fig_of figs)) (sym (take_at bytes _ 30 long))
+          (filled_figs figs written short),
     )
 
 spelled_again : (es : List Entry) → flat_map (λ (e : List ℕ). e) (map entry_bytes es) ≡ entries_bytes es
@@ -216,7 +239,8 @@ spelled_again [] = refl
 spelled_again (e ∷ es) = ap (λ t. entry_bytes e ++ t) (spelled_again es)
 
 again : (oe : Bool) (w : Written)
-    → fig_spelled (cond oe (Other (fig_bytes w.head w.entries)) (Open (head_byte w.head) (map entry_bytes w.entries))) ≡ fig_bytes w.head w.entries
+    → fig_spelled (cond oe (Other (fig_bytes w.head w.entries)) (Open (head_byte w.head) (map entry_bytes w.entries)))
+    ≡ fig_bytes w.head w.entries
 again true w = refl
 again false w = ap (λ t. (1 + length t) ∷ head_byte w.head ∷ t) (spelled_again w.entries)
 
@@ -236,7 +260,8 @@ are_open : (figs : List Written) → AllByRecursion IsOurs figs → AllByRecursi
 are_open [] ours = tt
 are_open (w ∷ ws) ours = (open_by w.head.oe w ours.0, are_open ws ours.1)
 
-pub valid_is : (figs : List Written) → AllByRecursion IsWritten figs → length (figs_bytes figs) ≤ 30 → AllByRecursion IsOurs figs
+pub valid_is : (figs : List Written) → AllByRecursion IsWritten figs → length (figs_bytes figs) ≤ 30
+    → AllByRecursion IsOurs figs
     → IsValid (checked (filled (figs_bytes figs))) (map fig_of figs)
 valid_is figs written short ours =
     let bytes = filled (figs_bytes figs) in

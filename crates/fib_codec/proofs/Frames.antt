@@ -1,5 +1,6 @@
 -- Frames of FIBs: the law of steps, and that a FIB written into a frame leaves the others unchanged.
-use Rattle.std.proofs.Common.{◌≡◌, ℕ, ◌+◌, ◌*◌, ◌≤◌, List, ◌++◌, length, take, drop, arith, refl, sym, ap, ◌∙◌, length-append, take-append-drop, length-take-le}
+use Rattle.std.proofs.Common.{◌≡◌, ℕ, ◌+◌, ◌*◌, ◌≤◌, List, ◌++◌, length, take, drop, arith, refl, sym, ap, ◌∙◌}
+use Rattle.std.proofs.Common.{length-append, take-append-drop, length-take-le}
 use Rattle.std.proofs.Math.Seq.{take-append_seam, drop-append_seam}
 use Rattle.std.proofs.lemmas.List.{take-append-le, drop-append-le, length-drop, append_assoc}
 use Rattle.fib_codec.specs.Modes.{StepsDivide, IsInFrame, with_fib}
@@ -26,7 +27,15 @@ over_front front rest fib at fits =
 over_length : (xs fib : List ℕ) (at : ℕ) → at + 32 ≤ length xs → length fib ≡ 32
     → length (over xs at fib) ≡ length xs
 over_length xs fib at fits whole =
-    omega (arith, fits, whole, length-append (take at xs) (fib ++ drop (at + 32) xs), length-append fib (drop (at + 32) xs), length-take-le at xs (omega (arith, fits)), length-drop (at + 32) xs)
+    omega (
+      arith,
+      fits,
+      whole,
+      length-append (take at xs) (fib ++ drop (at + 32) xs),
+      length-append fib (drop (at + 32) xs),
+      length-take-le at xs (omega (arith, fits)),
+      length-drop (at + 32) xs,
+    )
 
 -- the bytes of a frame and what follows it, after a FIB was written into it
 pub record IsOver (size at : ℕ) (bytes fib : List ℕ) : Type 0 where
@@ -47,12 +56,14 @@ written_over size at bytes fib is fits whole =
     over_length bytes fib at (omega (arith, fits, len, is.within, is.whole)) whole in
     let end : length (over front at fib) ≡ size = kept ∙ len in
     record {
-      frame = ap (take size) same ∙ ap (λ n. take n (over front at fib ++ rest)) (sym end) ∙ take-append_seam (over front at fib) rest;
+      frame = ap (take size) same ∙ ap (λ n. take n (over front at fib ++ rest)) (sym end)
+          ∙ take-append_seam (over front at fib) rest;
       kept = record {
         mode = is.mode;
         within = is.within;
         whole = long ∙ is.whole;
-        rest = ap (drop size) same ∙ ap (λ n. drop n (over front at fib ++ rest)) (sym end) ∙ drop-append_seam (over front at fib) rest ∙ is.rest;
+        rest = ap (drop size) same ∙ ap (λ n. drop n (over front at fib ++ rest)) (sym end)
+            ∙ drop-append_seam (over front at fib) rest ∙ is.rest;
       };
       whole = kept;
     }
@@ -65,7 +76,8 @@ written_fib size index bytes fib new is same =
     ∙ sym (append_assoc (take (32 * index) (take size bytes)) fib (drop (32 * index + 32) (take size bytes)))
 
 -- the bytes up to a FIB that was written, and that FIB
-pub front_of : (index : ℕ) (old fib new : List ℕ) → length fib ≡ 32 → 32 * index + 32 ≤ length old → new ≡ with_fib index fib old
+pub front_of : (index : ℕ) (old fib new : List ℕ) → length fib ≡ 32 → 32 * index + 32 ≤ length old
+    → new ≡ with_fib index fib old
     → take (32 * index + 32) new ≡ take (32 * index) old ++ fib
 front_of index old fib new whole fits is =
     let front = take (32 * index) old in

@@ -1,14 +1,18 @@
 -- The lengths of encodings.
-use Rattle.std.proofs.Common.{◌≡◌, ℕ, zero, suc, drop, ◌+◌, ◌-◌, ◌*◌, ◌≤◌, cond, Option, Some, None, is_some, List, [], ◌∷◌, ◌++◌, length, get_or, take, refl, sym, ◌∙◌, ap, arith, length-append, append_assoc, append-nil, ◌<◌}
+use Rattle.std.proofs.Common.{◌≡◌, ℕ, zero, suc, drop, ◌+◌, ◌-◌, ◌*◌, ◌≤◌, cond, Option, Some, None, is_some, List, []}
+use Rattle.std.proofs.Common.{◌∷◌, ◌++◌, length, get_or, take, refl, sym, ◌∙◌, ap, arith, length-append, append_assoc}
+use Rattle.std.proofs.Common.{append-nil, ◌<◌}
 use Rattle.std.specs.Prelude.{flat_map}
 use Rattle.std.proofs.lemmas.List.{take_more, length-take-le, take-append-drop}
 use Rattle.std.specs.List.{AllByRecursion}
 use Rattle.mux_types.specs.declared.numbers.Sid.{Sid}
 use Rattle.mux_types.specs.declared.numbers.Sid.TheVariants.{Short, Long}
 use Rattle.mux_types.specs.declared.entry.Entry.{Entry}
-use Rattle.mux_types.specs.declared.entry.Entry.TheVariants.{Ensemble as EnsembleOf, Sub as SubOf, Short as ShortOf, Service as ServiceOf, Packet as PacketOf}
+use Rattle.mux_types.specs.declared.entry.Entry.TheVariants.{Ensemble as EnsembleOf, Sub as SubOf, Short as ShortOf}
+use Rattle.mux_types.specs.declared.entry.Entry.TheVariants.{Service as ServiceOf, Packet as PacketOf}
 use Rattle.mux_types.specs.declared.entry.ComponentEntry.{ComponentEntry}
-use Rattle.fib_codec.specs.Spelling.{occurrence_bytes, ca_org_bytes, sid_bytes, sid_size, components_bytes, entry_bytes, entry_size, entries_bytes, IsUnder, IsFormed}
+use Rattle.fib_codec.specs.Spelling.{occurrence_bytes, ca_org_bytes, sid_bytes, sid_size, components_bytes, entry_bytes}
+use Rattle.fib_codec.specs.Spelling.{entry_size, entries_bytes, IsUnder, IsFormed}
 use Rattle.fib_codec.specs.declared.head.Head.{Head}
 
 occurrence_len : (o : Option ℕ) → 4 + length (occurrence_bytes o) ≡ cond (is_some o) 5 4
@@ -40,11 +44,13 @@ entry_length (ServiceOf s) =
 entry_length (PacketOf p) = omega (arith, ca_org_len p.ca_org)
 
 -- ---- steps of loops that append
-pub AllByRecursion-append : {T : Type 0} (P : T → Type 0) (xs ys : List T) → AllByRecursion P xs → AllByRecursion P ys → AllByRecursion P (xs ++ ys)
+pub AllByRecursion-append : {T : Type 0} (P : T → Type 0) (xs ys : List T) → AllByRecursion P xs → AllByRecursion P ys
+    → AllByRecursion P (xs ++ ys)
 AllByRecursion-append P [] ys h k = k
 AllByRecursion-append P (x ∷ xs) ys h k = (h.0, AllByRecursion-append P xs ys h.1 k)
 
-pub flat_map-append : {X A : Type 0} (f : X → List A) (xs ys : List X) → flat_map f (xs ++ ys) ≡ flat_map f xs ++ flat_map f ys
+pub flat_map-append : {X A : Type 0} (f : X → List A) (xs ys : List X) → flat_map f (xs ++ ys) ≡ flat_map f xs
+    ++ flat_map f ys
 flat_map-append f [] ys = refl
 flat_map-append f (x ∷ xs) ys =
     ap (λ t. f x ++ t) (flat_map-append f xs ys) ∙ sym (append_assoc (f x) (flat_map f xs) (flat_map f ys))
@@ -60,7 +66,8 @@ spelled_more f old xs i d h =
     ∙ ap (flat_map f) (sym (take_more xs i d h)))
 
 -- room for one more component, if there was room for all of them
-pub component_fits : (now old : List ℕ) (cs : List ComponentEntry) (i : ℕ) → length old + 2 * length cs ≤ 30 → i < length cs
+pub component_fits : (now old : List ℕ) (cs : List ComponentEntry) (i : ℕ) → length old + 2 * length cs ≤ 30
+    → i < length cs
     → now ≡ old ++ components_bytes (take i cs) → length now + 2 ≤ 30
 component_fits now old cs i room h written =
     let long : length now ≡ length old + length (components_bytes (take i cs)) =
@@ -69,7 +76,8 @@ component_fits now old cs i room h written =
     omega (arith, long, taken, components_len (take i cs))
 
 -- ---- entries of one FIG
-pub AllByRecursion-at : {T : Type 0} (P : T → Type 0) (xs : List T) (i : ℕ) (d : T) → AllByRecursion P xs → i < length xs → P (get_or xs i d)
+pub AllByRecursion-at : {T : Type 0} (P : T → Type 0) (xs : List T) (i : ℕ) (d : T) → AllByRecursion P xs
+    → i < length xs → P (get_or xs i d)
 AllByRecursion-at P [] i d h lt = absurd (omega arith)
 AllByRecursion-at P (x ∷ xs) zero d h lt = h.0
 AllByRecursion-at P (x ∷ xs) (suc i) d h lt = AllByRecursion-at P xs i d h.1 (omega arith)
@@ -90,7 +98,8 @@ entries_part xs i =
     omega (arith, whole)
 
 -- room for one more entry, if there was room for all of them
-pub entry_fits : (now old : List ℕ) (xs : List Entry) (i : ℕ) (d : Entry) → length old + length (entries_bytes xs) ≤ 30 → i < length xs
+pub entry_fits : (now old : List ℕ) (xs : List Entry) (i : ℕ) (d : Entry) → length old + length (entries_bytes xs) ≤ 30
+    → i < length xs
     → now ≡ old ++ entries_bytes (take i xs) → d ≡ get_or xs i d → length now + entry_size d ≤ 30
 entry_fits now old xs i d room h written is =
     let same : entry_size d ≡ entry_size (get_or xs i d) = ap entry_size is in
@@ -100,7 +109,8 @@ entry_fits now old xs i d room h written is =
 
 -- no room for one more entry, and so none for all of them
 pub entry_passes : (xs : List Entry) (i len room more : ℕ) (d : Entry) → i < length xs → d ≡ get_or xs i d
-    → len ≡ length (entries_bytes (take i xs)) → more ≡ entry_size d → len ≤ room → room - len < more → room < length (entries_bytes xs)
+    → len ≡ length (entries_bytes (take i xs)) → more ≡ entry_size d → len ≤ room → room - len < more
+    → room < length (entries_bytes xs)
 entry_passes xs i len room more d h is counted sized within past =
     let same : entry_size d ≡ entry_size (get_or xs i d) = ap entry_size is in
     omega (arith, entries_more xs i d h, entries_part xs (i + 1))

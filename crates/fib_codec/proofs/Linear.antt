@@ -1,5 +1,6 @@
 -- The division is linear, so a byte and the register before it act independently, and tables can process several bytes.
-use Rattle.std.proofs.Common.{◌≡◌, ℕ, zero, suc, ◌+◌, ◌*◌, ◌/◌, ◌%◌, ◌^◌, ◌<◌, eqb, List, [], ◌∷◌, ◌++◌, length, replicate, refl, sym, ◌∙◌, ap, inl, inr, arith, append-nil, length-append}
+use Rattle.std.proofs.Common.{◌≡◌, ℕ, zero, suc, ◌+◌, ◌*◌, ◌/◌, ◌%◌, ◌^◌, ◌<◌, eqb, List, [], ◌∷◌, ◌++◌, length}
+use Rattle.std.proofs.Common.{replicate, refl, sym, ◌∙◌, ap, inl, inr, arith, append-nil, length-append}
 use Rattle.std.proofs.lemmas.Bool.{cond_both, cases_eq}
 use Rattle.std.proofs.lemmas.Nat.{xor_comm, shr-shr, xor_of_16}
 use Rattle.std.proofs.lemmas.Nat.Bits.{same_from_bits_below}
@@ -7,7 +8,9 @@ use Rattle.std.specs.Prelude.{bit_xor}
 use Rattle.std.specs.Int.{bit_at}
 use Rattle.fib_codec.specs.Crc.{low_bits, AreBits, plus, generator, without_leading, divided}
 use Rattle.fib_codec.specs.Register.{next, after}
-use Rattle.fib_codec.proofs.Division.{bits_of-suc, bits_of-zero, length-bits_of, bits_of_are, bits_of-xor, bits_of-below, plus-nil, plus-plus, plus-append, AreBits-append, AreBits-replicate, divided-suc, divided-zero, steps, word_left}
+use Rattle.fib_codec.proofs.Division.{bits_of-suc, bits_of-zero, length-bits_of, bits_of_are, bits_of-xor}
+use Rattle.fib_codec.proofs.Division.{bits_of-below, plus-nil, plus-plus, plus-append, AreBits-append}
+use Rattle.fib_codec.proofs.Division.{AreBits-replicate, divided-suc, divided-zero, steps, word_left}
 
 -- numbers with the same bits agree in each bit
 same_bit : (w x y i : ℕ) → low_bits w x ≡ low_bits w y → i < w → bit_at x i ≡ bit_at y i
@@ -98,16 +101,20 @@ length-plus (x ∷ xs) (y ∷ ys) = ap suc (length-plus xs ys)
 front_turned : (r byte : ℕ) (m : List ℕ)
     → plus (low_bits 8 byte ++ m) (low_bits 16 r) ≡ low_bits 8 (bit_xor (r / 256) byte) ++ plus m (low_bits 8 r)
 front_turned r byte m =
-    let long : length (low_bits 8 byte) ≡ length (low_bits 8 (r / 256)) = length-bits_of 8 byte ∙ sym (length-bits_of 8 (r / 256)) in
+    let long : length (low_bits 8 byte) ≡ length (low_bits 8 (r / 256)) =
+    length-bits_of 8 byte ∙ sym (length-bits_of 8 (r / 256)) in
     ap (plus (low_bits 8 byte ++ m)) (split r)
     ∙ plus-append (low_bits 8 byte) (low_bits 8 (r / 256)) m (low_bits 8 r) long
-    ∙ ap (λ t. t ++ plus m (low_bits 8 r)) (sym (bits_of-xor 8 byte (r / 256)) ∙ ap (low_bits 8) (xor_comm byte (r / 256)))
+    ∙ ap (λ t. t ++ plus m (low_bits 8 r)) (sym (bits_of-xor 8 byte (r / 256))
+    ∙ ap (low_bits 8) (xor_comm byte (r / 256)))
 
 pub by_table : (r byte t : ℕ) → t ≡ after 8 (bit_xor (r / 256) byte) 0 → (m : List ℕ) (n : ℕ) → AreBits m
-    → divided (8 + n) (plus (low_bits 8 byte ++ m) (low_bits 16 r)) ≡ divided n (plus m (low_bits 16 (bit_xor (r * 256 % 65536) t)))
+    → divided (8 + n) (plus (low_bits 8 byte ++ m) (low_bits 16 r))
+    ≡ divided n (plus m (low_bits 16 (bit_xor (r * 256 % 65536) t)))
 by_table r byte t given m n are =
     let moved = r * 256 % 65536 in
-    let long : length (low_bits 16 moved) ≡ length (low_bits 16 t) = length-bits_of 16 moved ∙ sym (length-bits_of 16 t) in
+    let long : length (low_bits 16 moved) ≡ length (low_bits 16 t) =
+    length-bits_of 16 moved ∙ sym (length-bits_of 16 t) in
     let added : plus m (low_bits 16 moved) ≡ plus m (low_bits 8 r) =
     ap (plus m) (moved_up r) ∙ plus-push_zeros m (low_bits 8 r) 8 are in
     let sum : plus m (low_bits 16 (bit_xor moved t)) ≡ plus (plus m (low_bits 8 r)) (low_bits 16 t) =
@@ -171,15 +178,19 @@ leading (suc (suc x)) y xs ys p q h are bre = absurd (omega arith)
 divided-plus : (n : ℕ) (xs ys : List ℕ) → length xs ≡ length ys → AreBits xs → AreBits ys
     → divided n (plus xs ys) ≡ plus (divided n xs) (divided n ys)
 divided-plus zero xs ys h are bre =
-    divided-zero (plus xs ys) ∙ ap (λ t. plus t ys) (sym (divided-zero xs)) ∙ ap (plus (divided 0 xs)) (sym (divided-zero ys))
-divided-plus (suc n) [] ys h are bre = divided-nil (suc n) ∙ ap (λ t. plus t (divided (suc n) ys)) (sym (divided-nil (suc n)))
+    divided-zero (plus xs ys) ∙ ap (λ t. plus t ys) (sym (divided-zero xs))
+    ∙ ap (plus (divided 0 xs)) (sym (divided-zero ys))
+divided-plus (suc n) [] ys h are bre = divided-nil (suc n)
+    ∙ ap (λ t. plus t (divided (suc n) ys)) (sym (divided-nil (suc n)))
 divided-plus (suc n) (x ∷ xs) [] h are bre = cc
 divided-plus (suc n) (x ∷ xs) (y ∷ ys) h are bre =
     let same : length xs ≡ length ys = omega arith in
-    let after_one : length (without_leading x xs) ≡ length (without_leading y ys) = length-without x xs ∙ same ∙ sym (length-without y ys) in
+    let after_one : length (without_leading x xs) ≡ length (without_leading y ys) =
+    length-without x xs ∙ same ∙ sym (length-without y ys) in
     divided-suc n ((x + y) % 2) (plus xs ys)
     ∙ ap (divided n) (leading x y xs ys are.0 bre.0 same are.1 bre.1)
-    ∙ divided-plus n (without_leading x xs) (without_leading y ys) after_one (without_bits x xs are.1) (without_bits y ys bre.1)
+    ∙ divided-plus n (without_leading x xs) (without_leading y ys) after_one (without_bits x xs are.1)
+    (without_bits y ys bre.1)
     ∙ ap (λ t. plus t (divided n (without_leading y ys))) (sym (divided-suc n x xs))
     ∙ ap (plus (divided (suc n) (x ∷ xs))) (sym (divided-suc n y ys))
 
@@ -220,7 +231,8 @@ apart_bits k xs ys =
 parts_of : (k r : ℕ) → low_bits 16 (after 8 k r) ≡ low_bits 16 (bit_xor (after 8 k 0) (after 8 0 r))
 parts_of k r =
     let message = low_bits 8 k ++ replicate 16 0 in
-    let empty : plus message (low_bits 16 0) ≡ message = ap (plus message) zeros_are ∙ plus-zeros message 16 (word_bits k) in
+    let empty : plus message (low_bits 16 0) ≡ message =
+    ap (plus message) zeros_are ∙ plus-zeros message 16 (word_bits k) in
     sym (as_rest k r) ∙ ap (λ t. divided 8 (plus t (low_bits 16 r))) (sym empty)
     ∙ apart_bits k (low_bits 16 0) (low_bits 16 r)
     ∙ ap (λ t. plus t (divided 8 (plus (low_bits 8 0 ++ replicate 16 0) (low_bits 16 r)))) (as_rest k 0)
@@ -251,7 +263,8 @@ turned_bits r a b =
     let low : low_bits 8 r ≡ low_bits 8 (r % 256) =
     (let whole : r / 256 * 2 ^ 8 + r % 256 ≡ r = omega arith in
     sym (ap (low_bits 8) whole) ∙ bits_of-below 8 (r / 256) 8 (r % 256) (omega arith)) in
-    let long : length (low_bits 8 b) ≡ length (low_bits 8 (r % 256)) = length-bits_of 8 b ∙ sym (length-bits_of 8 (r % 256)) in
+    let long : length (low_bits 8 b) ≡ length (low_bits 8 (r % 256)) =
+    length-bits_of 8 b ∙ sym (length-bits_of 8 (r % 256)) in
     let behind : plus (low_bits 8 b ++ zeros) (low_bits 8 r) ≡ low_bits 8 second ++ zeros =
     ap (plus (low_bits 8 b ++ zeros)) (low ∙ sym (append-nil (low_bits 8 (r % 256))))
     ∙ plus-append (low_bits 8 b) (low_bits 8 (r % 256)) zeros [] long
@@ -293,7 +306,8 @@ pub one_byte : (r k : ℕ) → after 8 k r ≡ bit_xor (r * 256 % 65536) (after 
 one_byte r k =
     let turned = after 8 (bit_xor (r / 256) k) 0 in
     let word = bit_xor (r * 256 % 65536) turned in
-    one_word (after 8 k r) word (byte_below k r) (xor_of_16 (r * 256 % 65536) turned (omega arith) (byte_below (bit_xor (r / 256) k) 0))
+    one_word (after 8 k r) word (byte_below k r)
+    (xor_of_16 (r * 256 % 65536) turned (omega arith) (byte_below (bit_xor (r / 256) k) 0))
     (sym (as_rest k r)
     ∙ by_table r k turned refl (replicate 16 0) 0 (AreBits-replicate 16)
     ∙ word_left word)
@@ -303,5 +317,6 @@ pub two_bytes : (r a b : ℕ) → after 8 b (after 8 a r)
 two_bytes r a b =
     let first = after 8 (bit_xor (r / 256) a) 0 in
     let second = bit_xor (r % 256) b in
-    one_word (after 8 b (after 8 a r)) (after 8 second first) (byte_below b (after 8 a r)) (byte_below second first) (turned_bits r a b)
+    one_word (after 8 b (after 8 a r)) (after 8 second first) (byte_below b (after 8 a r)) (byte_below second first)
+    (turned_bits r a b)
     ∙ apart second first

@@ -1,14 +1,17 @@
 -- A receiver decodes from a FIB what was written into it.
-use Rattle.std.proofs.Common.{◌≡◌, ◌⊎◌, inl, inr, ℕ, zero, suc, ◌<◌, ◌↔◌, Bool, true, false, cond, List, [], ◌∷◌, map, refl, sym, ◌∙◌, subst, arith}
+use Rattle.std.proofs.Common.{◌≡◌, ◌⊎◌, inl, inr, ℕ, zero, suc, ◌<◌, ◌↔◌, Bool, true, false, cond, List, [], ◌∷◌, map}
+use Rattle.std.proofs.Common.{refl, sym, ◌∙◌, subst, arith}
 use Rattle.std.specs.Prelude.{Contains}
 use Rattle.std.proofs.lemmas.List.Elements.{Contains-append_left, Contains-append_right, Contains-append_cases}
 use Rattle.std.specs.List.{AllByRecursion}
 use Rattle.mux_types.specs.Facts.{Marked, marked}
 use Rattle.mux_types.specs.declared.entry.Entry.{Entry}
-use Rattle.mux_types.specs.declared.entry.Entry.TheVariants.{Ensemble as EnsembleOf, Sub as SubOf, Short as ShortOf, Service as ServiceOf, Packet as PacketOf}
+use Rattle.mux_types.specs.declared.entry.Entry.TheVariants.{Ensemble as EnsembleOf, Sub as SubOf, Short as ShortOf}
+use Rattle.mux_types.specs.declared.entry.Entry.TheVariants.{Service as ServiceOf, Packet as PacketOf}
 use Rattle.fib_codec.specs.declared.head.Head.{Head}
 use Rattle.fib_codec.specs.Ranges.{IsWithin}
-use Rattle.fib_codec.specs.Spelling.{entry_bytes, ext_of, is_long_entry, head_byte, fig_bytes, IsUnder, Written, IsWritten}
+use Rattle.fib_codec.specs.Spelling.{entry_bytes, ext_of, is_long_entry, head_byte, fig_bytes, IsUnder, Written}
+use Rattle.fib_codec.specs.Spelling.{IsWritten}
 use Rattle.fib_codec.specs.Grammar.{Fig, Open, Other, IsFib, fig_of}
 use Rattle.fib_codec.specs.Heard.{IsSaid, IsInFig, IsInFib, marked_by, marked_of, HeardIsWritten}
 use Rattle.fib_codec.proofs.Lengths.{ext_small}
@@ -87,13 +90,15 @@ said_written head e m small under within said =
     λ i. record { next = next i; entry = entry i }
 
 -- ---- one FIG
-said_in_list : (head : Head) (es : List Entry) (bytes : List ℕ) (m : Marked) → head.ext < 4 → AllByRecursion (IsUnder head) es → AllByRecursion IsWithin es
+said_in_list : (head : Head) (es : List Entry) (bytes : List ℕ) (m : Marked) → head.ext < 4
+    → AllByRecursion (IsUnder head) es → AllByRecursion IsWithin es
     → Contains (map entry_bytes es) bytes → IsSaid (head_byte head) bytes m → Contains (map (marked head.next) es) m
 said_in_list head [] bytes m small under within in_list said = absurd (contains_none bytes in_list)
 said_in_list head (e ∷ es) bytes m small under within in_list said =
     elim (contains_cases (entry_bytes e) (map entry_bytes es) bytes in_list) [
       | inl here ↦
-          let said_here : IsSaid (head_byte head) (entry_bytes e) m = subst (λ (xs : List ℕ). IsSaid (head_byte head) xs m) (sym here) said in
+          let said_here : IsSaid (head_byte head) (entry_bytes e) m =
+          subst (λ (xs : List ℕ). IsSaid (head_byte head) xs m) (sym here) said in
           let same : marked head.next e ≡ m = said_written head e m small under.0 within.0 said_here in
           subst (λ (n : Marked). Contains (map (marked head.next) (e ∷ es)) n) same
           (contains_first (marked head.next e) (map (marked head.next) es))
@@ -104,17 +109,21 @@ said_in_list head (e ∷ es) bytes m small under within in_list said =
 moved_later : (head : Head) (e : Entry) (es : List Entry) (m : Marked)
     → (bytes : List ℕ) × Contains (map entry_bytes es) bytes × IsSaid (head_byte head) bytes m
     → (bytes : List ℕ) × Contains (map entry_bytes (e ∷ es)) bytes × IsSaid (head_byte head) bytes m
-moved_later head e es m (bytes, in_list, said) = (bytes, contains_later (entry_bytes e) (map entry_bytes es) bytes in_list, said)
+moved_later head e es m (bytes, in_list, said) =
+    (bytes, contains_later (entry_bytes e) (map entry_bytes es) bytes in_list, said)
 
-list_said : (head : Head) (es : List Entry) (m : Marked) → head.ext < 4 → AllByRecursion (IsUnder head) es → AllByRecursion IsWithin es
-    → Contains (map (marked head.next) es) m → (bytes : List ℕ) × Contains (map entry_bytes es) bytes × IsSaid (head_byte head) bytes m
+list_said : (head : Head) (es : List Entry) (m : Marked) → head.ext < 4 → AllByRecursion (IsUnder head) es
+    → AllByRecursion IsWithin es
+    → Contains (map (marked head.next) es) m → (bytes : List ℕ) × Contains (map entry_bytes es) bytes
+    × IsSaid (head_byte head) bytes m
 list_said head [] m small under within in_list = absurd (contains_none m in_list)
 list_said head (e ∷ es) m small under within in_list =
     elim (contains_cases (marked head.next e) (map (marked head.next) es) m in_list) [
       | inl here ↦ (
         entry_bytes e,
         contains_first (entry_bytes e) (map entry_bytes es),
-        subst (λ (n : Marked). IsSaid (head_byte head) (entry_bytes e) n) here (written_said head e small under.0 within.0),
+        subst (λ (n : Marked). IsSaid (head_byte head) (entry_bytes e) n) here
+            (written_said head e small under.0 within.0),
       )
       | inr later ↦ moved_later head e es m (list_said head es m small under.1 within.1 later)
     ]
@@ -130,7 +139,8 @@ fig_says false w m h =
     )
 
 -- ---- all FIGs
-figs_say : (figs : List Written) (fig : Fig) (m : Marked) → AllByRecursion IsWritten figs → Contains (map fig_of figs) fig → IsInFig fig m
+figs_say : (figs : List Written) (fig : Fig) (m : Marked) → AllByRecursion IsWritten figs
+    → Contains (map fig_of figs) fig → IsInFig fig m
     → Contains (marked_of figs) m
 figs_say [] fig m written in_list said = absurd (contains_none fig in_list)
 figs_say (w ∷ ws) fig m written in_list said =
@@ -160,6 +170,7 @@ fib_says bytes figs m fib (fig, in_list, said) = (map fig_of figs, fig, fib, in_
 pub heard_is_written : HeardIsWritten
 heard_is_written bytes figs written fib m = (
   (λ found. figs_say figs found.1 m written
-      (subst (λ (fs : List Fig). Contains fs found.1) (one_fib bytes found.0 (map fig_of figs) found.2 fib) found.3) found.4),
+      (subst (λ (fs : List Fig). Contains fs found.1) (one_fib bytes found.0 (map fig_of figs) found.2 fib) found.3)
+      found.4),
   λ in_list. fib_says bytes figs m fib (figs_said figs m written in_list),
 )

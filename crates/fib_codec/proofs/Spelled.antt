@@ -1,11 +1,13 @@
 -- Bytes that are an entry in the grammar encode an entry.
-use Rattle.std.proofs.Common.{◌≡◌, ◌⊎◌, inl, inr, ℕ, zero, suc, ◌+◌, ◌*◌, ◌/◌, ◌%◌, ◌<◌, Bool, true, false, cond, eqb, Option, Some, None, List, [], ◌∷◌, ◌++◌, length, refl, sym, ◌∙◌, ap, ap₂, arith, eqb-true}
+use Rattle.std.proofs.Common.{◌≡◌, ◌⊎◌, inl, inr, ℕ, zero, suc, ◌+◌, ◌*◌, ◌/◌, ◌%◌, ◌<◌, Bool, true, false, cond, eqb}
+use Rattle.std.proofs.Common.{Option, Some, None, List, [], ◌∷◌, ◌++◌, length, refl, sym, ◌∙◌, ap, ap₂, arith, eqb-true}
 use Rattle.std.specs.Prelude.{is_some, IfSome}
 use Rattle.mux_types.specs.Configuration.{IsSid}
 use Rattle.std.specs.List.{AllByRecursion}
 use Rattle.mux_types.specs.declared.numbers.Sid.{Sid}
 use Rattle.mux_types.specs.declared.numbers.Sid.TheVariants.{Short, Long}
-use Rattle.mux_types.specs.declared.entry.Entry.TheVariants.{Ensemble as EnsembleOf, Sub as SubOf, Short as ShortOf, Service as ServiceOf, Packet as PacketOf}
+use Rattle.mux_types.specs.declared.entry.Entry.TheVariants.{Ensemble as EnsembleOf, Sub as SubOf, Short as ShortOf}
+use Rattle.mux_types.specs.declared.entry.Entry.TheVariants.{Service as ServiceOf, Packet as PacketOf}
 use Rattle.mux_types.specs.declared.entry.SubEntry.{SubEntry}
 use Rattle.mux_types.specs.declared.entry.ShortEntry.{ShortEntry}
 use Rattle.mux_types.specs.declared.entry.ServiceEntry.{ServiceEntry}
@@ -14,8 +16,10 @@ use Rattle.mux_types.specs.declared.entry.ComponentEntry.{ComponentEntry}
 use Rattle.mux_types.specs.declared.entry.ComponentEntry.TheVariants.{Sound, Stream, Other, Packet}
 use Rattle.byteorder.specs.Endian.{big_bytes}
 use Rattle.fib_codec.specs.declared.head.Head.{Head}
-use Rattle.fib_codec.specs.Ranges.{IsEnsembleInformation, IsSubEntry, IsShortEntry, IsServiceEntry, IsPacketEntry, IsComponentEntry}
-use Rattle.fib_codec.specs.Spelling.{bit_of, ensemble_bytes, component_u16, components_bytes, occurrence_bytes, ca_org_bytes, sid_bytes, is_long_sid}
+use Rattle.fib_codec.specs.Ranges.{IsEnsembleInformation, IsSubEntry, IsShortEntry, IsServiceEntry, IsPacketEntry}
+use Rattle.fib_codec.specs.Ranges.{IsComponentEntry}
+use Rattle.fib_codec.specs.Spelling.{bit_of, ensemble_bytes, component_u16, components_bytes, occurrence_bytes}
+use Rattle.fib_codec.specs.Spelling.{ca_org_bytes, sid_bytes, is_long_sid}
 use Rattle.fib_codec.specs.Grammar.{ensemble_len, sub_len, service_len, packet_len, entry_len, IsEntry, IsCounted}
 use Rattle.fib_codec.specs.Laws.{IsByte, IsSpelled}
 
@@ -64,7 +68,8 @@ flagged : (n : ℕ) → eqb n 0 ≡ false → 0 < n
 flagged zero h = absurd (cc)
 flagged (suc n) h = omega arith
 
-counted_number : (high low : ℕ) → high < 20 → low < 250 → (high * 250 + low < 5000) × ((high * 250 + low) / 250 ≡ high) × ((high * 250 + low) % 250 ≡ low)
+counted_number : (high low : ℕ) → high < 20 → low < 250 → (high * 250 + low < 5000) × ((high * 250 + low) / 250 ≡ high)
+    × ((high * 250 + low) % 250 ≡ low)
 counted_number high low h l = (omega arith, omega arith, omega arith)
 
 fields_of : (c : ℕ) → c / 64 * 64 + c / 32 % 2 * 32 + c % 32 ≡ c
@@ -72,7 +77,13 @@ fields_of c = omega arith
 
 -- the flags' byte of FIG 0/0 and its CIF count, recovered from the two bytes
 counted : (a b c d : ℕ) (o : Option ℕ) → a < 256 → b < 256 → c < 256 → d < 250 → c % 32 < 20
-    → ensemble_bytes (record { eid = a * 256 + b; change = c / 64; al = eqb (c / 32 % 2) 1; count = c % 32 * 250 + d; occurrence = o })
+    → ensemble_bytes (record {
+      eid = a * 256 + b;
+      change = c / 64;
+      al = eqb (c / 32 % 2) 1;
+      count = c % 32 * 250 + d;
+      occurrence = o;
+    })
     ≡ a ∷ b ∷ c ∷ d ∷ occurrence_bytes o
 counted a b c d o p q r s high =
     let number = counted_number (c % 32) d high s in
@@ -82,7 +93,8 @@ counted a b c d o p q r s high =
     ap₂ (λ xs x. xs ++ x ∷ (c % 32 * 250 + d) % 250 ∷ occurrence_bytes o) (u16_bytes (a * 256 + b) a b refl p q) flags
     ∙ ap (λ x. a ∷ b ∷ c ∷ x ∷ occurrence_bytes o) number.2
 
-ensemble_spelled : (head : Head) (bytes : List ℕ) → head.ext ≡ 0 → AllByRecursion IsByte bytes → length bytes ≡ ensemble_len bytes → IsCounted bytes
+ensemble_spelled : (head : Head) (bytes : List ℕ) → head.ext ≡ 0 → AllByRecursion IsByte bytes
+    → length bytes ≡ ensemble_len bytes → IsCounted bytes
     → IsSpelled head bytes
 ensemble_spelled head [] e all whole count = absurd (omega arith)
 ensemble_spelled head (a ∷ []) e all whole count = absurd (omega arith)
@@ -97,9 +109,28 @@ ensemble_spelled head (a ∷ b ∷ c ∷ d ∷ []) e all whole count =
       | inl both ↦ (
           let none : c / 64 ≡ 0 = eqb-true (c / 64) 0 both.0 in
           let number = counted_number (c % 32) d count.0 count.1 in
-          let within : IsEnsembleInformation (record { eid = a * 256 + b; change = c / 64; al = eqb (c / 32 % 2) 1; count = c % 32 * 250 + d; occurrence = None }) =
-          record { eid = omega (arith, all.0, all.1.0); change = omega (arith, all.1.1.0); count = number.0; flagged = (λ there. absurd cc, λ some. absurd (omega (arith, some, none))); occurrence = tt } in (
-            EnsembleOf (record { eid = a * 256 + b; change = c / 64; al = eqb (c / 32 % 2) 1; count = c % 32 * 250 + d; occurrence = None }),
+          let within : IsEnsembleInformation
+          (record {
+            eid = a * 256 + b;
+            change = c / 64;
+            al = eqb (c / 32 % 2) 1;
+            count = c % 32 * 250 + d;
+            occurrence = None;
+          }) =
+          record {
+            eid = omega (arith, all.0, all.1.0);
+            change = omega (arith, all.1.1.0);
+            count = number.0;
+            flagged = (λ there. absurd cc, λ some. absurd (omega (arith, some, none)));
+            occurrence = tt;
+          } in (
+            EnsembleOf (record {
+              eid = a * 256 + b;
+              change = c / 64;
+              al = eqb (c / 32 % 2) 1;
+              count = c % 32 * 250 + d;
+              occurrence = None;
+            }),
             e,
             within,
             counted a b c d None all.0 all.1.0 all.1.1.0 count.1 count.0,
@@ -113,9 +144,28 @@ ensemble_spelled head (a ∷ b ∷ c ∷ d ∷ o ∷ []) e all whole count =
       | inr both ↦ (
           let some : 0 < c / 64 = flagged (c / 64) both.0 in
           let number = counted_number (c % 32) d count.0 count.1 in
-          let within : IsEnsembleInformation (record { eid = a * 256 + b; change = c / 64; al = eqb (c / 32 % 2) 1; count = c % 32 * 250 + d; occurrence = Some o }) =
-          record { eid = omega (arith, all.0, all.1.0); change = omega (arith, all.1.1.0); count = number.0; flagged = (λ there. some, λ more. refl); occurrence = all.1.1.1.1.0 } in (
-            EnsembleOf (record { eid = a * 256 + b; change = c / 64; al = eqb (c / 32 % 2) 1; count = c % 32 * 250 + d; occurrence = Some o }),
+          let within : IsEnsembleInformation
+          (record {
+            eid = a * 256 + b;
+            change = c / 64;
+            al = eqb (c / 32 % 2) 1;
+            count = c % 32 * 250 + d;
+            occurrence = Some o;
+          }) =
+          record {
+            eid = omega (arith, all.0, all.1.0);
+            change = omega (arith, all.1.1.0);
+            count = number.0;
+            flagged = (λ there. some, λ more. refl);
+            occurrence = all.1.1.1.1.0;
+          } in (
+            EnsembleOf (record {
+              eid = a * 256 + b;
+              change = c / 64;
+              al = eqb (c / 32 % 2) 1;
+              count = c % 32 * 250 + d;
+              occurrence = Some o;
+            }),
             e,
             within,
             counted a b c d (Some o) all.0 all.1.0 all.1.1.0 count.1 count.0,
@@ -138,18 +188,37 @@ long_sub : (head : Head) (a b c d : ℕ) → head.ext ≡ 1 → a < 256 → b < 
 long_sub head a b c d e p q r s long =
     let place = a * 256 + b in
     let size = c * 256 + d in
-    let entry : SubEntry = record { id = place / 1024; start = place % 1024; option = size / 4096 % 8; level = size / 1024 % 4; size = size % 1024 } in
-    let within : IsSubEntry entry = record { id = (place_of a b p q).0; start = omega arith; option = omega arith; level = omega arith; size = omega arith } in
+    let entry : SubEntry = record {
+      id = place / 1024;
+      start = place % 1024;
+      option = size / 4096 % 8;
+      level = size / 1024 % 4;
+      size = size % 1024;
+    } in
+    let within : IsSubEntry entry =
+    record {
+      id = (place_of a b p q).0;
+      start = omega arith;
+      option = omega arith;
+      level = omega arith;
+      size = omega arith;
+    } in
     let there : place / 1024 * 1024 + place % 1024 ≡ place = (place_of a b p q).1 in
     let back : 32768 + size / 4096 % 8 * 4096 + size / 1024 % 4 * 1024 + size % 1024 ≡ size = omega arith in
     let first : big_bytes 2 (place / 1024 * 1024 + place % 1024) ≡ a ∷ b ∷ [] = u16_bytes _ a b there p q in
-    let second : big_bytes 2 (32768 + size / 4096 % 8 * 4096 + size / 1024 % 4 * 1024 + size % 1024) ≡ c ∷ d ∷ [] = u16_bytes _ c d back r s in
+    let second : big_bytes 2 (32768 + size / 4096 % 8 * 4096 + size / 1024 % 4 * 1024 + size % 1024) ≡ c ∷ d ∷ [] =
+    u16_bytes _ c d back r s in
     (SubOf entry, e, within, ap₂ (λ xs ys. xs ++ ys) first second)
 
 short_sub : (head : Head) (a b c : ℕ) → head.ext ≡ 1 → a < 256 → b < 256 → c < 128 → IsSpelled head (a ∷ b ∷ c ∷ [])
 short_sub head a b c e p q r =
     let place = a * 256 + b in
-    let entry : ShortEntry = record { id = place / 1024; start = place % 1024; switch = eqb (c / 64) 1; table = c % 64 } in
+    let entry : ShortEntry = record {
+      id = place / 1024;
+      start = place % 1024;
+      switch = eqb (c / 64) 1;
+      table = c % 64;
+    } in
     let within : IsShortEntry entry = record { id = (place_of a b p q).0; start = omega arith; table = omega arith } in
     let there : place / 1024 * 1024 + place % 1024 ≡ place = (place_of a b p q).1 in
     let first : big_bytes 2 (place / 1024 * 1024 + place % 1024) ≡ a ∷ b ∷ [] = u16_bytes _ a b there p q in
@@ -165,7 +234,8 @@ not_long c p h = elim (one_of_four (c / 128) (omega arith)) [
   | inr (inr (inr three)) ↦ absurd (omega (arith, three))
 ]
 
-sub_spelled : (head : Head) (bytes : List ℕ) → head.ext ≡ 1 → AllByRecursion IsByte bytes → length bytes ≡ sub_len bytes → IsSpelled head bytes
+sub_spelled : (head : Head) (bytes : List ℕ) → head.ext ≡ 1 → AllByRecursion IsByte bytes → length bytes ≡ sub_len bytes
+    → IsSpelled head bytes
 sub_spelled head [] e all whole = absurd (omega arith)
 sub_spelled head (a ∷ []) e all whole = absurd (omega arith)
 sub_spelled head (a ∷ b ∷ []) e all whole = absurd (omega arith)
@@ -199,20 +269,23 @@ component_spelled high low p q =
     let flags = flags_of low q in
     let primary = eqb (low / 2 % 2) 1 in
     let ca = eqb (low % 2) 1 in
-    let whole : (top rest : ℕ) → top + rest ≡ high * 256 + low / 4 * 4 → top + rest + low / 2 % 2 * 2 + low % 2 ≡ high * 256 + low = λ top rest same. omega (arith, same) in
+    let whole : (top rest : ℕ) → top + rest ≡ high * 256 + low / 4 * 4
+    → top + rest + low / 2 % 2 * 2 + low % 2 ≡ high * 256 + low = λ top rest same. omega (arith, same) in
     elim (one_of_four (high / 64) (omega arith)) [
       | inl none ↦ (
         Sound (high % 64) (low / 4) primary ca,
         (
           (omega arith, omega arith),
-          ap₂ (λ x y. high % 64 * 256 + low / 4 * 4 + x * 2 + y) flags.0 flags.1 ∙ whole (high % 64 * 256) (low / 4 * 4) (omega (arith, none)),
+          ap₂ (λ x y. high % 64 * 256 + low / 4 * 4 + x * 2 + y) flags.0 flags.1
+              ∙ whole (high % 64 * 256) (low / 4 * 4) (omega (arith, none)),
         ),
       )
       | inr (inl one) ↦ (
         Stream (high % 64) (low / 4) primary ca,
         (
           (omega arith, omega arith),
-          ap₂ (λ x y. 16384 + high % 64 * 256 + low / 4 * 4 + x * 2 + y) flags.0 flags.1 ∙ whole (16384 + high % 64 * 256) (low / 4 * 4) (omega (arith, one)),
+          ap₂ (λ x y. 16384 + high % 64 * 256 + low / 4 * 4 + x * 2 + y) flags.0 flags.1
+              ∙ whole (16384 + high % 64 * 256) (low / 4 * 4) (omega (arith, one)),
         ),
       )
       | inr (inr (inl two)) ↦ (Other (high % 64 * 256 + low), (omega arith, omega (arith, two)))
@@ -230,7 +303,8 @@ component_spelled high low p q =
 abbrev AreComponentsOf : ℕ → List ℕ → List ComponentEntry → Type 0
 AreComponentsOf n bytes cs = (length cs ≡ n) × AllByRecursion IsComponentEntry cs × (components_bytes cs ≡ bytes)
 
-components_spelled : (n : ℕ) (bytes : List ℕ) → AllByRecursion IsByte bytes → length bytes ≡ 2 * n → (cs : List ComponentEntry) × AreComponentsOf n bytes cs
+components_spelled : (n : ℕ) (bytes : List ℕ) → AllByRecursion IsByte bytes → length bytes ≡ 2 * n
+    → (cs : List ComponentEntry) × AreComponentsOf n bytes cs
 components_spelled zero [] all whole = ([], (refl, tt, refl))
 components_spelled zero (b ∷ bytes) all whole = absurd (omega arith)
 components_spelled (suc n) [] all whole = absurd (omega arith)
@@ -238,7 +312,8 @@ components_spelled (suc n) (a ∷ []) all whole = absurd (omega arith)
 components_spelled (suc n) (a ∷ b ∷ bytes) all whole =
     let first = component_spelled a b all.0 all.1.0 in
     let rest = components_spelled n bytes all.1.1 (omega (arith, whole)) in
-    let word : big_bytes 2 (component_u16 first.0) ≡ a ∷ b ∷ [] = u16_bytes (component_u16 first.0) a b first.1.1 all.0 all.1.0 in
+    let word : big_bytes 2 (component_u16 first.0) ≡ a ∷ b ∷ [] =
+    u16_bytes (component_u16 first.0) a b first.1.1 all.0 all.1.0 in
     (first.0 ∷ rest.0, (ap suc rest.1.0, (first.1.0, rest.1.1), ap₂ (λ xs ys. xs ++ ys) word rest.1.2))
 
 -- the byte with the number of components
@@ -248,23 +323,28 @@ count_byte f h =
     let whole : f / 128 * 128 + f / 16 % 8 * 16 + f % 16 ≡ f = omega arith in
     ap (λ x. x * 128 + f / 16 % 8 * 16 + f % 16) rfa ∙ whole
 
-service_from : (head : Head) (sid : Sid) (front : List ℕ) (f : ℕ) (bytes : List ℕ) → head.ext ≡ 2 → head.long ≡ is_long_sid sid
-    → IsSid sid → sid_bytes sid ≡ front → f < 256 → AllByRecursion IsByte bytes → length bytes ≡ 2 * (f % 16) → IsSpelled head (front ++ f ∷ bytes)
+service_from : (head : Head) (sid : Sid) (front : List ℕ) (f : ℕ) (bytes : List ℕ) → head.ext ≡ 2
+    → head.long ≡ is_long_sid sid
+    → IsSid sid → sid_bytes sid ≡ front → f < 256 → AllByRecursion IsByte bytes → length bytes ≡ 2 * (f % 16)
+    → IsSpelled head (front ++ f ∷ bytes)
 service_from head sid front f bytes e long small same byte all whole =
     let parts = components_spelled (f % 16) bytes all whole in
     let entry : ServiceEntry = record { sid = sid; rfa = eqb (f / 128) 1; ca_id = f / 16 % 8; components = parts.0 } in
-    let within : IsServiceEntry entry = record { sid = small; ca_id = omega arith; few = omega (arith, parts.1.0); components = parts.1.1 } in
+    let within : IsServiceEntry entry =
+    record { sid = small; ca_id = omega arith; few = omega (arith, parts.1.0); components = parts.1.1 } in
     let flags : bit_of (eqb (f / 128) 1) * 128 + f / 16 % 8 * 16 + length parts.0 ≡ f =
     ap (λ n. bit_of (eqb (f / 128) 1) * 128 + f / 16 % 8 * 16 + n) parts.1.0 ∙ count_byte f byte in
     (ServiceOf entry, (e, long), within, ap₂ (λ xs ys. xs ++ ys) same (ap₂ (λ x ys. x ∷ ys) flags parts.1.2))
 
-service_spelled : (head : Head) (long : Bool) (bytes : List ℕ) → head.long ≡ long → head.ext ≡ 2 → AllByRecursion IsByte bytes
+service_spelled : (head : Head) (long : Bool) (bytes : List ℕ) → head.long ≡ long → head.ext ≡ 2
+    → AllByRecursion IsByte bytes
     → length bytes ≡ service_len long bytes → IsSpelled head bytes
 service_spelled head false [] l e all whole = absurd (omega arith)
 service_spelled head false (a ∷ []) l e all whole = absurd (omega arith)
 service_spelled head false (a ∷ b ∷ []) l e all whole = absurd (omega arith)
 service_spelled head false (a ∷ b ∷ f ∷ bytes) l e all whole =
-    service_from head (Short (a * 256 + b)) (a ∷ b ∷ []) f bytes e l (omega (arith, all.0, all.1.0)) (u16_bytes _ a b refl all.0 all.1.0)
+    service_from head (Short (a * 256 + b)) (a ∷ b ∷ []) f bytes e l (omega (arith, all.0, all.1.0))
+    (u16_bytes _ a b refl all.0 all.1.0)
     all.1.1.0 all.1.1.1 (omega (arith, whole))
 service_spelled head true [] l e all whole = absurd (omega arith)
 service_spelled head true (a ∷ []) l e all whole = absurd (omega arith)
@@ -288,21 +368,42 @@ packet_flags c h =
     let whole : c / 128 * 128 + c / 64 % 2 * 64 + c % 64 ≡ c = omega arith in
     ap₂ (λ x y. x * 128 + y * 64 + c % 64) dg rfu ∙ whole
 
-packet_from : (head : Head) (a b c f g : ℕ) (org : Option ℕ) → head.ext ≡ 3 → a < 256 → b < 256 → c < 256 → f < 256 → g < 256
+packet_from : (head : Head) (a b c f g : ℕ) (org : Option ℕ) → head.ext ≡ 3 → a < 256 → b < 256 → c < 256 → f < 256
+    → g < 256
     → IfSome org (λ n. n < 65536) → bit_of (is_some org) ≡ b % 2 → IsSpelled head (a ∷ b ∷ c ∷ f ∷ g ∷ ca_org_bytes org)
 packet_from head a b c f g org e p q r s t small has =
     let place = f * 256 + g in
     let front = packet_front a b p q in
-    let entry : PacketEntry = record { scid = (a * 256 + b) / 16; rfa = b / 2 % 8; ca_org = org; dg = eqb (c / 128) 1; rfu = eqb (c / 64 % 2) 1; ty = c % 64; sub = place / 1024; address = place % 1024 } in
-    let within : IsPacketEntry entry = record { scid = front.0; rfa = omega arith; ty = omega arith; sub = (place_of f g s t).0; address = omega arith; ca_org = small } in
+    let entry : PacketEntry = record {
+      scid = (a * 256 + b) / 16;
+      rfa = b / 2 % 8;
+      ca_org = org;
+      dg = eqb (c / 128) 1;
+      rfu = eqb (c / 64 % 2) 1;
+      ty = c % 64;
+      sub = place / 1024;
+      address = place % 1024;
+    } in
+    let within : IsPacketEntry entry =
+    record {
+      scid = front.0;
+      rfa = omega arith;
+      ty = omega arith;
+      sub = (place_of f g s t).0;
+      address = omega arith;
+      ca_org = small;
+    } in
     let word : (a * 256 + b) / 16 * 16 + b / 2 % 8 * 2 + bit_of (is_some org) ≡ a * 256 + b =
     ap (λ x. (a * 256 + b) / 16 * 16 + b / 2 % 8 * 2 + x) has ∙ front.1 in
-    let first : big_bytes 2 ((a * 256 + b) / 16 * 16 + b / 2 % 8 * 2 + bit_of (is_some org)) ≡ a ∷ b ∷ [] = u16_bytes _ a b word p q in
-    let second : big_bytes 2 (place / 1024 * 1024 + place % 1024) ≡ f ∷ g ∷ [] = u16_bytes _ f g ((place_of f g s t).1) s t in (
+    let first : big_bytes 2 ((a * 256 + b) / 16 * 16 + b / 2 % 8 * 2 + bit_of (is_some org)) ≡ a ∷ b ∷ [] =
+    u16_bytes _ a b word p q in
+    let second : big_bytes 2 (place / 1024 * 1024 + place % 1024) ≡ f ∷ g ∷ [] =
+    u16_bytes _ f g ((place_of f g s t).1) s t in (
       PacketOf entry,
       e,
       within,
-      ap₂ (λ xs x. xs ++ x ∷ (big_bytes 2 (place / 1024 * 1024 + place % 1024) ++ ca_org_bytes org)) first (packet_flags c r)
+      ap₂ (λ xs x. xs ++ x ∷ (big_bytes 2 (place / 1024 * 1024 + place % 1024) ++ ca_org_bytes org)) first
+          (packet_flags c r)
           ∙ ap (λ xs. a ∷ b ∷ c ∷ (xs ++ ca_org_bytes org)) second,
     )
 
@@ -312,22 +413,40 @@ even_byte b h = elim (two_ways (b % 2) (omega arith)) [
   | inr one ↦ (let yes : eqb (b % 2) 1 ≡ true = ap (λ n. eqb n 1) one in absurd cc)
 ]
 
-packet_spelled : (head : Head) (bytes : List ℕ) → head.ext ≡ 3 → AllByRecursion IsByte bytes → length bytes ≡ packet_len bytes → IsSpelled head bytes
+packet_spelled : (head : Head) (bytes : List ℕ) → head.ext ≡ 3 → AllByRecursion IsByte bytes
+    → length bytes ≡ packet_len bytes → IsSpelled head bytes
 packet_spelled head [] e all whole = absurd (omega arith)
 packet_spelled head (a ∷ []) e all whole = absurd (omega arith)
 packet_spelled head (a ∷ b ∷ []) e all whole =
-    elim (chosen (eqb (b % 2) 1) 2 7 5 whole) [ inl both ↦ absurd (omega (arith, both.1)) | inr both ↦ absurd (omega (arith, both.1)) ]
+    elim (chosen (eqb (b % 2) 1) 2 7 5 whole) [
+      | inl both ↦ absurd (omega (arith, both.1))
+      | inr both ↦
+          absurd (omega (arith, both.1))
+    ]
 packet_spelled head (a ∷ b ∷ c ∷ []) e all whole =
-    elim (chosen (eqb (b % 2) 1) 3 7 5 whole) [ inl both ↦ absurd (omega (arith, both.1)) | inr both ↦ absurd (omega (arith, both.1)) ]
+    elim (chosen (eqb (b % 2) 1) 3 7 5 whole) [
+      | inl both ↦ absurd (omega (arith, both.1))
+      | inr both ↦
+          absurd (omega (arith, both.1))
+    ]
 packet_spelled head (a ∷ b ∷ c ∷ d ∷ []) e all whole =
-    elim (chosen (eqb (b % 2) 1) 4 7 5 whole) [ inl both ↦ absurd (omega (arith, both.1)) | inr both ↦ absurd (omega (arith, both.1)) ]
+    elim (chosen (eqb (b % 2) 1) 4 7 5 whole) [
+      | inl both ↦ absurd (omega (arith, both.1))
+      | inr both ↦
+          absurd (omega (arith, both.1))
+    ]
 packet_spelled head (a ∷ b ∷ c ∷ f ∷ g ∷ []) e all whole =
     elim (chosen (eqb (b % 2) 1) 5 7 5 whole) [
       | inl both ↦ absurd (omega (arith, both.1))
-      | inr both ↦ packet_from head a b c f g None e all.0 all.1.0 all.1.1.0 all.1.1.1.0 all.1.1.1.1.0 tt (even_byte b both.0)
+      | inr both ↦ packet_from head a b c f g None e all.0 all.1.0 all.1.1.0 all.1.1.1.0 all.1.1.1.1.0 tt
+          (even_byte b both.0)
     ]
 packet_spelled head (a ∷ b ∷ c ∷ f ∷ g ∷ h ∷ []) e all whole =
-    elim (chosen (eqb (b % 2) 1) 6 7 5 whole) [ inl both ↦ absurd (omega (arith, both.1)) | inr both ↦ absurd (omega (arith, both.1)) ]
+    elim (chosen (eqb (b % 2) 1) 6 7 5 whole) [
+      | inl both ↦ absurd (omega (arith, both.1))
+      | inr both ↦
+          absurd (omega (arith, both.1))
+    ]
 packet_spelled head (a ∷ b ∷ c ∷ f ∷ g ∷ h ∷ i ∷ []) e all whole =
     elim (chosen (eqb (b % 2) 1) 7 7 5 whole) [
       | inl both ↦ (
@@ -345,7 +464,8 @@ packet_spelled head (a ∷ b ∷ c ∷ f ∷ g ∷ h ∷ i ∷ j ∷ more) e all
     ]
 
 -- ---- every entry
-pub entry_spelled : (head : Head) (bytes : List ℕ) → head.ext < 4 → AllByRecursion IsByte bytes → IsEntry head.ext head.long bytes
+pub entry_spelled : (head : Head) (bytes : List ℕ) → head.ext < 4 → AllByRecursion IsByte bytes
+    → IsEntry head.ext head.long bytes
     → (head.ext ≡ 0 → IsCounted bytes) → IsSpelled head bytes
 entry_spelled head bytes small all whole count =
     let length_at = λ (x : ℕ). entry_len x head.long bytes in

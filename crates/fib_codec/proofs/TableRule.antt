@@ -1,5 +1,6 @@
 -- The contents of the CRC's tables, and why they can process six bytes at once.
-use Rattle.std.proofs.Common.{◌≡◌, ℕ, zero, suc, ◌+◌, ◌/◌, ◌%◌, ◌<◌, true, List, [], ◌∷◌, length, get_or, refl, sym, ◌∙◌, ap, ap₂, arith}
+use Rattle.std.proofs.Common.{◌≡◌, ℕ, zero, suc, ◌+◌, ◌/◌, ◌%◌, ◌<◌, true, List, [], ◌∷◌, length, get_or, refl, sym}
+use Rattle.std.proofs.Common.{◌∙◌, ap, ap₂, arith}
 use Rattle.std.proofs.lemmas.Bool.{and_parts, eqb-true}
 use Rattle.std.specs.Prelude.{bit_xor}
 use Rattle.fib_codec.specs.Register.{after, later, is_table, is_next_table}
@@ -85,7 +86,8 @@ six_bytes r a b c d e f t0 t1 t2 t3 t4 t5 h0 h1 h2 h3 h4 h5 =
     apart c both ∙ ap (bit_xor x) (ap z (two_bytes r a b) ∙ zeros_apart p q) in
     let fourth : after 8 d (after 8 c both) ≡ bit_xor y (bit_xor (z x) (bit_xor (z (z p)) (z (z q)))) =
     apart d (after 8 c both)
-    ∙ ap (bit_xor y) (ap z third ∙ zeros_apart x (bit_xor (z p) (z q)) ∙ ap (bit_xor (z x)) (zeros_apart (z p) (z q))) in
+    ∙ ap (bit_xor y) (ap z third ∙ zeros_apart x (bit_xor (z p) (z q))
+    ∙ ap (bit_xor (z x)) (zeros_apart (z p) (z q))) in
     let fifth : after 8 e (after 8 d (after 8 c both))
     ≡ bit_xor w (bit_xor (z y) (bit_xor (z (z x)) (bit_xor (z (z (z p))) (z (z (z q)))))) =
     apart e (after 8 d (after 8 c both))

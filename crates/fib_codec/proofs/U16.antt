@@ -1,5 +1,8 @@
 -- Numbers of sixteen bits as two bytes, and as bits.
-use Rattle.std.proofs.Common.{◌≡◌, ℕ, zero, suc, ◌+◌, ◌-◌, ◌*◌, ◌/◌, ◌%◌, ◌^◌, ◌<◌, ◌≤◌, map, refl, replicate, List, [], ◌∷◌, ◌++◌, length, get_or, drop, take, sym, ◌∙◌, ap, ap₂, arith, subst, take_at, drop_at, length-append, pow-suc, length-take, length-take-le, append-nil, drop-cons, ◌↔◌, length-drop}
+use Rattle.std.proofs.Common.{◌≡◌, ℕ, zero, suc, ◌+◌, ◌-◌, ◌*◌, ◌/◌, ◌%◌, ◌^◌, ◌<◌, ◌≤◌, map, refl, replicate, List, []}
+use Rattle.std.proofs.Common.{◌∷◌, ◌++◌, length, get_or, drop, take, sym, ◌∙◌, ap, ap₂, arith, subst, take_at, drop_at}
+use Rattle.std.proofs.Common.{length-append, pow-suc, length-take, length-take-le, append-nil, drop-cons, ◌↔◌}
+use Rattle.std.proofs.Common.{length-drop}
 use Rattle.std.proofs.lemmas.List.{drop_all, drop-drop, length-map}
 use Rattle.std.proofs.lemmas.Nat.Bits.{bit_at_cat_high, bit_at_lowest}
 use Rattle.std.specs.Int.{bit_at}
@@ -7,8 +10,10 @@ use Rattle.std.proofs.lemmas.Nat.{mod-pow-add}
 use Rattle.byteorder.specs.Endian.{big_bytes}
 use Rattle.fib_codec.specs.Spelling.{checked}
 use borrow.Rule.Slice.PartMut.{put_mid}
-use Rattle.fib_codec.specs.Crc.{low_bits, bits_of_bytes, check_bits, number_of_bits, crc_value, IsChecked, AreBits, divided, dividend, without_leading}
-use Rattle.fib_codec.proofs.Division.{bits_of-suc, bits_of-zero, length-bits_of, bits_of-below, divided-zero, divided-suc}
+use Rattle.fib_codec.specs.Crc.{low_bits, bits_of_bytes, check_bits, number_of_bits, crc_value, IsChecked, AreBits}
+use Rattle.fib_codec.specs.Crc.{divided, dividend, without_leading}
+use Rattle.fib_codec.proofs.Division.{bits_of-suc, bits_of-zero, length-bits_of, bits_of-below, divided-zero}
+use Rattle.fib_codec.proofs.Division.{divided-suc}
 use Rattle.fib_codec.proofs.Linear.{one_word, split, length-plus, divided-nil, length-without}
 
 -- two bytes have the bits of the u16 that they encode
@@ -27,14 +32,16 @@ last_two bytes h =
     let end : drop 32 bytes ≡ [] = drop_all 32 bytes (omega arith) in
     more ∙ ap (λ t. get_or bytes 30 0 ∷ t) (last ∙ ap (λ t. get_or bytes 31 0 ∷ t) end)
 
-pub checked_by_word : (bytes : List ℕ) (word : ℕ) → length bytes ≡ 32 → get_or bytes 30 0 < 256 → get_or bytes 31 0 < 256
+pub checked_by_word : (bytes : List ℕ) (word : ℕ) → length bytes ≡ 32 → get_or bytes 30 0 < 256
+    → get_or bytes 31 0 < 256
     → word < 65536 → low_bits 16 word ≡ check_bits (take 30 bytes)
     → (word ≡ get_or bytes 30 0 * 256 + get_or bytes 31 0) ↔ IsChecked bytes
 checked_by_word bytes word long high low fits h =
     let sent : bits_of_bytes (drop 30 bytes) ≡ low_bits 16 (get_or bytes 30 0 * 256 + get_or bytes 31 0) =
     ap bits_of_bytes (last_two bytes long) ∙ sent_bits (get_or bytes 30 0) (get_or bytes 31 0) low in (
       λ same. sent ∙ ap (low_bits 16) (sym same) ∙ h,
-      λ checked. one_word word (get_or bytes 30 0 * 256 + get_or bytes 31 0) fits (omega arith) (h ∙ sym checked ∙ sent),
+      λ checked. one_word word (get_or bytes 30 0 * 256 + get_or bytes 31 0) fits (omega arith)
+          (h ∙ sym checked ∙ sent),
     )
 
 -- the lowest bits of a number form the number modulo a power of two
@@ -50,7 +57,8 @@ word_spelled (suc w) x =
     ∙ ap₂ (λ k n. bit_at x w * 2 ^ k + n) (length-bits_of w x) (word_spelled w x)
     ∙ sym (ap (λ n. x % 2 ^ n) (sym count) ∙ mod-pow-add x 1 w)
 
-pub word_checked : (bytes : List ℕ) (word : ℕ) → word < 65536 → low_bits 16 word ≡ check_bits bytes → word ≡ crc_value bytes
+pub word_checked : (bytes : List ℕ) (word : ℕ) → word < 65536 → low_bits 16 word ≡ check_bits bytes
+    → word ≡ crc_value bytes
 word_checked bytes word fits h =
     let small : word % 2 ^ 16 ≡ word = omega arith in
     sym small ∙ sym (word_spelled 16 word) ∙ ap number_of_bits h
@@ -65,7 +73,8 @@ length-divided (suc n) [] =
     ap length (divided-nil (suc n)) ∙ none
 length-divided (suc n) (b ∷ bits) =
     let less : length bits - n ≡ suc (length bits) - suc n = omega arith in
-    ap length (divided-suc n b bits) ∙ length-divided n (without_leading b bits) ∙ ap (λ k. k - n) (length-without b bits) ∙ less
+    ap length (divided-suc n b bits) ∙ length-divided n (without_leading b bits)
+    ∙ ap (λ k. k - n) (length-without b bits) ∙ less
 
 turned_bits : (xs : List ℕ) → AreBits (map (λ b. 1 - b) xs)
 turned_bits [] = tt
@@ -183,17 +192,21 @@ pub sealed_into : (offset word : ℕ) (bytes row copied buf : List ℕ) → leng
 sealed_into offset word bytes row copied buf whole same fits bits written =
     let long : length copied ≡ 32 = ap length same ∙ whole in
     let own : low_bits 16 word ≡ check_bits (take 30 copied) = bits ∙ ap (λ xs. check_bits (take 30 xs)) (sym same) in
-    piece_into offset bytes _ (checked (take 30 row)) (sealed_end copied buf word long fits own written ∙ ap (λ xs. checked (take 30 xs)) same)
+    piece_into offset bytes _ (checked (take 30 row)) (sealed_end copied buf word long fits own written
+    ∙ ap (λ xs. checked (take 30 xs)) same)
 
 -- a FIG and the front of other bytes, thirty in all
-pub joined_len : (fig plain : List ℕ) → length fig ≤ 30 → length plain ≡ 32 → length (fig ++ take (30 - length fig) plain) ≡ 30
+pub joined_len : (fig plain : List ℕ) → length fig ≤ 30 → length plain ≡ 32
+    → length (fig ++ take (30 - length fig) plain) ≡ 30
 joined_len fig plain few whole =
-    let cut : length (take (30 - length fig) plain) ≡ 30 - length fig = length-take-le (30 - length fig) plain (omega (arith, whole)) in
+    let cut : length (take (30 - length fig) plain) ≡ 30 - length fig =
+    length-take-le (30 - length fig) plain (omega (arith, whole)) in
     length-append fig (take (30 - length fig) plain) ∙ omega (arith, cut, few)
 
 pub joined_into : (offset : ℕ) (bytes fig plain joined rest sealed : List ℕ) → length fig ≤ 30 → length plain ≡ 32
     → joined ≡ (fig ++ take (30 - length fig) plain) ++ rest → sealed ≡ checked (take 30 joined)
-    → put_mid offset (offset + 32 - offset) bytes sealed ≡ take offset bytes ++ (checked (fig ++ take (30 - length fig) plain) ++ drop (offset + 32) bytes)
+    → put_mid offset (offset + 32 - offset) bytes sealed ≡ take offset bytes
+    ++ (checked (fig ++ take (30 - length fig) plain) ++ drop (offset + 32) bytes)
 joined_into offset bytes fig plain joined rest sealed few whole is seals =
     let thirty : List ℕ = fig ++ take (30 - length fig) plain in
     piece_into offset bytes sealed (checked thirty)

@@ -1,8 +1,11 @@
 -- Bytes are at most one list of entries, and at most one list of FIGs: the length of each is in its first bytes.
-use Rattle.std.proofs.Common.{◌≡◌, ◌≢◌, inl, inr, ℕ, ◌+◌, ◌*◌, ◌/◌, ◌%◌, ◌≤◌, Bool, true, false, cond, eqb, ltb, List, [], ◌∷◌, ◌++◌, length, get_or, take, refl, sym, ◌∙◌, ap, ap₂, subst, arith, length-append, lt-ltb, true≢false}
+use Rattle.std.proofs.Common.{◌≡◌, ◌≢◌, inl, inr, ℕ, ◌+◌, ◌*◌, ◌/◌, ◌%◌, ◌≤◌, Bool, true, false, cond, eqb, ltb, List}
+use Rattle.std.proofs.Common.{[], ◌∷◌, ◌++◌, length, get_or, take, refl, sym, ◌∙◌, ap, ap₂, subst, arith, length-append}
+use Rattle.std.proofs.Common.{lt-ltb, true≢false}
 use Rattle.std.proofs.lemmas.Bool.{cond_both, and_from}
 use Rattle.std.proofs.lemmas.List.{get_or_append_left}
-use Rattle.fib_codec.specs.Grammar.{ensemble_len, sub_len, service_len, packet_len, entry_len, IsEntry, AreEntries, Fig, Open, Other, is_long, IsOther, IsFig, AreFigs, OneList}
+use Rattle.fib_codec.specs.Grammar.{ensemble_len, sub_len, service_len, packet_len, entry_len, IsEntry, AreEntries, Fig}
+use Rattle.fib_codec.specs.Grammar.{Open, Other, is_long, IsOther, IsFig, AreFigs, OneList}
 
 -- ---- lists
 -- lists with equal beginnings, with fronts of one length
@@ -35,17 +38,20 @@ ensemble_front e rest h =
 sub_front : (e rest : List ℕ) → sub_len e ≤ length e → sub_len (e ++ rest) ≡ sub_len e
 sub_front e rest h = ap (λ x. cond (eqb (x / 128) 1) 4 3) (get_or_append_left e rest 0 2 (omega (arith, sub_least e)))
 
-service_front : (long : Bool) (e rest : List ℕ) → service_len long e ≤ length e → service_len long (e ++ rest) ≡ service_len long e
+service_front : (long : Bool) (e rest : List ℕ) → service_len long e ≤ length e
+    → service_len long (e ++ rest) ≡ service_len long e
 service_front true e rest h = ap (λ x. 5 + 2 * (x % 16)) (get_or_append_left e rest 0 4 (omega arith))
 service_front false e rest h = ap (λ x. 3 + 2 * (x % 16)) (get_or_append_left e rest 0 2 (omega arith))
 
 packet_front : (e rest : List ℕ) → packet_len e ≤ length e → packet_len (e ++ rest) ≡ packet_len e
-packet_front e rest h = ap (λ x. cond (eqb (x % 2) 1) 7 5) (get_or_append_left e rest 0 1 (omega (arith, packet_least e)))
+packet_front e rest h = ap (λ x. cond (eqb (x % 2) 1) 7 5)
+    (get_or_append_left e rest 0 1 (omega (arith, packet_least e)))
 
 -- the length of an entry by the three tests on its extension
 chosen_front : (first second third long : Bool) (e rest : List ℕ)
     → cond first (ensemble_len e) (cond second (sub_len e) (cond third (service_len long e) (packet_len e))) ≤ length e
-    → cond first (ensemble_len (e ++ rest)) (cond second (sub_len (e ++ rest)) (cond third (service_len long (e ++ rest)) (packet_len (e ++ rest))))
+    → cond first (ensemble_len (e ++ rest))
+    (cond second (sub_len (e ++ rest)) (cond third (service_len long (e ++ rest)) (packet_len (e ++ rest))))
     ≡ cond first (ensemble_len e) (cond second (sub_len e) (cond third (service_len long e) (packet_len e)))
 chosen_front true second third long e rest h = ensemble_front e rest h
 chosen_front false true third long e rest h = sub_front e rest h
@@ -148,8 +154,10 @@ marker_begins bytes front rest tail (h, after, d, marker, long) e ends =
     marker same
 
 no_more : (bytes : List ℕ) (f : Fig) (fs : List Fig) → AreFigs bytes [] → AreFigs bytes (f ∷ fs) → ⊥
-no_more bytes f fs (inl none) (front, rest, e, fig, more) = nothing_begins bytes front rest (fig_header front f fig) e none
-no_more bytes f fs (inr (tail, ends)) (front, rest, e, fig, more) = marker_begins bytes front rest tail (fig_header front f fig) e ends
+no_more bytes f fs (inl none) (front, rest, e, fig, more) =
+    nothing_begins bytes front rest (fig_header front f fig) e none
+no_more bytes f fs (inr (tail, ends)) (front, rest, e, fig, more) =
+    marker_begins bytes front rest tail (fig_header front f fig) e ends
 
 pub one_figs : (bytes : List ℕ) (fs gs : List Fig) → AreFigs bytes fs → AreFigs bytes gs → fs ≡ gs
 one_figs bytes [] [] h k = refl

@@ -1,6 +1,7 @@
 -- The CRC of a FIB as a long division over lists of bits (EN 300 401 clause 5.2.1 and annex E). A bit is 0 or 1, and
 -- the first bit of a list is the most significant one, which is sent first.
-use Rattle.std.specs.Prelude.{◌≡◌, ℕ, zero, suc, ◌+◌, ◌-◌, ◌*◌, ◌%◌, ◌^◌, ◌<◌, List, [], ◌∷◌, ◌++◌, length, map, flat_map, take, drop, replicate}
+use Rattle.std.specs.Prelude.{◌≡◌, ℕ, zero, suc, ◌+◌, ◌-◌, ◌*◌, ◌%◌, ◌^◌, ◌<◌, List, [], ◌∷◌, ◌++◌, length, map}
+use Rattle.std.specs.Prelude.{flat_map, take, drop, replicate}
 use Rattle.std.specs.Int.{bit_at}
 
 -- the lowest bits of a number, as many as the width

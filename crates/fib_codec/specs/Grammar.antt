@@ -1,9 +1,11 @@
 -- The FIGs that the 32 bytes of a FIB contain, for reader and writer alike (EN 300 401 clauses 5.2.1, 5.2.2, 6.2.1,
 -- 6.3.1, 6.3.2 and 6.4). FIGs of other types or extensions, and those of other ensembles, are not parsed.
-use Rattle.std.specs.Prelude.{◌≡◌, ◌≢◌, ℕ, ◌+◌, ◌*◌, ◌/◌, ◌%◌, ◌<◌, ◌≤◌, ◌==◌, ◌&&◌, nat_lt, Bool, true, false, if◌then◌else◌, ◌⊎◌, List, [], ◌∷◌, ◌++◌, length, map, flat_map, take, get_or}
+use Rattle.std.specs.Prelude.{◌≡◌, ◌≢◌, ℕ, ◌+◌, ◌*◌, ◌/◌, ◌%◌, ◌<◌, ◌≤◌, ◌==◌, ◌&&◌, nat_lt, Bool, true, false}
+use Rattle.std.specs.Prelude.{if◌then◌else◌, ◌⊎◌, List, [], ◌∷◌, ◌++◌, length, map, flat_map, take, get_or}
 use Rattle.std.specs.List.{AllByRecursion}
 use Rattle.fib_codec.specs.Crc.{IsChecked}
-use Rattle.fib_codec.specs.Spelling.{Written, IsWritten, IsUnder, entry_bytes, head_byte, fig_bytes, figs_bytes, fib_bytes, filled}
+use Rattle.fib_codec.specs.Spelling.{Written, IsWritten, IsUnder, entry_bytes, head_byte, fig_bytes, figs_bytes}
+use Rattle.fib_codec.specs.Spelling.{fib_bytes, filled}
 use Rattle.fib_codec.specs.declared.head.Head.{Head}
 use Rattle.fib_codec.specs.Ranges.{IsWithin}
 use Rattle.mux_types.specs.declared.entry.Entry.{Entry}

@@ -1,6 +1,7 @@
 -- The entries that a receiver decodes from FIBs, by the grammar alone (EN 300 401 clauses 5.2.2.1, 6.2.1, 6.3.1, 6.3.2
 -- and 6.4).
-use Rattle.std.specs.Prelude.{◌≡◌, ℕ, ◌*◌, ◌%◌, ◌≤◌, ◌↔◌, Bool, if◌then◌else◌, List, [], map, flat_map, take, drop, Contains}
+use Rattle.std.specs.Prelude.{◌≡◌, ℕ, ◌*◌, ◌%◌, ◌≤◌, ◌↔◌, Bool, if◌then◌else◌, List, [], map, flat_map, take, drop}
+use Rattle.std.specs.Prelude.{Contains}
 use Rattle.std.specs.List.{AllByRecursion}
 use Rattle.mux_types.specs.Entries.{EnsembleInformation}
 use Rattle.mux_types.specs.Facts.{Marked, marked}

@@ -5,7 +5,8 @@ use Rattle.mux_types.specs.Configuration.{IsSid}
 use Rattle.std.specs.List.{AllByRecursion}
 use Rattle.mux_types.specs.declared.limits.TheConstants.{COUNTS}
 use Rattle.mux_types.specs.declared.entry.Entry.{Entry}
-use Rattle.mux_types.specs.declared.entry.Entry.TheVariants.{Ensemble as EnsembleOf, Sub as SubOf, Short as ShortOf, Service as ServiceOf, Packet as PacketOf}
+use Rattle.mux_types.specs.declared.entry.Entry.TheVariants.{Ensemble as EnsembleOf, Sub as SubOf, Short as ShortOf}
+use Rattle.mux_types.specs.declared.entry.Entry.TheVariants.{Service as ServiceOf, Packet as PacketOf}
 use Rattle.mux_types.specs.declared.entry.SubEntry.{SubEntry}
 use Rattle.mux_types.specs.declared.entry.ShortEntry.{ShortEntry}
 use Rattle.mux_types.specs.declared.entry.ServiceEntry.{ServiceEntry}

@@ -1,6 +1,7 @@
 -- The encoding of entries of FIG 0/0 to 0/3 and of the FIGs of a FIB (EN 300 401 clauses 5.2.1, 5.2.2, 6.2.1, 6.3.1,
 -- 6.3.2 and 6.4). Numbers are big-endian: `big_bytes n x` is the lowest n bytes of x.
-use Rattle.std.specs.Prelude.{◌≡◌, ℕ, ◌+◌, ◌-◌, ◌*◌, ◌/◌, ◌%◌, ◌<◌, ◌≤◌, Bool, true, false, if◌then◌else◌, nat_lt, is_some, Option, Some, None, List, [], ◌∷◌, ◌++◌, length, flat_map, replicate}
+use Rattle.std.specs.Prelude.{◌≡◌, ℕ, ◌+◌, ◌-◌, ◌*◌, ◌/◌, ◌%◌, ◌<◌, ◌≤◌, Bool, true, false, if◌then◌else◌, nat_lt}
+use Rattle.std.specs.Prelude.{is_some, Option, Some, None, List, [], ◌∷◌, ◌++◌, length, flat_map, replicate}
 use Rattle.byteorder.specs.Endian.{big_bytes}
 use Rattle.mux_types.specs.Entries.{EnsembleInformation}
 use Rattle.std.specs.List.{AllByRecursion}
@@ -8,7 +9,8 @@ use Rattle.mux_types.specs.Facts.{Marked}
 use Rattle.mux_types.specs.declared.numbers.Sid.{Sid}
 use Rattle.mux_types.specs.declared.numbers.Sid.TheVariants.{Short, Long}
 use Rattle.mux_types.specs.declared.entry.Entry.{Entry}
-use Rattle.mux_types.specs.declared.entry.Entry.TheVariants.{Ensemble as EnsembleOf, Sub as SubOf, Short as ShortOf, Service as ServiceOf, Packet as PacketOf}
+use Rattle.mux_types.specs.declared.entry.Entry.TheVariants.{Ensemble as EnsembleOf, Sub as SubOf, Short as ShortOf}
+use Rattle.mux_types.specs.declared.entry.Entry.TheVariants.{Service as ServiceOf, Packet as PacketOf}
 use Rattle.mux_types.specs.declared.entry.SubEntry.{SubEntry}
 use Rattle.mux_types.specs.declared.entry.ShortEntry.{ShortEntry}
 use Rattle.mux_types.specs.declared.entry.ServiceEntry.{ServiceEntry}
@@ -29,7 +31,8 @@ occurrence_bytes (Some low) = low ∷ []
 
 abbrev pub ensemble_bytes : EnsembleInformation → List ℕ
 ensemble_bytes e =
-    big_bytes 2 e.eid ++ (e.change * 64 + bit_of e.al * 32 + e.count / 250) ∷ e.count % 250 ∷ occurrence_bytes e.occurrence
+    big_bytes 2 e.eid ++ (e.change * 64 + bit_of e.al * 32 + e.count / 250) ∷ e.count % 250
+    ∷ occurrence_bytes e.occurrence
 
 -- FIG 0/1, long form: SubChId 6, start address 10, 1, option 3, protection level 2, size 10
 abbrev pub sub_bytes : SubEntry → List ℕ

@@ -25,7 +25,8 @@ fn byte_step_by_bits(mut register: u16, byte: u8) -> u16
     register
 }
 
-/// The CRC of these bytes as it is sent, complemented: the same number as `crc16`, computed bit by bit.
+/// The CRC of these bytes as it is sent, complemented: the same number as `crc16`, computed bit by
+/// bit.
 pub fn crc16_by_bits(bytes: &[u8]) -> u16
     ensures { low_bits 16 result ≡ check_bits bytes.now }
 {
@@ -54,7 +55,8 @@ fn bytes_step(mut register: u16, bytes: &[u8]) -> u16
     register
 }
 
-/// The register after six bytes of the message. A FIB has thirty data bytes: five such steps, and nothing left over.
+/// The register after six bytes of the message. A FIB has thirty data bytes: five such steps, and
+/// nothing left over.
 fn six_step(register: u16, a: u8, b: u8, c: u8, d: u8, e: u8, f: u8) -> u16
     ensures { result ≡ after_all (a ∷ b ∷ c ∷ d ∷ e ∷ f ∷ []) register }
 {

@@ -1,6 +1,7 @@
 //! The data bytes of a FIB that is being written.
 
-ghost use Rattle.std.specs.Prelude.{◌≡◌, ◌+◌, ◌<◌, ◌≤◌, ◌++◌, ◌∷◌, [], length, take, slice_index_or, slice_set};
+ghost use Rattle.std.specs.Prelude.{◌≡◌, ◌+◌, ◌<◌, ◌≤◌, ◌++◌, ◌∷◌, [], length, take};
+ghost use Rattle.std.specs.Prelude.{slice_index_or, slice_set};
 ghost use Rattle.byteorder.specs.Endian.{big_bytes};
 ghost use Rattle.fib_codec.specs.Spelling.{filled, checked};
 
@@ -8,8 +9,8 @@ use crate::crc::crc16;
 use byteorder::{BigEndian, ByteOrder};
 use std::marker::Model;
 
-/// The data bytes of a FIB written so far, at most 30. Contracts see them as a list. They are kept in the 32 bytes of
-/// the FIB, followed by the end marker and zeros.
+/// The data bytes of a FIB written so far, at most 30. Contracts see them as a list. They are kept
+/// in the 32 bytes of the FIB, followed by the end marker and zeros.
 #[derive(Drop)]
 pub(crate) struct Data {
     bytes: [u8; 32],

@@ -1,6 +1,7 @@
 //! The FIBs of one frame.
 
-ghost use Rattle.std.specs.Prelude.{◌≡◌, ◌+◌, ◌-◌, ◌*◌, ◌≤◌, ◌<◌, ◌++◌, ◌↔◌, length, take, drop, replicate, IsSome, IfSome};
+ghost use Rattle.std.specs.Prelude.{◌≡◌, ◌+◌, ◌-◌, ◌*◌, ◌≤◌, ◌<◌, ◌++◌, ◌↔◌, length, take, drop};
+ghost use Rattle.std.specs.Prelude.{replicate, IsSome, IfSome};
 ghost use Rattle.fib_codec.specs.Modes.{fib_count, with_fib};
 ghost use Rattle.fib_codec.specs.Heard.{fib_at};
 ghost use Rattle.fib_codec.specs.Spelling.{checked, filled};
@@ -14,8 +15,8 @@ use std::marker::Model;
 /// The most FIBs that a frame has, in mode III.
 const MOST_FIBS: usize = 4;
 
-/// The FIBs of one CIF one after another: 96 bytes, or 128 in mode III (EN 300 401 clause 5.1). Contracts see the list
-/// of these bytes.
+/// The FIBs of one CIF one after another: 96 bytes, or 128 in mode III (EN 300 401 clause 5.1).
+/// Contracts see the list of these bytes.
 #[derive(Clone, Copy, Debug, PartialEq, Eq)]
 pub struct FibFrame {
     bytes: [u8; 32 * MOST_FIBS],
@@ -52,7 +53,8 @@ fn write_at(bytes: &mut [u8], offset: usize, fib: &[u8; 32])
     bytes[offset..offset + 32].copy_from_slice(fib);
 }
 
-/// Overwrites the 32 bytes at an offset with the FIB of these bytes, the last two replaced by the CRC of the others.
+/// Overwrites the 32 bytes at an offset with the FIB of these bytes, the last two replaced by the
+/// CRC of the others.
 fn write_sealed(bytes: &mut [u8], offset: usize, row: &[u8; 32])
     requires within { offset + 32 ≤ length bytes.old }
     requires whole { length row.now ≡ 32 }
@@ -65,7 +67,8 @@ fn write_sealed(bytes: &mut [u8], offset: usize, row: &[u8; 32])
     BigEndian::write_u16(&mut fib[30..], crc);
 }
 
-/// Overwrites the front of a FIB byte by byte: a wide copy would have to wait until each byte of `fig` is stored.
+/// Overwrites the front of a FIB byte by byte: a wide copy would have to wait until each byte of
+/// `fig` is stored.
 fn write_front<const LEN: usize>(fib: &mut [u8], fig: &[u8; LEN])
     requires { LEN ≤ length fib.old }
     ensures { fib.new ≡ fig.now ++ drop (length fig.now) fib.old }
@@ -94,7 +97,8 @@ fn seal(fib: &mut [u8])
     BigEndian::write_u16(&mut fib[30..], crc);
 }
 
-/// Overwrites the 32 bytes at an offset with a FIB of a FIG followed by as many bytes of another FIB as fit.
+/// Overwrites the 32 bytes at an offset with a FIB of a FIG followed by as many bytes of another
+/// FIB as fit.
 fn write_joined<const LEN: usize>(
     bytes: &mut [u8],
     offset: usize,
@@ -133,7 +137,8 @@ impl FibFrame {
         write_at(&mut self.bytes, 32 * index, fib);
     }
 
-    /// Finishes a FIB and writes it over the one at this index, from 0: the bytes that [`Fib::finish`] gives.
+    /// Finishes a FIB and writes it over the one at this index, from 0: the bytes that
+    /// [`Fib::finish`] gives.
     pub fn finish_fib(&mut self, index: usize, fib: &Fib)
         requires { 32 * index + 32 ≤ length self.old }
         ensures written { self.new ≡ with_fib index (checked (filled fib.now)) self.old }
@@ -144,8 +149,8 @@ impl FibFrame {
         write_sealed(&mut self.bytes, 32 * index, fib.row());
     }
 
-    /// Overwrites the FIB at this index, from 0, with a FIG followed by as many bytes of another FIB as fit in thirty
-    /// data bytes, and their CRC.
+    /// Overwrites the FIB at this index, from 0, with a FIG followed by as many bytes of another
+    /// FIB as fit in thirty data bytes, and their CRC.
     pub fn join_fib<const LEN: usize>(&mut self, index: usize, fig: &[u8; LEN], plain: &[u8; 32])
         requires there { 32 * index + 32 ≤ length self.old }
         requires few { LEN ≤ 30 }

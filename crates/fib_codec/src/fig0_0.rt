@@ -1,10 +1,11 @@
 //! FIG 0/0, ensemble information (EN 300 401 clause 6.4): the layout of its entry.
 //!
-//! EId 16, change flags 2, Al 1, CIF count high part 5 and low part 8, and if a change flag is set the occurrence
-//! change 8. The contract of `decode` says that `encode` and `decode` agree: its result is encoded as these bytes, and
-//! nothing else is.
+//! EId 16, change flags 2, Al 1, CIF count high part 5 and low part 8, and if a change flag is set
+//! the occurrence change 8. The contract of `decode` says that `encode` and `decode` agree: its
+//! result is encoded as these bytes, and nothing else is.
 
-ghost use Rattle.std.specs.Prelude.{◌≡◌, ◌+◌, ◌*◌, ◌/◌, ◌%◌, ◌≤◌, ◌++◌, if◌then◌else◌, length, get_or};
+ghost use Rattle.std.specs.Prelude.{◌≡◌, ◌+◌, ◌*◌, ◌/◌, ◌%◌, ◌≤◌, ◌++◌, if◌then◌else◌, length};
+ghost use Rattle.std.specs.Prelude.{get_or};
 ghost use Rattle.fib_codec.specs.Grammar.{ensemble_len, IsCounted};
 ghost use Rattle.fib_codec.specs.Ranges.{IsEnsembleInformation};
 ghost use Rattle.fib_codec.specs.Spelling.{bit_of, ensemble_bytes};

@@ -1,10 +1,12 @@
 //! FIG 0/1, sub-channels (EN 300 401 clause 6.2.1): the layout of its entries in both forms.
 //!
-//! An entry begins with 16 bits: SubChId 6, start address 10. Long form: 1, option 3, protection level 2, size 10.
-//! Short form: 0, table switch 1, table index 6. The contracts of `decode_long` and `decode_short` say that encoding
-//! and decoding agree: their result is encoded as these bytes, and nothing else is.
+//! An entry begins with 16 bits: SubChId 6, start address 10. Long form: 1, option 3, protection
+//! level 2, size 10. Short form: 0, table switch 1, table index 6. The contracts of `decode_long`
+//! and `decode_short` say that encoding and decoding agree: their result is encoded as these bytes,
+//! and nothing else is.
 
-ghost use Rattle.std.specs.Prelude.{◌≡◌, ◌+◌, ◌<◌, ◌≤◌, ◌↔◌, ◌/◌, ◌==◌, ◌++◌, IsTrue, if◌then◌else◌, length, get_or};
+ghost use Rattle.std.specs.Prelude.{◌≡◌, ◌+◌, ◌<◌, ◌≤◌, ◌↔◌, ◌/◌, ◌==◌, ◌++◌, IsTrue};
+ghost use Rattle.std.specs.Prelude.{if◌then◌else◌, length, get_or};
 ghost use Rattle.fib_codec.specs.Grammar.{sub_len};
 ghost use Rattle.fib_codec.specs.Ranges.{IsSubEntry, IsShortEntry};
 ghost use Rattle.fib_codec.specs.Spelling.{sub_bytes, short_bytes};

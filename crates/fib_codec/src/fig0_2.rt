@@ -1,14 +1,17 @@
 //! FIG 0/2, services and their components (EN 300 401 clause 6.3.1): the layout of its entries.
 //!
-//! SId 16 or 32 by the P/D flag, Rfa 1, CAId 3, number of components 4, then 16 bits for each component: TMId 2, ASCTy
-//! or DSCTy 6 and SubChId 6, or SCId 12, then P/S 1 and CA 1. The contract of `decode` says that `encode` and `decode`
-//! agree: its result is encoded as these bytes, and nothing else is.
+//! SId 16 or 32 by the P/D flag, Rfa 1, CAId 3, number of components 4, then 16 bits for each
+//! component: TMId 2, ASCTy or DSCTy 6 and SubChId 6, or SCId 12, then P/S 1 and CA 1. The contract
+//! of `decode` says that `encode` and `decode` agree: its result is encoded as these bytes, and
+//! nothing else is.
 
-ghost use Rattle.std.specs.Prelude.{◌≡◌, ◌+◌, ◌*◌, ◌%◌, ◌≤◌, ◌<◌, ◌++◌, ◌∷◌, [], if◌then◌else◌, length, get_or};
+ghost use Rattle.std.specs.Prelude.{◌≡◌, ◌+◌, ◌*◌, ◌%◌, ◌≤◌, ◌<◌, ◌++◌, ◌∷◌, [], if◌then◌else◌};
+ghost use Rattle.std.specs.Prelude.{length, get_or};
 ghost use Rattle.byteorder.specs.Endian.{big_bytes};
 ghost use Rattle.fib_codec.specs.Grammar.{service_len};
 ghost use Rattle.fib_codec.specs.Ranges.{IsComponentEntry, IsServiceEntry};
-ghost use Rattle.fib_codec.specs.Spelling.{bit_of, sid_size, sid_bytes, is_long_sid, component_u16, components_bytes, service_bytes};
+ghost use Rattle.fib_codec.specs.Spelling.{bit_of, sid_size, sid_bytes, is_long_sid, component_u16};
+ghost use Rattle.fib_codec.specs.Spelling.{components_bytes, service_bytes};
 ghost use Rattle.mux_types.specs.Configuration.{IsSid};
 ghost use Rattle.std.specs.List.{AllByRecursion};
 ghost use Rattle.mux_types.specs.declared.entry.ServiceEntry.{ServiceEntry as Entry};
@@ -75,7 +78,8 @@ pub fn len(long: bool, count: usize) -> usize
     head_len(long) + COMPONENT_LEN * count
 }
 
-/// The length of the entry at the front of these bytes under this P/D flag, by its number of components.
+/// The length of the entry at the front of these bytes under this P/D flag, by its number of
+/// components.
 pub fn len_at(long: bool, bytes: &[u8]) -> usize
     ensures { result ≡ service_len long bytes.now }
 {

@@ -1,8 +1,8 @@
 //! FIG 0/3, packet components (EN 300 401 clause 6.3.2): the layout of its entries.
 //!
-//! SCId 12, Rfa 3, CAOrg flag 1, DG flag 1, Rfu 1, DSCTy 6, SubChId 6, packet address 10, and if the CAOrg flag is set
-//! the CAOrg 16. The contract of `decode` says that `encode` and `decode` agree: its result is encoded as these bytes,
-//! and nothing else is.
+//! SCId 12, Rfa 3, CAOrg flag 1, DG flag 1, Rfu 1, DSCTy 6, SubChId 6, packet address 10, and if
+//! the CAOrg flag is set the CAOrg 16. The contract of `decode` says that `encode` and `decode`
+//! agree: its result is encoded as these bytes, and nothing else is.
 
 ghost use Rattle.std.specs.Prelude.{◌≡◌, ◌+◌, ◌*◌, ◌/◌, ◌≤◌, ◌++◌, if◌then◌else◌, length, get_or};
 ghost use Rattle.fib_codec.specs.Grammar.{packet_len};

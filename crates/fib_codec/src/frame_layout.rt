@@ -6,8 +6,8 @@ ghost use Rattle.fib_codec.specs.Layouts.{layout_mode, reserved_fibs, used_fibs,
 
 use crate::modes::Mode;
 
-/// The division of the FIBs of each frame: those that carry FIGs come first, then the reserved ones, which are empty.
-/// At least two FIBs carry FIGs, so one may be reserved, or two in mode III.
+/// The division of the FIBs of each frame: those that carry FIGs come first, then the reserved
+/// ones, which are empty. At least two FIBs carry FIGs, so one may be reserved, or two in mode III.
 #[derive(Clone, Copy, Debug, PartialEq, Eq)]
 pub enum FrameLayout {
     /// No FIB is reserved.
@@ -19,7 +19,8 @@ pub enum FrameLayout {
 }
 
 impl FrameLayout {
-    /// The layout with this number of reserved FIBs: 0, 1, or 2 in mode III. None for another number.
+    /// The layout with this number of reserved FIBs: 0, 1, or 2 in mode III. None for another
+    /// number.
     pub fn new(mode: Mode, reserve: u8) -> Option<FrameLayout>
         ensures in_range { IsSome result ↔ (reserve + 2 ≤ fib_count mode) }
         ensures mode { IfSome result (λ l. layout_mode l ≡ mode) }

@@ -1,4 +1,5 @@
-//! The head that the entries of one FIG share, the second byte of a FIG of type 0 (EN 300 401 clause 5.2.2.1).
+//! The head that the entries of one FIG share, the second byte of a FIG of type 0 (EN 300 401
+//! clause 5.2.2.1).
 //!
 //! Its layout: C/N 1, OE 1, P/D 1, extension 5.
 
@@ -17,7 +18,8 @@ const LONG_SHIFT: u32 = 5;
 
 const EXT_MASK: u8 = 0x1f;
 
-/// The second byte of a FIG of type 0 (EN 300 401 clause 5.2.2.1), which applies to all entries in it.
+/// The second byte of a FIG of type 0 (EN 300 401 clause 5.2.2.1), which applies to all entries in
+/// it.
 #[derive(Clone, Copy, Debug, PartialEq, Eq)]
 pub struct Head {
     /// The C/N flag: true if the entries are of the next configuration.

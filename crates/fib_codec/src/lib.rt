@@ -1,12 +1,14 @@
-//! Fast Information Blocks as they are sent (EN 300 401 clauses 5.2.1 and 5.2.2): entries of FIG 0/0 to 0/3 go into
-//! FIGs, and FIGs into a FIB of 32 bytes, which ends with its CRC.
+//! Fast Information Blocks as they are sent (EN 300 401 clauses 5.2.1 and 5.2.2): entries of FIG
+//! 0/0 to 0/3 go into FIGs, and FIGs into a FIB of 32 bytes, which ends with its CRC.
 //!
-//! The files `fig0_0` to `fig0_3` have the layout of each FIG's entries: their length, how they are encoded and
-//! decoded, and as the contract of `decode` the law that these agree. Readers call the same functions.
+//! The files `fig0_0` to `fig0_3` have the layout of each FIG's entries: their length, how they are
+//! encoded and decoded, and as the contract of `decode` the law that these agree. Readers call the
+//! same functions.
 //!
-//! The definitions that contracts cite are in `specs/`: `Spelling` says how entries and FIGs are encoded, `Grammar`
-//! which FIGs 32 bytes contain, `Crc` what the CRC is, without any table, `Heard` which entries a receiver decodes
-//! from a FIB, and `Layouts` which FIBs of a frame are reserved.
+//! The definitions that contracts cite are in `specs/`: `Spelling` says how entries and FIGs are
+//! encoded, `Grammar` which FIGs 32 bytes contain, `Crc` what the CRC is, without any table,
+//! `Heard` which entries a receiver decodes from a FIB, and `Layouts` which FIBs of a frame are
+//! reserved.
 #![tactic(auto)]
 
 pub mod bytes;

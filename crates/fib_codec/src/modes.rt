@@ -1,4 +1,5 @@
-//! Transmission modes: how many FIBs a frame has, and at which CIF counts FIG 0/0 is sent and swaps are made.
+//! Transmission modes: how many FIBs a frame has, and at which CIF counts FIG 0/0 is sent and swaps
+//! are made.
 
 ghost use Rattle.std.specs.Prelude.{◌≡◌, ◌≤◌};
 ghost use Rattle.fib_codec.specs.Modes.{fib_count, count_step};
@@ -40,8 +41,9 @@ impl Mode {
         }
     }
 
-    /// The step of the CIF counts at which FIG 0/0 is sent and a reconfiguration is made: the multiples of the step,
-    /// which are the counts of the first CIFs of the mode's own frames. 4, 1, 1 and 2.
+    /// The step of the CIF counts at which FIG 0/0 is sent and a reconfiguration is made: the
+    /// multiples of the step, which are the counts of the first CIFs of the mode's own frames. 4,
+    /// 1, 1 and 2.
     pub fn step(self) -> u16
         ensures value { result ≡ count_step self }
         ensures in_range { (1 ≤ result) × (result ≤ 4) }

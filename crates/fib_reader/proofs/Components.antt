@@ -1,5 +1,6 @@
 -- The components of a service, decoded from their entries.
-use Rattle.std.proofs.Common.{◌≡◌, ◌≢◌, ℕ, zero, suc, ◌<◌, ◌==◌, ◌++◌, Bool, true, false, List, [], ◌∷◌, length, map, take, get_or, refl, ap, sym, ◌∙◌, arith}
+use Rattle.std.proofs.Common.{◌≡◌, ◌≢◌, ℕ, zero, suc, ◌<◌, ◌==◌, ◌++◌, Bool, true, false, List, [], ◌∷◌, length, map}
+use Rattle.std.proofs.Common.{take, get_or, refl, ap, sym, ◌∙◌, arith}
 use Rattle.std.specs.Prelude.{◌||◌}
 use Rattle.std.specs.List.{list_any, AllByRecursion}
 use Rattle.std.proofs.lemmas.List.{take-map, length-map, get_or-map}
@@ -9,13 +10,15 @@ use Rattle.mux_types.specs.declared.parts.Component.TheVariants.{Sound, Stream, 
 use Rattle.mux_types.specs.declared.parts.Carrier.{Carrier}
 use Rattle.mux_types.specs.declared.parts.Carrier.TheVariants.{Sub as BySub, Packet as ByPacket}
 use Rattle.mux_types.specs.declared.entry.ComponentEntry.{ComponentEntry}
-use Rattle.mux_types.specs.declared.entry.ComponentEntry.TheVariants.{Sound as SoundOf, Stream as StreamOf, Other, Packet as PacketsOf}
+use Rattle.mux_types.specs.declared.entry.ComponentEntry.TheVariants.{Sound as SoundOf, Stream as StreamOf, Other}
+use Rattle.mux_types.specs.declared.entry.ComponentEntry.TheVariants.{Packet as PacketsOf}
 use Rattle.mux_config.specs.Configuration.{AreDifferent, carrier_of, IsComponent}
 use Rattle.mux_config.specs.Sameness.{names, is_same_carrier}
 use Rattle.mux_types.specs.Facts.{component_entry, component_entries}
 
 -- one more component
-entries_more : (xs : List Component) (c : Component) → map (component_entry false) (xs ++ c ∷ []) ≡ map (component_entry false) xs ++ component_entry false c ∷ []
+entries_more : (xs : List Component) (c : Component) → map (component_entry false) (xs ++ c ∷ [])
+    ≡ map (component_entry false) xs ++ component_entry false c ∷ []
 entries_more [] c = refl
 entries_more (x ∷ xs) c = ap (λ t. component_entry false x ∷ t) (entries_more xs c)
 
@@ -28,11 +31,13 @@ component_entries-more (x ∷ xs) c =
     ap (λ t. component_entry true x ∷ t) (entries_more xs c)
     ∙ ap (λ b. component_entry true x ∷ (map (component_entry false) xs ++ component_entry b c ∷ [])) (sym other)
 
-each_more : (P : Component → Type 0) (cs : List Component) (c : Component) → AllByRecursion P cs → P c → AllByRecursion P (cs ++ c ∷ [])
+each_more : (P : Component → Type 0) (cs : List Component) (c : Component) → AllByRecursion P cs → P c
+    → AllByRecursion P (cs ++ c ∷ [])
 each_more P [] c all one = (one, tt)
 each_more P (x ∷ xs) c all one = (all.0, each_more P xs c all.1 one)
 
-pub members_more : (cs : List Component) (c : Component) → AllByRecursion IsComponent cs → IsComponent c → AllByRecursion IsComponent (cs ++ c ∷ [])
+pub members_more : (cs : List Component) (c : Component) → AllByRecursion IsComponent cs → IsComponent c
+    → AllByRecursion IsComponent (cs ++ c ∷ [])
 members_more cs c all one = each_more IsComponent cs c all one
 
 same_carrier : (a b : Carrier) → a ≡ b → is_same_carrier a b ≡ true
@@ -52,18 +57,21 @@ or_false true b h = absurd (cc)
 or_false false b h = (refl, h)
 
 pub different_more :
-    (cs : List Component) (c : Component) → AreDifferent cs → list_any (names (carrier_of c)) cs ≡ false → AreDifferent (cs ++ c ∷ [])
+    (cs : List Component) (c : Component) → AreDifferent cs → list_any (names (carrier_of c)) cs ≡ false
+    → AreDifferent (cs ++ c ∷ [])
 different_more [] c all unnamed = (tt, tt)
 different_more (x ∷ xs) c all unnamed =
     let both = or_false (names (carrier_of c) x) _ unnamed in (
       each_more (λ d. carrier_of x ≢ carrier_of d) xs c all.0
-          (λ same. let yes : is_same_carrier (carrier_of x) (carrier_of c) ≡ true = same_carrier (carrier_of x) (carrier_of c) same in
+          (λ same. let yes : is_same_carrier (carrier_of x) (carrier_of c) ≡ true =
+          same_carrier (carrier_of x) (carrier_of c) same in
           let not : is_same_carrier (carrier_of x) (carrier_of c) ≡ false = both.0 in absurd (cc)),
       different_more xs c all.1 both.1,
     )
 
 -- a carrier that differs from those of all components differs from that of each
-named_at : (a : Component) (xs : List Component) (j : ℕ) (d : Component) → AllByRecursion (λ y. carrier_of a ≢ carrier_of y) xs → j < length xs
+named_at : (a : Component) (xs : List Component) (j : ℕ) (d : Component)
+    → AllByRecursion (λ y. carrier_of a ≢ carrier_of y) xs → j < length xs
     → carrier_of a ≢ carrier_of (get_or xs j d)
 named_at a [] j d all inside = absurd (omega arith)
 named_at a (x ∷ xs) zero d all inside = all.0
@@ -81,11 +89,13 @@ not_named_before (x ∷ xs) zero d all inside named = absurd (cc)
 not_named_before (x ∷ xs) (suc j) d all inside named =
     let apart : carrier_of x ≢ carrier_of (get_or xs j d) = named_at x xs j d all.0 (omega arith) in
     let other : is_same_carrier (carrier_of x) (carrier_of (get_or xs j d)) ≡ false =
-    (elim (is_same_carrier (carrier_of x) (carrier_of (get_or xs j d))) as (λ b. is_same_carrier (carrier_of x) (carrier_of (get_or xs j d)) ≡ b → b ≡ false) [
+    (elim (is_same_carrier (carrier_of x) (carrier_of (get_or xs j d)))
+    as (λ b. is_same_carrier (carrier_of x) (carrier_of (get_or xs j d)) ≡ b → b ≡ false) [
       | true ↦ λ e. absurd (apart (carrier_same (carrier_of x) (carrier_of (get_or xs j d)) e))
       | false ↦ λ e. refl
     ]) refl in
-    not_named_before xs j d all.1 (omega arith) (or_true (is_same_carrier (carrier_of x) (carrier_of (get_or xs j d))) _ named other)
+    not_named_before xs j d all.1 (omega arith)
+    (or_true (is_same_carrier (carrier_of x) (carrier_of (get_or xs j d))) _ named other)
 
 -- the component that an entry describes, if any
 component_from : ComponentEntry → Component
@@ -102,11 +112,13 @@ from_entry primary (Packet scid) = refl
 
 from_others : (cs : List Component) → map component_from (map (component_entry false) cs) ≡ cs
 from_others [] = refl
-from_others (c ∷ cs) = ap (λ x. x ∷ map component_from (map (component_entry false) cs)) (from_entry false c) ∙ ap (λ t. c ∷ t) (from_others cs)
+from_others (c ∷ cs) = ap (λ x. x ∷ map component_from (map (component_entry false) cs)) (from_entry false c)
+    ∙ ap (λ t. c ∷ t) (from_others cs)
 
 from_entries : (cs : List Component) → map component_from (component_entries cs) ≡ cs
 from_entries [] = refl
-from_entries (c ∷ cs) = ap (λ x. x ∷ map component_from (map (component_entry false) cs)) (from_entry true c) ∙ ap (λ t. c ∷ t) (from_others cs)
+from_entries (c ∷ cs) = ap (λ x. x ∷ map component_from (map (component_entry false) cs)) (from_entry true c)
+    ∙ ap (λ t. c ∷ t) (from_others cs)
 
 take_from : (i : ℕ) (es : List ComponentEntry) → map component_from (take i es) ≡ take i (map component_from es)
 take_from i es = sym (take-map component_from i es)
@@ -136,7 +148,8 @@ at_place (c ∷ cs) (suc j) e d inside =
 
 pub entry_at_place :
     (all : List Component) (entries : List ComponentEntry) (i : ℕ) (e : ComponentEntry) (d : Component)
-    → component_entries all ≡ entries → i < length entries → e ≡ get_or entries i e → component_entry (i == 0) (get_or all i d) ≡ e
+    → component_entries all ≡ entries → i < length entries → e ≡ get_or entries i e
+    → component_entry (i == 0) (get_or all i d) ≡ e
 entry_at_place all entries i e d whole inside is =
     let size : length all ≡ length entries = sym (length_component_entries all) ∙ ap length whole in
     sym (at_place all i e d (omega arith)) ∙ ap (λ es. get_or es i e) whole ∙ sym is
@@ -144,12 +157,15 @@ entry_at_place all entries i e d whole inside is =
 -- a component whose carrier occurred before: no service has such components
 pub named_twice :
     (cs all : List Component) (entries : List ComponentEntry) (i : ℕ) (e : ComponentEntry) (c : Component)
-    → component_entries cs ≡ take i entries → i < length entries → e ≡ get_or entries i e → component_entry (i == 0) c ≡ e
+    → component_entries cs ≡ take i entries → i < length entries → e ≡ get_or entries i e
+    → component_entry (i == 0) c ≡ e
     → list_any (names (carrier_of c)) cs ≡ true → AreDifferent all → component_entries all ≡ entries → ⊥
 named_twice cs all entries i e c part inside is says named different whole =
     let size : length all ≡ length entries = sym (length_component_entries all) ∙ ap length whole in
     let front : cs ≡ take i all = read_so_far cs all entries i part whole in
     let same : get_or all i c ≡ c =
-    sym (from_entry (i == 0) (get_or all i c)) ∙ ap component_from (entry_at_place all entries i e c whole inside is ∙ sym says) ∙ from_entry (i == 0) c in
+    sym (from_entry (i == 0) (get_or all i c)) ∙ ap component_from
+    (entry_at_place all entries i e c whole inside is ∙ sym says) ∙ from_entry (i == 0) c in
     not_named_before all i c different (omega arith)
-    (ap (λ x. list_any (names (carrier_of x)) (take i all)) same ∙ ap (list_any (names (carrier_of c))) (sym front) ∙ named)
+    (ap (λ x. list_any (names (carrier_of x)) (take i all)) same ∙ ap (list_any (names (carrier_of c))) (sym front)
+    ∙ named)

@@ -1,5 +1,7 @@
 -- The walk over entries stops where the bytes are at fault, and only there.
-use Rattle.std.proofs.Common.{◌≡◌, ◌≢◌, ℕ, zero, suc, ◌+◌, ◌-◌, ◌/◌, ◌%◌, ◌<◌, ◌≤◌, ◌==◌, ◌++◌, inl, inr, Bool, true, false, cond, nat_lt, List, [], ◌∷◌, length, get_or, take, drop, Option, Some, None, append_assoc, refl, ap, sym, ◌∙◌, subst, lt-ltb, le-ltb, arith, length-drop}
+use Rattle.std.proofs.Common.{◌≡◌, ◌≢◌, ℕ, zero, suc, ◌+◌, ◌-◌, ◌/◌, ◌%◌, ◌<◌, ◌≤◌, ◌==◌, ◌++◌, inl, inr, Bool, true}
+use Rattle.std.proofs.Common.{false, cond, nat_lt, List, [], ◌∷◌, length, get_or, take, drop, Option, Some, None}
+use Rattle.std.proofs.Common.{append_assoc, refl, ap, sym, ◌∙◌, subst, lt-ltb, le-ltb, arith, length-drop}
 use Rattle.std.proofs.lemmas.Bool.{ltb-false, ltb-true, cases_lt, eqb-true, eqb-false}
 use Rattle.std.proofs.lemmas.List.{take-append-drop, length-take-le, length-append, get_or_append_left}
 use Rattle.std.proofs.Math.Seq.{drop-append_seam}
@@ -11,7 +13,8 @@ use Rattle.fib_reader.proofs.FaultSteps.{none_in_nothing}
 
 -- ---- what the walk finds is a fault
 
-pub too_few : (ext : ℕ) (long : Bool) (bytes : List ℕ) → length bytes < entry_len ext long bytes → BeginsNone ext long bytes
+pub too_few : (ext : ℕ) (long : Bool) (bytes : List ℕ) → length bytes < entry_len ext long bytes
+    → BeginsNone ext long bytes
 too_few ext long bytes few e rest split good =
     let whole : length e ≡ entry_len ext long e = good.0 in
     let same : entry_len ext long bytes ≡ entry_len ext long e =
@@ -40,8 +43,10 @@ NoEntry ext long place bytes at = (within : ℕ) × (at ≡ place + within) × I
 entries_step :
     (t : Bool) (n ext : ℕ) (long : Bool) (place b : ℕ) (bs : List ℕ) (at : ℕ)
     → nat_lt (length (b ∷ bs)) (entry_len ext long (b ∷ bs)) ≡ t
-    → cond t (Some place) (entries_fault n ext long (place + entry_len ext long (b ∷ bs)) (drop (entry_len ext long (b ∷ bs)) (b ∷ bs))) ≡ Some at
-    → (entries_fault n ext long (place + entry_len ext long (b ∷ bs)) (drop (entry_len ext long (b ∷ bs)) (b ∷ bs)) ≡ Some at
+    → cond t (Some place) (entries_fault n ext long (place + entry_len ext long (b ∷ bs))
+    (drop (entry_len ext long (b ∷ bs)) (b ∷ bs))) ≡ Some at
+    → (entries_fault n ext long (place + entry_len ext long (b ∷ bs)) (drop (entry_len ext long (b ∷ bs)) (b ∷ bs))
+    ≡ Some at
     → NoEntry ext long (place + entry_len ext long (b ∷ bs)) (drop (entry_len ext long (b ∷ bs)) (b ∷ bs)) at)
     → NoEntry ext long place (b ∷ bs) at
 entries_step true n ext long place b bs at few found more =
@@ -67,8 +72,10 @@ entries_step false n ext long place b bs at few found more =
     let is = rest.1 in (
       length (take len (b ∷ bs)) + rest.0,
       omega arith,
-      subst (λ (x : List ℕ). IsNoEntryAt ext long x (length (take len (b ∷ bs)) + rest.0)) (take-append-drop len (b ∷ bs))
-          (one_entry_on ext long (take len (b ∷ bs)) (drop len (b ∷ bs)) rest.0 (cut_len ext long (b ∷ bs) fits) rest.2),
+      subst (λ (x : List ℕ). IsNoEntryAt ext long x (length (take len (b ∷ bs)) + rest.0))
+          (take-append-drop len (b ∷ bs))
+          (one_entry_on ext long (take len (b ∷ bs)) (drop len (b ∷ bs)) rest.0 (cut_len ext long (b ∷ bs) fits)
+          rest.2),
     )
 
 entries_found :
@@ -112,10 +119,12 @@ uncounted long bytes not e rest split good =
     not (omega arith, omega arith)
 
 -- the first four or five bytes are the entry, if they are present and its counts are in range
-whole_front : (long : Bool) (bytes : List ℕ) → ensemble_len bytes ≤ length bytes → IsCounted bytes → IsGood 0 long (take (ensemble_len bytes) bytes)
+whole_front : (long : Bool) (bytes : List ℕ) → ensemble_len bytes ≤ length bytes → IsCounted bytes
+    → IsGood 0 long (take (ensemble_len bytes) bytes)
 whole_front long bytes fits counted =
     let is : IsEntry 0 long (take (ensemble_len bytes) bytes) = cut_len 0 long bytes fits in
-    let same = same_counts long bytes (take (ensemble_len bytes) bytes) (drop (ensemble_len bytes) bytes) (sym (take-append-drop (ensemble_len bytes) bytes)) is in
+    let same = same_counts long bytes (take (ensemble_len bytes) bytes) (drop (ensemble_len bytes) bytes)
+    (sym (take-append-drop (ensemble_len bytes) bytes)) is in
     let second : get_or bytes 2 0 ≡ get_or (take (ensemble_len bytes) bytes) 2 0 = same.0 in
     let third : get_or bytes 3 0 ≡ get_or (take (ensemble_len bytes) bytes) 3 0 = same.1 in
     let high : get_or bytes 2 0 % 32 < 20 = counted.0 in
@@ -131,9 +140,11 @@ NotOne long place bytes at = (within : ℕ) × (at ≡ place + within) × IsNotO
 
 ensemble_cases :
     (a b c d : Bool) (long : Bool) (place : ℕ) (bytes : List ℕ) (at : ℕ)
-    → nat_lt (length bytes) (ensemble_len bytes) ≡ a → nat_lt 19 (get_or bytes 2 0 % 32) ≡ b → nat_lt 249 (get_or bytes 3 0) ≡ c
+    → nat_lt (length bytes) (ensemble_len bytes) ≡ a → nat_lt 19 (get_or bytes 2 0 % 32) ≡ b
+    → nat_lt 249 (get_or bytes 3 0) ≡ c
     → nat_lt (ensemble_len bytes) (length bytes) ≡ d
-    → cond a (Some place) (cond b (Some place) (cond c (Some place) (cond d (Some (place + ensemble_len bytes)) None))) ≡ Some at
+    → cond a (Some place) (cond b (Some place) (cond c (Some place) (cond d (Some (place + ensemble_len bytes)) None)))
+    ≡ Some at
     → NotOne long place bytes at
 ensemble_cases true b c d long place bytes at p q r s found =
     let same : place ≡ at = (cc) in
@@ -170,26 +181,32 @@ ensemble_cases false false false false long place bytes at p q r s found = absur
 
 pub body_found :
     (b : Bool) (ext : ℕ) (long : Bool) (place : ℕ) (bytes : List ℕ) (at : ℕ) → (ext == 0) ≡ b
-    → body_fault ext long place bytes ≡ Some at → (within : ℕ) × (at ≡ place + within) × IsBodyFault ext long bytes within
+    → body_fault ext long place bytes ≡ Some at → (within : ℕ) × (at ≡ place + within)
+    × IsBodyFault ext long bytes within
 body_found true ext long place bytes at is found =
-    let one = ensemble_cases (nat_lt (length bytes) (ensemble_len bytes)) (nat_lt 19 (get_or bytes 2 0 % 32)) (nat_lt 249 (get_or bytes 3 0))
+    let one = ensemble_cases (nat_lt (length bytes) (ensemble_len bytes)) (nat_lt 19 (get_or bytes 2 0 % 32))
+    (nat_lt 249 (get_or bytes 3 0))
     (nat_lt (ensemble_len bytes) (length bytes)) long place bytes at refl refl refl refl
-    (sym (ap (λ t. cond t (ensemble_fault place bytes) (entries_fault (length bytes) ext long place bytes)) is) ∙ found) in
+    (sym (ap (λ t. cond t (ensemble_fault place bytes) (entries_fault (length bytes) ext long place bytes)) is)
+    ∙ found) in
     (one.0, one.1, inr (eqb-true ext 0 is, one.2))
 body_found false ext long place bytes at is found =
     let one = entries_found (length bytes) ext long place bytes at (omega arith)
-    (sym (ap (λ t. cond t (ensemble_fault place bytes) (entries_fault (length bytes) ext long place bytes)) is) ∙ found) in
+    (sym (ap (λ t. cond t (ensemble_fault place bytes) (entries_fault (length bytes) ext long place bytes)) is)
+    ∙ found) in
     (one.0, one.1, inl (eqb-false ext 0 is, one.2))
 
 -- ---- if there is a fault, the walk finds it
 
 begins_none_short :
-    (ext : ℕ) (long : Bool) (bytes : List ℕ) → ext ≢ 0 → BeginsNone ext long bytes → length bytes < entry_len ext long bytes
+    (ext : ℕ) (long : Bool) (bytes : List ℕ) → ext ≢ 0 → BeginsNone ext long bytes
+    → length bytes < entry_len ext long bytes
 begins_none_short ext long bytes other none =
     elim (cases_lt (length bytes) (entry_len ext long bytes)) [
       | inl few ↦ few
       | inr fits ↦ absurd (none (take (entry_len ext long bytes) bytes) (drop (entry_len ext long bytes) bytes)
-          (sym (take-append-drop (entry_len ext long bytes) bytes)) (cut_len ext long bytes fits, λ zero_ext. absurd (other zero_ext)))
+          (sym (take-append-drop (entry_len ext long bytes) bytes))
+          (cut_len ext long bytes fits, λ zero_ext. absurd (other zero_ext)))
     ]
 
 entries_given :
@@ -205,7 +222,8 @@ entries_given (suc n) ext long place (b ∷ bs) front left [] other enough split
     let short : length (b ∷ bs) < entry_len ext long (b ∷ bs) =
     begins_none_short ext long (b ∷ bs) other (subst (BeginsNone ext long) (sym same) none) in
     let here : place ≡ place + length front = (let no_front : length front ≡ 0 = ap length whole in omega arith) in
-    ap (λ t. cond t (Some place) (entries_fault n ext long (place + entry_len ext long (b ∷ bs)) (drop (entry_len ext long (b ∷ bs)) (b ∷ bs))))
+    ap (λ t. cond t (Some place)
+    (entries_fault n ext long (place + entry_len ext long (b ∷ bs)) (drop (entry_len ext long (b ∷ bs)) (b ∷ bs))))
     (lt-ltb _ _ short) ∙ ap Some here
 entries_given n ext long place [] front left (e ∷ es) other enough split whole some none =
     let big : 3 ≤ entry_len ext long e = some_bytes ext long e in
@@ -226,10 +244,12 @@ entries_given (suc n) ext long place (b ∷ bs) front left (e ∷ es) other enou
     ap (λ k. drop k (b ∷ bs)) same ∙ ap (drop (length e)) all ∙ drop-append_seam e (rest ++ left) in
     let lengths : length front ≡ length e + length rest = ap length whole.1 ∙ length-append e rest in
     let place_is : place + entry_len ext long (b ∷ bs) + length rest ≡ place + length front = omega arith in
-    ap (λ t. cond t (Some place) (entries_fault n ext long (place + entry_len ext long (b ∷ bs)) (drop (entry_len ext long (b ∷ bs)) (b ∷ bs))))
+    ap (λ t. cond t (Some place)
+    (entries_fault n ext long (place + entry_len ext long (b ∷ bs)) (drop (entry_len ext long (b ∷ bs)) (b ∷ bs))))
     (le-ltb (length (b ∷ bs)) (entry_len ext long (b ∷ bs)) (omega arith))
     ∙ ap (entries_fault n ext long (place + entry_len ext long (b ∷ bs))) there
-    ∙ entries_given n ext long (place + entry_len ext long (b ∷ bs)) (rest ++ left) rest left es other (omega arith) refl whole.3 some none
+    ∙ entries_given n ext long (place + entry_len ext long (b ∷ bs)) (rest ++ left) rest left es other (omega arith)
+    refl whole.3 some none
     ∙ ap Some place_is
 
 one_fails :
@@ -239,13 +259,15 @@ one_fails false true c s x not = refl
 one_fails false false true s x not = refl
 one_fails false false false s x not = absurd (not refl refl refl)
 
-ensemble_given : (long : Bool) (place : ℕ) (bytes : List ℕ) (within : ℕ) → IsNotOneAt long bytes within → ensemble_fault place bytes ≡ Some (place + within)
+ensemble_given : (long : Bool) (place : ℕ) (bytes : List ℕ) (within : ℕ) → IsNotOneAt long bytes within
+    → ensemble_fault place bytes ≡ Some (place + within)
 ensemble_given long place bytes within h =
     let len : ℕ = ensemble_len bytes in
     elim h [
       | inl nowhere ↦
           let here : place ≡ place + within = (let zero_in = nowhere.0 in omega arith) in
-          one_fails (nat_lt (length bytes) len) (nat_lt 19 (get_or bytes 2 0 % 32)) (nat_lt 249 (get_or bytes 3 0)) (Some place)
+          one_fails (nat_lt (length bytes) len) (nat_lt 19 (get_or bytes 2 0 % 32)) (nat_lt 249 (get_or bytes 3 0))
+          (Some place)
           (cond (nat_lt len (length bytes)) (Some (place + len)) None)
           (λ p q r.
           let fits : len ≤ length bytes = ltb-false _ _ p in
@@ -272,11 +294,15 @@ ensemble_given long place bytes within h =
           let some_left : 0 < length left = something left some in
           let place_is : place + len ≡ place + within = (let at_end = more.5 in omega arith) in
           ap (λ t. cond t (Some place) (cond (nat_lt 19 (get_or bytes 2 0 % 32)) (Some place)
-          (cond (nat_lt 249 (get_or bytes 3 0)) (Some place) (cond (nat_lt len (length bytes)) (Some (place + len)) None))))
+          (cond (nat_lt 249 (get_or bytes 3 0)) (Some place)
+          (cond (nat_lt len (length bytes)) (Some (place + len)) None))))
           (le-ltb (length bytes) len (omega arith))
-          ∙ ap (λ t. cond t (Some place) (cond (nat_lt 249 (get_or bytes 3 0)) (Some place) (cond (nat_lt len (length bytes)) (Some (place + len)) None)))
+          ∙ ap (λ t. cond t (Some place)
+          (cond (nat_lt 249 (get_or bytes 3 0)) (Some place)
+          (cond (nat_lt len (length bytes)) (Some (place + len)) None)))
           (le-ltb 19 (get_or bytes 2 0 % 32) (omega arith))
-          ∙ ap (λ t. cond t (Some place) (cond (nat_lt len (length bytes)) (Some (place + len)) None)) (le-ltb 249 (get_or bytes 3 0) (omega arith))
+          ∙ ap (λ t. cond t (Some place) (cond (nat_lt len (length bytes)) (Some (place + len)) None))
+          (le-ltb 249 (get_or bytes 3 0) (omega arith))
           ∙ ap (λ t. cond t (Some (place + len)) None) (lt-ltb len (length bytes) (omega arith))
           ∙ ap Some place_is
     ]
@@ -299,7 +325,8 @@ body_given false ext long place bytes within is h =
       | inl entries ↦
           let at = entries.1 in
           ap (λ t. cond t (ensemble_fault place bytes) (entries_fault (length bytes) ext long place bytes)) is
-          ∙ entries_given (length bytes) ext long place bytes at.front at.left at.entries entries.0 (omega arith) at.split at.whole at.some at.none
+          ∙ entries_given (length bytes) ext long place bytes at.front at.left at.entries entries.0 (omega arith)
+          at.split at.whole at.some at.none
           ∙ ap (λ n. Some (place + n)) at.place_is
       | inr one ↦ absurd (eqb-false ext 0 is one.0)
     ]

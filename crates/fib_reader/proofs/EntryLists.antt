@@ -1,5 +1,7 @@
 -- The entries found by the walk are those of the grammar, and exist exactly if there is no fault.
-use Rattle.std.proofs.Common.{◌≡◌, ℕ, zero, suc, ◌+◌, ◌-◌, ◌<◌, ◌≤◌, ◌++◌, Bool, true, false, cond, nat_lt, List, [], ◌∷◌, length, take, drop, Option, Some, None, refl, ap, sym, ◌∙◌, subst, le-ltb, arith, length-drop}
+use Rattle.std.proofs.Common.{◌≡◌, ℕ, zero, suc, ◌+◌, ◌-◌, ◌<◌, ◌≤◌, ◌++◌, Bool, true, false, cond, nat_lt, List, []}
+use Rattle.std.proofs.Common.{◌∷◌, length, take, drop, Option, Some, None, refl, ap, sym, ◌∙◌, subst, le-ltb, arith}
+use Rattle.std.proofs.Common.{length-drop}
 use Rattle.std.proofs.lemmas.Bool.{ltb-false}
 use Rattle.std.proofs.lemmas.List.{take-append-drop, length-append}
 use Rattle.std.proofs.Math.Seq.{take-append_seam, drop-append_seam}
@@ -39,7 +41,8 @@ first_entry ext long b bs =
 
 pub first_of_entries :
     (ext : ℕ) (long : Bool) (bytes : List ℕ) → 0 < length bytes
-    → entries_of ext long bytes ≡ take (entry_len ext long bytes) bytes ∷ entries_of ext long (drop (entry_len ext long bytes) bytes)
+    → entries_of ext long bytes ≡ take (entry_len ext long bytes) bytes
+    ∷ entries_of ext long (drop (entry_len ext long bytes) bytes)
 first_of_entries ext long [] some = absurd (omega arith)
 first_of_entries ext long (b ∷ bs) some = first_entry ext long b bs
 
@@ -61,10 +64,13 @@ same_entries ext long bytes (e ∷ es) h =
     let big : 3 ≤ entry_len ext long e = some_bytes ext long e in
     let size : length (e ++ rest) ≡ length e + length rest = length-append e rest in
     let first : entries_of ext long (e ++ rest)
-    ≡ take (entry_len ext long (e ++ rest)) (e ++ rest) ∷ entries_of ext long (drop (entry_len ext long (e ++ rest)) (e ++ rest)) =
+    ≡ take (entry_len ext long (e ++ rest)) (e ++ rest)
+    ∷ entries_of ext long (drop (entry_len ext long (e ++ rest)) (e ++ rest)) =
     first_of_entries ext long (e ++ rest) (omega arith) in
-    let cut : take (entry_len ext long (e ++ rest)) (e ++ rest) ≡ e = ap (λ n. take n (e ++ rest)) len ∙ take-append_seam e rest in
-    let left : drop (entry_len ext long (e ++ rest)) (e ++ rest) ≡ rest = ap (λ n. drop n (e ++ rest)) len ∙ drop-append_seam e rest in
+    let cut : take (entry_len ext long (e ++ rest)) (e ++ rest) ≡ e =
+    ap (λ n. take n (e ++ rest)) len ∙ take-append_seam e rest in
+    let left : drop (entry_len ext long (e ++ rest)) (e ++ rest) ≡ rest =
+    ap (λ n. drop n (e ++ rest)) len ∙ drop-append_seam e rest in
     ap (entries_of ext long) split ∙ first
     ∙ ap (λ x. x ∷ entries_of ext long (drop (entry_len ext long (e ++ rest)) (e ++ rest))) cut
     ∙ ap (λ x. e ∷ entries_of ext long x) left ∙ ap (λ x. e ∷ x) (same_entries ext long rest es h.3)
@@ -82,7 +88,8 @@ sound_entries n ext long place [] enough none = refl
 sound_entries zero ext long place (b ∷ bs) enough none = absurd (omega arith)
 sound_entries (suc n) ext long place (b ∷ bs) enough none =
     let len : ℕ = entry_len ext long (b ∷ bs) in
-    let here = through (nat_lt (length (b ∷ bs)) len) place (entries_fault n ext long (place + len) (drop len (b ∷ bs))) none in
+    let here = through (nat_lt (length (b ∷ bs)) len) place (entries_fault n ext long (place + len) (drop len (b ∷ bs)))
+    none in
     let fits : len ≤ length (b ∷ bs) = ltb-false _ _ here.0 in
     let big : 3 ≤ len = some_bytes ext long (b ∷ bs) in
     let fewer : length (drop len (b ∷ bs)) ≡ suc (length bs) - len = length-drop len (b ∷ bs) in
@@ -106,7 +113,8 @@ complete_entries (suc n) ext long place (b ∷ bs) (e ∷ es) h =
     let size : length (b ∷ bs) ≡ length e + length rest = ap length split ∙ length-append e rest in
     let left : drop (entry_len ext long (b ∷ bs)) (b ∷ bs) ≡ rest =
     ap (λ k. drop k (b ∷ bs)) same ∙ ap (drop (length e)) split ∙ drop-append_seam e rest in
-    ap (λ t. cond t (Some place) (entries_fault n ext long (place + entry_len ext long (b ∷ bs)) (drop (entry_len ext long (b ∷ bs)) (b ∷ bs))))
+    ap (λ t. cond t (Some place)
+    (entries_fault n ext long (place + entry_len ext long (b ∷ bs)) (drop (entry_len ext long (b ∷ bs)) (b ∷ bs))))
     (le-ltb (length (b ∷ bs)) (entry_len ext long (b ∷ bs)) (omega arith))
     ∙ ap (entries_fault n ext long (place + entry_len ext long (b ∷ bs))) left
     ∙ complete_entries n ext long (place + entry_len ext long (b ∷ bs)) rest es h.3

@@ -1,5 +1,7 @@
 -- The steps of a walk that searches for the first fault.
-use Rattle.std.proofs.Common.{◌≡◌, ◌≢◌, ℕ, zero, suc, ◌+◌, ◌-◌, ◌%◌, ◌<◌, ◌≤◌, ◌==◌, Bool, true, false, cond, nat_lt, List, [], ◌∷◌, length, get_or, drop, Option, Some, None, refl, ap, sym, ◌∙◌, lt-ltb, le-ltb, arith, length-drop}
+use Rattle.std.proofs.Common.{◌≡◌, ◌≢◌, ℕ, zero, suc, ◌+◌, ◌-◌, ◌%◌, ◌<◌, ◌≤◌, ◌==◌, Bool, true, false, cond, nat_lt}
+use Rattle.std.proofs.Common.{List, [], ◌∷◌, length, get_or, drop, Option, Some, None, refl, ap, sym, ◌∙◌, lt-ltb}
+use Rattle.std.proofs.Common.{le-ltb, arith, length-drop}
 use Rattle.std.proofs.lemmas.Bool.{ne_eqb, eq-eqb, eqb-true}
 use Rattle.fib_codec.specs.Grammar.{entry_len}
 use Rattle.fib_reader.proofs.Lengths.{some_bytes}
@@ -38,7 +40,8 @@ next_entry ext long at rest fault h some whole =
     record {
       left = here.0;
       enough = omega arith;
-      same = sym (ap (λ t. cond t (Some at) (entries_fault here.0 ext long (at + len) (drop len rest))) (le-ltb _ _ whole)) ∙ here.2;
+      same = sym (ap (λ t. cond t (Some at) (entries_fault here.0 ext long (at + len) (drop len rest)))
+          (le-ltb _ _ whole)) ∙ here.2;
     }
 
 pub missing_bytes :
@@ -47,7 +50,8 @@ pub missing_bytes :
 missing_bytes ext long at rest fault h some short =
     let here = entry_here h.left ext long at rest fault h.enough some h.same in
     let len : ℕ = entry_len ext long rest in
-    sym (ap (λ t. cond t (Some at) (entries_fault here.0 ext long (at + len) (drop len rest))) (lt-ltb _ _ short)) ∙ here.2
+    sym (ap (λ t. cond t (Some at) (entries_fault here.0 ext long (at + len) (drop len rest))) (lt-ltb _ _ short))
+    ∙ here.2
 
 pub none_in_nothing : (left ext : ℕ) (long : Bool) (at : ℕ) → entries_fault left ext long at [] ≡ None
 unfolding entries_fault
@@ -93,8 +97,10 @@ next_fig at rest fault h some header fine =
     length-drop len (drop 1 rest) ∙ ap (λ n. n - len) (length-drop 1 rest) in
     let enough = h.enough in
     let is_suc = here.1 in
-    let from_here : or_else (fig_fault at (get_or rest 0 0) (drop 1 rest)) (figs_fault here.0 (at + 1 + len) (drop len (drop 1 rest))) ≡ fault =
-    sym (ap (λ t. cond t None (or_else (fig_fault at (get_or rest 0 0) (drop 1 rest)) (figs_fault here.0 (at + 1 + len) (drop len (drop 1 rest))))) (ne_eqb _ _ header)) ∙ here.2 in
+    let from_here : or_else (fig_fault at (get_or rest 0 0) (drop 1 rest))
+    (figs_fault here.0 (at + 1 + len) (drop len (drop 1 rest))) ≡ fault =
+    sym (ap (λ t. cond t None (or_else (fig_fault at (get_or rest 0 0) (drop 1 rest))
+    (figs_fault here.0 (at + 1 + len) (drop len (drop 1 rest))))) (ne_eqb _ _ header)) ∙ here.2 in
     let regrouped : at + (1 + len) ≡ at + 1 + len = omega arith in
     record {
       left = here.0;
@@ -109,7 +115,8 @@ pub at_marker :
 at_marker at rest fault h some header =
     let here = fig_here h.left at rest fault h.enough some h.same in
     let len : ℕ = get_or rest 0 0 % 32 in
-    sym (ap (λ t. cond t None (or_else (fig_fault at (get_or rest 0 0) (drop 1 rest)) (figs_fault here.0 (at + 1 + len) (drop len (drop 1 rest))))) (eq-eqb _ _ header)) ∙ here.2
+    sym (ap (λ t. cond t None (or_else (fig_fault at (get_or rest 0 0) (drop 1 rest))
+    (figs_fault here.0 (at + 1 + len) (drop len (drop 1 rest))))) (eq-eqb _ _ header)) ∙ here.2
 
 pub fault_here :
     (at : ℕ) (rest : List ℕ) (fault : Option FibFault) (e : FibFault) → LeadsToFig at rest fault → 0 < length rest
@@ -118,7 +125,9 @@ fault_here at rest fault e h some header found =
     let here = fig_here h.left at rest fault h.enough some h.same in
     let len : ℕ = get_or rest 0 0 % 32 in
     sym (ap (λ f. or_else f (figs_fault here.0 (at + 1 + len) (drop len (drop 1 rest)))) found)
-    ∙ (sym (ap (λ t. cond t None (or_else (fig_fault at (get_or rest 0 0) (drop 1 rest)) (figs_fault here.0 (at + 1 + len) (drop len (drop 1 rest))))) (ne_eqb _ _ header)) ∙ here.2)
+    ∙ (sym (ap (λ t. cond t None
+    (or_else (fig_fault at (get_or rest 0 0) (drop 1 rest))
+    (figs_fault here.0 (at + 1 + len) (drop len (drop 1 rest))))) (ne_eqb _ _ header)) ∙ here.2)
 
 pub no_fault_in_nothing : (left at : ℕ) → figs_fault left at [] ≡ None
 unfolding figs_fault

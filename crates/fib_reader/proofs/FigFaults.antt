@@ -1,6 +1,8 @@
 -- The walk over FIGs stops where the data bytes are at fault, and only there; so there is at most one fault, and there
 -- is one exactly if there are no FIGs.
-use Rattle.std.proofs.Common.{◌≡◌, ◌≢◌, ℕ, zero, suc, ◌+◌, ◌-◌, ◌%◌, ◌<◌, ◌≤◌, ◌==◌, ◌++◌, inl, inr, ◌⊎◌, Bool, true, false, cond, nat_lt, List, [], ◌∷◌, length, get_or, take, drop, Option, Some, None, append_assoc, refl, ap, sym, ◌∙◌, subst, lt-ltb, le-ltb, arith, length-drop}
+use Rattle.std.proofs.Common.{◌≡◌, ◌≢◌, ℕ, zero, suc, ◌+◌, ◌-◌, ◌%◌, ◌<◌, ◌≤◌, ◌==◌, ◌++◌, inl, inr, ◌⊎◌, Bool, true}
+use Rattle.std.proofs.Common.{false, cond, nat_lt, List, [], ◌∷◌, length, get_or, take, drop, Option, Some, None}
+use Rattle.std.proofs.Common.{append_assoc, refl, ap, sym, ◌∙◌, subst, lt-ltb, le-ltb, arith, length-drop}
 use Rattle.std.proofs.lemmas.Bool.{ltb-false, ltb-true, ne_eqb, eqb-true, eqb-false}
 use Rattle.std.proofs.lemmas.List.{take-append-drop, length-take-le, length-append}
 use Rattle.std.proofs.Math.Seq.{take-append_seam, drop-append_seam}
@@ -8,7 +10,8 @@ use Rattle.fib_codec.specs.Crc.{IsChecked, bits_of_bytes, check_bits}
 use Rattle.fib_codec.specs.Grammar.{Fig, IsFig, IsFib, is_open, is_long}
 use Rattle.fib_reader.specs.declared.fault.FibFault.{FibFault}
 use Rattle.fib_reader.specs.declared.fault.FibFault.TheVariants.{Crc, Overrun, Entry}
-use Rattle.fib_reader.specs.Faults.{AreWhole, LeadsToHeader, IsOverrun, IsBodyFault, IsFigFault, IsEntryFault, IsFibFault}
+use Rattle.fib_reader.specs.Faults.{AreWhole, LeadsToHeader, IsOverrun, IsBodyFault, IsFigFault, IsEntryFault}
+use Rattle.fib_reader.specs.Faults.{IsFibFault}
 use Rattle.fib_reader.specs.FirstFault.{body_fault, entry_at_fault, fig_fault, figs_fault, or_else}
 use Rattle.fib_reader.specs.Walk.{fig_of_bytes, figs_of_bytes}
 use Rattle.fib_reader.proofs.EntryFaults.{body_found, body_given}
@@ -46,7 +49,8 @@ stands_on one rest more place header f is h = record {
 }
 
 fig_fault_on :
-    (one rest : List ℕ) (place : ℕ) (f : Fig) → IsFig one f → IsFigFault rest place → IsFigFault (one ++ rest) (length one + place)
+    (one rest : List ℕ) (place : ℕ) (f : Fig) → IsFig one f → IsFigFault rest place
+    → IsFigFault (one ++ rest) (length one + place)
 fig_fault_on one rest place f is h =
     let place_is = h.place_is in
     record {
@@ -62,7 +66,8 @@ fig_fault_on one rest place f is h =
       place_is = omega arith;
     }
 
-fault_on : (one rest : List ℕ) (f : Fig) (e : FibFault) → IsFig one f → IsDataFault rest e → IsDataFault (one ++ rest) (moved (length one) e)
+fault_on : (one rest : List ℕ) (f : Fig) (e : FibFault) → IsFig one f → IsDataFault rest e
+    → IsDataFault (one ++ rest) (moved (length one) e)
 fault_on one rest f Crc is h = absurd h
 fault_on one rest f (Overrun place) is h = (h.0, h.1, stands_on one rest h.1 place h.0 f is h.2, h.3)
 fault_on one rest f (Entry place) is h =
@@ -80,7 +85,8 @@ abbrev DataFault : ℕ → List ℕ → FibFault → Type 0
 DataFault place bytes e = (f : FibFault) × (e ≡ moved place f) × IsDataFault bytes f
 
 body_at_fault :
-    (place h s : ℕ) (more : List ℕ) (x : Option ℕ) (e : FibFault) → h ≢ 255 → h ≢ 0 → h ≤ 31 → h % 32 ≤ suc (length more)
+    (place h s : ℕ) (more : List ℕ) (x : Option ℕ) (e : FibFault) → h ≢ 255 → h ≢ 0 → h ≤ 31
+    → h % 32 ≤ suc (length more)
     → is_open s ≡ true → body_fault (s % 32) (is_long s) (place + 2) (take (h - 1) more) ≡ x → entry_at_fault x ≡ Some e
     → DataFault place (h ∷ s ∷ more) e
 body_at_fault place h s more None e no_marker positive low fits looked_into is found = absurd (cc)
@@ -105,7 +111,8 @@ body_at_fault place h s more (Some at) e no_marker positive low fits looked_into
         stands = record {
           front = [];
           figs = [];
-          split = ap (λ n. n ∷ s ∷ more) header ∙ ap (λ t. (1 + length body) ∷ s ∷ t) (sym (take-append-drop (h - 1) more));
+          split = ap (λ n. n ∷ s ∷ more) header ∙ ap (λ t. (1 + length body) ∷ s ∷ t)
+              (sym (take-append-drop (h - 1) more));
           whole = refl;
           place_is = refl;
           no_marker = is_header;
@@ -118,10 +125,12 @@ body_at_fault place h s more (Some at) e no_marker positive low fits looked_into
     )
 
 fig_cases :
-    (a b c d : Bool) (place h : ℕ) (bs : List ℕ) (e : FibFault) → h ≢ 255 → nat_lt (length bs) (h % 32) ≡ a → nat_lt 31 h ≡ b → (h == 0) ≡ c
+    (a b c d : Bool) (place h : ℕ) (bs : List ℕ) (e : FibFault) → h ≢ 255 → nat_lt (length bs) (h % 32) ≡ a
+    → nat_lt 31 h ≡ b → (h == 0) ≡ c
     → is_open (get_or bs 0 0) ≡ d
     → cond a (Some (Overrun place)) (cond b None (cond c (Some (Entry place)) (cond d
-    (entry_at_fault (body_fault (get_or bs 0 0 % 32) (is_long (get_or bs 0 0)) (place + 2) (take (h - 1) (drop 1 bs)))) None))) ≡ Some e
+    (entry_at_fault (body_fault (get_or bs 0 0 % 32) (is_long (get_or bs 0 0)) (place + 2) (take (h - 1) (drop 1 bs))))
+    None))) ≡ Some e
     → DataFault place (h ∷ bs) e
 fig_cases true b c d place h bs e no_marker p q r s found =
     let named : Overrun place ≡ e = (cc) in
@@ -144,14 +153,17 @@ fig_cases false false false true place h (x ∷ more) e no_marker p q r s found 
     body_at_fault place h x more _ e no_marker (eqb-false h 0 r) (ltb-false _ _ q) (ltb-false _ _ p) s refl found
 fig_cases false false false false place h bs e no_marker p q r s found = absurd (cc)
 
-fig_found : (place h : ℕ) (bs : List ℕ) (e : FibFault) → h ≢ 255 → fig_fault place h bs ≡ Some e → DataFault place (h ∷ bs) e
+fig_found : (place h : ℕ) (bs : List ℕ) (e : FibFault) → h ≢ 255 → fig_fault place h bs ≡ Some e
+    → DataFault place (h ∷ bs) e
 fig_found place h bs e no_marker found =
-    fig_cases (nat_lt (length bs) (h % 32)) (nat_lt 31 h) (h == 0) (is_open (get_or bs 0 0)) place h bs e no_marker refl refl refl refl found
+    fig_cases (nat_lt (length bs) (h % 32)) (nat_lt 31 h) (h == 0) (is_open (get_or bs 0 0)) place h bs e no_marker refl
+    refl refl refl found
 
 figs_or :
     (o : Option FibFault) (n place h : ℕ) (bs : List ℕ) (e : FibFault) → h ≢ 255 → fig_fault place h bs ≡ o
     → or_else o (figs_fault n (place + 1 + h % 32) (drop (h % 32) bs)) ≡ Some e
-    → (figs_fault n (place + 1 + h % 32) (drop (h % 32) bs) ≡ Some e → DataFault (place + 1 + h % 32) (drop (h % 32) bs) e)
+    → (figs_fault n (place + 1 + h % 32) (drop (h % 32) bs) ≡ Some e
+    → DataFault (place + 1 + h % 32) (drop (h % 32) bs) e)
     → DataFault place (h ∷ bs) e
 figs_or (Some d) n place h bs e no_marker is found more = fig_found place h bs e no_marker (is ∙ found)
 figs_or None n place h bs e no_marker is found more =
@@ -169,13 +181,16 @@ figs_or None n place h bs e no_marker is found more =
 figs_at :
     (t : Bool) (n place h : ℕ) (bs : List ℕ) (e : FibFault) → (h == 255) ≡ t
     → cond t None (or_else (fig_fault place h bs) (figs_fault n (place + 1 + h % 32) (drop (h % 32) bs))) ≡ Some e
-    → (figs_fault n (place + 1 + h % 32) (drop (h % 32) bs) ≡ Some e → DataFault (place + 1 + h % 32) (drop (h % 32) bs) e)
+    → (figs_fault n (place + 1 + h % 32) (drop (h % 32) bs) ≡ Some e
+    → DataFault (place + 1 + h % 32) (drop (h % 32) bs) e)
     → DataFault place (h ∷ bs) e
 figs_at true n place h bs e is found more = absurd (cc)
-figs_at false n place h bs e is found more = figs_or (fig_fault place h bs) n place h bs e (eqb-false h 255 is) refl found more
+figs_at false n place h bs e is found more =
+    figs_or (fig_fault place h bs) n place h bs e (eqb-false h 255 is) refl found more
 
 figs_found :
-    (n place : ℕ) (bytes : List ℕ) (e : FibFault) → length bytes ≤ n → figs_fault n place bytes ≡ Some e → DataFault place bytes e
+    (n place : ℕ) (bytes : List ℕ) (e : FibFault) → length bytes ≤ n → figs_fault n place bytes ≡ Some e
+    → DataFault place bytes e
 unfolding figs_fault
 figs_found n place [] e enough found =
     let none : figs_fault n place [] ≡ None = no_fault_in_nothing n place in absurd (cc)
@@ -211,7 +226,8 @@ past_fig n place (b ∷ bs) one rest f split fig =
     let len = at.len in
     let rem : b % 32 ≡ at.header % 32 = ap (λ x. x % 32) header in
     let far : place + 1 + b % 32 ≡ place + length one = omega arith in
-    ap (λ t. cond t None (or_else (fig_fault place b bs) (figs_fault n (place + 1 + b % 32) (drop (b % 32) bs)))) (ne_eqb b 255 no_marker)
+    ap (λ t. cond t None (or_else (fig_fault place b bs) (figs_fault n (place + 1 + b % 32) (drop (b % 32) bs))))
+    (ne_eqb b 255 no_marker)
     ∙ ap (λ x. or_else x (figs_fault n (place + 1 + b % 32) (drop (b % 32) bs))) fine
     ∙ ap (figs_fault n (place + 1 + b % 32)) left
     ∙ ap (λ p. figs_fault n p rest) far
@@ -223,7 +239,8 @@ record ComesTo (n place : ℕ) (bytes front rest : List ℕ) : Type 0 where
   pub same : figs_fault n place bytes ≡ figs_fault left (place + length front) rest
 
 past_figs :
-    (n place : ℕ) (bytes front rest : List ℕ) (fs : List Fig) → bytes ≡ front ++ rest → AreWhole front fs → length bytes ≤ n
+    (n place : ℕ) (bytes front rest : List ℕ) (fs : List Fig) → bytes ≡ front ++ rest → AreWhole front fs
+    → length bytes ≤ n
     → ComesTo n place bytes front rest
 past_figs n place bytes front rest [] split whole enough =
     let same : bytes ≡ rest = split ∙ ap (λ x. x ++ rest) whole in
@@ -249,7 +266,8 @@ past_figs (suc n) place bytes front rest (f ∷ fs) split whole enough =
     record {
       left = later.left;
       enough = later.enough;
-      same = past_fig n place bytes one (more ++ rest) f all whole.3 ∙ later.same ∙ ap (λ p. figs_fault later.left p rest) far;
+      same = past_fig n place bytes one (more ++ rest) f all whole.3 ∙ later.same
+          ∙ ap (λ p. figs_fault later.left p rest) far;
     }
 
 at_header :
@@ -258,26 +276,32 @@ at_header :
 unfolding figs_fault
 at_header zero place h rest e no_marker is enough = absurd (omega arith)
 at_header (suc n) place h rest e no_marker is enough =
-    ap (λ t. cond t None (or_else (fig_fault place h rest) (figs_fault n (place + 1 + h % 32) (drop (h % 32) rest)))) (ne_eqb h 255 no_marker)
+    ap (λ t. cond t None (or_else (fig_fault place h rest) (figs_fault n (place + 1 + h % 32) (drop (h % 32) rest))))
+    (ne_eqb h 255 no_marker)
     ∙ ap (λ x. or_else x (figs_fault n (place + 1 + h % 32) (drop (h % 32) rest))) is
 
 found_where_it_stands :
-    (bytes : List ℕ) (place h : ℕ) (rest : List ℕ) (e : FibFault) → LeadsToHeader bytes place h rest → fig_fault place h rest ≡ Some e
+    (bytes : List ℕ) (place h : ℕ) (rest : List ℕ) (e : FibFault) → LeadsToHeader bytes place h rest
+    → fig_fault place h rest ≡ Some e
     → figs_fault (length bytes) 0 bytes ≡ Some e
 found_where_it_stands bytes place h rest e stands is =
-    let comes = past_figs (length bytes) 0 bytes stands.front (h ∷ rest) stands.figs stands.split stands.whole (omega arith) in
+    let comes = past_figs (length bytes) 0 bytes stands.front (h ∷ rest) stands.figs stands.split stands.whole
+    (omega arith) in
     let here : 0 + length stands.front ≡ place = (let place_is = stands.place_is in omega arith) in
     comes.same ∙ ap (λ p. figs_fault comes.left p (h ∷ rest)) here
     ∙ at_header comes.left place h rest e stands.no_marker is comes.enough
 
 overrun_given : (place h : ℕ) (rest : List ℕ) → length rest < h % 32 → fig_fault place h rest ≡ Some (Overrun place)
 overrun_given place h rest few =
-    let inner : Option FibFault = cond (nat_lt 31 h) None (cond (h == 0) (Some (Entry place)) (cond (is_open (get_or rest 0 0))
-    (entry_at_fault (body_fault (get_or rest 0 0 % 32) (is_long (get_or rest 0 0)) (place + 2) (take (h - 1) (drop 1 rest)))) None)) in
+    let inner : Option FibFault =
+    cond (nat_lt 31 h) None (cond (h == 0) (Some (Entry place)) (cond (is_open (get_or rest 0 0))
+    (entry_at_fault (body_fault (get_or rest 0 0 % 32) (is_long (get_or rest 0 0)) (place + 2)
+    (take (h - 1) (drop 1 rest)))) None)) in
     ap (λ t. cond t (Some (Overrun place)) inner) (lt-ltb _ _ few)
 
 bare_given : (place : ℕ) (rest : List ℕ) → fig_fault place 0 rest ≡ Some (Entry place)
-bare_given place rest = ap (λ t. cond t (Some (Overrun place)) (Some (Entry place))) (le-ltb (length rest) 0 (omega arith))
+bare_given place rest = ap (λ t. cond t (Some (Overrun place)) (Some (Entry place)))
+    (le-ltb (length rest) 0 (omega arith))
 
 body_of_fig_given :
     (place second : ℕ) (body after : List ℕ) (within : ℕ) → length body < 31 → is_open second ≡ true
@@ -286,20 +310,26 @@ body_of_fig_given :
 body_of_fig_given place second body after within few is fault =
     let size : length (body ++ after) ≡ length body + length after = length-append body after in
     let one_less : 1 + length body - 1 ≡ length body = omega arith in
-    let cut : take (1 + length body - 1) (body ++ after) ≡ body = ap (λ n. take n (body ++ after)) one_less ∙ take-append_seam body after in
+    let cut : take (1 + length body - 1) (body ++ after) ≡ body =
+    ap (λ n. take n (body ++ after)) one_less ∙ take-append_seam body after in
     past_tests place (1 + length body) (second ∷ (body ++ after)) (omega arith) (omega arith) (omega arith)
-    ∙ ap (λ t. cond t (entry_at_fault (body_fault (second % 32) (is_long second) (place + 2) (take (1 + length body - 1) (body ++ after)))) None) is
+    ∙ ap (λ t. cond t (entry_at_fault
+    (body_fault (second % 32) (is_long second) (place + 2) (take (1 + length body - 1) (body ++ after)))) None) is
     ∙ ap (λ x. entry_at_fault (body_fault (second % 32) (is_long second) (place + 2) x)) cut
-    ∙ ap entry_at_fault (body_given (second % 32 == 0) (second % 32) (is_long second) (place + 2) body within refl fault)
+    ∙ ap entry_at_fault (body_given (second % 32 == 0) (second % 32) (is_long second) (place + 2) body within refl
+    fault)
 
 pub data_given : (bytes : List ℕ) (e : FibFault) → IsDataFault bytes e → figs_fault (length bytes) 0 bytes ≡ Some e
 data_given bytes Crc h = absurd h
-data_given bytes (Overrun place) h = found_where_it_stands bytes place h.0 h.1 (Overrun place) h.2 (overrun_given place h.0 h.1 h.3)
+data_given bytes (Overrun place) h =
+    found_where_it_stands bytes place h.0 h.1 (Overrun place) h.2 (overrun_given place h.0 h.1 h.3)
 data_given bytes (Entry place) h =
     elim h [
       | inl bare ↦ found_where_it_stands bytes place 0 bare.0 (Entry place) bare.1 (bare_given place bare.0)
-      | inr f ↦ found_where_it_stands bytes f.at (1 + length f.body) (f.second ∷ (f.body ++ f.after)) (Entry place) f.stands
-          (body_of_fig_given f.at f.second f.body f.after f.within f.short f.looked_into f.fault ∙ ap (λ n. Some (Entry n)) (sym f.place_is))
+      | inr f ↦ found_where_it_stands bytes f.at (1 + length f.body) (f.second ∷ (f.body ++ f.after)) (Entry place)
+          f.stands
+          (body_of_fig_given f.at f.second f.body f.after f.within f.short f.looked_into f.fault
+          ∙ ap (λ n. Some (Entry n)) (sym f.place_is))
     ]
 
 -- ---- the fault of 32 bytes
@@ -315,14 +345,16 @@ from_start (Overrun place) = let same : 0 + place ≡ place = omega arith in ap 
 from_start (Entry place) = let same : 0 + place ≡ place = omega arith in ap Entry same
 
 pub found_is_fault :
-    (bytes : List ℕ) (e : FibFault) → IsChecked bytes → figs_fault (length (take 30 bytes)) 0 (take 30 bytes) ≡ Some e → IsFibFault bytes e
+    (bytes : List ℕ) (e : FibFault) → IsChecked bytes → figs_fault (length (take 30 bytes)) 0 (take 30 bytes) ≡ Some e
+    → IsFibFault bytes e
 found_is_fault bytes e checked found =
     let one = figs_found (length (take 30 bytes)) 0 (take 30 bytes) e (omega arith) found in
     by_walk bytes e checked (subst (IsDataFault (take 30 bytes)) (sym (one.1 ∙ from_start one.0)) one.2)
 
 fault_is_found :
     (bytes : List ℕ) (e : FibFault) → IsFibFault bytes e
-    → ((e ≡ Crc) × (IsChecked bytes → ⊥)) ⊎ (IsChecked bytes × (figs_fault (length (take 30 bytes)) 0 (take 30 bytes) ≡ Some e))
+    → ((e ≡ Crc) × (IsChecked bytes → ⊥))
+    ⊎ (IsChecked bytes × (figs_fault (length (take 30 bytes)) 0 (take 30 bytes) ≡ Some e))
 fault_is_found bytes Crc h = inl (refl, h)
 fault_is_found bytes (Overrun place) h = inr (h.0, data_given (take 30 bytes) (Overrun place) h.1)
 fault_is_found bytes (Entry place) h = inr (h.0, data_given (take 30 bytes) (Entry place) h.1)
@@ -366,7 +398,10 @@ figs_or_fault :
     (bytes : List ℕ) (o : Option FibFault) → IsChecked bytes → figs_fault (length (take 30 bytes)) 0 (take 30 bytes) ≡ o
     → ((figs : List Fig) × IsFib bytes figs) ⊎ ((fault : FibFault) × IsFibFault bytes fault)
 figs_or_fault bytes None checked is =
-    inl (figs_of_bytes (take 30 bytes), (checked, (sound_figs (length (take 30 bytes)) 0 (take 30 bytes) (omega arith) is).1))
+    inl (
+      figs_of_bytes (take 30 bytes),
+      (checked, (sound_figs (length (take 30 bytes)) 0 (take 30 bytes) (omega arith) is).1),
+    )
 figs_or_fault bytes (Some e) checked is = inr (e, found_is_fault bytes e checked is)
 
 pub either : (bytes : List ℕ) → ((figs : List Fig) × IsFib bytes figs) ⊎ ((fault : FibFault) × IsFibFault bytes fault)

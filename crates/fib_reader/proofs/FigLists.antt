@@ -1,12 +1,16 @@
 -- The FIGs found by the walk are those of the grammar, and exist exactly if there is no fault.
-use Rattle.std.proofs.Common.{◌≡◌, ◌≢◌, ℕ, zero, suc, ◌+◌, ◌*◌, ◌/◌, ◌-◌, ◌%◌, ◌<◌, ◌≤◌, ◌==◌, ◌++◌, inl, inr, Bool, true, false, cond, nat_lt, List, [], ◌∷◌, length, get_or, take, drop, map, flat_map, Option, Some, None, refl, ap, sym, ◌∙◌, subst, lt-ltb, le-ltb, arith, length-drop}
+use Rattle.std.proofs.Common.{◌≡◌, ◌≢◌, ℕ, zero, suc, ◌+◌, ◌*◌, ◌/◌, ◌-◌, ◌%◌, ◌<◌, ◌≤◌, ◌==◌, ◌++◌, inl, inr, Bool}
+use Rattle.std.proofs.Common.{true, false, cond, nat_lt, List, [], ◌∷◌, length, get_or, take, drop, map, flat_map}
+use Rattle.std.proofs.Common.{Option, Some, None, refl, ap, sym, ◌∙◌, subst, lt-ltb, le-ltb, arith, length-drop}
 use Rattle.std.specs.Prelude.{◌&&◌}
 use Rattle.std.proofs.lemmas.Bool.{ltb-false, ltb-true, cases_lt, eq-eqb, ne_eqb, eqb-true, eqb-false}
 use Rattle.std.proofs.lemmas.List.{take-append-drop, length-take-le, length-append, append-nil}
 use Rattle.std.proofs.Math.Seq.{take-append_seam, drop-append_seam}
 use Rattle.std.specs.List.{AllByRecursion}
-use Rattle.fib_codec.specs.Grammar.{Fig, Open, Other, entry_len, ensemble_len, sub_len, packet_len, AreEntries, IsCounted, IsBody, IsOther, IsFig, AreFigs, is_open, is_long, fig_spelled}
-use Rattle.fib_reader.specs.FirstFault.{entries_fault, ensemble_fault, body_fault, entry_at_fault, fig_fault, figs_fault, or_else}
+use Rattle.fib_codec.specs.Grammar.{Fig, Open, Other, entry_len, ensemble_len, sub_len, packet_len, AreEntries}
+use Rattle.fib_codec.specs.Grammar.{IsCounted, IsBody, IsOther, IsFig, AreFigs, is_open, is_long, fig_spelled}
+use Rattle.fib_reader.specs.FirstFault.{entries_fault, ensemble_fault, body_fault, entry_at_fault, fig_fault}
+use Rattle.fib_reader.specs.FirstFault.{figs_fault, or_else}
 use Rattle.fib_reader.specs.declared.fault.FibFault.{FibFault}
 use Rattle.fib_reader.specs.declared.fault.FibFault.TheVariants.{Overrun, Entry}
 use Rattle.fib_reader.specs.Raw.{raw_of}
@@ -38,13 +42,15 @@ fig_of-looked_into :
     (h s : ℕ) (body : List ℕ) → h < 32 → is_open s ≡ true
     → fig_of_bytes (h ∷ s ∷ body) ≡ Open s (entries_of (s % 32) (is_long s) body)
 fig_of-looked_into h s body low is_so =
-    taken (nat_lt 1 (length (h ∷ s ∷ body))) (nat_lt h 32) (is_open s) (Open s (entries_of (s % 32) (is_long s) body)) (Other (h ∷ s ∷ body))
+    taken (nat_lt 1 (length (h ∷ s ∷ body))) (nat_lt h 32) (is_open s) (Open s (entries_of (s % 32) (is_long s) body))
+    (Other (h ∷ s ∷ body))
     (lt-ltb 1 (length (h ∷ s ∷ body)) (omega arith)) (lt-ltb h 32 low) is_so
 
 fig_of-other :
     (h s : ℕ) (body : List ℕ) → (nat_lt h 32 && is_open s) ≡ false → fig_of_bytes (h ∷ s ∷ body) ≡ Other (h ∷ s ∷ body)
 fig_of-other h s body not_open =
-    passed (nat_lt 1 (length (h ∷ s ∷ body))) (nat_lt h 32 && is_open s) (Open s (entries_of (s % 32) (is_long s) body)) (Other (h ∷ s ∷ body)) not_open
+    passed (nat_lt 1 (length (h ∷ s ∷ body))) (nat_lt h 32 && is_open s) (Open s (entries_of (s % 32) (is_long s) body))
+    (Other (h ∷ s ∷ body)) not_open
 
 same_other : (bytes : List ℕ) → IsOther bytes → fig_of_bytes bytes ≡ Other bytes
 same_other [] h = absurd h
@@ -91,7 +97,8 @@ enough_pieces (suc m) zero (b ∷ bs) p q = absurd (omega arith)
 enough_pieces (suc m) (suc n) [] p q = refl
 enough_pieces (suc m) (suc n) (b ∷ bs) p q =
     let fewer : length (drop (b % 32) bs) ≡ length bs - b % 32 = length-drop (b % 32) bs in
-    ap (λ ps. cond (b == 255) [] ((b ∷ take (b % 32) bs) ∷ ps)) (enough_pieces m n (drop (b % 32) bs) (omega arith) (omega arith))
+    ap (λ ps. cond (b == 255) [] ((b ∷ take (b % 32) bs) ∷ ps))
+    (enough_pieces m n (drop (b % 32) bs) (omega arith) (omega arith))
 
 pieces_of-cons :
     (h : ℕ) (bs : List ℕ)
@@ -135,14 +142,16 @@ same_figs bytes (f ∷ fs) h =
     ap (λ n. drop n (at.after ++ rest)) (sym at.len) ∙ drop-append_seam at.after rest in
     let one : fig_of_bytes (at.header ∷ take (at.header % 32) (at.after ++ rest)) ≡ f =
     ap (λ x. fig_of_bytes (at.header ∷ x)) cut ∙ ap fig_of_bytes (sym at.split) ∙ same_fig front f h.3 in
-    let more : figs_of_bytes (drop (at.header % 32) (at.after ++ rest)) ≡ fs = ap figs_of_bytes left ∙ same_figs rest fs h.4 in
+    let more : figs_of_bytes (drop (at.header % 32) (at.after ++ rest)) ≡ fs =
+    ap figs_of_bytes left ∙ same_figs rest fs h.4 in
     ap figs_of_bytes split ∙ ap (map fig_of_bytes) (first_piece at.header (at.after ++ rest) at.no_marker)
     ∙ ap (λ x. x ∷ figs_of_bytes (drop (at.header % 32) (at.after ++ rest))) one ∙ ap (λ x. f ∷ x) more
 
 -- ---- without a fault there are FIGs
 
 sound_ensemble :
-    (long : Bool) (place : ℕ) (bytes : List ℕ) → ensemble_fault place bytes ≡ None → IsBody 0 long bytes (entries_of 0 long bytes)
+    (long : Bool) (place : ℕ) (bytes : List ℕ) → ensemble_fault place bytes ≡ None
+    → IsBody 0 long bytes (entries_of 0 long bytes)
 sound_ensemble long place bytes none =
     let len : ℕ = ensemble_len bytes in
     let one = through (nat_lt (length bytes) len) place _ none in
@@ -166,10 +175,12 @@ sound_body true ext long place bytes is none =
     let zero_ext : ext ≡ 0 = eqb-true ext 0 is in
     let fine : ensemble_fault place bytes ≡ None =
     sym (ap (λ t. cond t (ensemble_fault place bytes) (entries_fault (length bytes) ext long place bytes)) is) ∙ none in
-    subst (λ (n : ℕ). IsBody n long bytes (entries_of n long bytes)) (sym zero_ext) (sound_ensemble long place bytes fine)
+    subst (λ (n : ℕ). IsBody n long bytes (entries_of n long bytes)) (sym zero_ext)
+    (sound_ensemble long place bytes fine)
 sound_body false ext long place bytes is none =
     let fine : entries_fault (length bytes) ext long place bytes ≡ None =
-    sym (ap (λ t. cond t (ensemble_fault place bytes) (entries_fault (length bytes) ext long place bytes)) is) ∙ none in (
+    sym (ap (λ t. cond t (ensemble_fault place bytes) (entries_fault (length bytes) ext long place bytes)) is)
+    ∙ none in (
       sound_entries (length bytes) ext long place bytes (omega arith) fine,
       λ zero_ext. absurd (eqb-false ext 0 is zero_ext),
     )
@@ -188,17 +199,24 @@ piece_low :
     (b : Bool) (place h s : ℕ) (body : List ℕ) → h ≤ 31 → h ≡ 1 + length body → is_open s ≡ b
     → (b ≡ true → body_fault (s % 32) (is_long s) (place + 2) body ≡ None) → IsWholeFig (h ∷ s ∷ body)
 piece_low true place h s body low len is fine =
-    subst (IsFig (h ∷ s ∷ body)) (sym (fig_of-looked_into h s body (omega arith) is))
-    (body, ap (λ n. n ∷ s ∷ body) len, omega arith, is, sound_body (s % 32 == 0) (s % 32) (is_long s) (place + 2) body refl (fine refl))
+    subst (IsFig (h ∷ s ∷ body)) (sym (fig_of-looked_into h s body (omega arith) is)) (
+      body,
+      ap (λ n. n ∷ s ∷ body) len,
+      omega arith,
+      is,
+      sound_body (s % 32 == 0) (s % 32) (is_long s) (place + 2) body refl (fine refl),
+    )
 piece_low false place h s body low len is fine =
-    let closed : (nat_lt h 32 && is_open s) ≡ false = and_right (nat_lt h 32) (is_open s) (lt-ltb h 32 (omega arith)) ∙ is in
+    let closed : (nat_lt h 32 && is_open s) ≡ false = and_right (nat_lt h 32) (is_open s) (lt-ltb h 32 (omega arith))
+    ∙ is in
     subst (IsFig (h ∷ s ∷ body)) (sym (fig_of-other h s body closed)) (refl, (omega arith, omega arith, closed))
 
 sound_low :
     (place h : ℕ) (bs : List ℕ) → h ≤ 31 → h % 32 ≤ length bs
     → cond (h == 0) (Some (Entry place))
     (cond (is_open (get_or bs 0 0))
-    (entry_at_fault (body_fault (get_or bs 0 0 % 32) (is_long (get_or bs 0 0)) (place + 2) (take (h - 1) (drop 1 bs)))) None) ≡ None
+    (entry_at_fault (body_fault (get_or bs 0 0 % 32) (is_long (get_or bs 0 0)) (place + 2) (take (h - 1) (drop 1 bs))))
+    None) ≡ None
     → IsWholeFig (h ∷ take (h % 32) bs)
 sound_low place h [] low fits none =
     let some = through (h == 0) (Entry place) _ none in
@@ -212,10 +230,12 @@ sound_low place h (s ∷ bs) low fits none =
     subst (λ (x : List ℕ). IsWholeFig (h ∷ x)) (sym cut)
     (piece_low (is_open s) place h s (take (h - 1) bs) low (omega arith) refl
     (λ is. no_entry_fault _
-    (sym (ap (λ t. cond t (entry_at_fault (body_fault (s % 32) (is_long s) (place + 2) (take (h - 1) bs))) None) is) ∙ some.1)))
+    (sym (ap (λ t. cond t (entry_at_fault (body_fault (s % 32) (is_long s) (place + 2) (take (h - 1) bs))) None) is)
+    ∙ some.1)))
 
 pub sound_fig :
-    (place h : ℕ) (bs : List ℕ) → h ≢ 255 → fig_fault place h bs ≡ None → (h % 32 ≤ length bs) × IsWholeFig (h ∷ take (h % 32) bs)
+    (place h : ℕ) (bs : List ℕ) → h ≢ 255 → fig_fault place h bs ≡ None → (h % 32 ≤ length bs)
+    × IsWholeFig (h ∷ take (h % 32) bs)
 sound_fig place h bs no_marker none =
     let one = through (nat_lt (length bs) (h % 32)) (Overrun place) _ none in
     let fits : h % 32 ≤ length bs = ltb-false _ _ one.0 in (
@@ -225,7 +245,8 @@ sound_fig place h bs no_marker none =
         | inr low ↦ sound_low place h bs low fits
             (sym (ap (λ t. cond t None (cond (h == 0) (Some (Entry place))
             (cond (is_open (get_or bs 0 0))
-            (entry_at_fault (body_fault (get_or bs 0 0 % 32) (is_long (get_or bs 0 0)) (place + 2) (take (h - 1) (drop 1 bs)))) None))) (le-ltb 31 h low)) ∙ one.1)
+            (entry_at_fault (body_fault (get_or bs 0 0 % 32) (is_long (get_or bs 0 0)) (place + 2)
+            (take (h - 1) (drop 1 bs)))) None))) (le-ltb 31 h low)) ∙ one.1)
       ],
     )
 
@@ -237,18 +258,21 @@ sound_at :
     (b : Bool) (n place h : ℕ) (bs : List ℕ) → (h == 255) ≡ b
     → cond b None (or_else (fig_fault place h bs) (figs_fault n (place + 1 + h % 32) (drop (h % 32) bs))) ≡ None
     → (figs_fault n (place + 1 + h % 32) (drop (h % 32) bs) ≡ None
-    → AllByRecursion IsWholeFig (pieces_of (drop (h % 32) bs)) × AreFigs (drop (h % 32) bs) (figs_of_bytes (drop (h % 32) bs)))
+    → AllByRecursion IsWholeFig (pieces_of (drop (h % 32) bs))
+    × AreFigs (drop (h % 32) bs) (figs_of_bytes (drop (h % 32) bs)))
     → AllByRecursion IsWholeFig (pieces_of (h ∷ bs)) × AreFigs (h ∷ bs) (figs_of_bytes (h ∷ bs))
 sound_at true n place h bs is none more =
     let marker : h ≡ 255 = eqb-true h 255 is in
-    subst (λ (ps : List (List ℕ)). AllByRecursion IsWholeFig ps × AreFigs (h ∷ bs) (map fig_of_bytes ps)) (sym (pieces_at_marker h bs marker))
+    subst (λ (ps : List (List ℕ)). AllByRecursion IsWholeFig ps × AreFigs (h ∷ bs) (map fig_of_bytes ps))
+    (sym (pieces_at_marker h bs marker))
     (tt, inr (bs, ap (λ x. x ∷ bs) marker))
 sound_at false n place h bs is none more =
     let no_marker : h ≢ 255 = eqb-false h 255 is in
     let both = no_first (fig_fault place h bs) _ none in
     let one = sound_fig place h bs no_marker both.0 in
     let rest = more both.1 in
-    subst (λ (ps : List (List ℕ)). AllByRecursion IsWholeFig ps × AreFigs (h ∷ bs) (map fig_of_bytes ps)) (sym (first_piece h bs no_marker)) (
+    subst (λ (ps : List (List ℕ)). AllByRecursion IsWholeFig ps × AreFigs (h ∷ bs) (map fig_of_bytes ps))
+    (sym (first_piece h bs no_marker)) (
       (one.1, rest.0),
       (h ∷ take (h % 32) bs, drop (h % 32) bs, ap (λ x. h ∷ x) (sym (take-append-drop (h % 32) bs)), one.1, rest.1),
     )
@@ -258,7 +282,8 @@ pub sound_figs :
     → AllByRecursion IsWholeFig (pieces_of bytes) × AreFigs bytes (figs_of_bytes bytes)
 unfolding figs_fault
 sound_figs n place [] enough none =
-    subst (λ (ps : List (List ℕ)). AllByRecursion IsWholeFig ps × AreFigs [] (map fig_of_bytes ps)) (sym no_pieces) (tt, inl refl)
+    subst (λ (ps : List (List ℕ)). AllByRecursion IsWholeFig ps × AreFigs [] (map fig_of_bytes ps)) (sym no_pieces)
+    (tt, inl refl)
 sound_figs zero place (h ∷ bs) enough none = absurd (omega arith)
 sound_figs (suc n) place (h ∷ bs) enough none =
     let fewer : length (drop (h % 32) bs) ≡ length bs - h % 32 = length-drop (h % 32) bs in
@@ -276,15 +301,20 @@ complete_ensemble long place bytes es are e one counted =
     let len : ℕ = ensemble_len bytes in
     let size : length bytes ≡ len = ap length same ∙ both.2 ∙ ap (entry_len 0 long) (sym same) in
     let high : get_or bytes 2 0 % 32 ≤ 19 =
-    (let there = counted.0 in let moved : get_or bytes 2 0 ≡ get_or e 2 0 = ap (λ x. get_or x 2 0) same in omega arith) in
+    (let there = counted.0 in let moved : get_or bytes 2 0 ≡ get_or e 2 0 = ap (λ x. get_or x 2 0) same in
+    omega arith) in
     let low : get_or bytes 3 0 ≤ 249 =
-    (let there = counted.1 in let moved : get_or bytes 3 0 ≡ get_or e 3 0 = ap (λ x. get_or x 3 0) same in omega arith) in
+    (let there = counted.1 in let moved : get_or bytes 3 0 ≡ get_or e 3 0 = ap (λ x. get_or x 3 0) same in
+    omega arith) in
     ap (λ t. cond t (Some place) (cond (nat_lt 19 (get_or bytes 2 0 % 32)) (Some place)
     (cond (nat_lt 249 (get_or bytes 3 0)) (Some place) (cond (nat_lt len (length bytes)) (Some (place + len)) None))))
     (le-ltb (length bytes) len (omega arith))
-    ∙ ap (λ t. cond t (Some place) (cond (nat_lt 249 (get_or bytes 3 0)) (Some place) (cond (nat_lt len (length bytes)) (Some (place + len)) None)))
+    ∙ ap (λ t. cond t (Some place)
+    (cond (nat_lt 249 (get_or bytes 3 0)) (Some place)
+    (cond (nat_lt len (length bytes)) (Some (place + len)) None)))
     (le-ltb 19 (get_or bytes 2 0 % 32) high)
-    ∙ ap (λ t. cond t (Some place) (cond (nat_lt len (length bytes)) (Some (place + len)) None)) (le-ltb 249 (get_or bytes 3 0) low)
+    ∙ ap (λ t. cond t (Some place) (cond (nat_lt len (length bytes)) (Some (place + len)) None))
+    (le-ltb 249 (get_or bytes 3 0) low)
     ∙ ap (λ t. cond t (Some (place + len)) None) (le-ltb len (length bytes) (omega arith))
 
 complete_body :
@@ -294,7 +324,8 @@ complete_body true ext long place bytes es is body =
     let zero_ext : ext ≡ 0 = eqb-true ext 0 is in
     let alone = body.1 zero_ext in
     ap (λ t. cond t (ensemble_fault place bytes) (entries_fault (length bytes) ext long place bytes)) is
-    ∙ complete_ensemble long place bytes es (subst (λ (n : ℕ). AreEntries n long bytes es) zero_ext body.0) alone.0 alone.1 alone.2
+    ∙ complete_ensemble long place bytes es (subst (λ (n : ℕ). AreEntries n long bytes es) zero_ext body.0) alone.0
+    alone.1 alone.2
 complete_body false ext long place bytes es is body =
     ap (λ t. cond t (ensemble_fault place bytes) (entries_fault (length bytes) ext long place bytes)) is
     ∙ complete_entries (length bytes) ext long place bytes es body.0
@@ -304,11 +335,14 @@ pub past_tests :
     (place h : ℕ) (bs : List ℕ) → h % 32 ≤ length bs → h ≤ 31 → h ≢ 0
     → fig_fault place h bs
     ≡ cond (is_open (get_or bs 0 0))
-    (entry_at_fault (body_fault (get_or bs 0 0 % 32) (is_long (get_or bs 0 0)) (place + 2) (take (h - 1) (drop 1 bs)))) None
+    (entry_at_fault (body_fault (get_or bs 0 0 % 32) (is_long (get_or bs 0 0)) (place + 2) (take (h - 1) (drop 1 bs))))
+    None
 past_tests place h bs fits low positive =
     let inner : Option FibFault = cond (is_open (get_or bs 0 0))
-    (entry_at_fault (body_fault (get_or bs 0 0 % 32) (is_long (get_or bs 0 0)) (place + 2) (take (h - 1) (drop 1 bs)))) None in
-    ap (λ t. cond t (Some (Overrun place)) (cond (nat_lt 31 h) None (cond (h == 0) (Some (Entry place)) inner))) (le-ltb _ _ fits)
+    (entry_at_fault (body_fault (get_or bs 0 0 % 32) (is_long (get_or bs 0 0)) (place + 2) (take (h - 1) (drop 1 bs))))
+    None in
+    ap (λ t. cond t (Some (Overrun place)) (cond (nat_lt 31 h) None (cond (h == 0) (Some (Entry place)) inner)))
+    (le-ltb _ _ fits)
     ∙ ap (λ t. cond t None (cond (h == 0) (Some (Entry place)) inner)) (le-ltb _ _ low)
     ∙ ap (λ t. cond t (Some (Entry place)) inner) (ne_eqb _ _ positive)
 
@@ -316,7 +350,8 @@ not_looked_into :
     (place h : ℕ) (bs : List ℕ) → h % 32 ≤ length bs → 31 < h → fig_fault place h bs ≡ None
 not_looked_into place h bs fits high =
     let inner : Option FibFault = cond (h == 0) (Some (Entry place)) (cond (is_open (get_or bs 0 0))
-    (entry_at_fault (body_fault (get_or bs 0 0 % 32) (is_long (get_or bs 0 0)) (place + 2) (take (h - 1) (drop 1 bs)))) None) in
+    (entry_at_fault (body_fault (get_or bs 0 0 % 32) (is_long (get_or bs 0 0)) (place + 2) (take (h - 1) (drop 1 bs))))
+    None) in
     ap (λ t. cond t (Some (Overrun place)) (cond (nat_lt 31 h) None inner)) (le-ltb _ _ fits)
     ∙ ap (λ t. cond t None inner) (lt-ltb _ _ high)
 
@@ -326,9 +361,11 @@ complete_open :
 complete_open place second body rest es few is fine =
     let size : length (body ++ rest) ≡ length body + length rest = length-append body rest in
     let one_less : 1 + length body - 1 ≡ length body = omega arith in
-    let cut : take (1 + length body - 1) (body ++ rest) ≡ body = ap (λ n. take n (body ++ rest)) one_less ∙ take-append_seam body rest in
+    let cut : take (1 + length body - 1) (body ++ rest) ≡ body =
+    ap (λ n. take n (body ++ rest)) one_less ∙ take-append_seam body rest in
     past_tests place (1 + length body) (second ∷ (body ++ rest)) (omega arith) (omega arith) (omega arith)
-    ∙ ap (λ t. cond t (entry_at_fault (body_fault (second % 32) (is_long second) (place + 2) (take (1 + length body - 1) (body ++ rest)))) None) is
+    ∙ ap (λ t. cond t (entry_at_fault
+    (body_fault (second % 32) (is_long second) (place + 2) (take (1 + length body - 1) (body ++ rest)))) None) is
     ∙ ap (λ x. entry_at_fault (body_fault (second % 32) (is_long second) (place + 2) x)) cut
     ∙ ap entry_at_fault (complete_body (second % 32 == 0) (second % 32) (is_long second) (place + 2) body es refl fine)
 
@@ -343,9 +380,11 @@ complete_other place h (s ∷ body) rest other =
     elim (cases_lt 31 h) [
       | inl high ↦ not_looked_into place h (s ∷ (body ++ rest)) (omega arith) high
       | inr low ↦
-          let closed : is_open s ≡ false = sym (and_right (nat_lt h 32) (is_open s) (lt-ltb h 32 (omega arith))) ∙ other.2 in
+          let closed : is_open s ≡ false = sym (and_right (nat_lt h 32) (is_open s) (lt-ltb h 32 (omega arith)))
+          ∙ other.2 in
           past_tests place h (s ∷ (body ++ rest)) (omega arith) low (omega arith)
-          ∙ ap (λ t. cond t (entry_at_fault (body_fault (s % 32) (is_long s) (place + 2) (take (h - 1) (body ++ rest)))) None) closed
+          ∙ ap (λ t. cond t (entry_at_fault (body_fault (s % 32) (is_long s) (place + 2) (take (h - 1) (body ++ rest))))
+          None) closed
     ]
 
 pub complete_fig :
@@ -371,7 +410,8 @@ complete_figs (suc n) place (b ∷ bs) [] h =
       | inr marked ↦
           let same : b ∷ bs ≡ 255 ∷ marked.0 = marked.1 in
           let marker : b ≡ 255 = (cc) in
-          ap (λ t. cond t None (or_else (fig_fault place b bs) (figs_fault n (place + 1 + b % 32) (drop (b % 32) bs)))) (eq-eqb b 255 marker)
+          ap (λ t. cond t None (or_else (fig_fault place b bs) (figs_fault n (place + 1 + b % 32) (drop (b % 32) bs))))
+          (eq-eqb b 255 marker)
     ]
 complete_figs (suc n) place (b ∷ bs) (f ∷ fs) h =
     let rest : List ℕ = h.1 in
@@ -386,7 +426,8 @@ complete_figs (suc n) place (b ∷ bs) (f ∷ fs) h =
     let left : drop (b % 32) bs ≡ rest =
     ap (λ x. drop (x % 32) bs) header ∙ ap (drop (at.header % 32)) others
     ∙ ap (λ k. drop k (at.after ++ rest)) (sym at.len) ∙ drop-append_seam at.after rest in
-    ap (λ t. cond t None (or_else (fig_fault place b bs) (figs_fault n (place + 1 + b % 32) (drop (b % 32) bs)))) (ne_eqb b 255 no_marker)
+    ap (λ t. cond t None (or_else (fig_fault place b bs) (figs_fault n (place + 1 + b % 32) (drop (b % 32) bs))))
+    (ne_eqb b 255 no_marker)
     ∙ ap (λ x. or_else x (figs_fault n (place + 1 + b % 32) (drop (b % 32) bs))) fine
     ∙ ap (figs_fault n (place + 1 + b % 32)) left
     ∙ complete_figs n (place + 1 + b % 32) rest fs h.4
@@ -394,7 +435,8 @@ complete_figs (suc n) place (b ∷ bs) (f ∷ fs) h =
 -- ---- what one FIG of the walk is
 
 spelled_entries :
-    (ext : ℕ) (long : Bool) (bytes : List ℕ) (es : List (List ℕ)) → AreEntries ext long bytes es → bytes ≡ flat_map (λ e. e) es
+    (ext : ℕ) (long : Bool) (bytes : List ℕ) (es : List (List ℕ)) → AreEntries ext long bytes es
+    → bytes ≡ flat_map (λ e. e) es
 spelled_entries ext long bytes [] h = h
 spelled_entries ext long bytes (e ∷ es) h = h.1 ∙ ap (λ x. e ++ x) (spelled_entries ext long h.0 es h.3)
 
@@ -412,7 +454,8 @@ flag_counts false true c long x y p q z = refl
 flag_counts false false true long x y p q z = refl
 flag_counts false false false long x y p q z = refl
 
-entry_len-flag : (ext : ℕ) (long : Bool) (bytes : List ℕ) → entry_len ext long bytes ≡ entry_len ext (ext == 2 && long) bytes
+entry_len-flag : (ext : ℕ) (long : Bool) (bytes : List ℕ)
+    → entry_len ext long bytes ≡ entry_len ext (ext == 2 && long) bytes
 entry_len-flag ext long bytes =
     flag_counts (ext == 0) (ext == 1) (ext == 2) long (ensemble_len bytes) (sub_len bytes)
     (5 + 2 * (get_or bytes 4 0 % 16)) (3 + 2 * (get_or bytes 2 0 % 16)) (packet_len bytes)
@@ -439,7 +482,8 @@ pub raw_fig :
     (bytes : List ℕ) (second : ℕ) (es : List (List ℕ)) → IsFig bytes (Open second es)
     → AreRaw (map (raw_of (second % 32) (is_long second)) es)
 raw_fig bytes second es h =
-    let low : second % 32 < 4 = ltb-true (second % 32) 4 (and_true_right (second / 64 % 2 == 0) (nat_lt (second % 32) 4) h.3) in
+    let low : second % 32 < 4 =
+    ltb-true (second % 32) 4 (and_true_right (second / 64 % 2 == 0) (nat_lt (second % 32) 4) h.3) in
     raw_each (second % 32) (is_long second) h.0 es low h.4.0
     (λ zero_ext.
     let alone = h.4.1 zero_ext in
@@ -467,7 +511,8 @@ first_of_pieces (b ∷ bs) some no_marker =
 -- ---- a checked FIB
 
 pub no_fault_twice :
-    (n place : ℕ) (bytes : List ℕ) (fs : List Fig) (e : FibFault) → AreFigs bytes fs → figs_fault n place bytes ≡ Some e → ⊥
+    (n place : ℕ) (bytes : List ℕ) (fs : List Fig) (e : FibFault) → AreFigs bytes fs → figs_fault n place bytes ≡ Some e
+    → ⊥
 no_fault_twice n place bytes fs e are found =
     let none : figs_fault n place bytes ≡ None = complete_figs n place bytes fs are in
     absurd (cc)

@@ -1,5 +1,6 @@
 -- A pass over FIGs predicts that they contain nothing new, or that there is room for it.
-use Rattle.std.proofs.Common.{◌≡◌, ◌≢◌, ℕ, suc, ◌+◌, ◌<◌, ◌≤◌, ◌==◌, Bool, true, false, cond, nat_lt, List, [], ◌∷◌, length, Option, Some, None, refl, ap, sym, ◌∙◌, subst, arith}
+use Rattle.std.proofs.Common.{◌≡◌, ◌≢◌, ℕ, suc, ◌+◌, ◌<◌, ◌≤◌, ◌==◌, Bool, true, false, cond, nat_lt, List, [], ◌∷◌}
+use Rattle.std.proofs.Common.{length, Option, Some, None, refl, ap, sym, ◌∙◌, subst, arith}
 use Rattle.std.specs.Prelude.{◌||◌, IfSome}
 use Rattle.std.proofs.lemmas.Bool.{eq-eqb, ne_eqb, eqb-true, or_right}
 use Rattle.std.proofs.lemmas.List.{length-map}
@@ -9,7 +10,9 @@ use Rattle.mux_config.proofs.Keeping.{length_with}
 use Rattle.fib_codec.specs.Grammar.{Fig, Open, Other, is_next}
 use Rattle.fib_codec.specs.declared.head.Head.{Head}
 use Rattle.fib_reader.specs.Raw.{Raw, entries_in, head_in, ensemble_in}
-use Rattle.fib_reader.specs.Listening.{Pictured, Listening, identifier_of, is_known, kept, has_room, pictured, swapped, awaiting, at_ensemble, into, picture_of, hear_entry, hear_entries, hear_fig, where_heard}
+use Rattle.fib_reader.specs.Listening.{Pictured, Listening, identifier_of, is_known, kept, has_room, pictured, swapped}
+use Rattle.fib_reader.specs.Listening.{awaiting, at_ensemble, into, picture_of, hear_entry, hear_entries, hear_fig}
+use Rattle.fib_reader.specs.Listening.{where_heard}
 use Rattle.fib_reader.specs.Forecast.{IsKnownTo, HasGrown, HasGrownBy, LeavesRoom}
 use Rattle.fib_reader.proofs.Keeping.{room_for_known, room_for_new}
 
@@ -19,19 +22,23 @@ or_cases : (a b c : Bool) → (a || b) ≡ true → (b ≡ true → c ≡ true) 
 or_cases true b c h f = refl
 or_cases false b c h f = f h
 
-known_added : (k : ℕ) (raw : Raw) (raws : List Raw) → has_entry identifier_of k raws ≡ true → has_entry identifier_of k (with_entry identifier_of raw raws) ≡ true
+known_added : (k : ℕ) (raw : Raw) (raws : List Raw) → has_entry identifier_of k raws ≡ true
+    → has_entry identifier_of k (with_entry identifier_of raw raws) ≡ true
 known_added k raw [] known = absurd (cc)
 known_added k raw (x ∷ xs) known =
-    elim (nat_lt (identifier_of raw) (identifier_of x)) as (λ b. has_entry identifier_of k (cond b (raw ∷ x ∷ xs) (x ∷ with_entry identifier_of raw xs)) ≡ true) [
+    elim (nat_lt (identifier_of raw) (identifier_of x))
+    as (λ b. has_entry identifier_of k (cond b (raw ∷ x ∷ xs) (x ∷ with_entry identifier_of raw xs)) ≡ true) [
       | true ↦ or_right (identifier_of raw == k) _ known
       | false ↦ or_cases (identifier_of x == k) (has_entry identifier_of k xs) _ known (known_added k raw xs)
     ]
 
-same_identifier : (b : Bool) (raw x : Raw) → (identifier_of x == identifier_of raw) ≡ b → identifier_of (cond b raw x) ≡ identifier_of x
+same_identifier : (b : Bool) (raw x : Raw) → (identifier_of x == identifier_of raw) ≡ b
+    → identifier_of (cond b raw x) ≡ identifier_of x
 same_identifier true raw x is = sym (eqb-true (identifier_of x) (identifier_of raw) is)
 same_identifier false raw x is = refl
 
-known_changed : (k : ℕ) (raw : Raw) (raws : List Raw) → has_entry identifier_of k (with_entry_changed identifier_of raw raws) ≡ has_entry identifier_of k raws
+known_changed : (k : ℕ) (raw : Raw) (raws : List Raw) → has_entry identifier_of k
+    (with_entry_changed identifier_of raw raws) ≡ has_entry identifier_of k raws
 known_changed k raw [] = refl
 known_changed k raw (x ∷ xs) =
     ap (λ n. (n == k) || has_entry identifier_of k (with_entry_changed identifier_of raw xs))
@@ -40,7 +47,8 @@ known_changed k raw (x ∷ xs) =
 
 known_kept : (x raw : Raw) (raws : List Raw) → is_known x raws ≡ true → is_known x (kept raw raws) ≡ true
 known_kept x raw raws known =
-    elim (is_known raw raws) as (λ b. has_entry identifier_of (identifier_of x) (cond b (with_entry_changed identifier_of raw raws) (with_entry identifier_of raw raws)) ≡ true) [
+    elim (is_known raw raws) as (λ b. has_entry identifier_of (identifier_of x)
+    (cond b (with_entry_changed identifier_of raw raws) (with_entry identifier_of raw raws)) ≡ true) [
       | true ↦ known_changed (identifier_of x) raw raws ∙ known
       | false ↦ known_added (identifier_of x) raw raws known
     ]
@@ -48,21 +56,26 @@ known_kept x raw raws known =
 length_changed : (raw : Raw) (raws : List Raw) → length (with_entry_changed identifier_of raw raws) ≡ length raws
 length_changed raw raws = length-map raws (λ x. cond (identifier_of x == identifier_of raw) raw x)
 
-length_kept : (b : Bool) (raw : Raw) (raws : List Raw) → is_known raw raws ≡ b → length (kept raw raws) ≡ cond b (length raws) (suc (length raws))
+length_kept : (b : Bool) (raw : Raw) (raws : List Raw) → is_known raw raws ≡ b
+    → length (kept raw raws) ≡ cond b (length raws) (suc (length raws))
 length_kept true raw raws is =
-    ap (λ t. length (cond t (with_entry_changed identifier_of raw raws) (with_entry identifier_of raw raws))) is ∙ length_changed raw raws
+    ap (λ t. length (cond t (with_entry_changed identifier_of raw raws) (with_entry identifier_of raw raws))) is
+    ∙ length_changed raw raws
 length_kept false raw raws is =
-    ap (λ t. length (cond t (with_entry_changed identifier_of raw raws) (with_entry identifier_of raw raws))) is ∙ length_with identifier_of raw raws
+    ap (λ t. length (cond t (with_entry_changed identifier_of raw raws) (with_entry identifier_of raw raws))) is
+    ∙ length_with identifier_of raw raws
 
 -- ---- one entry
 
 -- the number of new entries with this one, after others
 abbrev pub CountsNew : List Raw → Raw → ℕ → ℕ → Type 0
 CountsNew old raw others all =
-    (is_known raw old ≡ true → all ≡ others) × (is_known raw old ≡ false → (all ≡ others + 1) × (length old + others < 64))
+    (is_known raw old ≡ true → all ≡ others)
+    × (is_known raw old ≡ false → (all ≡ others + 1) × (length old + others < 64))
 
 shelf_takes :
-    (b c : Bool) (raw : Raw) (old new : List Raw) (others all : ℕ) → is_known raw old ≡ b → is_known raw new ≡ c → HasGrown others old new
+    (b c : Bool) (raw : Raw) (old new : List Raw) (others all : ℕ) → is_known raw old ≡ b → is_known raw new ≡ c
+    → HasGrown others old new
     → CountsNew old raw others all → (has_room raw new ≡ true) × HasGrown all old (kept raw new) × (others ≤ all)
 shelf_takes true true raw old new others all is is_new grown counts =
     let same : all ≡ others = counts.0 is in
@@ -79,7 +92,8 @@ shelf_takes false c raw old new others all is is_new grown counts =
     let more : all ≡ others + 1 = one.0 in
     let room : length old + others < 64 = one.1 in
     let few = grown.few in
-    let size : length (kept raw new) ≤ length new + 1 = at_most c (length new) (length (kept raw new)) (length_kept c raw new is_new) in (
+    let size : length (kept raw new) ≤ length new + 1 =
+    at_most c (length new) (length (kept raw new)) (length_kept c raw new is_new) in (
       room_for_new raw new (omega arith),
       record { few = omega arith; known = λ x known. known_kept x raw new (grown.known x known) },
       omega arith,
@@ -94,7 +108,10 @@ grown_more n m old new le h = let few = h.few in record { few = omega arith; kno
 
 grown_by_more : (n m : ℕ) (old new : Pictured) → n ≤ m → HasGrownBy n old new → HasGrownBy m old new
 grown_by_more n m old new le h =
-    record { services = grown_more n m old.services new.services le h.services; packets = grown_more n m old.packets new.packets le h.packets }
+    record {
+      services = grown_more n m old.services new.services le h.services;
+      packets = grown_more n m old.packets new.packets le h.packets;
+    }
 
 -- what is predicted for an entry of a picture
 abbrev pub Takes : Pictured → Raw → ℕ → ℕ → Type 0
@@ -112,15 +129,18 @@ takes_sub old raw others is p grown = (
   omega arith,
 )
 
-takes_service : (old : Pictured) (raw : Raw) (others all : ℕ) → raw.ext ≡ 2 → CountsNew old.services raw others all → Takes old raw others all
+takes_service : (old : Pictured) (raw : Raw) (others all : ℕ) → raw.ext ≡ 2 → CountsNew old.services raw others all
+    → Takes old raw others all
 takes_service old raw others all is counts p grown =
-    let one = shelf_takes (is_known raw old.services) (is_known raw p.services) raw old.services p.services others all refl refl grown.services counts in
+    let one = shelf_takes (is_known raw old.services) (is_known raw p.services) raw old.services p.services others all
+    refl refl grown.services counts in
     let q : Pictured = record p { services = kept raw p.services } in
     let other : raw.ext ≢ 1 = λ e. omega arith in (
       q,
       ap (λ b. cond b (Some (record p { subs = kept raw p.subs }))
           (cond (raw.ext == 2) (cond (has_room raw p.services) (Some q) None)
-          (cond (has_room raw p.packets) (Some (record p { packets = kept raw p.packets })) None))) (ne_eqb raw.ext 1 other)
+          (cond (has_room raw p.packets) (Some (record p { packets = kept raw p.packets })) None)))
+          (ne_eqb raw.ext 1 other)
           ∙ ap (λ b. cond b (cond (has_room raw p.services) (Some q) None)
           (cond (has_room raw p.packets) (Some (record p { packets = kept raw p.packets })) None)) (eq-eqb raw.ext 2 is)
           ∙ ap (λ b. cond b (Some q) None) one.0,
@@ -128,13 +148,16 @@ takes_service old raw others all is counts p grown =
       one.2,
     )
 
-takes_packet : (old : Pictured) (raw : Raw) (others all : ℕ) → raw.ext ≢ 1 → raw.ext ≢ 2 → CountsNew old.packets raw others all → Takes old raw others all
+takes_packet : (old : Pictured) (raw : Raw) (others all : ℕ) → raw.ext ≢ 1 → raw.ext ≢ 2
+    → CountsNew old.packets raw others all → Takes old raw others all
 takes_packet old raw others all one_not two_not counts p grown =
-    let one = shelf_takes (is_known raw old.packets) (is_known raw p.packets) raw old.packets p.packets others all refl refl grown.packets counts in
+    let one = shelf_takes (is_known raw old.packets) (is_known raw p.packets) raw old.packets p.packets others all refl
+    refl grown.packets counts in
     let q : Pictured = record p { packets = kept raw p.packets } in (
       q,
       ap (λ b. cond b (Some (record p { subs = kept raw p.subs }))
-          (cond (raw.ext == 2) (cond (has_room raw p.services) (Some (record p { services = kept raw p.services })) None)
+          (cond (raw.ext == 2) (cond (has_room raw p.services) (Some (record p { services = kept raw p.services }))
+          None)
           (cond (has_room raw p.packets) (Some q) None))) (ne_eqb raw.ext 1 one_not)
           ∙ ap (λ b. cond b (cond (has_room raw p.services) (Some (record p { services = kept raw p.services })) None)
           (cond (has_room raw p.packets) (Some q) None)) (ne_eqb raw.ext 2 two_not)
@@ -164,7 +187,8 @@ takes_if_packet old raw others (Some all) is not known new = takes_packet old ra
 tuned_again : (l : Listening) → l.tuned ≡ true → record l { tuned = true } ≡ l
 tuned_again l tuned = rw (← tuned) refl
 
-awaits_again : (b : Bool) (e : EnsembleInformation) (l : Listening) → (e.change == 0) ≡ b → ((e.change == 0) ≡ false → e.occurrence ≡ l.awaited)
+awaits_again : (b : Bool) (e : EnsembleInformation) (l : Listening) → (e.change == 0) ≡ b
+    → ((e.change == 0) ≡ false → e.occurrence ≡ l.awaited)
     → cond b l (record l { awaited = e.occurrence }) ≡ l
 awaits_again true e l is awaits = refl
 awaits_again false e l is awaits = rw (awaits is) refl
@@ -177,12 +201,15 @@ stays l e h =
 
 -- ---- an entry, heard
 
-heard_tuned : (next : Bool) (raw : Raw) (l : Listening) → raw.ext ≢ 0 → l.tuned ≡ true → hear_entry next raw l ≡ into next l (pictured raw (picture_of next l))
+heard_tuned : (next : Bool) (raw : Raw) (l : Listening) → raw.ext ≢ 0 → l.tuned ≡ true
+    → hear_entry next raw l ≡ into next l (pictured raw (picture_of next l))
 heard_tuned next raw l other tuned =
-    ap (λ b. cond b (Some (at_ensemble (ensemble_in raw) l)) (cond l.tuned (into next l (pictured raw (picture_of next l))) (Some l))) (ne_eqb raw.ext 0 other)
+    ap (λ b. cond b (Some (at_ensemble (ensemble_in raw) l))
+    (cond l.tuned (into next l (pictured raw (picture_of next l))) (Some l))) (ne_eqb raw.ext 0 other)
     ∙ ap (λ b. cond b (into next l (pictured raw (picture_of next l))) (Some l)) tuned
 
-pub known_next : (raw : Raw) (l : Listening) → raw.ext ≢ 0 → l.tuned ≡ true → pictured raw l.next ≡ Some l.next → hear_entry true raw l ≡ Some l
+pub known_next : (raw : Raw) (l : Listening) → raw.ext ≢ 0 → l.tuned ≡ true → pictured raw l.next ≡ Some l.next
+    → hear_entry true raw l ≡ Some l
 known_next raw l other tuned is = heard_tuned true raw l other tuned ∙ ap (into true l) is
 
 leaves_next :
@@ -216,13 +243,15 @@ leaves_current old others all raw other tuned takes l grown =
     )
 
 pub leaves_if_next :
-    (old : Listening) (others : ℕ) (raw : Raw) (o : Option ℕ) → raw.ext ≢ 0 → old.tuned ≡ true → IfSome o (Takes old.next raw others)
+    (old : Listening) (others : ℕ) (raw : Raw) (o : Option ℕ) → raw.ext ≢ 0 → old.tuned ≡ true
+    → IfSome o (Takes old.next raw others)
     → IfSome o (λ all. LeavesRoom old others all (hear_entry true raw))
 leaves_if_next old others raw None other tuned takes = tt
 leaves_if_next old others raw (Some all) other tuned takes = leaves_next old others all raw other tuned takes
 
 pub leaves_if_current :
-    (old : Listening) (others : ℕ) (raw : Raw) (o : Option ℕ) → raw.ext ≢ 0 → old.tuned ≡ true → IfSome o (Takes old.current raw others)
+    (old : Listening) (others : ℕ) (raw : Raw) (o : Option ℕ) → raw.ext ≢ 0 → old.tuned ≡ true
+    → IfSome o (Takes old.current raw others)
     → IfSome o (λ all. LeavesRoom old others all (hear_entry false raw))
 leaves_if_current old others raw None other tuned takes = tt
 leaves_if_current old others raw (Some all) other tuned takes = leaves_current old others all raw other tuned takes
@@ -256,7 +285,8 @@ never_full old all hear leaves none =
     absurd (cc)
 
 pub leaves_fig :
-    (old : Listening) (few many : ℕ) (f : Fig) (h : Head) → head_in f ≡ Some h → LeavesRoom old few many (hear_entries h.next (entries_in f))
+    (old : Listening) (few many : ℕ) (f : Fig) (h : Head) → head_in f ≡ Some h
+    → LeavesRoom old few many (hear_entries h.next (entries_in f))
     → LeavesRoom old few many (hear_fig f)
 leaves_fig old few many (Open second es) h is leaves =
     let same : is_next second ≡ h.next = next_of _ h is in

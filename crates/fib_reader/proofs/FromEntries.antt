@@ -1,5 +1,6 @@
 -- The entries that describe members of a configuration.
-use Rattle.std.proofs.Common.{◌≡◌, ℕ, zero, suc, ◌<◌, ◌≤◌, Bool, true, false, List, [], ◌∷◌, length, map, take, get_or, refl, ap, sym, ◌∙◌, subst, arith}
+use Rattle.std.proofs.Common.{◌≡◌, ℕ, zero, suc, ◌<◌, ◌≤◌, Bool, true, false, List, [], ◌∷◌, length, map, take, get_or}
+use Rattle.std.proofs.Common.{refl, ap, sym, ◌∙◌, subst, arith}
 use Rattle.std.proofs.lemmas.List.{length-map}
 use Rattle.mux_eep.specs.declared.sizes.EepSet.{EepSet}
 use Rattle.mux_eep.specs.declared.sizes.EepSet.TheVariants.{A, B}
@@ -11,7 +12,8 @@ use Rattle.mux_types.specs.declared.parts.Component.TheVariants.{Sound, Stream, 
 use Rattle.mux_types.specs.declared.entry.Entry.{Entry}
 use Rattle.mux_types.specs.declared.numbers.Sid.{Sid}
 use Rattle.mux_types.specs.declared.numbers.Sid.TheVariants.{Short, Long}
-use Rattle.mux_config.specs.Configuration.{IsAscending, IsPlaced, IsService, IsAddressed, IsComponent, IsSid, sub_key, sid_key, service_key, packet_key, component_limit}
+use Rattle.mux_config.specs.Configuration.{IsAscending, IsPlaced, IsService, IsAddressed, IsComponent, IsSid, sub_key}
+use Rattle.mux_config.specs.Configuration.{sid_key, service_key, packet_key, component_limit}
 use Rattle.std.specs.List.{AllByRecursion}
 use Rattle.mux_types.specs.Facts.{sub_entry, service_entry, packet_entry, component_entry, component_entries, option_of}
 use Rattle.fib_codec.specs.Ranges.{IsWithin, IsComponentEntry}
@@ -29,7 +31,13 @@ sub_within s h =
     let named = h.named in
     let ends = h.ends in
     let four = h.to_four in
-    record { id = named; start = omega arith; option = few_options s.protection.set; level = omega arith; size = omega arith }
+    record {
+      id = named;
+      start = omega arith;
+      option = few_options s.protection.set;
+      level = omega arith;
+      size = omega arith;
+    }
 
 pub sub_identified : (s : Sub) → IsPlaced s → identifier_of (raw_entry (sub_entry s)) ≡ sub_key s
 sub_identified s h =
@@ -42,11 +50,13 @@ component_within primary (Sound ty sub) h = h
 component_within primary (Stream ty sub) h = h
 component_within primary (InPackets scid) h = h
 
-others_within : (cs : List Component) → AllByRecursion IsComponent cs → AllByRecursion IsComponentEntry (map (component_entry false) cs)
+others_within : (cs : List Component) → AllByRecursion IsComponent cs
+    → AllByRecursion IsComponentEntry (map (component_entry false) cs)
 others_within [] h = tt
 others_within (c ∷ cs) h = (component_within false c h.0, others_within cs h.1)
 
-components_within : (cs : List Component) → AllByRecursion IsComponent cs → AllByRecursion IsComponentEntry (component_entries cs)
+components_within : (cs : List Component) → AllByRecursion IsComponent cs
+    → AllByRecursion IsComponentEntry (component_entries cs)
 components_within [] h = tt
 components_within (c ∷ cs) h = (component_within true c h.0, others_within cs h.1)
 
@@ -58,7 +68,12 @@ pub service_within : (s : Service) → IsService s → IsWithin (service_entry s
 service_within s h =
     let few : length s.components ≤ 15 = few_components s.sid (length s.components) h.few in
     let same : length (component_entries s.components) ≡ length s.components = length_component_entries s.components in
-    record { sid = h.named; ca_id = omega arith; few = omega arith; components = components_within s.components h.within }
+    record {
+      sid = h.named;
+      ca_id = omega arith;
+      few = omega arith;
+      components = components_within s.components h.within;
+    }
 
 identified : (sid : Sid) (components : List Component) → IsSid sid
     → identifier_of (raw_entry (service_entry (record { sid = sid; components = components }))) ≡ sid_key sid
@@ -88,24 +103,30 @@ ascending_front :
     → AllByRecursion (λ raw. identifier_of raw < identifier_of (get_or kept i d)) (take i kept)
 ascending_front [] i d up inside = absurd (omega arith)
 ascending_front (k ∷ ks) zero d up inside = tt
-ascending_front (k ∷ ks) (suc j) d up inside =
-    (each_at (λ raw. identifier_of k < identifier_of raw) ks j d up.0 (omega arith), ascending_front ks j d up.1 (omega arith))
+ascending_front (k ∷ ks) (suc j) d up inside = (
+  each_at (λ raw. identifier_of k < identifier_of raw) ks j d up.0 (omega arith),
+  ascending_front ks j d up.1 (omega arith),
+)
 
 keys_below :
     {T : Type 0} (key : T → ℕ) (f : T → Raw) (P : T → Type 0) (table : List T) (n : ℕ)
-    → ((y : T) → P y → identifier_of (f y) ≡ key y) → AllByRecursion P table → AllByRecursion (λ raw. identifier_of raw < n) (map f table)
+    → ((y : T) → P y → identifier_of (f y) ≡ key y) → AllByRecursion P table
+    → AllByRecursion (λ raw. identifier_of raw < n) (map f table)
     → AllByRecursion (λ y. key y < n) table
 keys_below key f P [] n same all below = tt
 keys_below key f P (y ∷ ys) n same all below =
     (subst (λ (k : ℕ). k < n) (same y all.0) below.0, keys_below key f P ys n same all.1 below.1)
 
 pub above_all :
-    {T : Type 0} (key : T → ℕ) (f : T → Raw) (P : T → Type 0) (table : List T) (kept : List Raw) (i : ℕ) (x : T) (raw : Raw)
-    → ((y : T) → P y → identifier_of (f y) ≡ key y) → AllByRecursion P table → P x → map f table ≡ take i kept → i < length kept
+    {T : Type 0} (key : T → ℕ) (f : T → Raw) (P : T → Type 0) (table : List T) (kept : List Raw) (i : ℕ) (x : T)
+    (raw : Raw)
+    → ((y : T) → P y → identifier_of (f y) ≡ key y) → AllByRecursion P table → P x → map f table ≡ take i kept
+    → i < length kept
     → raw ≡ get_or kept i raw → f x ≡ raw → IsAscending identifier_of kept → AllByRecursion (λ y. key y < key x) table
 above_all key f P table kept i x raw same all one so_far inside is says up =
     let front : AllByRecursion (λ r. identifier_of r < identifier_of (get_or kept i raw)) (map f table) =
-    subst (AllByRecursion (λ r. identifier_of r < identifier_of (get_or kept i raw))) (sym so_far) (ascending_front kept i raw up inside) in
+    subst (AllByRecursion (λ r. identifier_of r < identifier_of (get_or kept i raw))) (sym so_far)
+    (ascending_front kept i raw up inside) in
     let top : identifier_of (get_or kept i raw) ≡ key x = ap identifier_of (sym (says ∙ is)) ∙ same x one in
     keys_below key f P table (key x) same all
     (subst (λ (n : ℕ). AllByRecursion (λ r. identifier_of r < n) (map f table)) top front)
@@ -129,4 +150,5 @@ none_says entry_of P xs kept i raw e tells within none all says inside is spelle
     let same : raw_entry (entry_of one.0) ≡ raw_entry e =
     one.2 ∙ ap (λ rs. get_or rs i raw) says ∙ sym is ∙ spelled in
     none one.0 one.1
-    (tells (entry_of one.0) e (within one.0 one.1) fits (ap (λ r. r.ext) same) (ap (λ r. r.long) same) (ap (λ r. r.bytes) same))
+    (tells (entry_of one.0) e (within one.0 one.1) fits (ap (λ r. r.ext) same) (ap (λ r. r.long) same)
+    (ap (λ r. r.bytes) same))

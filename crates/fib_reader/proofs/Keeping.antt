@@ -1,5 +1,7 @@
 -- Sets of entries, kept in ascending order of their identifiers.
-use Rattle.std.proofs.Common.{Bor, ◌≡◌, ◌≢◌, ℕ, zero, suc, ◌+◌, ◌-◌, ◌<◌, ◌≤◌, ◌==◌, ◌++◌, Bool, true, false, cond, nat_lt, List, [], ◌∷◌, length, take, slice_get, Option, Some, is_some, inl, inr, refl, ap, sym, ◌∙◌, subst, lt-ltb, arith}
+use Rattle.std.proofs.Common.{Bor, ◌≡◌, ◌≢◌, ℕ, zero, suc, ◌+◌, ◌-◌, ◌<◌, ◌≤◌, ◌==◌, ◌++◌, Bool, true, false, cond}
+use Rattle.std.proofs.Common.{nat_lt, List, [], ◌∷◌, length, take, slice_get, Option, Some, is_some, inl, inr, refl, ap}
+use Rattle.std.proofs.Common.{sym, ◌∙◌, subst, lt-ltb, arith}
 use Rattle.std.specs.Prelude.{◌||◌}
 use Rattle.std.specs.Option.{option_copied}
 use Rattle.std.specs.List.{AllByRecursion}
@@ -14,11 +16,13 @@ use Rattle.fib_reader.specs.Raw.{Raw, IsRaw}
 use Rattle.fib_reader.specs.Listening.{identifier_of, is_known, kept, has_room}
 
 -- the list after a known entry is kept, and after a new one is
-pub kept-known : (raw : Raw) (raws : List Raw) → is_known raw raws ≡ true → kept raw raws ≡ with_entry_changed identifier_of raw raws
+pub kept-known : (raw : Raw) (raws : List Raw) → is_known raw raws ≡ true
+    → kept raw raws ≡ with_entry_changed identifier_of raw raws
 kept-known raw raws known =
     ap (λ b. cond b (with_entry_changed identifier_of raw raws) (with_entry identifier_of raw raws)) known
 
-pub kept-new : (raw : Raw) (raws : List Raw) → is_known raw raws ≡ false → kept raw raws ≡ with_entry identifier_of raw raws
+pub kept-new : (raw : Raw) (raws : List Raw) → is_known raw raws ≡ false
+    → kept raw raws ≡ with_entry identifier_of raw raws
 kept-new raw raws known =
     ap (λ b. cond b (with_entry_changed identifier_of raw raws) (with_entry identifier_of raw raws)) known
 
@@ -29,10 +33,13 @@ pub room_for_new : (raw : Raw) (raws : List Raw) → length raws < 64 → has_ro
 room_for_new raw raws few = or_right (is_known raw raws) (nat_lt (length raws) 64) (lt-ltb (length raws) 64 few)
 
 -- a property of each entry is preserved
-pub each_kept : (P : Raw → Type 0) (raw : Raw) (raws : List Raw) → P raw → AllByRecursion P raws → AllByRecursion P (kept raw raws)
+pub each_kept : (P : Raw → Type 0) (raw : Raw) (raws : List Raw) → P raw → AllByRecursion P raws
+    → AllByRecursion P (kept raw raws)
 each_kept P raw raws one all =
-    cond_both (is_known raw raws) (with_entry_changed identifier_of raw raws) (with_entry identifier_of raw raws) (AllByRecursion P)
-    (λ known. each_changed P identifier_of raw (λ x same p. one) raws all) (λ new. each_with P identifier_of raw raws one all)
+    cond_both (is_known raw raws) (with_entry_changed identifier_of raw raws) (with_entry identifier_of raw raws)
+    (AllByRecursion P)
+    (λ known. each_changed P identifier_of raw (λ x same p. one) raws all)
+    (λ new. each_with P identifier_of raw raws one all)
 
 -- ---- there are at most sixty-four sub-channels
 
@@ -43,15 +50,18 @@ few_between :
 few_between low high [] up from below = omega arith
 few_between low high (x ∷ xs) up from below =
     let above : AllByRecursion (λ y. identifier_of x + 1 ≤ identifier_of y) xs =
-    each_weaker (λ y. identifier_of x < identifier_of y) (λ y. identifier_of x + 1 ≤ identifier_of y) (λ y lt. omega arith) xs up.0 in
-    let more : length xs ≤ high - (identifier_of x + 1) = few_between (identifier_of x + 1) high xs up.1 above below.1 in
+    each_weaker (λ y. identifier_of x < identifier_of y) (λ y. identifier_of x + 1 ≤ identifier_of y)
+    (λ y lt. omega arith) xs up.0 in
+    let more : length xs ≤ high - (identifier_of x + 1) =
+    few_between (identifier_of x + 1) high xs up.1 above below.1 in
     let one : low ≤ identifier_of x = from.0 in
     let other : identifier_of x < high = below.0 in
     omega arith
 
 -- a new one would be one more, and all are below 64
 pub room_for_subs :
-    (raw : Raw) (raws : List Raw) → IsAscending identifier_of raws → AllByRecursion (λ x. (x.ext ≡ 1) × (identifier_of x < 64)) raws
+    (raw : Raw) (raws : List Raw) → IsAscending identifier_of raws
+    → AllByRecursion (λ x. (x.ext ≡ 1) × (identifier_of x < 64)) raws
     → identifier_of raw < 64 → has_room raw raws ≡ true
 room_for_subs raw raws up all one =
     elim (cases_Bool (is_known raw raws)) [
@@ -62,7 +72,8 @@ room_for_subs raw raws up all one =
           let more = each_with (λ x. identifier_of x < 64) identifier_of raw raws one below in
           let few = few_between 0 64 (with_entry identifier_of raw raws)
           (ascends_with identifier_of raw raws up (absent_told identifier_of (identifier_of raw) raws new))
-          (each_weaker (λ x. identifier_of x < 64) (λ x. 0 ≤ identifier_of x) (λ x h. omega arith) (with_entry identifier_of raw raws) more) more in
+          (each_weaker (λ x. identifier_of x < 64) (λ x. 0 ≤ identifier_of x) (λ x h. omega arith)
+          (with_entry identifier_of raw raws) more) more in
           room_for_new raw raws (omega (arith, few, length_with identifier_of raw raws))
     ]
 
@@ -70,11 +81,13 @@ room_for_subs raw raws up all one =
 pub known_if_found :
     {T : Type 0} (key : T → ℕ) (k i : ℕ) (xs : List T) (o : Option (Bor T)) (b : Bool) → b ≡ is_some o → i ≡ k
     → option_copied o ≡ entry_at key i xs → b ≡ has_entry key k xs
-known_if_found key k i xs o b some same told = some ∙ is_found_lent (λ r. r.now) key i xs o told ∙ ap (λ n. has_entry key n xs) same
+known_if_found key k i xs o b some same told = some ∙ is_found_lent (λ r. r.now) key i xs o told
+    ∙ ap (λ n. has_entry key n xs) same
 
 -- an entry with equal parts
 pub raw_again :
-    (raw : Raw) (ext : ℕ) (long : Bool) (bytes : List ℕ) → IsRaw raw → ext ≡ raw.ext → long ≡ raw.long → bytes ≡ raw.bytes
+    (raw : Raw) (ext : ℕ) (long : Bool) (bytes : List ℕ) → IsRaw raw → ext ≡ raw.ext → long ≡ raw.long
+    → bytes ≡ raw.bytes
     → IsRaw (record { ext = ext; long = long; bytes = bytes })
 raw_again raw ext long bytes is e l b =
     subst (λ (x : ℕ). IsRaw (record { ext = x; long = long; bytes = bytes })) (sym e)
@@ -91,57 +104,69 @@ copied_front n xs ys zs len same =
     ap (λ x. take n (x ++ ys)) same ∙ ap (λ k. take k (zs ++ ys)) (sym len) ∙ take-append_seam zs ys
 
 pub each_after :
-    (P : Raw → Type 0) (raw : Raw) (old new : List Raw) (b : Bool) → P raw → AllByRecursion P old → (b ≡ true → new ≡ kept raw old)
+    (P : Raw → Type 0) (raw : Raw) (old new : List Raw) (b : Bool) → P raw → AllByRecursion P old
+    → (b ≡ true → new ≡ kept raw old)
     → (b ≡ false → new ≡ old) → AllByRecursion P new
-each_after P raw old new true one all taken refused = subst (AllByRecursion P) (sym (taken refl)) (each_kept P raw old one all)
+each_after P raw old new true one all taken refused =
+    subst (AllByRecursion P) (sym (taken refl)) (each_kept P raw old one all)
 each_after P raw old new false one all taken refused = subst (AllByRecursion P) (sym (refused refl)) all
 
 -- ---- an entry that is already present
 
-unchanged_above : (raw : Raw) (raws : List Raw) → AllByRecursion (λ x. identifier_of raw < identifier_of x) raws → with_entry_changed identifier_of raw raws ≡ raws
+unchanged_above : (raw : Raw) (raws : List Raw) → AllByRecursion (λ x. identifier_of raw < identifier_of x) raws
+    → with_entry_changed identifier_of raw raws ≡ raws
 unchanged_above raw [] above = refl
 unchanged_above raw (x ∷ xs) above =
     let other : identifier_of x ≢ identifier_of raw = (let lt = above.0 in λ e. omega arith) in
-    ap (λ b. cond b raw x ∷ with_entry_changed identifier_of raw xs) (ne_eqb (identifier_of x) (identifier_of raw) other)
+    ap (λ b. cond b raw x ∷ with_entry_changed identifier_of raw xs)
+    (ne_eqb (identifier_of x) (identifier_of raw) other)
     ∙ ap (λ t. x ∷ t) (unchanged_above raw xs above.1)
 
 changed_for_same :
-    (raw : Raw) (raws : List Raw) → IsAscending identifier_of raws → entry_at identifier_of (identifier_of raw) raws ≡ Some raw
+    (raw : Raw) (raws : List Raw) → IsAscending identifier_of raws
+    → entry_at identifier_of (identifier_of raw) raws ≡ Some raw
     → with_entry_changed identifier_of raw raws ≡ raws
 changed_for_same raw [] up told = refl
 changed_for_same raw (x ∷ xs) up told =
     elim (cases_eq (identifier_of x) (identifier_of raw)) [
       | inl same ↦
           let test = eq-eqb (identifier_of x) (identifier_of raw) same in
-          let first : Some x ≡ Some raw = sym (ap (λ b. cond b (Some x) (entry_at identifier_of (identifier_of raw) xs)) test) ∙ told in
+          let first : Some x ≡ Some raw =
+          sym (ap (λ b. cond b (Some x) (entry_at identifier_of (identifier_of raw) xs)) test) ∙ told in
           let here : x ≡ raw = cc in
           ap (λ b. cond b raw x ∷ with_entry_changed identifier_of raw xs) test
-          ∙ ap (λ t. raw ∷ t) (unchanged_above raw xs (subst (λ n. AllByRecursion (λ z. n < identifier_of z) xs) same up.0))
+          ∙ ap (λ t. raw ∷ t) (unchanged_above raw xs
+          (subst (λ n. AllByRecursion (λ z. n < identifier_of z) xs) same up.0))
           ∙ ap (λ y. y ∷ xs) (sym here)
       | inr other ↦
           let test = ne_eqb (identifier_of x) (identifier_of raw) other in
           ap (λ b. cond b raw x ∷ with_entry_changed identifier_of raw xs) test
           ∙ ap (λ t. x ∷ t)
-          (changed_for_same raw xs up.1 (sym (ap (λ b. cond b (Some x) (entry_at identifier_of (identifier_of raw) xs)) test) ∙ told))
+          (changed_for_same raw xs up.1
+          (sym (ap (λ b. cond b (Some x) (entry_at identifier_of (identifier_of raw) xs)) test) ∙ told))
     ]
 
 pub kept_where_told :
-    (raw : Raw) (raws : List Raw) → IsAscending identifier_of raws → entry_at identifier_of (identifier_of raw) raws ≡ Some raw
+    (raw : Raw) (raws : List Raw) → IsAscending identifier_of raws
+    → entry_at identifier_of (identifier_of raw) raws ≡ Some raw
     → kept raw raws ≡ raws
 kept_where_told raw raws up told =
     kept-known raw raws (present identifier_of (identifier_of raw) raws raw told) ∙ changed_for_same raw raws up told
 
 -- the same for an entry that is present at an index
-pub known_where_found : (raw : Raw) (raws : List Raw) (place : ℕ) → slice_get raws place ≡ Some raw → is_known raw raws ≡ true
+pub known_where_found : (raw : Raw) (raws : List Raw) (place : ℕ) → slice_get raws place ≡ Some raw
+    → is_known raw raws ≡ true
 known_where_found raw [] place found = absurd (cc)
 known_where_found raw (x ∷ xs) zero found =
     let same : x ≡ raw = (cc) in
-    or_left (identifier_of x == identifier_of raw) _ (eq-eqb (identifier_of x) (identifier_of raw) (ap identifier_of same))
+    or_left (identifier_of x == identifier_of raw) _
+    (eq-eqb (identifier_of x) (identifier_of raw) (ap identifier_of same))
 known_where_found raw (x ∷ xs) (suc i) found =
     or_right (identifier_of x == identifier_of raw) _ (known_where_found raw xs i found)
 
 pub kept_where_found :
-    (raw : Raw) (raws : List Raw) (place : ℕ) → IsAscending identifier_of raws → slice_get raws place ≡ Some raw → raws ≡ kept raw raws
+    (raw : Raw) (raws : List Raw) (place : ℕ) → IsAscending identifier_of raws → slice_get raws place ≡ Some raw
+    → raws ≡ kept raw raws
 kept_where_found raw raws place up found =
     let here = found_here identifier_of (identifier_of raw) raws place raw up (slice_get_within raws place raw found)
     (ap identifier_of (get_or_from_slice_get raws place raw raw found)) in

@@ -1,5 +1,6 @@
 -- The length of an entry is determined by its own bytes.
-use Rattle.std.proofs.Common.{◌≡◌, ℕ, ◌+◌, ◌*◌, ◌/◌, ◌%◌, ◌<◌, ◌≤◌, ◌==◌, ◌++◌, Bool, true, false, cond, List, length, get_or, take, drop, ap, sym, ◌∙◌, arith}
+use Rattle.std.proofs.Common.{◌≡◌, ℕ, ◌+◌, ◌*◌, ◌/◌, ◌%◌, ◌<◌, ◌≤◌, ◌==◌, ◌++◌, Bool, true, false, cond, List, length}
+use Rattle.std.proofs.Common.{get_or, take, drop, ap, sym, ◌∙◌, arith}
 use Rattle.std.proofs.lemmas.List.{get_or_append_left, take-append-drop, length-take-le}
 use Rattle.fib_codec.specs.Grammar.{entry_len, ensemble_len, sub_len, service_len, packet_len}
 
@@ -10,8 +11,10 @@ at_least false x y p q = q
 
 pub some_bytes : (ext : ℕ) (long : Bool) (bytes : List ℕ) → 3 ≤ entry_len ext long bytes
 some_bytes ext long bytes =
-    at_least (ext == 0) (cond (get_or bytes 2 0 / 64 == 0) 4 5) _ (at_least (get_or bytes 2 0 / 64 == 0) 4 5 (omega arith) (omega arith))
-    (at_least (ext == 1) (cond (get_or bytes 2 0 / 128 == 1) 4 3) _ (at_least (get_or bytes 2 0 / 128 == 1) 4 3 (omega arith) (omega arith))
+    at_least (ext == 0) (cond (get_or bytes 2 0 / 64 == 0) 4 5) _
+    (at_least (get_or bytes 2 0 / 64 == 0) 4 5 (omega arith) (omega arith))
+    (at_least (ext == 1) (cond (get_or bytes 2 0 / 128 == 1) 4 3) _
+    (at_least (get_or bytes 2 0 / 128 == 1) 4 3 (omega arith) (omega arith))
     (at_least (ext == 2) (cond long (5 + 2 * (get_or bytes 4 0 % 16)) (3 + 2 * (get_or bytes 2 0 % 16))) _
     (at_least long (5 + 2 * (get_or bytes 4 0 % 16)) (3 + 2 * (get_or bytes 2 0 % 16)) (omega arith) (omega arith))
     (at_least (get_or bytes 1 0 % 2 == 1) 7 5 (omega arith) (omega arith))))
@@ -61,21 +64,25 @@ pub entry_len_more :
     (ext : ℕ) (long : Bool) (e rest : List ℕ) → entry_len ext long e ≤ length e
     → entry_len ext long (e ++ rest) ≡ entry_len ext long e
 entry_len_more ext long e rest =
-    chosen (ext == 0) (ext == 1) (ext == 2) (ensemble_len e) (ensemble_len (e ++ rest)) (sub_len e) (sub_len (e ++ rest))
+    chosen (ext == 0) (ext == 1) (ext == 2) (ensemble_len e) (ensemble_len (e ++ rest)) (sub_len e)
+    (sub_len (e ++ rest))
     (service_len long e) (service_len long (e ++ rest)) (packet_len e) (packet_len (e ++ rest)) (length e)
     (ensemble_len_more e rest) (sub_len_more e rest) (service_len_more long e rest) (packet_len_more e rest)
 
 -- the same, computed from the longer bytes
 ensemble_len_front : (e rest : List ℕ) → ensemble_len (e ++ rest) ≤ length e → ensemble_len e ≡ ensemble_len (e ++ rest)
 ensemble_len_front e rest le =
-    sym (ap (λ x. cond (x / 64 == 0) 4 5) (get_or_append_left e rest 0 2 (least_4 (get_or (e ++ rest) 2 0 / 64 == 0) (length e) le)))
+    sym (ap (λ x. cond (x / 64 == 0) 4 5)
+    (get_or_append_left e rest 0 2 (least_4 (get_or (e ++ rest) 2 0 / 64 == 0) (length e) le)))
 
 sub_len_front : (e rest : List ℕ) → sub_len (e ++ rest) ≤ length e → sub_len e ≡ sub_len (e ++ rest)
 sub_len_front e rest le =
-    sym (ap (λ x. cond (x / 128 == 1) 4 3) (get_or_append_left e rest 0 2 (least_3 (get_or (e ++ rest) 2 0 / 128 == 1) (length e) le)))
+    sym (ap (λ x. cond (x / 128 == 1) 4 3)
+    (get_or_append_left e rest 0 2 (least_3 (get_or (e ++ rest) 2 0 / 128 == 1) (length e) le)))
 
 service_len_front :
-    (long : Bool) (e rest : List ℕ) → service_len long (e ++ rest) ≤ length e → service_len long e ≡ service_len long (e ++ rest)
+    (long : Bool) (e rest : List ℕ) → service_len long (e ++ rest) ≤ length e
+    → service_len long e ≡ service_len long (e ++ rest)
 service_len_front true e rest le =
     sym (ap (λ x. 5 + 2 * (x % 16)) (get_or_append_left e rest 0 4 (omega arith)))
 service_len_front false e rest le =
@@ -83,13 +90,15 @@ service_len_front false e rest le =
 
 packet_len_front : (e rest : List ℕ) → packet_len (e ++ rest) ≤ length e → packet_len e ≡ packet_len (e ++ rest)
 packet_len_front e rest le =
-    sym (ap (λ x. cond (x % 2 == 1) 7 5) (get_or_append_left e rest 0 1 (least_5 (get_or (e ++ rest) 1 0 % 2 == 1) (length e) le)))
+    sym (ap (λ x. cond (x % 2 == 1) 7 5)
+    (get_or_append_left e rest 0 1 (least_5 (get_or (e ++ rest) 1 0 % 2 == 1) (length e) le)))
 
 pub entry_len_front :
     (ext : ℕ) (long : Bool) (e rest : List ℕ) → entry_len ext long (e ++ rest) ≤ length e
     → entry_len ext long e ≡ entry_len ext long (e ++ rest)
 entry_len_front ext long e rest =
-    chosen (ext == 0) (ext == 1) (ext == 2) (ensemble_len (e ++ rest)) (ensemble_len e) (sub_len (e ++ rest)) (sub_len e)
+    chosen (ext == 0) (ext == 1) (ext == 2) (ensemble_len (e ++ rest)) (ensemble_len e) (sub_len (e ++ rest))
+    (sub_len e)
     (service_len long (e ++ rest)) (service_len long e) (packet_len (e ++ rest)) (packet_len e) (length e)
     (ensemble_len_front e rest) (sub_len_front e rest) (service_len_front long e rest) (packet_len_front e rest)
 
@@ -101,7 +110,8 @@ cut_len ext long bytes le =
     let n : ℕ = entry_len ext long bytes in
     let whole : take n bytes ++ drop n bytes ≡ bytes = take-append-drop n bytes in
     let size : length (take n bytes) ≡ n = length-take-le n bytes le in
-    let fits : entry_len ext long (take n bytes ++ drop n bytes) ≤ length (take n bytes) = rw (whole, size) (omega arith) in
+    let fits : entry_len ext long (take n bytes ++ drop n bytes) ≤ length (take n bytes) =
+    rw (whole, size) (omega arith) in
     let same : entry_len ext long (take n bytes) ≡ entry_len ext long (take n bytes ++ drop n bytes) =
     entry_len_front ext long (take n bytes) (drop n bytes) fits in
     size ∙ sym (same ∙ ap (entry_len ext long) whole)

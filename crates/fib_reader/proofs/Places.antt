@@ -3,7 +3,8 @@ use Rattle.std.proofs.Common.{◌≡◌, ℕ, ◌++◌, List, [], ◌∷◌, fla
 use Rattle.fib_codec.specs.Grammar.{Fig, AreFigs, fig_spelled}
 use Rattle.fib_reader.proofs.FigLists.{spelled_fig}
 
-pub front_of_figs : (bytes : List ℕ) (fs : List Fig) → AreFigs bytes fs → (rest : List ℕ) × (bytes ≡ flat_map fig_spelled fs ++ rest)
+pub front_of_figs : (bytes : List ℕ) (fs : List Fig) → AreFigs bytes fs → (rest : List ℕ)
+    × (bytes ≡ flat_map fig_spelled fs ++ rest)
 front_of_figs bytes [] h = (bytes, refl)
 front_of_figs bytes (f ∷ fs) h =
     let more = front_of_figs h.1 fs h.4 in (

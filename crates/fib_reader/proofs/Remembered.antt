@@ -1,5 +1,6 @@
 -- Which FIBs are known after one more was put into its slot, and after some were forgotten.
-use Rattle.std.proofs.Common.{◌≡◌, ◌≢◌, ℕ, ◌<◌, ◌==◌, ◌⊎◌, Bool, true, false, List, [], length, get_or, inl, inr, refl, sym, ap, ◌∙◌, subst}
+use Rattle.std.proofs.Common.{◌≡◌, ◌≢◌, ℕ, ◌<◌, ◌==◌, ◌⊎◌, Bool, true, false, List, [], length, get_or, inl, inr, refl}
+use Rattle.std.proofs.Common.{sym, ap, ◌∙◌, subst}
 use Rattle.std.proofs.lemmas.Bool.{eqb-true, eq-eqb}
 use Rattle.std.proofs.lemmas.List.{get_or-replicate, get_or-set_same, get_or-set_other}
 use Rattle.std.proofs.Math.ListN.{replicate, set}
@@ -14,13 +15,15 @@ unset n place flags e lt h =
     absurd (cc)
 
 -- after all were forgotten
-pub nothing : (m : KnownFibs) → m.of_current ≡ replicate 1024 false → m.of_pictures ≡ replicate 1024 false → (bytes : List ℕ) (basis : Basis) → Remembers m bytes basis → ⊥
+pub nothing : (m : KnownFibs) → m.of_current ≡ replicate 1024 false → m.of_pictures ≡ replicate 1024 false
+    → (bytes : List ℕ) (basis : Basis) → Remembers m bytes basis → ⊥
 nothing m c p bytes Current (place, lt, is, set) = unset 1024 place m.of_current c lt set
 nothing m c p bytes Pictures (place, lt, is, set) = unset 1024 place m.of_pictures p lt set
 nothing m c p bytes All none = none
 
 -- FIBs whose basis is the current picture alone
-pub of_current : (old new : KnownFibs) → new.fibs ≡ old.fibs → new.of_current ≡ old.of_current → new.of_pictures ≡ replicate 1024 false
+pub of_current : (old new : KnownFibs) → new.fibs ≡ old.fibs → new.of_current ≡ old.of_current
+    → new.of_pictures ≡ replicate 1024 false
     → (bytes : List ℕ) (basis : Basis) → Remembers new bytes basis → Remembers old bytes basis × (basis ≡ Current)
 of_current old new f c p bytes Current (place, lt, is, set) = ((place, lt, rw (sym f) is, rw (sym c) set), refl)
 of_current old new f c p bytes Pictures (place, lt, is, set) = absurd (unset 1024 place new.of_pictures p lt set)
@@ -34,7 +37,8 @@ differ : (m n : ℕ) → m ≡ n → (m == n) ≡ false → ⊥
 differ m n e f = both_ways (m == n) (eq-eqb m n e) f
 
 -- reading at an index two lists that were both changed at one index
-at_place : (b : Bool) (xs : List (List ℕ)) (flags : List Bool) (place at : ℕ) (x d y : List ℕ) (flag : Bool) → (place == at) ≡ b → at < length xs → at < length flags
+at_place : (b : Bool) (xs : List (List ℕ)) (flags : List Bool) (place at : ℕ) (x d y : List ℕ) (flag : Bool)
+    → (place == at) ≡ b → at < length xs → at < length flags
     → get_or (set xs at x) place d ≡ y → get_or (set flags at flag) place false ≡ true
     → ((x ≡ y) × (flag ≡ true)) ⊎ ((get_or xs place d ≡ y) × (get_or flags place false ≡ true))
 at_place true xs flags place at x d y flag is lt within h k =
@@ -47,23 +51,32 @@ at_place false xs flags place at x d y flag is lt within h k =
     let apart : place ≢ at = λ e. absurd (differ place at e is) in
     inr (sym (get_or-set_other xs at place x d apart) ∙ h, sym (get_or-set_other flags at place flag false apart) ∙ k)
 
-two : (xs : List (List ℕ)) (flags : List Bool) (place at : ℕ) (x d y : List ℕ) (flag : Bool) → at < length xs → at < length flags
+two : (xs : List (List ℕ)) (flags : List Bool) (place at : ℕ) (x d y : List ℕ) (flag : Bool) → at < length xs
+    → at < length flags
     → get_or (set xs at x) place d ≡ y → get_or (set flags at flag) place false ≡ true
     → ((x ≡ y) × (flag ≡ true)) ⊎ ((get_or xs place d ≡ y) × (get_or flags place false ≡ true))
 two xs flags place at x d y flag lt within h k = at_place (place == at) xs flags place at x d y flag refl lt within h k
 
 -- which FIBs are known after this one was put into this slot, with this basis
-pub one_more : (at : ℕ) (bytes : List ℕ) (basis : Basis) (current pictures : Bool) (old new : KnownFibs) → at < length old.fibs → at < length old.of_current → at < length old.of_pictures
-    → new.fibs ≡ set old.fibs at bytes → new.of_current ≡ set old.of_current at current → new.of_pictures ≡ set old.of_pictures at pictures
+pub one_more : (at : ℕ) (bytes : List ℕ) (basis : Basis) (current pictures : Bool) (old new : KnownFibs)
+    → at < length old.fibs → at < length old.of_current → at < length old.of_pictures
+    → new.fibs ≡ set old.fibs at bytes → new.of_current ≡ set old.of_current at current
+    → new.of_pictures ≡ set old.of_pictures at pictures
     → (current ≡ true → basis ≡ Current) → (pictures ≡ true → basis ≡ Pictures)
     → (other : List ℕ) (of : Basis) → Remembers new other of → Remembers old other of ⊎ ((other ≡ bytes) × (of ≡ basis))
-one_more at bytes basis current pictures old new lt lt_c lt_p f c p is_c is_p other Current (place, within, is, marked) =
-    elim (two old.fibs old.of_current place at bytes [] other current lt lt_c (subst (λ (l : List (List ℕ)). get_or l place [] ≡ other) f is) (subst (λ (l : List Bool). get_or l place false ≡ true) c marked)) [
+one_more at bytes basis current pictures old new lt lt_c lt_p f c p is_c is_p other Current
+    (place, within, is, marked) =
+    elim (two old.fibs old.of_current place at bytes [] other current lt lt_c
+    (subst (λ (l : List (List ℕ)). get_or l place [] ≡ other) f is)
+    (subst (λ (l : List Bool). get_or l place false ≡ true) c marked)) [
       | inl (these, flagged) ↦ inr (sym these, sym (is_c flagged))
       | inr (those, flagged) ↦ inl (place, within, those, flagged)
     ]
-one_more at bytes basis current pictures old new lt lt_c lt_p f c p is_c is_p other Pictures (place, within, is, marked) =
-    elim (two old.fibs old.of_pictures place at bytes [] other pictures lt lt_p (subst (λ (l : List (List ℕ)). get_or l place [] ≡ other) f is) (subst (λ (l : List Bool). get_or l place false ≡ true) p marked)) [
+one_more at bytes basis current pictures old new lt lt_c lt_p f c p is_c is_p other Pictures
+    (place, within, is, marked) =
+    elim (two old.fibs old.of_pictures place at bytes [] other pictures lt lt_p
+    (subst (λ (l : List (List ℕ)). get_or l place [] ≡ other) f is)
+    (subst (λ (l : List Bool). get_or l place false ≡ true) p marked)) [
       | inl (these, flagged) ↦ inr (sym these, sym (is_p flagged))
       | inr (those, flagged) ↦ inl (place, within, those, flagged)
     ]

@@ -1,11 +1,13 @@
 -- A FIG that is known to a listener is known to each that agrees in its basis.
-use Rattle.std.proofs.Common.{◌≡◌, ◌≢◌, ℕ, ◌%◌, ◌==◌, Bool, true, false, cond, List, [], ◌∷◌, map, Option, Some, None, refl, ap, sym, ◌∙◌, subst}
+use Rattle.std.proofs.Common.{◌≡◌, ◌≢◌, ℕ, ◌%◌, ◌==◌, Bool, true, false, cond, List, [], ◌∷◌, map, Option, Some, None}
+use Rattle.std.proofs.Common.{refl, ap, sym, ◌∙◌, subst}
 use Rattle.std.specs.List.{AllByRecursion}
 use Rattle.std.proofs.lemmas.Bool.{ne_eqb}
 use Rattle.fib_codec.specs.Grammar.{Fig, Open, Other, is_next, is_long}
 use Rattle.fib_codec.specs.declared.head.Head.{Head}
 use Rattle.fib_reader.specs.Raw.{Raw, raw_of, entries_in, head_in}
-use Rattle.fib_reader.specs.Listening.{Pictured, Listening, pictured, into, picture_of, hear_entry, hear_entries, hear_fig, hear_figs, where_heard}
+use Rattle.fib_reader.specs.Listening.{Pictured, Listening, pictured, into, picture_of, hear_entry, hear_entries}
+use Rattle.fib_reader.specs.Listening.{hear_fig, hear_figs, where_heard}
 use Rattle.fib_reader.specs.declared.basis.Basis.TheVariants.{Current, Pictures, All}
 use Rattle.fib_reader.specs.Remembering.{Agrees, basis_of, KeepsCurrent}
 
@@ -18,7 +20,8 @@ none_is : {A : Type 0} (x : A) → None ≡ Some x → ⊥
 none_is x e = absurd (cc)
 
 -- an entry other than ensemble information
-not_ensemble : (next : Bool) (raw : Raw) (l : Listening) → raw.ext ≢ 0 → hear_entry next raw l ≡ cond l.tuned (into next l (pictured raw (picture_of next l))) (Some l)
+not_ensemble : (next : Bool) (raw : Raw) (l : Listening) → raw.ext ≢ 0
+    → hear_entry next raw l ≡ cond l.tuned (into next l (pictured raw (picture_of next l))) (Some l)
 not_ensemble next raw l other = rw (ne_eqb raw.ext 0 other) refl
 
 into_current : (l : Listening) (o : Option Pictured) → into false l o ≡ Some l → o ≡ Some l.current
@@ -36,51 +39,68 @@ back_next : (l : Listening) (p : Pictured) → p ≡ l.next → into true l (Som
 back_next l p e = rw e refl
 
 -- known in the current picture
-lasts_current : (b : Bool) (raw : Raw) (old l : Listening) → old.tuned ≡ b → raw.ext ≢ 0 → hear_entry false raw old ≡ Some old → Agrees Current old l → hear_entry false raw l ≡ Some l
+lasts_current : (b : Bool) (raw : Raw) (old l : Listening) → old.tuned ≡ b → raw.ext ≢ 0
+    → hear_entry false raw old ≡ Some old → Agrees Current old l → hear_entry false raw l ≡ Some l
 lasts_current false raw old l is other known (tuned, current) = not_ensemble false raw l other ∙ rw (tuned ∙ is) refl
 lasts_current true raw old l is other known (tuned, current) =
-    let at_old : into false old (pictured raw old.current) ≡ Some old = sym (not_ensemble false raw old other ∙ rw is refl) ∙ known in
+    let at_old : into false old (pictured raw old.current) ≡ Some old =
+    sym (not_ensemble false raw old other ∙ rw is refl) ∙ known in
     let there : pictured raw l.current ≡ Some old.current = rw current (into_current old _ at_old) in
-    not_ensemble false raw l other ∙ ap (λ (c : Bool). cond c (into false l (pictured raw l.current)) (Some l)) (tuned ∙ is) ∙ ap (into false l) there ∙ back_current l old.current (sym current)
+    not_ensemble false raw l other ∙ ap (λ (c : Bool). cond c (into false l (pictured raw l.current)) (Some l))
+    (tuned ∙ is) ∙ ap (into false l) there ∙ back_current l old.current (sym current)
 
-lasts_next : (b : Bool) (raw : Raw) (old l : Listening) → old.tuned ≡ b → raw.ext ≢ 0 → hear_entry true raw old ≡ Some old → Agrees Pictures old l → hear_entry true raw l ≡ Some l
+lasts_next : (b : Bool) (raw : Raw) (old l : Listening) → old.tuned ≡ b → raw.ext ≢ 0
+    → hear_entry true raw old ≡ Some old → Agrees Pictures old l → hear_entry true raw l ≡ Some l
 lasts_next false raw old l is other known (tuned, current, next) = not_ensemble true raw l other ∙ rw (tuned ∙ is) refl
 lasts_next true raw old l is other known (tuned, current, next) =
-    let at_old : into true old (pictured raw old.next) ≡ Some old = sym (not_ensemble true raw old other ∙ rw is refl) ∙ known in
+    let at_old : into true old (pictured raw old.next) ≡ Some old =
+    sym (not_ensemble true raw old other ∙ rw is refl) ∙ known in
     let there : pictured raw l.next ≡ Some old.next = rw next (into_next old _ at_old) in
-    not_ensemble true raw l other ∙ ap (λ (c : Bool). cond c (into true l (pictured raw l.next)) (Some l)) (tuned ∙ is) ∙ ap (into true l) there ∙ back_next l old.next (sym next)
+    not_ensemble true raw l other ∙ ap (λ (c : Bool). cond c (into true l (pictured raw l.next)) (Some l)) (tuned ∙ is)
+    ∙ ap (into true l) there ∙ back_next l old.next (sym next)
 
-lasts_all : (next : Bool) (raw : Raw) (old l : Listening) → hear_entry next raw old ≡ Some old → Agrees All old l → hear_entry next raw l ≡ Some l
+lasts_all : (next : Bool) (raw : Raw) (old l : Listening) → hear_entry next raw old ≡ Some old → Agrees All old l
+    → hear_entry next raw l ≡ Some l
 lasts_all next raw old l known same = subst (λ (x : Listening). hear_entry next raw x ≡ Some x) (sym same) known
 
 differ : (n : ℕ) → n ≡ 0 → (n == 0) ≡ false → ⊥
 differ n e f = absurd (cc)
 
-lasts : (b next : Bool) (raw : Raw) (old l : Listening) → (raw.ext == 0) ≡ b → hear_entry next raw old ≡ Some old → Agrees (cond b All (cond next Pictures Current)) old l → hear_entry next raw l ≡ Some l
+lasts : (b next : Bool) (raw : Raw) (old l : Listening) → (raw.ext == 0) ≡ b → hear_entry next raw old ≡ Some old
+    → Agrees (cond b All (cond next Pictures Current)) old l → hear_entry next raw l ≡ Some l
 lasts true next raw old l is known agrees = lasts_all next raw old l known agrees
-lasts false true raw old l is known agrees = lasts_next old.tuned raw old l refl (λ e. absurd (differ raw.ext e is)) known agrees
-lasts false false raw old l is known agrees = lasts_current old.tuned raw old l refl (λ e. absurd (differ raw.ext e is)) known agrees
+lasts false true raw old l is known agrees =
+    lasts_next old.tuned raw old l refl (λ e. absurd (differ raw.ext e is)) known agrees
+lasts false false raw old l is known agrees =
+    lasts_current old.tuned raw old l refl (λ e. absurd (differ raw.ext e is)) known agrees
 
 -- ---- the entries of a FIG
 
-entries_last : (ext : ℕ) (long next : Bool) (old l : Listening) (es : List (List ℕ)) → AllByRecursion (λ raw. hear_entry next raw old ≡ Some old) (map (raw_of ext long) es)
+entries_last : (ext : ℕ) (long next : Bool) (old l : Listening) (es : List (List ℕ))
+    → AllByRecursion (λ raw. hear_entry next raw old ≡ Some old) (map (raw_of ext long) es)
     → Agrees (basis_of next ext) old l → hear_entries next (map (raw_of ext long) es) l ≡ Some l
 entries_last ext long next old l [] known agrees = refl
 entries_last ext long next old l (e ∷ es) (first, rest) agrees =
-    rw (lasts (ext == 0) next (raw_of ext long e) old l refl first agrees) (entries_last ext long next old l es rest agrees)
+    rw (lasts (ext == 0) next (raw_of ext long e) old l refl first agrees)
+    (entries_last ext long next old l es rest agrees)
 
-pub fig_lasts : (old l : Listening) (fig : Fig) (head : Head) → head_in fig ≡ Some head → AllByRecursion (λ raw. hear_entry head.next raw old ≡ Some old) (entries_in fig)
+pub fig_lasts : (old l : Listening) (fig : Fig) (head : Head) → head_in fig ≡ Some head
+    → AllByRecursion (λ raw. hear_entry head.next raw old ≡ Some old) (entries_in fig)
     → Agrees (basis_of head.next head.ext) old l → hear_fig fig l ≡ Some l
 fig_lasts old l (Open second es) head is known agrees =
     let as_next : head.next ≡ is_next second = sym (ap (λ (h : Head). h.next) (some_is _ head is)) in
     let as_ext : head.ext ≡ second % 32 = sym (ap (λ (h : Head). h.ext) (some_is _ head is)) in
-    let there = subst (λ (b : Bool). AllByRecursion (λ raw. hear_entry b raw old ≡ Some old) (entries_in (Open second es))) as_next known in
-    let agree : Agrees (basis_of (is_next second) (second % 32)) old l = subst (λ (n : ℕ). Agrees (basis_of (is_next second) n) old l) as_ext (subst (λ (b : Bool). Agrees (basis_of b head.ext) old l) as_next agrees) in
+    let there = subst (λ (b : Bool). AllByRecursion (λ raw. hear_entry b raw old ≡ Some old)
+    (entries_in (Open second es))) as_next known in
+    let agree : Agrees (basis_of (is_next second) (second % 32)) old l =
+    subst (λ (n : ℕ). Agrees (basis_of (is_next second) n) old l) as_ext
+    (subst (λ (b : Bool). Agrees (basis_of b head.ext) old l) as_next agrees) in
     entries_last (second % 32) (is_long second) (is_next second) old l es there agree
 fig_lasts old l (Other given) head is known agrees = absurd (none_is head is)
 
 -- one FIG, and then the others
-pub figs_last : (fig : Fig) (figs : List Fig) (l : Listening) → hear_fig fig l ≡ Some l → hear_figs figs l ≡ Some l → hear_figs (fig ∷ figs) l ≡ Some l
+pub figs_last : (fig : Fig) (figs : List Fig) (l : Listening) → hear_fig fig l ≡ Some l → hear_figs figs l ≡ Some l
+    → hear_figs (fig ∷ figs) l ≡ Some l
 figs_last fig figs l first rest = rw first rest
 
 pub other_lasts : (fig : Fig) (l : Listening) → head_in fig ≡ None → hear_fig fig l ≡ Some l
@@ -92,7 +112,8 @@ other_lasts (Other given) l is = refl
 keeps_none : KeepsCurrent (λ l. Some l)
 keeps_none old new e = rw (some_is old new e) (refl, refl)
 
-after_one : (mid : Option Listening) (one other : Listening → Option Listening) (old new : Listening) → one old ≡ mid → KeepsCurrent one → KeepsCurrent other → where_heard mid other ≡ Some new
+after_one : (mid : Option Listening) (one other : Listening → Option Listening) (old new : Listening) → one old ≡ mid
+    → KeepsCurrent one → KeepsCurrent other → where_heard mid other ≡ Some new
     → (new.tuned ≡ old.tuned) × (new.current ≡ old.current)
 after_one None one other old new is first rest heard = absurd (none_is new heard)
 after_one (Some l) one other old new is first rest heard =
@@ -100,39 +121,50 @@ after_one (Some l) one other old new is first rest heard =
     let after = rest l new heard in
     (after.0 ∙ before.0, after.1 ∙ before.1)
 
-keeps_both : (one other : Listening → Option Listening) → KeepsCurrent one → KeepsCurrent other → KeepsCurrent (λ l. where_heard (one l) other)
+keeps_both : (one other : Listening → Option Listening) → KeepsCurrent one → KeepsCurrent other
+    → KeepsCurrent (λ l. where_heard (one l) other)
 keeps_both one other first rest old new heard = after_one (one old) one other old new refl first rest heard
 
-keeps_into : (old new : Listening) (o : Option Pictured) → into true old o ≡ Some new → (new.tuned ≡ old.tuned) × (new.current ≡ old.current)
+keeps_into : (old new : Listening) (o : Option Pictured) → into true old o ≡ Some new → (new.tuned ≡ old.tuned)
+    × (new.current ≡ old.current)
 keeps_into old new None h = absurd (none_is new h)
-keeps_into old new (Some p) h = let e = some_is _ new h in (ap (λ (x : Listening). x.tuned) (sym e), ap (λ (x : Listening). x.current) (sym e))
+keeps_into old new (Some p) h = let e = some_is _ new h in
+    (ap (λ (x : Listening). x.tuned) (sym e), ap (λ (x : Listening). x.current) (sym e))
 
-keeps_tuned : (b : Bool) (old new : Listening) (o : Option Pictured) → cond b (into true old o) (Some old) ≡ Some new → (new.tuned ≡ old.tuned) × (new.current ≡ old.current)
+keeps_tuned : (b : Bool) (old new : Listening) (o : Option Pictured) → cond b (into true old o) (Some old) ≡ Some new
+    → (new.tuned ≡ old.tuned) × (new.current ≡ old.current)
 keeps_tuned true old new o h = keeps_into old new o h
 keeps_tuned false old new o h = keeps_none old new h
 
 keeps_entry : (raw : Raw) → raw.ext ≢ 0 → KeepsCurrent (hear_entry true raw)
-keeps_entry raw other old new h = keeps_tuned old.tuned old new (pictured raw old.next) (sym (not_ensemble true raw old other) ∙ h)
+keeps_entry raw other old new h =
+    keeps_tuned old.tuned old new (pictured raw old.next) (sym (not_ensemble true raw old other) ∙ h)
 
-keeps_entries : (ext : ℕ) (long : Bool) (es : List (List ℕ)) → ext ≢ 0 → KeepsCurrent (hear_entries true (map (raw_of ext long) es))
+keeps_entries : (ext : ℕ) (long : Bool) (es : List (List ℕ)) → ext ≢ 0
+    → KeepsCurrent (hear_entries true (map (raw_of ext long) es))
 keeps_entries ext long [] other = keeps_none
 keeps_entries ext long (e ∷ es) other =
-    keeps_both (hear_entry true (raw_of ext long e)) (hear_entries true (map (raw_of ext long) es)) (keeps_entry (raw_of ext long e) other) (keeps_entries ext long es other)
+    keeps_both (hear_entry true (raw_of ext long e)) (hear_entries true (map (raw_of ext long) es))
+    (keeps_entry (raw_of ext long e) other) (keeps_entries ext long es other)
 
 is_pictures : (b next : Bool) → cond b All (cond next Pictures Current) ≡ Pictures → (b ≡ false) × (next ≡ true)
 is_pictures true next e = absurd (cc)
 is_pictures false true e = (refl, refl)
 is_pictures false false e = absurd (cc)
 
-keeps_open : (next : Bool) (ext : ℕ) (long : Bool) (es : List (List ℕ)) → next ≡ true → (ext == 0) ≡ false → KeepsCurrent (hear_entries next (map (raw_of ext long) es))
+keeps_open : (next : Bool) (ext : ℕ) (long : Bool) (es : List (List ℕ)) → next ≡ true → (ext == 0) ≡ false
+    → KeepsCurrent (hear_entries next (map (raw_of ext long) es))
 keeps_open true ext long es is other = keeps_entries ext long es (λ e. absurd (differ ext e other))
 keeps_open false ext long es is other = absurd (cc)
 
-pub keeps_fig : (fig : Fig) (head : Head) → head_in fig ≡ Some head → basis_of head.next head.ext ≡ Pictures → KeepsCurrent (hear_fig fig)
+pub keeps_fig : (fig : Fig) (head : Head) → head_in fig ≡ Some head → basis_of head.next head.ext ≡ Pictures
+    → KeepsCurrent (hear_fig fig)
 keeps_fig (Open second es) head is of =
     let as_next : head.next ≡ is_next second = sym (ap (λ (h : Head). h.next) (some_is _ head is)) in
     let as_ext : head.ext ≡ second % 32 = sym (ap (λ (h : Head). h.ext) (some_is _ head is)) in
-    let there : basis_of (is_next second) (second % 32) ≡ Pictures = subst (λ (n : ℕ). basis_of (is_next second) n ≡ Pictures) as_ext (subst (λ (b : Bool). basis_of b head.ext ≡ Pictures) as_next of) in
+    let there : basis_of (is_next second) (second % 32) ≡ Pictures =
+    subst (λ (n : ℕ). basis_of (is_next second) n ≡ Pictures) as_ext
+    (subst (λ (b : Bool). basis_of b head.ext ≡ Pictures) as_next of) in
     let both = is_pictures (second % 32 == 0) (is_next second) there in
     keeps_open (is_next second) (second % 32) (is_long second) es both.1 both.0
 keeps_fig (Other given) head is of = absurd (none_is head is)
@@ -141,7 +173,8 @@ pub keeps_other : (fig : Fig) → head_in fig ≡ None → KeepsCurrent (hear_fi
 keeps_other (Open second es) is = absurd (none_is _ (sym is))
 keeps_other (Other given) is = keeps_none
 
-pub keeps_figs : (fig : Fig) (figs : List Fig) → KeepsCurrent (hear_fig fig) → KeepsCurrent (hear_figs figs) → KeepsCurrent (hear_figs (fig ∷ figs))
+pub keeps_figs : (fig : Fig) (figs : List Fig) → KeepsCurrent (hear_fig fig) → KeepsCurrent (hear_figs figs)
+    → KeepsCurrent (hear_figs (fig ∷ figs))
 keeps_figs fig figs first rest = keeps_both (hear_fig fig) (hear_figs figs) first rest
 
 pub keeps_nothing : KeepsCurrent (hear_figs [])

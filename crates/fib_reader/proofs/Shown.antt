@@ -1,27 +1,33 @@
 -- Pictures that show a configuration.
-use Rattle.std.proofs.Common.{◌≡◌, ◌≢◌, ℕ, ◌<◌, ◌≤◌, false, List, [], ◌∷◌, ◌++◌, length, map, append_assoc, refl, ap, sym, ◌∙◌, subst, arith}
+use Rattle.std.proofs.Common.{◌≡◌, ◌≢◌, ℕ, ◌<◌, ◌≤◌, false, List, [], ◌∷◌, ◌++◌, length, map, append_assoc, refl, ap}
+use Rattle.std.proofs.Common.{sym, ◌∙◌, subst, arith}
 use Rattle.std.proofs.lemmas.List.{length-map, map-append}
 use Rattle.mux_types.specs.declared.entry.Entry.{Entry}
-use Rattle.mux_config.specs.Configuration.{Configuration, IsAscending, IsConfiguration, IsPlaced, IsService, IsAddressed, sub_key, service_key, packet_key}
+use Rattle.mux_config.specs.Configuration.{Configuration, IsAscending, IsConfiguration, IsPlaced, IsService}
+use Rattle.mux_config.specs.Configuration.{IsAddressed, sub_key, service_key, packet_key}
 use Rattle.std.specs.List.{AllByRecursion}
-use Rattle.mux_types.specs.Facts.{FactsIdentify, marked, sub_entry, service_entry, packet_entry, sub_entries, service_entries}
+use Rattle.mux_types.specs.Facts.{FactsIdentify, marked, sub_entry, service_entry, packet_entry, sub_entries}
+use Rattle.mux_types.specs.Facts.{service_entries}
 use Rattle.fib_codec.specs.Ranges.{IsWithin}
 use Rattle.fib_codec.specs.Spelling.{SpellingIdentifies}
 use Rattle.fib_reader.specs.Raw.{Raw, raw_entry}
 use Rattle.fib_reader.specs.Listening.{Pictured, identifier_of}
 use Rattle.fib_reader.specs.Picture.{IsPictured, IsSubOf, Shows}
-use Rattle.fib_reader.proofs.FromEntries.{sub_within, service_within, packet_within, sub_identified, service_identified, packet_identified}
+use Rattle.fib_reader.proofs.FromEntries.{sub_within, service_within, packet_within, sub_identified, service_identified}
+use Rattle.fib_reader.proofs.FromEntries.{packet_identified}
 
 -- entries of one extension come before those of others
 split_off :
-    (n : ℕ) (xs xs' ys ys' : List Raw) → AllByRecursion (λ r. r.ext ≡ n) xs → AllByRecursion (λ r. r.ext ≡ n) ys → AllByRecursion (λ r. r.ext ≢ n) xs'
+    (n : ℕ) (xs xs' ys ys' : List Raw) → AllByRecursion (λ r. r.ext ≡ n) xs → AllByRecursion (λ r. r.ext ≡ n) ys
+    → AllByRecursion (λ r. r.ext ≢ n) xs'
     → AllByRecursion (λ r. r.ext ≢ n) ys' → xs ++ xs' ≡ ys ++ ys' → (xs ≡ ys) × (xs' ≡ ys')
 split_off n [] xs' [] ys' p q p' q' h = (refl, h)
 split_off n [] xs' (y ∷ ys) ys' p q p' q' h =
     let wrong : AllByRecursion (λ r. r.ext ≢ n) (y ∷ (ys ++ ys')) = subst (AllByRecursion (λ r. r.ext ≢ n)) h p' in
     absurd (wrong.0 q.0)
 split_off n (x ∷ xs) xs' [] ys' p q p' q' h =
-    let wrong : AllByRecursion (λ r. r.ext ≢ n) (x ∷ (xs ++ xs')) = subst (AllByRecursion (λ r. r.ext ≢ n)) (sym h) q' in
+    let wrong : AllByRecursion (λ r. r.ext ≢ n) (x ∷ (xs ++ xs')) =
+    subst (AllByRecursion (λ r. r.ext ≢ n)) (sym h) q' in
     absurd (wrong.0 p.0)
 split_off n (x ∷ xs) xs' (y ∷ ys) ys' p q p' q' h =
     let all : x ∷ (xs ++ xs') ≡ y ∷ (ys ++ ys') = h in
@@ -30,11 +36,13 @@ split_off n (x ∷ xs) xs' (y ∷ ys) ys' p q p' q' h =
     let more = split_off n xs xs' ys ys' p.1 q.1 p' q' tails in
     (ap (λ z. z ∷ xs) heads ∙ ap (λ zs. y ∷ zs) more.0, more.1)
 
-each_raw : {T : Type 0} (P : Raw → Type 0) (f : T → Entry) (xs : List T) → ((x : T) → P (raw_entry (f x))) → AllByRecursion P (map raw_entry (map f xs))
+each_raw : {T : Type 0} (P : Raw → Type 0) (f : T → Entry) (xs : List T) → ((x : T) → P (raw_entry (f x)))
+    → AllByRecursion P (map raw_entry (map f xs))
 each_raw P f [] all = tt
 each_raw P f (x ∷ xs) all = (all x, each_raw P f xs all)
 
-each_both : (P : Raw → Type 0) (xs ys : List Raw) → AllByRecursion P xs → AllByRecursion P ys → AllByRecursion P (xs ++ ys)
+each_both : (P : Raw → Type 0) (xs ys : List Raw) → AllByRecursion P xs → AllByRecursion P ys
+    → AllByRecursion P (xs ++ ys)
 each_both P [] ys p q = q
 each_both P (x ∷ xs) ys p q = (p.0, each_both P xs ys p.1 q)
 
@@ -53,10 +61,12 @@ twice f [] = refl
 twice f (x ∷ xs) = ap (λ t. raw_entry (f x) ∷ t) (twice f xs)
 
 all_said : (c : Configuration) → map raw_entry (sub_entries c ++ service_entries c)
-    ≡ map raw_entry (map sub_entry c.subs) ++ (map raw_entry (map service_entry c.services) ++ map raw_entry (map packet_entry c.packets))
+    ≡ map raw_entry (map sub_entry c.subs)
+    ++ (map raw_entry (map service_entry c.services) ++ map raw_entry (map packet_entry c.packets))
 all_said c =
     map-append raw_entry (map sub_entry c.subs) (map service_entry c.services ++ map packet_entry c.packets)
-    ∙ ap (λ t. map raw_entry (map sub_entry c.subs) ++ t) (map-append raw_entry (map service_entry c.services) (map packet_entry c.packets))
+    ∙ ap (λ t. map raw_entry (map sub_entry c.subs) ++ t)
+    (map-append raw_entry (map service_entry c.services) (map packet_entry c.packets))
 
 other_than : (m n : ℕ) → m ≢ n → (r : Raw) → r.ext ≡ m → r.ext ≢ n
 other_than m n apart r is same = apart (sym is ∙ same)
@@ -64,16 +74,21 @@ other_than m n apart r is same = apart (sym is ∙ same)
 pub shows_each : (p : Pictured) (c : Configuration) → IsPictured p → Shows p c → ShowsEach p c
 shows_each p c is shows =
     let parts : p.subs ++ (p.services ++ p.packets)
-    ≡ map raw_entry (map sub_entry c.subs) ++ (map raw_entry (map service_entry c.services) ++ map raw_entry (map packet_entry c.packets)) =
+    ≡ map raw_entry (map sub_entry c.subs)
+    ++ (map raw_entry (map service_entry c.services) ++ map raw_entry (map packet_entry c.packets)) =
     sym (append_assoc p.subs p.services p.packets) ∙ shows ∙ all_said c in
-    let subs : AllByRecursion (λ r. r.ext ≡ 1) p.subs = each_turned IsSubOf (λ r. r.ext ≡ 1) p.subs (λ r h. h.0) is.subs in
+    let subs : AllByRecursion (λ r. r.ext ≡ 1) p.subs =
+    each_turned IsSubOf (λ r. r.ext ≡ 1) p.subs (λ r h. h.0) is.subs in
     let rest : AllByRecursion (λ r. r.ext ≢ 1) (p.services ++ p.packets) =
     each_both (λ r. r.ext ≢ 1) p.services p.packets
     (each_turned (λ r. r.ext ≡ 2) (λ r. r.ext ≢ 1) p.services (other_than 2 1 (λ e. omega arith)) is.services)
     (each_turned (λ r. r.ext ≡ 3) (λ r. r.ext ≢ 1) p.packets (other_than 3 1 (λ e. omega arith)) is.packets) in
-    let packets : AllByRecursion (λ r. r.ext ≢ 2) p.packets = each_turned (λ r. r.ext ≡ 3) (λ r. r.ext ≢ 2) p.packets (other_than 3 2 (λ e. omega arith)) is.packets in
-    let said_rest : AllByRecursion (λ r. r.ext ≢ 1) (map raw_entry (map service_entry c.services) ++ map raw_entry (map packet_entry c.packets)) =
-    each_both (λ r. r.ext ≢ 1) (map raw_entry (map service_entry c.services)) (map raw_entry (map packet_entry c.packets))
+    let packets : AllByRecursion (λ r. r.ext ≢ 2) p.packets =
+    each_turned (λ r. r.ext ≡ 3) (λ r. r.ext ≢ 2) p.packets (other_than 3 2 (λ e. omega arith)) is.packets in
+    let said_rest : AllByRecursion (λ r. r.ext ≢ 1) (map raw_entry (map service_entry c.services)
+    ++ map raw_entry (map packet_entry c.packets)) =
+    each_both (λ r. r.ext ≢ 1) (map raw_entry (map service_entry c.services))
+    (map raw_entry (map packet_entry c.packets))
     (each_raw (λ r. r.ext ≢ 1) service_entry c.services (λ x e. omega arith))
     (each_raw (λ r. r.ext ≢ 1) packet_entry c.packets (λ x e. omega arith)) in
     let one = split_off 1 p.subs (p.services ++ p.packets) (map raw_entry (map sub_entry c.subs)) _ subs
@@ -91,15 +106,18 @@ pub each_shows : (p : Pictured) (c : Configuration) → ShowsEach p c → Shows 
 each_shows p c h =
     append_assoc p.subs p.services p.packets
     ∙ ap (λ t. t ++ (p.services ++ p.packets)) (sym (twice sub_entry c.subs ∙ h.subs))
-    ∙ ap (λ t. map raw_entry (map sub_entry c.subs) ++ (t ++ p.packets)) (sym (twice service_entry c.services ∙ h.services))
-    ∙ ap (λ t. map raw_entry (map sub_entry c.subs) ++ (map raw_entry (map service_entry c.services) ++ t)) (sym (twice packet_entry c.packets ∙ h.packets))
+    ∙ ap (λ t. map raw_entry (map sub_entry c.subs) ++ (t ++ p.packets))
+    (sym (twice service_entry c.services ∙ h.services))
+    ∙ ap (λ t. map raw_entry (map sub_entry c.subs) ++ (map raw_entry (map service_entry c.services) ++ t))
+    (sym (twice packet_entry c.packets ∙ h.packets))
     ∙ sym (all_said c)
 
 -- ---- members of ascending entries ascend
 
 keys_above :
     {T : Type 0} (key : T → ℕ) (f : T → Raw) (P : T → Type 0) (xs : List T) (n : ℕ)
-    → ((y : T) → P y → identifier_of (f y) ≡ key y) → AllByRecursion P xs → AllByRecursion (λ raw. n < identifier_of raw) (map f xs)
+    → ((y : T) → P y → identifier_of (f y) ≡ key y) → AllByRecursion P xs
+    → AllByRecursion (λ raw. n < identifier_of raw) (map f xs)
     → AllByRecursion (λ y. n < key y) xs
 keys_above key f P [] n same all above = tt
 keys_above key f P (y ∷ ys) n same all above =
@@ -107,25 +125,34 @@ keys_above key f P (y ∷ ys) n same all above =
 
 members_ascend :
     {T : Type 0} (key : T → ℕ) (f : T → Raw) (P : T → Type 0) (xs : List T)
-    → ((y : T) → P y → identifier_of (f y) ≡ key y) → AllByRecursion P xs → IsAscending identifier_of (map f xs) → IsAscending key xs
+    → ((y : T) → P y → identifier_of (f y) ≡ key y) → AllByRecursion P xs → IsAscending identifier_of (map f xs)
+    → IsAscending key xs
 members_ascend key f P [] same all up = tt
 members_ascend key f P (x ∷ xs) same all up = (
-  subst (λ (n : ℕ). AllByRecursion (λ y. n < key y) xs) (same x all.0) (keys_above key f P xs (identifier_of (f x)) same all.1 up.0),
+  subst (λ (n : ℕ). AllByRecursion (λ y. n < key y) xs) (same x all.0)
+      (keys_above key f P xs (identifier_of (f x)) same all.1 up.0),
   members_ascend key f P xs same all.1 up.1,
 )
 
 pub makes_configuration :
-    (p : Pictured) (c : Configuration) → ShowsEach p c → AllByRecursion IsPlaced c.subs → AllByRecursion IsService c.services → AllByRecursion IsAddressed c.packets
+    (p : Pictured) (c : Configuration) → ShowsEach p c → AllByRecursion IsPlaced c.subs
+    → AllByRecursion IsService c.services → AllByRecursion IsAddressed c.packets
     → IsAscending identifier_of p.subs → IsAscending identifier_of p.services → IsAscending identifier_of p.packets
     → length p.subs ≤ 64 → length p.services ≤ 64 → length p.packets ≤ 64 → IsConfiguration c
 makes_configuration p c h placed formed addressed up_s up_v up_p few_s few_v few_p =
-    let n_s : length c.subs ≡ length p.subs = sym (length-map c.subs (λ s. raw_entry (sub_entry s))) ∙ ap length h.subs in
-    let n_v : length c.services ≡ length p.services = sym (length-map c.services (λ s. raw_entry (service_entry s))) ∙ ap length h.services in
-    let n_p : length c.packets ≡ length p.packets = sym (length-map c.packets (λ s. raw_entry (packet_entry s))) ∙ ap length h.packets in
+    let n_s : length c.subs ≡ length p.subs = sym (length-map c.subs (λ s. raw_entry (sub_entry s)))
+    ∙ ap length h.subs in
+    let n_v : length c.services ≡ length p.services = sym (length-map c.services (λ s. raw_entry (service_entry s)))
+    ∙ ap length h.services in
+    let n_p : length c.packets ≡ length p.packets = sym (length-map c.packets (λ s. raw_entry (packet_entry s)))
+    ∙ ap length h.packets in
     record {
-      subs_ascend = members_ascend sub_key (λ s. raw_entry (sub_entry s)) IsPlaced c.subs sub_identified placed (subst (IsAscending identifier_of) (sym h.subs) up_s);
-      services_ascend = members_ascend service_key (λ s. raw_entry (service_entry s)) IsService c.services service_identified formed (subst (IsAscending identifier_of) (sym h.services) up_v);
-      packets_ascend = members_ascend packet_key (λ s. raw_entry (packet_entry s)) IsAddressed c.packets packet_identified addressed (subst (IsAscending identifier_of) (sym h.packets) up_p);
+      subs_ascend = members_ascend sub_key (λ s. raw_entry (sub_entry s)) IsPlaced c.subs sub_identified placed
+          (subst (IsAscending identifier_of) (sym h.subs) up_s);
+      services_ascend = members_ascend service_key (λ s. raw_entry (service_entry s)) IsService c.services
+          service_identified formed (subst (IsAscending identifier_of) (sym h.services) up_v);
+      packets_ascend = members_ascend packet_key (λ s. raw_entry (packet_entry s)) IsAddressed c.packets
+          packet_identified addressed (subst (IsAscending identifier_of) (sym h.packets) up_p);
       subs_placed = placed;
       services_formed = formed;
       packets_addressed = addressed;
@@ -136,11 +163,13 @@ makes_configuration p c h placed formed addressed up_s up_v up_p few_s few_v few
 
 -- ---- a picture shows one configuration
 
-entries_within : {T : Type 0} (f : T → Entry) (P : T → Type 0) (xs : List T) → ((x : T) → P x → IsWithin (f x)) → AllByRecursion P xs → AllByRecursion IsWithin (map f xs)
+entries_within : {T : Type 0} (f : T → Entry) (P : T → Type 0) (xs : List T) → ((x : T) → P x → IsWithin (f x))
+    → AllByRecursion P xs → AllByRecursion IsWithin (map f xs)
 entries_within f P [] within all = tt
 entries_within f P (x ∷ xs) within all = (within x all.0, entries_within f P xs within all.1)
 
-within_both : (xs ys : List Entry) → AllByRecursion IsWithin xs → AllByRecursion IsWithin ys → AllByRecursion IsWithin (xs ++ ys)
+within_both : (xs ys : List Entry) → AllByRecursion IsWithin xs → AllByRecursion IsWithin ys
+    → AllByRecursion IsWithin (xs ++ ys)
 within_both [] ys p q = q
 within_both (x ∷ xs) ys p q = (p.0, within_both xs ys p.1 q)
 
@@ -153,7 +182,8 @@ facts_within c h =
     (entries_within packet_entry IsAddressed c.packets packet_within h.packets_addressed))
 
 same_entries :
-    (xs ys : List Entry) → SpellingIdentifies → AllByRecursion IsWithin xs → AllByRecursion IsWithin ys → map raw_entry xs ≡ map raw_entry ys → xs ≡ ys
+    (xs ys : List Entry) → SpellingIdentifies → AllByRecursion IsWithin xs → AllByRecursion IsWithin ys
+    → map raw_entry xs ≡ map raw_entry ys → xs ≡ ys
 same_entries [] [] tells p q h = refl
 same_entries [] (y ∷ ys) tells p q h = absurd (cc)
 same_entries (x ∷ xs) [] tells p q h = absurd (cc)
@@ -165,8 +195,10 @@ same_entries (x ∷ xs) (y ∷ ys) tells p q h =
     ap (λ z. z ∷ xs) one ∙ ap (λ zs. y ∷ zs) (same_entries xs ys tells p.1 q.1 tails)
 
 pub shows_one :
-    (p : Pictured) (c d : Configuration) → SpellingIdentifies → FactsIdentify → IsConfiguration c → IsConfiguration d → Shows p c → Shows p d → c ≡ d
+    (p : Pictured) (c d : Configuration) → SpellingIdentifies → FactsIdentify → IsConfiguration c → IsConfiguration d
+    → Shows p c → Shows p d → c ≡ d
 shows_one p c d spelling facts is_c is_d p_c p_d =
     let entries : sub_entries c ++ service_entries c ≡ sub_entries d ++ service_entries d =
-    same_entries (sub_entries c ++ service_entries c) (sub_entries d ++ service_entries d) spelling (facts_within c is_c) (facts_within d is_d) (sym p_c ∙ p_d) in
+    same_entries (sub_entries c ++ service_entries c) (sub_entries d ++ service_entries d) spelling
+    (facts_within c is_c) (facts_within d is_d) (sym p_c ∙ p_d) in
     facts c d false is_c is_d (ap (map (marked false)) entries)

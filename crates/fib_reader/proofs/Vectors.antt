@@ -32,7 +32,8 @@ bare_holds = inl ([], stands_first 0 [] (λ e. omega arith))
 good_fails : IsEntryFault (4 ∷ 1 ∷ 4 ∷ 0 ∷ 5 ∷ 255 ∷ []) 2 → ⊥
 unfolding figs_fault entries_fault
 good_fails h =
-    let found : figs_fault 6 0 (4 ∷ 1 ∷ 4 ∷ 0 ∷ 5 ∷ 255 ∷ []) ≡ Some (Entry 2) = data_given (4 ∷ 1 ∷ 4 ∷ 0 ∷ 5 ∷ 255 ∷ []) (Entry 2) h in
+    let found : figs_fault 6 0 (4 ∷ 1 ∷ 4 ∷ 0 ∷ 5 ∷ 255 ∷ []) ≡ Some (Entry 2) =
+    data_given (4 ∷ 1 ∷ 4 ∷ 0 ∷ 5 ∷ 255 ∷ []) (Entry 2) h in
     let none : figs_fault 6 0 (4 ∷ 1 ∷ 4 ∷ 0 ∷ 5 ∷ 255 ∷ []) ≡ None = refl in
     absurd (cc)
 

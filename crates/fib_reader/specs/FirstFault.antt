@@ -1,5 +1,6 @@
 -- The first fault of a FIB, as found from the front.
-use Rattle.std.specs.Prelude.{ℕ, zero, suc, ◌+◌, ◌-◌, ◌%◌, ◌==◌, Bool, false, if◌then◌else◌, nat_lt, List, [], ◌∷◌, length, get_or, take, drop, Option, Some, None}
+use Rattle.std.specs.Prelude.{ℕ, zero, suc, ◌+◌, ◌-◌, ◌%◌, ◌==◌, Bool, false, if◌then◌else◌, nat_lt, List, [], ◌∷◌}
+use Rattle.std.specs.Prelude.{length, get_or, take, drop, Option, Some, None}
 use Rattle.fib_codec.specs.Grammar.{entry_len, is_open, is_long}
 use Rattle.fib_reader.specs.declared.fault.FibFault.{FibFault}
 use Rattle.fib_reader.specs.declared.fault.FibFault.TheVariants.{Overrun, Entry}
@@ -38,7 +39,8 @@ fig_fault place h bytes =
     else if nat_lt 31 h then None
     else if h == 0 then Some (Entry place)
     else if is_open (get_or bytes 0 0)
-    then entry_at_fault (body_fault (get_or bytes 0 0 % 32) (is_long (get_or bytes 0 0)) (place + 2) (take (h - 1) (drop 1 bytes)))
+    then entry_at_fault (body_fault (get_or bytes 0 0 % 32) (is_long (get_or bytes 0 0)) (place + 2)
+    (take (h - 1) (drop 1 bytes)))
     else None
 
 abbrev pub or_else : Option FibFault → Option FibFault → Option FibFault

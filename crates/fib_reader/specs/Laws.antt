@@ -25,7 +25,8 @@ OneFault = (bytes : List ℕ) (one other : FibFault) → IsFibFault bytes one �
 -- the bytes of the FIGs of a FIB, concatenated, are the front of its thirty data bytes
 abbrev pub FigsAreTheFront : Type 0
 FigsAreTheFront =
-    (bytes : List ℕ) (figs : List Fig) → IsFib bytes figs → (rest : List ℕ) × (take 30 bytes ≡ flat_map fig_spelled figs ++ rest)
+    (bytes : List ℕ) (figs : List Fig) → IsFib bytes figs → (rest : List ℕ)
+    × (take 30 bytes ≡ flat_map fig_spelled figs ++ rest)
 
 -- ensemble information is decoded to what was sent
 abbrev pub EnsembleIsHeard : Type 0

@@ -1,6 +1,7 @@
 -- A receiver's view of the multiplex after what it has heard: a fold over the FIGs of undamaged FIBs (EN 300 401
 -- clauses 6.2.1, 6.3.1, 6.3.2, 6.4 and 6.5).
-use Rattle.std.specs.Prelude.{◌≡◌, ℕ, ◌+◌, ◌*◌, ◌/◌, ◌%◌, ◌==◌, ◌||◌, Bool, true, false, if◌then◌else◌, nat_lt, List, [], ◌∷◌, ◌++◌, length, get_or, Option, Some, None, Result, Ok, Err}
+use Rattle.std.specs.Prelude.{◌≡◌, ℕ, ◌+◌, ◌*◌, ◌/◌, ◌%◌, ◌==◌, ◌||◌, Bool, true, false, if◌then◌else◌, nat_lt, List}
+use Rattle.std.specs.Prelude.{[], ◌∷◌, ◌++◌, length, get_or, Option, Some, None, Result, Ok, Err}
 use Rattle.mux_types.specs.Entries.{EnsembleInformation}
 use Rattle.mux_config.specs.Tables.{with_entry, with_entry_changed, has_entry}
 use Rattle.fib_codec.specs.Grammar.{Fig, Open, Other, IsFib, is_next}
@@ -29,7 +30,8 @@ identifier_of raw =
     if raw.ext == 0 then u16_at_offset 0 raw.bytes
     else if raw.ext == 1 then get_or raw.bytes 0 0 / 4
     else if raw.ext == 2
-    then (if raw.long then 65536 + (u16_at_offset 0 raw.bytes * 65536 + u16_at_offset 2 raw.bytes) else u16_at_offset 0 raw.bytes)
+    then (if raw.long then 65536 + (u16_at_offset 0 raw.bytes * 65536 + u16_at_offset 2 raw.bytes) else u16_at_offset 0
+    raw.bytes)
     else u16_at_offset 0 raw.bytes / 16
 
 -- an entry replaces one with the same identifier, or else is added to the others
@@ -37,7 +39,8 @@ abbrev pub is_known : Raw → List Raw → Bool
 is_known raw raws = has_entry identifier_of (identifier_of raw) raws
 
 abbrev pub kept : Raw → List Raw → List Raw
-kept raw raws = if is_known raw raws then with_entry_changed identifier_of raw raws else with_entry identifier_of raw raws
+kept raw raws = if is_known raw raws then with_entry_changed identifier_of raw raws else with_entry identifier_of raw
+    raws
 
 -- there are at most 64 sub-channels; a picture has room for 64 services and 64 packet components
 abbrev pub has_room : Raw → List Raw → Bool

@@ -27,7 +27,8 @@ KeepsCurrent hear = (old new : Listening) → hear old ≡ Some new → (new.tun
 -- these bytes are a FIB, and its FIGs are nothing new to a listener that agrees in this basis
 abbrev pub AddsNothing : Basis → Listening → List ℕ → Type 0
 AddsNothing basis l bytes =
-    (figs : List Fig) × IsFib bytes figs × ((others : List Fig) → IsFib bytes others → others ≡ figs) × IsKnownBy basis l (hear_figs figs)
+    (figs : List Fig) × IsFib bytes figs × ((others : List Fig) → IsFib bytes others → others ≡ figs)
+    × IsKnownBy basis l (hear_figs figs)
 
 -- these bytes are in one of the slots, with this basis
 abbrev pub Remembers : KnownFibs → List ℕ → Basis → Type 0

@@ -1,5 +1,6 @@
 -- The FIGs and entries of data bytes without a fault, in the order in which an iterator yields them.
-use Rattle.std.specs.Prelude.{ℕ, zero, suc, ◌%◌, ◌==◌, ◌&&◌, Bool, if◌then◌else◌, nat_lt, List, [], ◌∷◌, length, get_or, take, drop, map}
+use Rattle.std.specs.Prelude.{ℕ, zero, suc, ◌%◌, ◌==◌, ◌&&◌, Bool, if◌then◌else◌, nat_lt, List, [], ◌∷◌, length, get_or}
+use Rattle.std.specs.Prelude.{take, drop, map}
 use Rattle.std.specs.List.{AllByRecursion}
 use Rattle.fib_codec.specs.Grammar.{Fig, Open, Other, entry_len, IsFig, is_open, is_long}
 use Rattle.fib_reader.specs.Raw.{Raw, IsRaw, raw_of}

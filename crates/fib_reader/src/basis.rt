@@ -7,8 +7,9 @@ ghost use Rattle.fib_reader.specs.Remembering.{KeepsCurrent};
 use crate::figs::Figs;
 use fib_codec::{Extension, Head};
 
-/// The part of a receiver's state, besides whether it has heard a FIG 0/0 yet, that decides whether FIGs are new to it.
-#[derive(Clone, Copy, Debug, PartialEq, Eq)]
+/// The part of a receiver's state, besides whether it has heard a FIG 0/0 yet, that decides whether
+/// FIGs are new to it.
+#[derive(Clone, Copy)]
 pub(crate) enum Basis {
     /// The picture of the current configuration.
     Current,
@@ -23,7 +24,8 @@ impl Basis {
     ghost use Rattle.fib_reader.specs.Listening.{Listening};
     ghost use Rattle.fib_reader.specs.Remembering.{Agrees, basis_of};
 
-    /// The basis of FIGs with this head: the whole state for FIG 0/0, both pictures for entries with C/N 1.
+    /// The basis of FIGs with this head: the whole state for FIG 0/0, both pictures for entries
+    /// with C/N 1.
     pub(crate) fn of(head: Head) -> Basis
         ensures { result ≡ basis_of head.next head.ext }
     {
@@ -50,7 +52,8 @@ impl Basis {
     }
 }
 
-/// Whether all entries of FIGs are of the next configuration, so that they leave the current picture unchanged.
+/// Whether all entries of FIGs are of the next configuration, so that they leave the current
+/// picture unchanged.
 pub(crate) fn are_of_next(mut figs: Figs<'_>) -> bool
     ensures { result ≡ true → KeepsCurrent (hear_figs figs.entry) }
 {

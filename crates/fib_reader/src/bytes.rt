@@ -6,8 +6,9 @@ ghost use Rattle.fib_codec.specs.Grammar.{entry_len};
 
 use fib_codec::{Extension, fig0_0, fig0_1, fig0_2, fig0_3};
 
-/// The length of the entry at the front of `bytes`, in this extension and with this P/D flag, computed from the bytes
-/// that determine it. It exceeds the number of bytes if one of these is missing.
+/// The length of the entry at the front of `bytes`, in this extension and with this P/D flag,
+/// computed from the bytes that determine it. It exceeds the number of bytes if one of these is
+/// missing.
 pub(crate) fn entry_len_of(extension: Extension, long: bool, bytes: &[u8]) -> usize
     ensures { result ≡ entry_len (number_of extension) long bytes.now }
 {

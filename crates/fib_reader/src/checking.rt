@@ -4,7 +4,8 @@ ghost use Rattle.std.specs.Prelude.{◌≡◌, ◌+◌, ◌<◌, ◌≤◌, List
 ghost use Rattle.fib_codec.specs.Extensions.{number_of};
 ghost use Rattle.fib_codec.specs.Grammar.{Fig, IsFib};
 ghost use Rattle.fib_reader.specs.Faults.{IsFibFault};
-ghost use Rattle.fib_reader.specs.FirstFault.{entries_fault, ensemble_fault, body_fault, fig_fault, figs_fault};
+ghost use Rattle.fib_reader.specs.FirstFault.{entries_fault, ensemble_fault, body_fault, fig_fault};
+ghost use Rattle.fib_reader.specs.FirstFault.{figs_fault};
 
 use crate::bytes::entry_len_of;
 use crate::fault::FibFault;
@@ -33,7 +34,8 @@ fn entries_fault_of(extension: Extension, long: bool, offset: usize, bytes: &[u8
     None
 }
 
-/// The offset of the fault in the bytes after FIG 0/0's second byte, which must be exactly one entry.
+/// The offset of the fault in the bytes after FIG 0/0's second byte, which must be exactly one
+/// entry.
 fn ensemble_fault_of(offset: usize, bytes: &[u8]) -> Option<usize>
     requires { offset + length bytes.now ≤ 32 }
     ensures { result ≡ ensemble_fault offset bytes.now }
@@ -117,15 +119,17 @@ fn figs_fault_of(bytes: &[u8]) -> Option<FibFault>
     None
 }
 
-/// Checks a FIB: its CRC, then its FIGs from the front to the end of the data bytes or to an end marker instead of a
-/// header (EN 300 401 clauses 5.2.1 and 5.2.2). Without a fault, returns the FIGs in order.
+/// Checks a FIB: its CRC, then its FIGs from the front to the end of the data bytes or to an end
+/// marker instead of a header (EN 300 401 clauses 5.2.1 and 5.2.2). Without a fault, returns the
+/// FIGs in order.
 ///
-/// FIGs of types 1 to 7, of extensions above 3 and of other ensembles are not parsed. Those of extensions 0 to 3 must
-/// consist of whole entries, and FIG 0/0 of exactly one, with a CIF count in range; any other field value is accepted.
-/// Of several faults the first is reported:
+/// FIGs of types 1 to 7, of extensions above 3 and of other ensembles are not parsed. Those of
+/// extensions 0 to 3 must consist of whole entries, and FIG 0/0 of exactly one, with a CIF count in
+/// range; any other field value is accepted. Of several faults the first is reported:
 /// - `Crc`: the last two bytes are not the CRC of the others;
 /// - `Overrun`, at the header of a FIG that is longer than the data bytes that are left;
-/// - `Entry`, at the first byte of an entry at fault, or at the header of a FIG of type 0 without a second byte.
+/// - `Entry`, at the first byte of an entry at fault, or at the header of a FIG of type 0 without a
+/// second byte.
 pub fn check(bytes: &[u8; 32]) -> Result<Figs<'_>, FibFault>
     ensures figs { IfOk result (λ figs. IsFib bytes.now figs) }
     ensures every { (figs : List Fig) → IsFib bytes.now figs → result ≡ Ok figs }

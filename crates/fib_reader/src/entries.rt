@@ -51,9 +51,9 @@ impl<'a> RawEntry<'a> {
         }
     }
 
-    /// Distinguishes it from other entries of its extension: the EId of ensemble information, the SubChId in both forms
-    /// of FIG 0/1, the SId with all short ones before the long ones, the SCId (EN 300 401 clauses 6.4, 6.2.1, 6.3.1 and
-    /// 6.3.2).
+    /// Distinguishes it from other entries of its extension: the EId of ensemble information, the
+    /// SubChId in both forms of FIG 0/1, the SId with all short ones before the long ones, the SCId
+    /// (EN 300 401 clauses 6.4, 6.2.1, 6.3.1 and 6.3.2).
     pub fn identifier(&self) -> u64
         ensures value { result ≡ identifier_of self.now }
         ensures sub { self.now.ext ≡ 1 → result < 64 }
@@ -109,7 +109,8 @@ impl<'a> RawEntry<'a> {
         }
     }
 
-    /// Whether it has an SId of 32 bits: the P/D flag of its FIG in FIG 0/2, and false in the others.
+    /// Whether it has an SId of 32 bits: the P/D flag of its FIG in FIG 0/2, and false in the
+    /// others.
     pub fn long(&self) -> bool
         ensures { result ≡ self.now.long }
     {
@@ -125,7 +126,8 @@ impl<'a> RawEntry<'a> {
     }
 
     /// Its decoded value (EN 300 401 clauses 6.2.1, 6.3.1, 6.3.2 and 6.4).
-    // (an entry is large: inlined, most of it need not go through memory when it is taken apart at once)
+    // (an entry is large: inlined, most of it need not go through memory when it is taken apart at
+    // once)
     #[inline(always)]
     pub fn value(&self) -> Entry
         ensures { IsValue self.now result }
@@ -158,7 +160,8 @@ fn split_entry(extension: Extension, long: bool, bytes: &[u8]) -> Option<(&[u8],
     Some(bytes.split_at(len))
 }
 
-/// Whether entries of this extension have SIds, whose length the P/D flag of their FIG gives (EN 300 401 clause 6.3.1).
+/// Whether entries of this extension have SIds, whose length the P/D flag of their FIG gives (EN
+/// 300 401 clause 6.3.1).
 fn has_sids(extension: Extension) -> bool
     ensures { result ≡ (number_of extension == 2) }
 {

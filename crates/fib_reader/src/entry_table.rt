@@ -17,13 +17,14 @@ pub trait TableEntry: Keyed {
         ensures { result ≡ heard entry.now at };
 }
 
-/// At most 64 entries of one extension, found by their identifiers. Contracts see a list in ascending order of
-/// identifiers.
+/// At most 64 entries of one extension, found by their identifiers. Contracts see a list in
+/// ascending order of identifiers.
 #[derive(Drop)]
 pub struct EntryTable<T: TableEntry> {
     table: SortedTable<T, 64>,
-    /// The index of each entry, by a hash of its identifier. Entries are repeated over and over, and most are found at
-    /// once. It is only a hint: another entry may be at the index, or have the same hash.
+    /// The index of each entry, by a hash of its identifier. Entries are repeated over and over,
+    /// and most are found at once. It is only a hint: another entry may be at the index, or have
+    /// the same hash.
     hints: [u8; 256],
 }
 
@@ -36,7 +37,8 @@ impl<T: TableEntry> Model for EntryTable<T> {
 }
 
 impl<T: TableEntry> EntryTable<T> {
-    ghost use Rattle.std.specs.Prelude.{◌≡◌, ◌≤◌, ◌||◌, true, false, if◌then◌else◌, nat_lt, length, [], option_copied};
+    ghost use Rattle.std.specs.Prelude.{◌≡◌, ◌≤◌, ◌||◌, true, false, if◌then◌else◌, nat_lt, length};
+    ghost use Rattle.std.specs.Prelude.{[], option_copied};
     ghost use Rattle.mux_config.specs.Configuration.{IsAscending};
     ghost use Rattle.mux_config.specs.Tables.{entry_at, has_entry, with_entry, with_entry_changed};
 
@@ -91,8 +93,8 @@ impl<T: TableEntry> EntryTable<T> {
         self.table.get(identifier)
     }
 
-    /// Replaces the entry with this identifier, or adds this one if there is room, as heard at a time. Returns whether
-    /// it was kept; if not, nothing changes.
+    /// Replaces the entry with this identifier, or adds this one if there is room, as heard at a
+    /// time. Returns whether it was kept; if not, nothing changes.
     pub fn keep(&mut self, identifier: u64, entry: &RawEntry<'_>, at: u64) -> bool
         requires { identifier ≡ T.key (T.heard entry.now at) }
         ensures room { result ≡ (has_entry T.key (T.key (T.heard entry.now at)) self.old
@@ -118,8 +120,9 @@ impl<T: TableEntry> EntryTable<T> {
     }
 }
 
-/// The highest eight bits of a multiple of an identifier, which spread even identifiers that differ in only a few bits.
-/// The lowest ones would put SIds that are 16 apart, as those of real multiplexes are, in a few places.
+/// The highest eight bits of a multiple of an identifier, which spread even identifiers that differ
+/// in only a few bits. The lowest ones would put SIds that are 16 apart, as those of real
+/// multiplexes are, in a few places.
 fn hash(identifier: u64) -> u8 {
     (identifier.wrapping_mul(0x9E37_79B9_7F4A_7C15) >> 56) as u8
 }
@@ -153,8 +156,8 @@ impl EntryTable<OwnedEntry> {
         }
     }
 
-    /// The number of new entries after this one is kept too, if at most `others` of those kept before were new; None if
-    /// there may be no room for it.
+    /// The number of new entries after this one is kept too, if at most `others` of those kept
+    /// before were new; None if there may be no room for it.
     pub(crate) fn new_members(&self, others: usize, entry: &RawEntry<'_>) -> Option<usize>
         ensures known { IfSome result (λ all. is_known entry.now self.now ≡ true → all ≡ others) }
         ensures new { IfSome result (λ all. is_known entry.now self.now ≡ false

@@ -1,6 +1,7 @@
 //! The FIGs of a FIB, borrowed from its bytes.
 
-ghost use Rattle.std.specs.Prelude.{◌≡◌, ◌≤◌, ◌%◌, [], ◌∷◌, length, drop, MatchOption, IfSome, IfNone, OnSome};
+ghost use Rattle.std.specs.Prelude.{◌≡◌, ◌≤◌, ◌%◌, [], ◌∷◌, length, drop, MatchOption, IfSome};
+ghost use Rattle.std.specs.Prelude.{IfNone, OnSome};
 ghost use Rattle.fib_codec.specs.Extensions.{number_of};
 ghost use Rattle.fib_codec.specs.Grammar.{Open, Other, is_long};
 ghost use Rattle.fib_reader.specs.Walk.{fig_of_bytes, entries_of, pieces_of};
@@ -11,8 +12,8 @@ use fib_codec::head::{extension_of, is_long_of, next_of};
 use fib_codec::{Extension, Head};
 use std::marker::Model;
 
-/// A FIG, which borrows its bytes. Contracts see it as the grammar does: one of extension 0 to 3 and of this ensemble
-/// as its second byte and its entries, and any other one as its bytes.
+/// A FIG, which borrows its bytes. Contracts see it as the grammar does: one of extension 0 to 3
+/// and of this ensemble as its second byte and its entries, and any other one as its bytes.
 #[derive(Drop)]
 pub struct Fig<'a> {
     bytes: &'a [u8],
@@ -41,7 +42,8 @@ impl<'a> Fig<'a> {
         self.bytes
     }
 
-    /// Its head if it is of extension 0 to 3 and of this ensemble; None for any other one, which is not parsed.
+    /// Its head if it is of extension 0 to 3 and of this ensemble; None for any other one, which is
+    /// not parsed.
     pub fn head(&self) -> Option<Head>
         ensures { result ≡ head_in self.now }
     {

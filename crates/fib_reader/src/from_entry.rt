@@ -1,15 +1,20 @@
 //! Converts entries into the sub-channels, services and packet components that they describe.
 
 ghost use Rattle.std.specs.Prelude.{◌≡◌, ◌≤◌, IfSome, IfNone, List, length};
-ghost use Rattle.mux_config.specs.Configuration.{IsPlaced, IsService, IsAddressed, AreDifferent, IsComponent};
+ghost use Rattle.mux_config.specs.Configuration.{IsPlaced, IsService, IsAddressed, AreDifferent};
+ghost use Rattle.mux_config.specs.Configuration.{IsComponent};
 ghost use Rattle.std.specs.List.{AllByRecursion};
-ghost use Rattle.mux_types.specs.Facts.{sub_entry, service_entry, packet_entry, component_entry, component_entries};
-ghost use Rattle.fib_codec.specs.Ranges.{IsSubEntry, IsServiceEntry, IsPacketEntry, IsComponentEntry};
+ghost use Rattle.mux_types.specs.Facts.{sub_entry, service_entry, packet_entry, component_entry};
+ghost use Rattle.mux_types.specs.Facts.{component_entries};
+ghost use Rattle.fib_codec.specs.Ranges.{IsSubEntry, IsServiceEntry, IsPacketEntry};
+ghost use Rattle.fib_codec.specs.Ranges.{IsComponentEntry};
 ghost use Rattle.mux_types.specs.declared.parts.Sub.{Sub};
 ghost use Rattle.mux_types.specs.declared.parts.Service.{Service};
 ghost use Rattle.mux_types.specs.declared.parts.Packet.{Packet};
 ghost use Rattle.mux_types.specs.declared.parts.Component.{Component};
-ghost use Rattle.mux_types.specs.declared.entry.Entry.TheVariants.{Sub as SubOf, Service as ServiceOf, Packet as PacketOf};
+ghost use Rattle.mux_types.specs.declared.entry.Entry.TheVariants.{Sub as SubOf};
+ghost use Rattle.mux_types.specs.declared.entry.Entry.TheVariants.{Service as ServiceOf};
+ghost use Rattle.mux_types.specs.declared.entry.Entry.TheVariants.{Packet as PacketOf};
 
 use mux_config::{
     BoundedVec, Component, ComponentEntry, Entry, Packet, PacketEntry, Service, ServiceEntry, Sub,
@@ -17,8 +22,8 @@ use mux_config::{
 };
 use mux_eep::{CAPACITY_UNITS, EepSet, Protection, rate_of};
 
-/// The sub-channel that an entry in the long form describes; None if no protection profile and rate have this option
-/// and size, or if it would end past the last capacity unit.
+/// The sub-channel that an entry in the long form describes; None if no protection profile and rate
+/// have this option and size, or if it would end past the last capacity unit.
 pub fn sub_from_entry(entry: &SubEntry) -> Option<Sub>
     requires { IsSubEntry entry.now }
     ensures member { IfSome result IsPlaced }
@@ -43,7 +48,8 @@ pub fn sub_from_entry(entry: &SubEntry) -> Option<Sub>
     })
 }
 
-/// The packet component that its entry describes; None if its address is 0, or a field that is sent as 0 is set.
+/// The packet component that its entry describes; None if its address is 0, or a field that is sent
+/// as 0 is set.
 pub fn packet_from_entry(entry: &PacketEntry) -> Option<Packet>
     requires { IsPacketEntry entry.now }
     ensures member { IfSome result IsAddressed }
@@ -72,8 +78,8 @@ pub fn packet_from_entry(entry: &PacketEntry) -> Option<Packet>
     })
 }
 
-/// The component that its entry describes, with this P/S flag; None if the entry has the other flag, the CA flag is set
-/// or the TMId is not in this profile.
+/// The component that its entry describes, with this P/S flag; None if the entry has the other
+/// flag, the CA flag is set or the TMId is not in this profile.
 fn component_from_entry(primary: bool, entry: &ComponentEntry) -> Option<Component>
     requires { IsComponentEntry entry.now }
     ensures member { IfSome result IsComponent }
@@ -105,8 +111,8 @@ fn component_from_entry(primary: bool, entry: &ComponentEntry) -> Option<Compone
     Some(component)
 }
 
-/// The components that their entries describe; None if one describes none or has a P/S flag that is wrong for its
-/// index, or if two have the same carrier.
+/// The components that their entries describe; None if one describes none or has a P/S flag that is
+/// wrong for its index, or if two have the same carrier.
 fn components_from_entry(entries: &[ComponentEntry]) -> Option<BoundedVec<Component, 12>>
     requires within { AllByRecursion IsComponentEntry entries.now }
     requires few { length entries.now ≤ 12 }
@@ -129,8 +135,8 @@ fn components_from_entry(entries: &[ComponentEntry]) -> Option<BoundedVec<Compon
     Some(components)
 }
 
-/// The service that its entry describes; None if its components describe none or are too many, or a field that is sent
-/// as 0 is set.
+/// The service that its entry describes; None if its components describe none or are too many, or a
+/// field that is sent as 0 is set.
 pub fn service_from_entry(entry: &ServiceEntry) -> Option<Service>
     requires { IsServiceEntry entry.now }
     ensures member { IfSome result IsService }

@@ -7,7 +7,8 @@ use crate::basis::Basis;
 /// The number of slots for FIBs.
 const FIBS: usize = 1024;
 
-/// FIBs that contained nothing new to a receiver, each in the slot selected by its CRC, where a later one replaces it.
+/// FIBs that contained nothing new to a receiver, each in the slot selected by its CRC, where a
+/// later one replaces it.
 #[derive(Drop)]
 pub(crate) struct KnownFibs {
     fibs: [[u8; 32]; FIBS],
@@ -56,8 +57,8 @@ impl KnownFibs {
         self.of_pictures[slot]
     }
 
-    /// Remembers a FIB with this basis in its slot, replacing the one there; a FIB whose basis is `All` is not
-    /// remembered.
+    /// Remembers a FIB with this basis in its slot, replacing the one there; a FIB whose basis is
+    /// `All` is not remembered.
     pub(crate) fn keep(&mut self, bytes: &[u8; 32], basis: Basis)
         ensures { (other : List ℕ) (of : Basis) → Remembers self.new other of
             → Remembers self.old other of ⊎ ((other ≡ bytes.now) × (of ≡ basis)) }

@@ -1,6 +1,8 @@
-//! Laws that hold for all FIBs, whatever reads them. Each law is a function that does nothing; its contract is the law.
+//! Laws that hold for all FIBs, whatever reads them. Each law is a function that does nothing; its
+//! contract is the law.
 
-ghost use Rattle.fib_reader.specs.Laws.{FaultOrFigs, FigsOrFault, OneFault, FigsAreTheFront, EnsembleIsHeard, WrittenIsGood, WrittenIsRead};
+ghost use Rattle.fib_reader.specs.Laws.{FaultOrFigs, FigsOrFault, OneFault, FigsAreTheFront};
+ghost use Rattle.fib_reader.specs.Laws.{EnsembleIsHeard, WrittenIsGood, WrittenIsRead};
 
 /// Reading: bytes are a FIB or have a fault, not both, and have at most one fault.
 pub fn reading()
@@ -9,8 +11,8 @@ pub fn reading()
     ensures one_fault { OneFault }
 {}
 
-/// Offsets: the bytes of the FIGs of a FIB, concatenated, are the front of its thirty data bytes. So each FIG is at the
-/// offset where those before it end.
+/// Offsets: the bytes of the FIGs of a FIB, concatenated, are the front of its thirty data bytes.
+/// So each FIG is at the offset where those before it end.
 pub fn places()
     ensures { FigsAreTheFront }
 {}
@@ -20,8 +22,8 @@ pub fn ensemble()
     ensures { EnsembleIsHeard }
 {}
 
-/// Writer and reader: a FIB that was written is read without a fault, and with the FIGs that were written; those with
-/// OE 1 are not parsed.
+/// Writer and reader: a FIB that was written is read without a fault, and with the FIGs that were
+/// written; those with OE 1 are not parsed.
 pub fn written_is_read()
     ensures good { WrittenIsGood }
     ensures read { WrittenIsRead }

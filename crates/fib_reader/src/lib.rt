@@ -1,6 +1,7 @@
 //! Reads FIBs from untrusted bytes (EN 300 401 clauses 5.2.1 and 5.2.2).
 //!
-//! The layout of each entry is in the file of its FIG in `fib_codec`, which is called for lengths and values.
+//! The layout of each entry is in the file of its FIG in `fib_codec`, which is called for lengths
+//! and values.
 #![tactic(auto)]
 
 mod basis;

@@ -8,8 +8,9 @@ use crate::picture::Picture;
 use crate::receiver::Receiver;
 use std::marker::Model;
 
-/// A receiver's view of the multiplex: pictures of the current and of the next configuration, and when a swap is
-/// awaited (EN 300 401 clauses 6.4 and 6.5). Until it has heard a FIG 0/0 it keeps no entry.
+/// A receiver's view of the multiplex: pictures of the current and of the next configuration, and
+/// when a swap is awaited (EN 300 401 clauses 6.4 and 6.5). Until it has heard a FIG 0/0 it keeps
+/// no entry.
 #[derive(Drop)]
 pub struct Listener {
     receiver: Receiver,
@@ -71,11 +72,11 @@ impl Listener {
         self.receiver.swap_at()
     }
 
-    /// Hears one FIB, FIG by FIG. FIGs that are not parsed, and entries before the first FIG 0/0, are skipped. An entry
-    /// with C/N 0 goes into the current picture, one with C/N 1 into the next one, replacing one with the same
-    /// identifier. At a FIG 0/0 an awaited swap is made if the change flags are cleared or the low part of the CIF
-    /// count is the awaited one; and if flags are set, its occurrence change is awaited from then on (EN 300 401
-    /// clauses 6.4 and 6.5).
+    /// Hears one FIB, FIG by FIG. FIGs that are not parsed, and entries before the first FIG 0/0,
+    /// are skipped. An entry with C/N 0 goes into the current picture, one with C/N 1 into the next
+    /// one, replacing one with the same identifier. At a FIG 0/0 an awaited swap is made if the
+    /// change flags are cleared or the low part of the CIF count is the awaited one; and if flags
+    /// are set, its occurrence change is awaited from then on (EN 300 401 clauses 6.4 and 6.5).
     ///
     /// On a fault nothing changes:
     /// - `Fib`: the 32 bytes are not a valid FIB; see [`check`];

@@ -10,7 +10,8 @@ use crate::from_entry::{packet_from_entry, service_from_entry, sub_from_entry};
 use crate::owned_entry::OwnedEntry;
 use mux_config::{Entry, Keyed, Packet, Service, SortedTable, Sub};
 
-/// A member of a configuration that an entry can describe: a sub-channel, a service or a packet component.
+/// A member of a configuration that an entry can describe: a sub-channel, a service or a packet
+/// component.
 pub(crate) trait FromEntry: Keyed {
     ghost use Rattle.std.specs.Prelude.{◌≡◌, IfSome, IfNone};
     ghost use Rattle.mux_types.specs.declared.entry.Entry.{Entry};
@@ -31,8 +32,8 @@ pub(crate) trait FromEntry: Keyed {
         ensures value { IfSome result (λ x. entry_of x ≡ entry.now) }
         ensures none { IfNone result ((x : Self) → is_member x → entry_of x ≡ entry.now → ⊥) };
 
-    /// The law of every member's entry: its fields are within their bits, and its identifier is the member's key. The
-    /// function does nothing; its contract is the law.
+    /// The law of every member's entry: its fields are within their bits, and its identifier is the
+    /// member's key. The function does nothing; its contract is the law.
     fn laws()
         ensures within { (x : Self) → is_member x → IsWithin (entry_of x) }
         ensures identified { (x : Self) → is_member x

@@ -11,8 +11,8 @@ use std::marker::Model;
 /// The length of the longest entry: a service with an SId of 32 bits and 15 components.
 const LONGEST: usize = 35;
 
-/// An entry that owns its bytes, with the identifier by which it is looked up. Contracts see it as the entry that is
-/// sent.
+/// An entry that owns its bytes, with the identifier by which it is looked up. Contracts see it as
+/// the entry that is sent.
 #[derive(Drop)]
 pub struct OwnedEntry {
     identifier: u64,

@@ -11,7 +11,8 @@ use mux_config::{Config, Packet, Service, Sub};
 use std::marker::Model;
 
 /// What a receiver has heard of one configuration: entries of FIG 0/1 to 0/3, distinguished by
-/// their identifiers. Contracts see it as three lists of entries as they were sent, each in ascending order.
+/// their identifiers. Contracts see it as three lists of entries as they were sent, each in
+/// ascending order.
 #[derive(Drop)]
 pub struct Picture {
     subs: EntryTable<OwnedEntry>,
@@ -58,7 +59,8 @@ impl Picture {
         self.packets.copy_from(&other.packets);
     }
 
-    /// Takes in an entry of FIG 0/1 to 0/3 if there is room for it. Returns whether there was; if not, nothing changes.
+    /// Takes in an entry of FIG 0/1 to 0/3 if there is room for it. Returns whether there was; if
+    /// not, nothing changes.
     #[inline(always)]
     pub(crate) fn take_in(&mut self, entry: &RawEntry<'_>) -> bool
         requires { entry.now.ext ≢ 0 }
@@ -78,7 +80,8 @@ impl Picture {
         }
     }
 
-    /// Whether it has this very entry of FIG 0/1 to 0/3, so that taking it in again changes nothing.
+    /// Whether it has this very entry of FIG 0/1 to 0/3, so that taking it in again changes
+    /// nothing.
     #[inline(always)]
     pub(crate) fn has(&self, entry: &RawEntry<'_>) -> bool
         requires { entry.now.ext ≢ 0 }
@@ -92,9 +95,9 @@ impl Picture {
         }
     }
 
-    /// The number of new members of a kind after this entry of FIG 0/1 to 0/3 is taken in too, if at most `others` of
-    /// those taken in before were new; None if there may be no room for it. There are never too many sub-channels, so
-    /// they are not counted.
+    /// The number of new members of a kind after this entry of FIG 0/1 to 0/3 is taken in too, if
+    /// at most `others` of those taken in before were new; None if there may be no room for it.
+    /// There are never too many sub-channels, so they are not counted.
     pub(crate) fn new_members(&self, others: usize, entry: &RawEntry<'_>) -> Option<usize>
         requires { entry.now.ext ≢ 0 }
         ensures { IfSome result (λ all. (p : Pictured) → HasGrownBy others self.now p
@@ -109,9 +112,10 @@ impl Picture {
         }
     }
 
-    /// The configuration that it shows: Some if its entries are exactly those of one configuration of this profile. So
-    /// it is None if a sub-channel is in the short form, has an option above 1 or a size that no rate has, if a field
-    /// that is sent as 0 is set, or a component has another TMId.
+    /// The configuration that it shows: Some if its entries are exactly those of one configuration
+    /// of this profile. So it is None if a sub-channel is in the short form, has an option above 1
+    /// or a size that no rate has, if a field that is sent as 0 is set, or a component has another
+    /// TMId.
     pub fn config(&self) -> Option<Config>
         ensures configuration { IfSome result IsConfiguration }
         ensures shown { IfSome result (Shows self.now) }
@@ -132,8 +136,8 @@ impl Picture {
         Some(Config::of(subs, services, packets))
     }
 
-    /// Its entries in ascending order of extension and identifier: FIG 0/1 by SubChId, FIG 0/2 by SId with the
-    /// short ones first, FIG 0/3 by SCId.
+    /// Its entries in ascending order of extension and identifier: FIG 0/1 by SubChId, FIG 0/2 by
+    /// SId with the short ones first, FIG 0/3 by SCId.
     pub fn entries(&self) -> PictureEntries<'_>
         ensures value { result ≡ all_entries self.now }
         ensures ascending { AreInOrder result }

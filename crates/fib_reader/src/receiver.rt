@@ -8,8 +8,9 @@ use mux_config::Ensemble;
 use std::marker::Model;
 use std::mem;
 
-/// A receiver's view of the multiplex: pictures of the current and of the next configuration, and when a swap is
-/// awaited (EN 300 401 clauses 6.4 and 6.5). Until it has heard a FIG 0/0 it keeps no entry.
+/// A receiver's view of the multiplex: pictures of the current and of the next configuration, and
+/// when a swap is awaited (EN 300 401 clauses 6.4 and 6.5). Until it has heard a FIG 0/0 it keeps
+/// no entry.
 #[derive(Drop)]
 pub(crate) struct Receiver {
     tuned: bool,
@@ -31,7 +32,8 @@ impl Receiver {
     ghost use Rattle.std.specs.Prelude.{◌≡◌, true, false, Some, None, IfSome};
     ghost use Rattle.std.specs.List.{AllByRecursion};
     ghost use Rattle.fib_reader.specs.Forecast.{IsKnownTo, LeavesRoom};
-    ghost use Rattle.fib_reader.specs.Listening.{untuned, at_ensemble, hear_entry, hear_entries, hear_figs, swapped};
+    ghost use Rattle.fib_reader.specs.Listening.{untuned, at_ensemble, hear_entry, hear_entries};
+    ghost use Rattle.fib_reader.specs.Listening.{hear_figs, swapped};
     ghost use Rattle.fib_reader.specs.Remembering.{IsKnownBy};
 
     /// A receiver that has heard nothing.
@@ -194,7 +196,8 @@ impl Receiver {
         true
     }
 
-    /// The basis of FIGs that it knows, so that hearing them changes nothing; None if it may not know them.
+    /// The basis of FIGs that it knows, so that hearing them changes nothing; None if it may not
+    /// know them.
     pub(crate) fn knows(&self, mut figs: Figs<'_>) -> Option<Basis>
         ensures { IfSome result (λ basis. IsKnownBy basis self.now (hear_figs figs.entry)) }
     {
@@ -210,8 +213,9 @@ impl Receiver {
         Some(basis)
     }
 
-    /// The number of new members after this entry is heard too, if at most `others` of those heard before were new;
-    /// None if there may be no room for it, and for ensemble information that it does not know.
+    /// The number of new members after this entry is heard too, if at most `others` of those heard
+    /// before were new; None if there may be no room for it, and for ensemble information that it
+    /// does not know.
     fn new_at_entry(&self, next: bool, others: usize, entry: &RawEntry<'_>) -> Option<usize>
         ensures { IfSome result (λ all.
             LeavesRoom self.now others all (hear_entry next entry.now)) }
@@ -245,8 +249,8 @@ impl Receiver {
         Some(new)
     }
 
-    /// Whether there is certainly room for all entries of FIGs. New members of all kinds are counted together, and
-    /// ensemble information that it does not know counts as no room.
+    /// Whether there is certainly room for all entries of FIGs. New members of all kinds are
+    /// counted together, and ensemble information that it does not know counts as no room.
     fn has_room(&self, mut figs: Figs<'_>) -> bool
         ensures { result ≡ true → hear_figs figs.entry self.now ≡ None → ⊥ }
     {
@@ -262,7 +266,8 @@ impl Receiver {
         true
     }
 
-    /// Applies FIGs in order to a copy, so that nothing changes if a picture becomes full; then the result is false.
+    /// Applies FIGs in order to a copy, so that nothing changes if a picture becomes full; then the
+    /// result is false.
     #[inline(never)]
     fn hear_aside(&mut self, figs: Figs<'_>) -> bool
         ensures heard { result ≡ true → hear_figs figs.entry self.old ≡ Some self.new }
@@ -288,7 +293,8 @@ impl Receiver {
         self.awaited = other.awaited;
     }
 
-    /// Applies FIGs in order; false if a picture has no room for one of their entries, and then nothing changes.
+    /// Applies FIGs in order; false if a picture has no room for one of their entries, and then
+    /// nothing changes.
     pub(crate) fn hear_all(&mut self, figs: Figs<'_>) -> bool
         ensures heard { result ≡ true → hear_figs figs.entry self.old ≡ Some self.new }
         ensures full { result ≡ false → hear_figs figs.entry self.old ≡ None }

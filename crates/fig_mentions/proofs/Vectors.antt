@@ -3,8 +3,10 @@ use Rattle.std.proofs.Common.{◌≡◌, true, false, [], ◌∷◌, None, Some,
 use Rattle.fib_reader.specs.Raw.{Raw}
 use Rattle.fib_reader.specs.Listening.{Pictured}
 use Rattle.fig_mentions.specs.declared.mention.Mention.TheVariants.{Nothing, Sub, Packet, OnSub, ByPacket}
-use Rattle.fig_mentions.specs.Mentions.{channel_in, component_size, entry_size, has_bit, is_naming, mentions_in, mentions_of, scid_in, sid_in}
-use Rattle.fig_mentions.specs.Agreeing.{are_there, fig_agrees, is_by, is_judged, is_named, is_nothing, is_on, is_there}
+use Rattle.fig_mentions.specs.Mentions.{channel_in, component_size, first_entry_length, has_bit, is_naming, mentions_in}
+use Rattle.fig_mentions.specs.Mentions.{mentions_of, scid_in, sid_in}
+use Rattle.fig_mentions.specs.Agreeing.{are_there, fig_agrees, is_by, is_judged, is_named, is_nothing, is_on}
+use Rattle.fig_mentions.specs.Agreeing.{is_present}
 
 -- sub-channel 1; service C221 with audio on it and packet component 7; packet component 7
 abbrev sub : Raw
@@ -51,7 +53,8 @@ no_ext_byte = refl
 
 -- ---- entries
 
-component : mentions_of 8 false (194 ∷ 33 ∷ 128 ∷ 1 ∷ 0 ∷ 194 ∷ 33 ∷ 1 ∷ 128 ∷ 7 ∷ []) ≡ Some (OnSub 49697 1 ∷ ByPacket 49697 7 ∷ [])
+component : mentions_of 8 false (194 ∷ 33 ∷ 128 ∷ 1 ∷ 0 ∷ 194 ∷ 33 ∷ 1 ∷ 128 ∷ 7 ∷ [])
+    ≡ Some (OnSub 49697 1 ∷ ByPacket 49697 7 ∷ [])
 unfolding mentions_in
 component = refl
 
@@ -59,7 +62,7 @@ not_whole : mentions_of 4 false (1 ∷ 0 ∷ []) ≡ None
 unfolding mentions_in
 not_whole = refl
 
-size_of_an_access : entry_size 4 false (1 ∷ []) ≡ 3
+size_of_an_access : first_entry_length 4 false (1 ∷ []) ≡ 3
 size_of_an_access = refl
 
 names_something : is_naming 19 ≡ true
@@ -94,10 +97,10 @@ nothing = refl
 something : is_nothing (Sub 0) ≡ false
 something = refl
 
-component_is_there : is_there current (ByPacket 49697 7) ≡ true
+component_is_there : is_present current (ByPacket 49697 7) ≡ true
 component_is_there = refl
 
-of_another_service : is_there current (OnSub 49698 1) ≡ false
+of_another_service : is_present current (OnSub 49698 1) ≡ false
 of_another_service = refl
 
 none_is_whole : are_there current None ≡ false

@@ -1,5 +1,6 @@
 -- Which FIGs agree with the entries of a configuration that a listener has.
-use Rattle.std.specs.Prelude.{ℕ, ◌+◌, ◌*◌, ◌/◌, ◌%◌, ◌==◌, ◌&&◌, nat_lt, Bool, true, false, if◌then◌else◌, List, length, drop, get_or, Option, Some, None}
+use Rattle.std.specs.Prelude.{ℕ, ◌+◌, ◌*◌, ◌/◌, ◌%◌, ◌==◌, ◌&&◌, nat_lt, Bool, true, false, if◌then◌else◌, List, length}
+use Rattle.std.specs.Prelude.{drop, get_or, Option, Some, None}
 use Rattle.std.specs.List.{list_all, list_any}
 use Rattle.std.specs.Simd.{first_chunks}
 use Rattle.fib_reader.specs.Raw.{Raw}
@@ -40,8 +41,8 @@ is_nothing (Packet scid) = false
 is_nothing (OnSub sid sub) = false
 is_nothing (ByPacket sid scid) = false
 
-abbrev pub is_there : Pictured → Mention → Bool
-is_there k m = if is_nothing m then true else list_any (is_named m) (all_entries k)
+abbrev pub is_present : Pictured → Mention → Bool
+is_present k m = if is_nothing m then true else list_any (is_named m) (all_entries k)
 
 -- ---- FIGs
 
@@ -53,7 +54,7 @@ is_judged fig =
 -- whole entries, and what each names is there
 abbrev pub are_there : Pictured → Option (List Mention) → Bool
 are_there k None = false
-are_there k (Some ms) = list_all (is_there k) ms
+are_there k (Some ms) = list_all (is_present k) ms
 
 abbrev pub entries_agree : Pictured → (second : ℕ) → (entries : List ℕ) → Bool
 entries_agree k second entries =

@@ -1,6 +1,7 @@
 -- What FIG 0/4, 0/5, 0/8, 0/14 and 0/19 name, entry by entry.
 -- EN 300 401 clauses 6.3.3 (FIG 0/4), 8.1.2 (0/5), 6.3.5 (0/8), 6.2.2 (0/14) and 8.1.6.2 (0/19).
-use Rattle.std.specs.Prelude.{ℕ, ◌+◌, ◌*◌, ◌/◌, ◌%◌, ◌==◌, ◌||◌, zero, suc, nat_le, Bool, if◌then◌else◌, List, [], ◌∷◌, length, drop, get_or, Option, Some, None, option_map}
+use Rattle.std.specs.Prelude.{ℕ, ◌+◌, ◌*◌, ◌/◌, ◌%◌, ◌==◌, ◌||◌, zero, suc, nat_le, Bool, if◌then◌else◌, List, [], ◌∷◌}
+use Rattle.std.specs.Prelude.{length, drop, get_or, Option, Some, None, option_map}
 use Rattle.fib_reader.specs.Raw.{u16_at_offset}
 use Rattle.fig_mentions.specs.declared.mention.Mention.{Mention}
 use Rattle.fig_mentions.specs.declared.mention.Mention.TheVariants.{Nothing, Sub, Packet, OnSub, ByPacket}
@@ -31,8 +32,8 @@ language_mention bytes =
     else channel_in (get_or bytes 0 0)
 
 -- the SId of 16 bits, or that of 32 where the P/D flag is 1
-abbrev pub sid_size : Bool → ℕ
-sid_size long = if long then 4 else 2
+abbrev pub sid_length : Bool → ℕ
+sid_length long = if long then 4 else 2
 
 abbrev pub sid_in : Bool → List ℕ → ℕ
 sid_in long bytes =
@@ -51,11 +52,11 @@ component_mention sid second third =
 
 abbrev pub service_size : Bool → List ℕ → ℕ
 service_size long bytes =
-    sid_size long + component_size (get_or bytes (sid_size long) 0) (get_or bytes (sid_size long + 1) 0)
+    sid_length long + component_size (get_or bytes (sid_length long) 0) (get_or bytes (sid_length long + 1) 0)
 
 abbrev pub service_mention : Bool → List ℕ → Mention
 service_mention long bytes =
-    component_mention (sid_in long bytes) (get_or bytes (sid_size long + 1) 0) (get_or bytes (sid_size long + 2) 0)
+    component_mention (sid_in long bytes) (get_or bytes (sid_length long + 1) 0) (get_or bytes (sid_length long + 2) 0)
 
 -- FIG 0/14: SubChId 6, FEC scheme 2
 abbrev pub scheme_mention : List ℕ → Mention
@@ -75,8 +76,8 @@ abbrev pub is_naming : ℕ → Bool
 is_naming ext = ext == 4 || (ext == 5 || (ext == 8 || (ext == 14 || ext == 19)))
 
 -- the size of the first entry in a FIG of this extension and P/D flag
-abbrev pub entry_size : (ext : ℕ) → Bool → List ℕ → ℕ
-entry_size ext long bytes =
+abbrev pub first_entry_length : (ext : ℕ) → Bool → List ℕ → ℕ
+first_entry_length ext long bytes =
     if ext == 4 then 3
     else if ext == 5 then language_size bytes
     else if ext == 8 then service_size long bytes
@@ -99,9 +100,9 @@ unfoldable pub mentions_in : ℕ → (ext : ℕ) → Bool → List ℕ → Optio
 mentions_in n ext long [] = Some []
 mentions_in zero ext long (b ∷ bs) = None
 mentions_in (suc n) ext long (b ∷ bs) =
-    if nat_le (entry_size ext long (b ∷ bs)) (length (b ∷ bs))
+    if nat_le (first_entry_length ext long (b ∷ bs)) (length (b ∷ bs))
     then with_mention (entry_mention ext long (b ∷ bs))
-    (mentions_in n ext long (drop (entry_size ext long (b ∷ bs)) (b ∷ bs)))
+    (mentions_in n ext long (drop (first_entry_length ext long (b ∷ bs)) (b ∷ bs)))
     else None
 
 abbrev pub mentions_of : (ext : ℕ) → Bool → List ℕ → Option (List Mention)

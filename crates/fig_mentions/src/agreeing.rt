@@ -40,8 +40,8 @@ fn entries_agree(second: u8, entries: &[u8], picture: &Picture) -> bool
     are_there(second % 32, (second >> 5) & 1 == 1, entries, picture)
 }
 
-/// Whether these are whole entries of a FIG with this extension and P/D flag, and what each names is
-/// there.
+/// Whether these are whole entries of a FIG with this extension and P/D flag, and what each names
+/// is there.
 fn are_there(ext: u8, long: bool, entries: &[u8], picture: &Picture) -> bool
     ensures { result ≡ are_there picture.now (mentions_of ext long entries.now) }
 {

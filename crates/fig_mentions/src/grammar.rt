@@ -4,10 +4,11 @@ ghost use Rattle.std.specs.Prelude.{◌≡◌, ◌<◌, ◌≤◌};
 ghost use Rattle.fib_reader.specs.Raw.{u16_at_offset};
 ghost use Rattle.fig_mentions.specs.Mentions.{access_mention, announcement_mention};
 ghost use Rattle.fig_mentions.specs.Mentions.{announcement_size, channel_in, component_mention};
-ghost use Rattle.fig_mentions.specs.Mentions.{component_size, entry_mention, entry_size, has_bit};
+ghost use Rattle.fig_mentions.specs.Mentions.{component_size, entry_mention, first_entry_length};
+ghost use Rattle.fig_mentions.specs.Mentions.{has_bit};
 ghost use Rattle.fig_mentions.specs.Mentions.{is_naming, language_mention, language_size};
 ghost use Rattle.fig_mentions.specs.Mentions.{scheme_mention, scid_in, service_mention};
-ghost use Rattle.fig_mentions.specs.Mentions.{service_size, sid_in, sid_size};
+ghost use Rattle.fig_mentions.specs.Mentions.{service_size, sid_in, sid_length};
 
 use crate::mention::Mention;
 use fib_codec::bytes::byte_at;
@@ -62,7 +63,7 @@ fn scid_in(high: u8, low: u8) -> u64
 
 /// The size of the first entry in a FIG of this extension, with SIds of 32 bits if `long`.
 pub fn entry_size(ext: u8, long: bool, bytes: &[u8]) -> usize
-    ensures value { result ≡ entry_size ext long bytes.now }
+    ensures value { result ≡ first_entry_length ext long bytes.now }
     ensures some { 0 < result }
 {
     match ext {
@@ -84,7 +85,7 @@ fn language_size(bytes: &[u8]) -> usize
 
 /// The size of an SId.
 fn sid_size(long: bool) -> usize
-    ensures { result ≡ sid_size long }
+    ensures { result ≡ sid_length long }
 {
     if long { 4 } else { 2 }
 }

@@ -1,7 +1,7 @@
 //! What an entry of a FIG names.
 
-/// What an entry names of a configuration. A service is given by its SId, and to one of 32 bits 65,536
-/// is added.
+/// What an entry names of a configuration. A service is given by its SId, and to one of 32 bits
+/// 65,536 is added.
 #[derive(Clone, Copy, Debug, PartialEq, Eq)]
 pub enum Mention {
     /// Nothing of a configuration: a channel of the FIC.

@@ -2,7 +2,8 @@
 
 ghost use Rattle.std.specs.Prelude.{◌≡◌, false};
 ghost use Rattle.std.specs.List.{list_any};
-ghost use Rattle.fig_mentions.specs.Agreeing.{components_in, is_by, is_named, is_nothing, is_on, is_there};
+ghost use Rattle.fig_mentions.specs.Agreeing.{components_in, is_by, is_named, is_nothing, is_on};
+ghost use Rattle.fig_mentions.specs.Agreeing.{is_present};
 
 use crate::mention::Mention;
 use fib_codec::bytes::byte_at;
@@ -10,7 +11,7 @@ use fib_reader::{Picture, PictureEntries, RawEntry};
 
 /// Whether a configuration, as far as it was heard, has what is named.
 pub(crate) fn is_there(mention: Mention, picture: &Picture) -> bool
-    ensures { result ≡ is_there picture.now mention }
+    ensures { result ≡ is_present picture.now mention }
 {
     if is_nothing(mention) {
         return true;

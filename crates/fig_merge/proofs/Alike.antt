@@ -1,25 +1,35 @@
 -- What a listener and the checker know of filled FIBs is what they know of the plan's.
-use Rattle.std.proofs.Common.{◌≡◌, ℕ, suc, ◌+◌, ◌%◌, ◌==◌, ◌&&◌, Bool, true, false, not, cond, ltb, List, [], ◌∷◌, ◌++◌, length, map, flat_map, Some, None, refl, sym, ap, ap₂, subst, ◌∙◌, arith, append_assoc}
+use Rattle.std.proofs.Common.{◌≡◌, ℕ, suc, ◌+◌, ◌%◌, ◌==◌, ◌&&◌, Bool, true, false, not, cond, ltb, List, [], ◌∷◌, ◌++◌}
+use Rattle.std.proofs.Common.{length, map, flat_map, Some, None, refl, sym, ap, ap₂, subst, ◌∙◌, arith, append_assoc}
 use Rattle.std.specs.Prelude.{Option}
 use Rattle.std.specs.List.{AllByRecursion, list_all}
 use Rattle.std.proofs.lemmas.Bool.{false≢true}
 use Rattle.mux_types.specs.Entries.{EnsembleInformation}
 use Rattle.fib_codec.specs.Grammar.{Fig, Open, Other, IsFib, is_next}
 use Rattle.fib_codec.proofs.Uniqueness.{one_fib}
-use Rattle.stream_check.specs.Listening.{Listening, untuned, at_ensemble, hear_entries, hear_fig, hear_figs, where_heard}
+use Rattle.stream_check.specs.Listening.{Listening, untuned, at_ensemble, hear_entries, hear_fig, hear_figs}
+use Rattle.stream_check.specs.Listening.{where_heard}
 use Rattle.stream_check.specs.Raw.{Raw, entries_in, ensemble_in}
 use Rattle.stream_check.specs.declared.finding.Fault.TheVariants as faults
 use Rattle.stream_check.specs.declared.finding.StreamEvent.TheVariants as events
 use Rattle.stream_check.specs.declared.finding.What.{What}
 use Rattle.stream_check.specs.declared.finding.What.TheVariants as whats
 use Rattle.stream_check.specs.Reporting.{when}
-use Rattle.stream_check.specs.Frames.{Fib, Reads, Reading, is_damaged, first_raw, first_or, first_in_figs, first_in, opening, is_there, begins_with_ensemble, holds_ensemble, IsOneFrame, BeginsAnew, AreFrames, HoldsFirst, damaged_in, first_of_frame, first_opening, lacks_opening, opening_in_figs}
+use Rattle.stream_check.specs.Frames.{Fib, Reads, Reading, is_damaged, first_raw, first_or, first_in_figs, first_in}
+use Rattle.stream_check.specs.Frames.{opening, is_there, begins_with_ensemble, holds_ensemble, IsOneFrame, BeginsAnew}
+use Rattle.stream_check.specs.Frames.{AreFrames, HoldsFirst, damaged_in, first_of_frame, first_opening, lacks_opening}
+use Rattle.stream_check.specs.Frames.{opening_in_figs}
 use Rattle.stream_check.specs.History.{Item, Moment, Ended, said, due, fig_items, figs_items, fib_items, fibs_items}
-use Rattle.stream_check.specs.Stream.{count_in, eid_in, count_due, placed_count, count_of_frame, first_line, frame_findings, after_frame}
-use Rattle.fig_merge.specs.Taking.{Merging, IsMerging, nothing_taken, most, limited, waits, with_fig, with_figs, taken_of, after_take}
-use Rattle.fig_merge.specs.Filling.{agrees_with, filled_fib, merged, carried_by, carried_in, turns_in, room_of, heard_or, after_fill}
+use Rattle.stream_check.specs.Stream.{count_in, eid_in, count_due, placed_count, count_of_frame, first_line}
+use Rattle.stream_check.specs.Stream.{frame_findings, past_after_frame}
+use Rattle.fig_merge.specs.Taking.{Merging, IsMerging, nothing_taken, most, limited, waits, with_fig, with_figs}
+use Rattle.fig_merge.specs.Taking.{taken_of, after_take}
+use Rattle.fig_merge.specs.Filling.{agrees_with, filled_fib, merged, carried_by, carried_in, turns_in, room_of}
+use Rattle.fig_merge.specs.Filling.{heard_or, after_fill}
 use Rattle.fig_merge.specs.Steps.{Step, Take, Fill, after_step}
-use Rattle.fig_merge.specs.Passing.{with_carried, FilledIsRead, hear_fib, FilledIsHeardAlike, Judge, agreeing, hearing_fib, hearing_fibs, AreFilled, fibs_in, sent_in, AllAreFilled, AreFilledFrames, FilledIsFramedAlike}
+use Rattle.fig_merge.specs.Passing.{with_carried, FilledIsRead, hear_fib, FilledIsHeardAlike, Judge, agreeing}
+use Rattle.fig_merge.specs.Passing.{hearing_fib, hearing_fibs, AreFilled, fibs_in, sent_in, AllAreFilled}
+use Rattle.fig_merge.specs.Passing.{AreFilledFrames, FilledIsFramedAlike}
 use Rattle.fig_merge.proofs.Passing.{filled_is, all_agree}
 use Rattle.fig_merge.proofs.Carried.{merging_step}
 
@@ -40,36 +50,42 @@ read_filled : (r : Reading) (bytes : List ℕ) (m : Merging) (fib : Fib) → Rea
 read_filled r bytes m None damaged h = none_is bytes damaged (r.read bytes) (r.right bytes)
 read_filled r bytes m (Some figs) is h =
     let new = filled_fib figs m.heard m.waiting in
-    read_is new (figs ++ map Other (carried_in (agrees_with figs m.heard) (room_of figs) m.waiting)) (filled_is bytes figs m.heard m.waiting is h.passed_over) (r.read new) (r.right new)
+    read_is new (figs ++ map Other (carried_in (agrees_with figs m.heard) (room_of figs) m.waiting))
+    (filled_is bytes figs m.heard m.waiting is h.passed_over) (r.read new) (r.right new)
 
 pub filled_read : FilledIsRead
 filled_read r bytes m h = read_filled r bytes m (r.read bytes) (r.right bytes) h
 
 -- ---- a listener
-where_alike : (heard : Option Listening) (one other : Listening → Option Listening) → ((l : Listening) → one l ≡ other l)
+where_alike : (heard : Option Listening) (one other : Listening → Option Listening)
+    → ((l : Listening) → one l ≡ other l)
     → where_heard heard one ≡ where_heard heard other
 where_alike None one other same = refl
 where_alike (Some l) one other same = same l
 
-heard_others : (figs : List Fig) (carried : List (List ℕ)) (l : Listening) → hear_figs (figs ++ map Other carried) l ≡ hear_figs figs l
+heard_others : (figs : List Fig) (carried : List (List ℕ)) (l : Listening)
+    → hear_figs (figs ++ map Other carried) l ≡ hear_figs figs l
 heard_others [] [] l = refl
 heard_others [] (c ∷ cs) l = heard_others [] cs l
 heard_others (f ∷ fs) carried l =
     where_alike (hear_fig f l) (hear_figs (fs ++ map Other carried)) (hear_figs fs) (heard_others fs carried)
 
-heard_alike : (fib : Fib) (carried : List (List ℕ)) (l : Listening) → hear_fib (with_carried fib carried) l ≡ hear_fib fib l
+heard_alike : (fib : Fib) (carried : List (List ℕ)) (l : Listening)
+    → hear_fib (with_carried fib carried) l ≡ hear_fib fib l
 heard_alike None carried l = refl
 heard_alike (Some figs) carried l = heard_others figs carried l
 
 pub filled_heard : FilledIsHeardAlike
 filled_heard r bytes m l h =
-    ap (λ (fib : Fib). hear_fib fib l) (filled_read r bytes m h) ∙ heard_alike (r.read bytes) (carried_by (r.read bytes) m) l
+    ap (λ (fib : Fib). hear_fib fib l) (filled_read r bytes m h)
+    ∙ heard_alike (r.read bytes) (carried_by (r.read bytes) m) l
 
 -- ---- what the merger has heard
 with_heard : (fig : List ℕ) (m : Merging) → (with_fig fig m).heard ≡ m.heard
 with_heard fig m = by (waits fig m.waiting) (ltb (length m.waiting) most)
   where
-    by : (there room : Bool) → (cond there m (cond room (record m { waiting = m.waiting ++ fig ∷ [] }) (record m { dropped = limited (m.dropped + 1) }))).heard ≡ m.heard
+    by : (there room : Bool) → (cond there m (cond room (record m { waiting = m.waiting ++ fig ∷ [] })
+        (record m { dropped = limited (m.dropped + 1) }))).heard ≡ m.heard
     by true room = refl
     by false true = refl
     by false false = refl
@@ -97,11 +113,13 @@ carried_agree (Some figs) m =
     all_true ok (carried_in ok (room_of figs) m.waiting) (all_agree ok (turns_in ok (room_of figs) m.waiting))
 
 -- ---- all FIBs that are filled
-pub filled_from : (r : Reading) (steps : List Step) (m : Merging) → IsMerging m → AreFilled agreeing m.heard (fibs_in r steps) (map r.read (sent_in r steps m))
+pub filled_from : (r : Reading) (steps : List Step) (m : Merging) → IsMerging m
+    → AreFilled agreeing m.heard (fibs_in r steps) (map r.read (sent_in r steps m))
 filled_from r [] m h = refl
 filled_from r (Take fib ∷ ss) m h =
     let later = after_step r (Take fib) m in
-    subst (λ (l : Listening). AreFilled agreeing l (fibs_in r ss) (map r.read (sent_in r ss later))) (take_heard (r.read fib) m) (filled_from r ss later (merging_step r (Take fib) m h))
+    subst (λ (l : Listening). AreFilled agreeing l (fibs_in r ss) (map r.read (sent_in r ss later)))
+    (take_heard (r.read fib) m) (filled_from r ss later (merging_step r (Take fib) m h))
 filled_from r (Fill fib ∷ ss) m h =
     let later = after_step r (Fill fib) m in
     let sent = map r.read (sent_in r ss later) in (
@@ -109,7 +127,8 @@ filled_from r (Fill fib ∷ ss) m h =
       sent,
       ap (λ (f : Fib). f ∷ sent) (filled_read r fib m h),
       carried_agree (r.read fib) m,
-      subst (λ (l : Listening). AreFilled agreeing l (fibs_in r ss) sent) (fill_heard (r.read fib) m) (filled_from r ss later (merging_step r (Fill fib) m h)),
+      subst (λ (l : Listening). AreFilled agreeing l (fibs_in r ss) sent) (fill_heard (r.read fib) m)
+          (filled_from r ss later (merging_step r (Fill fib) m h)),
     )
 
 pub all_filled : AllAreFilled
@@ -120,7 +139,8 @@ damaged_alike : (fib : Fib) (carried : List (List ℕ)) → is_damaged (with_car
 damaged_alike None carried = refl
 damaged_alike (Some figs) carried = refl
 
-first_others : (figs : List Fig) (carried : List (List ℕ)) → first_in_figs (figs ++ map Other carried) ≡ first_in_figs figs
+first_others : (figs : List Fig) (carried : List (List ℕ))
+    → first_in_figs (figs ++ map Other carried) ≡ first_in_figs figs
 first_others [] [] = refl
 first_others [] (c ∷ cs) = first_others [] cs
 first_others (f ∷ fs) carried = ap (first_or (first_raw (entries_in f))) (first_others fs carried)
@@ -129,7 +149,8 @@ first_alike : (fib : Fib) (carried : List (List ℕ)) → first_in (with_carried
 first_alike None carried = refl
 first_alike (Some figs) carried = first_others figs carried
 
-opening_others : (figs : List Fig) (carried : List (List ℕ)) → opening_in_figs (figs ++ map Other carried) ≡ opening_in_figs figs
+opening_others : (figs : List Fig) (carried : List (List ℕ))
+    → opening_in_figs (figs ++ map Other carried) ≡ opening_in_figs figs
 opening_others [] [] = refl
 opening_others [] (c ∷ cs) = refl
 opening_others (f ∷ fs) carried = refl
@@ -138,18 +159,21 @@ opening_alike : (fib : Fib) (carried : List (List ℕ)) → opening (with_carrie
 opening_alike None carried = refl
 opening_alike (Some figs) carried = opening_others figs carried
 
-begins_alike : (fib : Fib) (carried : List (List ℕ)) → begins_with_ensemble (with_carried fib carried) ≡ begins_with_ensemble fib
+begins_alike : (fib : Fib) (carried : List (List ℕ)) → begins_with_ensemble (with_carried fib carried)
+    ≡ begins_with_ensemble fib
 begins_alike fib carried = ap is_there (opening_alike fib carried)
 
 holds_alike : (fib : Fib) (carried : List (List ℕ)) → holds_ensemble (with_carried fib carried) ≡ holds_ensemble fib
 holds_alike fib carried = ap is_there (first_alike fib carried)
 
-items_others : (first : Bool) (figs : List Fig) (carried : List (List ℕ)) → figs_items first (figs ++ map Other carried) ≡ figs_items first figs
+items_others : (first : Bool) (figs : List Fig) (carried : List (List ℕ))
+    → figs_items first (figs ++ map Other carried) ≡ figs_items first figs
 items_others first [] [] = refl
 items_others first [] (c ∷ cs) = items_others false [] cs
 items_others first (f ∷ fs) carried = ap (λ xs. fig_items first f ++ xs) (items_others false fs carried)
 
-items_alike : (first : Bool) (fib : Fib) (carried : List (List ℕ)) → fib_items first (with_carried fib carried) ≡ fib_items first fib
+items_alike : (first : Bool) (fib : Fib) (carried : List (List ℕ))
+    → fib_items first (with_carried fib carried) ≡ fib_items first fib
 items_alike first None carried = refl
 items_alike first (Some figs) carried = items_others first figs carried
 
@@ -162,7 +186,8 @@ pub record IsAlike (before after : List Fib) : Type 0 where
   pub lacks : lacks_opening after ≡ lacks_opening before
   pub items : (b : Bool) → fibs_items b after ≡ fibs_items b before
 
-pub frame_alike : (may : Judge) (l : Listening) (frame sent : List Fib) → AreFilled may l frame sent → IsAlike frame sent
+pub frame_alike : (may : Judge) (l : Listening) (frame sent : List Fib) → AreFilled may l frame sent
+    → IsAlike frame sent
 frame_alike may l [] sent h =
     subst (λ (xs : List Fib). IsAlike [] xs) (sym h)
     (record { long = refl; damaged = refl; first = refl; opens = refl; lacks = refl; items = λ b. refl })
@@ -183,10 +208,12 @@ due_alike : (last : Option ℕ) (frame sent : List Fib) → IsAlike frame sent �
 due_alike None frame sent a = ap count_in a.first
 due_alike (Some count) frame sent a = refl
 
-pub count_alike : (step : ℕ) (last : Option ℕ) (frame sent : List Fib) → IsAlike frame sent → count_of_frame step last sent ≡ count_of_frame step last frame
+pub count_alike : (step : ℕ) (last : Option ℕ) (frame sent : List Fib) → IsAlike frame sent
+    → count_of_frame step last sent ≡ count_of_frame step last frame
 count_alike step last frame sent a = ap₂ (placed_count step) (due_alike last frame sent a) a.opens
 
-line_alike : (last : Option ℕ) (frame sent : List Fib) → IsAlike frame sent → first_line last sent ≡ first_line last frame
+line_alike : (last : Option ℕ) (frame sent : List Fib) → IsAlike frame sent
+    → first_line last sent ≡ first_line last frame
 line_alike None frame sent a = ap (λ e. whats.Event (events.Ensemble (eid_in e)) ∷ []) a.first
 line_alike (Some count) frame sent a = refl
 
@@ -201,9 +228,11 @@ whole_alike size step last frame sent a =
     (ap₂ joined (ap (λ n. when (ltb 0 n) (faults.Damaged n)) a.damaged)
     (ap₂ (λ (n : ℕ) (b : Bool). when (n % step == 0 && b) faults.NoEnsemble) (due_alike last frame sent a) a.lacks)))
 
-pub after_alike : (step : ℕ) (past : List Moment) (frame sent : List Fib) → IsAlike frame sent → after_frame step past sent ≡ after_frame step past frame
+pub after_alike : (step : ℕ) (past : List Moment) (frame sent : List Fib) → IsAlike frame sent
+    → past_after_frame step past sent ≡ past_after_frame step past frame
 after_alike step past frame sent a =
-    ap₂ (λ (n : ℕ) (items : List Item). Ended n ∷ said items past) (count_alike step (due past) frame sent a) (a.items true)
+    ap₂ (λ (n : ℕ) (items : List Item). Ended n ∷ said items past) (count_alike step (due past) frame sent a)
+    (a.items true)
 
 -- ---- frames are cut at the same places
 abbrev flat : List (List Fib) → List Fib
@@ -212,8 +241,10 @@ flat frames = flat_map (λ f. f) frames
 -- those that are skipped leave the listener untuned
 silent_entries : (next : Bool) (raws : List Raw) → first_raw raws ≡ None → hear_entries next raws untuned ≡ Some untuned
 silent_entries next [] none = refl
-silent_entries next (raw ∷ raws) none = elim (raw.ext == 0) as (λ b. cond b (Some (ensemble_in raw)) (first_raw raws) ≡ None
-    → where_heard (cond b (Some (at_ensemble (ensemble_in raw) untuned)) (Some untuned)) (hear_entries next raws) ≡ Some untuned) [
+silent_entries next (raw ∷ raws) none =
+    elim (raw.ext == 0) as (λ b. cond b (Some (ensemble_in raw)) (first_raw raws) ≡ None
+    → where_heard (cond b (Some (at_ensemble (ensemble_in raw) untuned)) (Some untuned)) (hear_entries next raws)
+    ≡ Some untuned) [
       | true ↦ λ first. absurd cc
       | false ↦ λ first. silent_entries next raws first
     ] none
@@ -226,7 +257,8 @@ silent_figs : (figs : List Fig) → first_in_figs figs ≡ None → hear_figs fi
 silent_figs [] none = refl
 silent_figs (Open second es ∷ fs) none =
     let both = first_none (first_raw (entries_in (Open second es))) (first_in_figs fs) none in
-    ap (λ (o : Option Listening). where_heard o (hear_figs fs)) (silent_entries (is_next second) (entries_in (Open second es)) both.0) ∙ silent_figs fs both.1
+    ap (λ (o : Option Listening). where_heard o (hear_figs fs))
+    (silent_entries (is_next second) (entries_in (Open second es)) both.0) ∙ silent_figs fs both.1
 silent_figs (Other given ∷ fs) none = silent_figs fs none
 
 not_there : (o : Option EnsembleInformation) → is_there o ≡ false → o ≡ None
@@ -237,11 +269,13 @@ silent_fib : (fib : Fib) → holds_ensemble fib ≡ false → hearing_fib fib un
 silent_fib None silent = refl
 silent_fib (Some figs) silent = ap (heard_or untuned) (silent_figs figs (not_there (first_in_figs figs) silent))
 
-silent_fibs : (fibs : List Fib) → AllByRecursion (λ fib. holds_ensemble fib ≡ false) fibs → hearing_fibs fibs untuned ≡ untuned
+silent_fibs : (fibs : List Fib) → AllByRecursion (λ fib. holds_ensemble fib ≡ false) fibs
+    → hearing_fibs fibs untuned ≡ untuned
 silent_fibs [] all = refl
 silent_fibs (fib ∷ fibs) all = ap (hearing_fibs fibs) (silent_fib fib all.0) ∙ silent_fibs fibs all.1
 
-pub hearing_append : (xs ys : List Fib) (l : Listening) → hearing_fibs (xs ++ ys) l ≡ hearing_fibs ys (hearing_fibs xs l)
+pub hearing_append : (xs ys : List Fib) (l : Listening)
+    → hearing_fibs (xs ++ ys) l ≡ hearing_fibs ys (hearing_fibs xs l)
 hearing_append [] ys l = refl
 hearing_append (x ∷ xs) ys l = hearing_append xs ys (hearing_fib x l)
 
@@ -249,11 +283,18 @@ cut_filled : (may : Judge) (l : Listening) (xs ys sent : List Fib) → AreFilled
     → (one two : List Fib) × (sent ≡ one ++ two) × AreFilled may l xs one × AreFilled may (hearing_fibs xs l) ys two
 cut_filled may l [] ys sent h = ([], sent, refl, refl, h)
 cut_filled may l (x ∷ xs) ys sent h =
-    let more = cut_filled may (hearing_fib x l) xs ys h.1 h.4 in
-    (with_carried x h.0 ∷ more.0, more.1, h.2 ∙ ap (λ (zs : List Fib). with_carried x h.0 ∷ zs) more.2, (h.0, more.0, refl, h.3, more.3), more.4)
+    let more = cut_filled may (hearing_fib x l) xs ys h.1 h.4 in (
+      with_carried x h.0 ∷ more.0,
+      more.1,
+      h.2 ∙ ap (λ (zs : List Fib). with_carried x h.0 ∷ zs) more.2,
+      (h.0, more.0, refl, h.3, more.3),
+      more.4,
+    )
 
-cut_frames : (may : Judge) (l : Listening) (frames : List (List Fib)) (rest sent : List Fib) → AreFilled may l (flat frames ++ rest) sent
-    → (ones : List (List Fib)) × (end : List Fib) × (sent ≡ flat ones ++ end) × AreFilledFrames may l frames ones × AreFilled may (hearing_fibs (flat frames) l) rest end
+cut_frames : (may : Judge) (l : Listening) (frames : List (List Fib)) (rest sent : List Fib)
+    → AreFilled may l (flat frames ++ rest) sent
+    → (ones : List (List Fib)) × (end : List Fib) × (sent ≡ flat ones ++ end) × AreFilledFrames may l frames ones
+    × AreFilled may (hearing_fibs (flat frames) l) rest end
 cut_frames may l [] rest sent h = ([], sent, refl, refl, h)
 cut_frames may l (frame ∷ frames) rest sent h =
     let apart = cut_filled may l frame (flat frames ++ rest) sent
@@ -266,57 +307,80 @@ cut_frames may l (frame ∷ frames) rest sent h =
       subst (λ (k : Listening). AreFilled may k rest more.1) (sym (hearing_append frame (flat frames) l)) more.4,
     )
 
-filled_append : (may : Judge) (l : Listening) (xs ys one two : List Fib) → AreFilled may l xs one → AreFilled may (hearing_fibs xs l) ys two → AreFilled may l (xs ++ ys) (one ++ two)
+filled_append : (may : Judge) (l : Listening) (xs ys one two : List Fib) → AreFilled may l xs one
+    → AreFilled may (hearing_fibs xs l) ys two → AreFilled may l (xs ++ ys) (one ++ two)
 filled_append may l [] ys one two h k = subst (λ (zs : List Fib). AreFilled may l ys (zs ++ two)) (sym h) k
-filled_append may l (x ∷ xs) ys one two h k =
-    (h.0, h.1 ++ two, ap (λ (zs : List Fib). zs ++ two) h.2, h.3, filled_append may (hearing_fib x l) xs ys h.1 two h.4 k)
+filled_append may l (x ∷ xs) ys one two h k = (
+  h.0,
+  h.1 ++ two,
+  ap (λ (zs : List Fib). zs ++ two) h.2,
+  h.3,
+  filled_append may (hearing_fib x l) xs ys h.1 two h.4 k,
+)
 
-filled_flat : (may : Judge) (l : Listening) (frames ones : List (List Fib)) (rest end : List Fib) → AreFilledFrames may l frames ones → AreFilled may (hearing_fibs (flat frames) l) rest end
+filled_flat : (may : Judge) (l : Listening) (frames ones : List (List Fib)) (rest end : List Fib)
+    → AreFilledFrames may l frames ones → AreFilled may (hearing_fibs (flat frames) l) rest end
     → AreFilled may l (flat frames ++ rest) (flat ones ++ end)
-filled_flat may l [] ones rest end h k = subst (λ (fs : List (List Fib)). AreFilled may l rest (flat fs ++ end)) (sym h) k
+filled_flat may l [] ones rest end h k =
+    subst (λ (fs : List (List Fib)). AreFilled may l rest (flat fs ++ end)) (sym h) k
 filled_flat may l (frame ∷ frames) ones rest end h k =
     subst (λ (fs : List (List Fib)). AreFilled may l (flat (frame ∷ frames) ++ rest) (flat fs ++ end)) (sym h.2)
-    (subst (λ (xs : List Fib). AreFilled may l xs (flat (h.0 ∷ h.1) ++ end)) (sym (append_assoc frame (flat frames) rest))
-    (subst (λ (xs : List Fib). AreFilled may l (frame ++ (flat frames ++ rest)) xs) (sym (append_assoc h.0 (flat h.1) end))
-    (filled_append may l frame (flat frames ++ rest) h.0 (flat h.1 ++ end) h.3 (filled_flat may (hearing_fibs frame l) frames h.1 rest end h.4
+    (subst (λ (xs : List Fib). AreFilled may l xs (flat (h.0 ∷ h.1) ++ end))
+    (sym (append_assoc frame (flat frames) rest))
+    (subst (λ (xs : List Fib). AreFilled may l (frame ++ (flat frames ++ rest)) xs)
+    (sym (append_assoc h.0 (flat h.1) end))
+    (filled_append may l frame (flat frames ++ rest) h.0 (flat h.1 ++ end) h.3
+    (filled_flat may (hearing_fibs frame l) frames h.1 rest end h.4
     (subst (λ (k : Listening). AreFilled may k rest end) (hearing_append frame (flat frames) l) k)))))
 
-none_hold : (may : Judge) (l : Listening) (xs sent : List Fib) → AreFilled may l xs sent → AllByRecursion (λ fib. holds_ensemble fib ≡ false) xs
+none_hold : (may : Judge) (l : Listening) (xs sent : List Fib) → AreFilled may l xs sent
+    → AllByRecursion (λ fib. holds_ensemble fib ≡ false) xs
     → AllByRecursion (λ fib. holds_ensemble fib ≡ false) sent
-none_hold may l [] sent h all = subst (λ (xs : List Fib). AllByRecursion (λ fib. holds_ensemble fib ≡ false) xs) (sym h) tt
+none_hold may l [] sent h all =
+    subst (λ (xs : List Fib). AllByRecursion (λ fib. holds_ensemble fib ≡ false) xs) (sym h) tt
 none_hold may l (x ∷ xs) sent h all =
     subst (λ (ys : List Fib). AllByRecursion (λ fib. holds_ensemble fib ≡ false) ys) (sym h.2)
     (holds_alike x h.0 ∙ all.0, none_hold may (hearing_fib x l) xs h.1 h.4 all.1)
 
-none_begin : (may : Judge) (l : Listening) (xs sent : List Fib) → AreFilled may l xs sent → AllByRecursion (λ fib. begins_with_ensemble fib ≡ false) xs
+none_begin : (may : Judge) (l : Listening) (xs sent : List Fib) → AreFilled may l xs sent
+    → AllByRecursion (λ fib. begins_with_ensemble fib ≡ false) xs
     → AllByRecursion (λ fib. begins_with_ensemble fib ≡ false) sent
-none_begin may l [] sent h all = subst (λ (xs : List Fib). AllByRecursion (λ fib. begins_with_ensemble fib ≡ false) xs) (sym h) tt
+none_begin may l [] sent h all =
+    subst (λ (xs : List Fib). AllByRecursion (λ fib. begins_with_ensemble fib ≡ false) xs) (sym h) tt
 none_begin may l (x ∷ xs) sent h all =
     subst (λ (ys : List Fib). AllByRecursion (λ fib. begins_with_ensemble fib ≡ false) ys) (sym h.2)
     (begins_alike x h.0 ∙ all.0, none_begin may (hearing_fib x l) xs h.1 h.4 all.1)
 
-first_holds : (may : Judge) (l : Listening) (xs sent : List Fib) → AreFilled may l xs sent → HoldsFirst xs → HoldsFirst sent
+first_holds : (may : Judge) (l : Listening) (xs sent : List Fib) → AreFilled may l xs sent → HoldsFirst xs
+    → HoldsFirst sent
 first_holds may l [] sent h holds = subst (λ (xs : List Fib). HoldsFirst xs) (sym h) tt
 first_holds may l (x ∷ xs) sent h holds = subst (λ (ys : List Fib). HoldsFirst ys) (sym h.2) (holds_alike x h.0 ∙ holds)
 
-one_frame : (may : Judge) (l : Listening) (xs sent : List Fib) → AreFilled may l xs sent → IsOneFrame xs → IsOneFrame sent
+one_frame : (may : Judge) (l : Listening) (xs sent : List Fib) → AreFilled may l xs sent → IsOneFrame xs
+    → IsOneFrame sent
 one_frame may l [] sent h one = absurd one
-one_frame may l (x ∷ xs) sent h one = subst (λ (ys : List Fib). IsOneFrame ys) (sym h.2) (none_begin may (hearing_fib x l) xs h.1 h.4 one)
+one_frame may l (x ∷ xs) sent h one =
+    subst (λ (ys : List Fib). IsOneFrame ys) (sym h.2) (none_begin may (hearing_fib x l) xs h.1 h.4 one)
 
-begins_anew : (may : Judge) (l : Listening) (xs sent : List Fib) → AreFilled may l xs sent → BeginsAnew xs → BeginsAnew sent
+begins_anew : (may : Judge) (l : Listening) (xs sent : List Fib) → AreFilled may l xs sent → BeginsAnew xs
+    → BeginsAnew sent
 begins_anew may l [] sent h begins = absurd begins
-begins_anew may l (x ∷ xs) sent h begins = subst (λ (ys : List Fib). BeginsAnew ys) (sym h.2) (begins_alike x h.0 ∙ begins)
+begins_anew may l (x ∷ xs) sent h begins =
+    subst (λ (ys : List Fib). BeginsAnew ys) (sym h.2) (begins_alike x h.0 ∙ begins)
 
-rest_cut : (may : Judge) (l : Listening) (size : ℕ) (rest end : List Fib) → AreFilled may l rest end → AreFrames size [] rest → AreFrames size [] end
+rest_cut : (may : Judge) (l : Listening) (size : ℕ) (rest end : List Fib) → AreFilled may l rest end
+    → AreFrames size [] rest → AreFrames size [] end
 rest_cut may l size [] end h cut = subst (λ (xs : List Fib). AreFrames size [] xs) (sym h) tt
 rest_cut may l size (x ∷ xs) end h cut =
     let long = (frame_alike may (hearing_fib x l) xs h.1 h.4).long in
     subst (λ (ys : List Fib). AreFrames size [] ys) (sym h.2)
     (one_frame may l (x ∷ xs) (with_carried x h.0 ∷ h.1) (h.0, h.1, refl, h.3, h.4) cut.0, omega (arith, long, cut.1))
 
-frames_cut : (may : Judge) (l : Listening) (size : ℕ) (frames ones : List (List Fib)) (rest end : List Fib) → AreFilledFrames may l frames ones → AreFilled may (hearing_fibs (flat frames) l) rest end
+frames_cut : (may : Judge) (l : Listening) (size : ℕ) (frames ones : List (List Fib)) (rest end : List Fib)
+    → AreFilledFrames may l frames ones → AreFilled may (hearing_fibs (flat frames) l) rest end
     → AreFrames size frames rest → AreFrames size ones end
-frames_cut may l size [] ones rest end h k cut = subst (λ (fs : List (List Fib)). AreFrames size fs end) (sym h) (rest_cut may l size rest end k cut)
+frames_cut may l size [] ones rest end h k cut =
+    subst (λ (fs : List (List Fib)). AreFrames size fs end) (sym h) (rest_cut may l size rest end k cut)
 frames_cut may l size (frame ∷ frames) ones rest end h k cut =
     let long = (frame_alike may l frame h.0 h.3).long in
     let later = hearing_fibs frame l in
@@ -324,13 +388,15 @@ frames_cut may l size (frame ∷ frames) ones rest end h k cut =
     subst (λ (fs : List (List Fib)). AreFrames size fs end) (sym h.2) (
       one_frame may l frame h.0 h.3 cut.0,
       omega (arith, long, cut.1),
-      (λ short. begins_anew may later (flat frames ++ rest) (flat h.1 ++ end) (filled_flat may later frames h.1 rest end h.4 last) (cut.2 (omega (arith, long, short)))),
+      (λ short. begins_anew may later (flat frames ++ rest) (flat h.1 ++ end)
+          (filled_flat may later frames h.1 rest end h.4 last) (cut.2 (omega (arith, long, short)))),
       frames_cut may later size frames h.1 rest end h.4 last cut.3,
     )
 
 pub framed_alike : FilledIsFramedAlike
 framed_alike may size stream sent skipped frames rest h f =
-    let whole : AreFilled may untuned (skipped ++ (flat frames ++ rest)) sent = subst (λ (xs : List Fib). AreFilled may untuned xs sent) f.whole h in
+    let whole : AreFilled may untuned (skipped ++ (flat frames ++ rest)) sent =
+    subst (λ (xs : List Fib). AreFilled may untuned xs sent) f.whole h in
     let apart = cut_filled may untuned skipped (flat frames ++ rest) sent whole in
     let still = silent_fibs skipped f.before in
     let behind = subst (λ (k : Listening). AreFilled may k (flat frames ++ rest) apart.1) still apart.4 in
@@ -342,7 +408,8 @@ framed_alike may size stream sent skipped frames rest h f =
       framed = record {
         whole = apart.2 ∙ ap (λ (xs : List Fib). apart.0 ++ xs) more.2;
         before = none_hold may untuned skipped apart.0 apart.3 f.before;
-        begun = subst (λ (xs : List Fib). HoldsFirst xs) more.2 (first_holds may untuned (flat frames ++ rest) apart.1 behind f.begun);
+        begun = subst (λ (xs : List Fib). HoldsFirst xs) more.2
+            (first_holds may untuned (flat frames ++ rest) apart.1 behind f.begun);
         cut = frames_cut may untuned size frames more.0 rest more.1 more.3 more.4 f.cut;
       };
       skipped_alike = apart.3;

@@ -1,71 +1,101 @@
 -- One pass over the FIGs that wait, and the end of a FIB.
-use Rattle.std.proofs.Common.{◌≡◌, ℕ, ◌+◌, ◌-◌, ◌≤◌, ◌<◌, leb, ltb, zero, suc, inl, inr, Bool, true, false, List, [], ◌∷◌, ◌++◌, length, get_or, take, drop, replicate, refl, sym, ap, ap₂, ◌∙◌, arith, append_assoc, append-nil, length-append, take_at, length-take-le, length-drop, drop-cons, drop_at, subst, subst₂}
+use Rattle.std.proofs.Common.{◌≡◌, ℕ, ◌+◌, ◌-◌, ◌≤◌, ◌<◌, leb, ltb, zero, suc, inl, inr, Bool, true, false, List, []}
+use Rattle.std.proofs.Common.{◌∷◌, ◌++◌, length, get_or, take, drop, replicate, refl, sym, ap, ap₂, ◌∙◌, arith}
+use Rattle.std.proofs.Common.{append_assoc, append-nil, length-append, take_at, length-take-le, length-drop, drop-cons}
+use Rattle.std.proofs.Common.{drop_at, subst, subst₂}
 use Rattle.std.proofs.lemmas.List.{length-replicate}
 use Rattle.std.proofs.lemmas.Bool.{cond-true, cond-false, lt-ltb, le-ltb, le-leb, lt-leb, cases_lt}
 use Rattle.std.proofs.lemmas.List.{take_more}
 use Rattle.std.specs.List.{concat}
 use Rattle.fib_codec.specs.Spelling.{filled}
-use Rattle.fig_merge.specs.Filling.{carried_in, carried_of, left_in, room_after, stale_in, stale_of, turns_in}
+use Rattle.fig_merge.specs.Filling.{carried_in, carried_of, left_waiting, room_after, stale_in, stale_of, turns_in}
 
 -- ---- a FIG that waits on
-turns_over : (ok : List ℕ → Bool) (fig : List ℕ) (rest : List (List ℕ)) (room : ℕ) → leb (length fig) room ≡ false → turns_in ok room (fig ∷ rest) ≡ turns_in ok room rest
-turns_over ok fig rest room over = cond-false (leb (length fig) room) (fig ∷ turns_in ok (room_after ok room fig) rest) (turns_in ok room rest) over
+turns_over : (ok : List ℕ → Bool) (fig : List ℕ) (rest : List (List ℕ)) (room : ℕ) → leb (length fig) room ≡ false
+    → turns_in ok room (fig ∷ rest) ≡ turns_in ok room rest
+turns_over ok fig rest room over =
+    cond-false (leb (length fig) room) (fig ∷ turns_in ok (room_after ok room fig) rest) (turns_in ok room rest) over
 
-left_over : (ok : List ℕ → Bool) (fig : List ℕ) (rest : List (List ℕ)) (room : ℕ) → leb (length fig) room ≡ false → left_in ok room (fig ∷ rest) ≡ fig ∷ left_in ok room rest
-left_over ok fig rest room over = cond-false (leb (length fig) room) (left_in ok (room_after ok room fig) rest) (fig ∷ left_in ok room rest) over
+left_over : (ok : List ℕ → Bool) (fig : List ℕ) (rest : List (List ℕ)) (room : ℕ) → leb (length fig) room ≡ false
+    → left_waiting ok room (fig ∷ rest) ≡ fig ∷ left_waiting ok room rest
+left_over ok fig rest room over =
+    cond-false (leb (length fig) room) (left_waiting ok (room_after ok room fig) rest) (fig ∷ left_waiting ok room rest)
+    over
 
 -- ---- a FIG whose turn comes
-turns_here : (ok : List ℕ → Bool) (fig : List ℕ) (rest : List (List ℕ)) (room : ℕ) → leb (length fig) room ≡ true → turns_in ok room (fig ∷ rest) ≡ fig ∷ turns_in ok (room_after ok room fig) rest
-turns_here ok fig rest room fits = cond-true (leb (length fig) room) (fig ∷ turns_in ok (room_after ok room fig) rest) (turns_in ok room rest) fits
+turns_here : (ok : List ℕ → Bool) (fig : List ℕ) (rest : List (List ℕ)) (room : ℕ) → leb (length fig) room ≡ true
+    → turns_in ok room (fig ∷ rest) ≡ fig ∷ turns_in ok (room_after ok room fig) rest
+turns_here ok fig rest room fits =
+    cond-true (leb (length fig) room) (fig ∷ turns_in ok (room_after ok room fig) rest) (turns_in ok room rest) fits
 
-left_here : (ok : List ℕ → Bool) (fig : List ℕ) (rest : List (List ℕ)) (room : ℕ) → leb (length fig) room ≡ true → left_in ok room (fig ∷ rest) ≡ left_in ok (room_after ok room fig) rest
-left_here ok fig rest room fits = cond-true (leb (length fig) room) (left_in ok (room_after ok room fig) rest) (fig ∷ left_in ok room rest) fits
+left_here : (ok : List ℕ → Bool) (fig : List ℕ) (rest : List (List ℕ)) (room : ℕ) → leb (length fig) room ≡ true
+    → left_waiting ok room (fig ∷ rest) ≡ left_waiting ok (room_after ok room fig) rest
+left_here ok fig rest room fits =
+    cond-true (leb (length fig) room) (left_waiting ok (room_after ok room fig) rest) (fig ∷ left_waiting ok room rest)
+    fits
 
-room_carried : (ok : List ℕ → Bool) (fig : List ℕ) (room : ℕ) → ok fig ≡ true → room_after ok room fig ≡ room - length fig
+room_carried : (ok : List ℕ → Bool) (fig : List ℕ) (room : ℕ) → ok fig ≡ true
+    → room_after ok room fig ≡ room - length fig
 room_carried ok fig room is = cond-true (ok fig) (room - length fig) room is
 
 room_stale : (ok : List ℕ → Bool) (fig : List ℕ) (room : ℕ) → ok fig ≡ false → room_after ok room fig ≡ room
 room_stale ok fig room is = cond-false (ok fig) (room - length fig) room is
 
 -- one that agrees
-carried_here : (ok : List ℕ → Bool) (fig : List ℕ) (rest : List (List ℕ)) (room : ℕ) → leb (length fig) room ≡ true → ok fig ≡ true
+carried_here : (ok : List ℕ → Bool) (fig : List ℕ) (rest : List (List ℕ)) (room : ℕ) → leb (length fig) room ≡ true
+    → ok fig ≡ true
     → carried_in ok room (fig ∷ rest) ≡ fig ∷ carried_in ok (room - length fig) rest
 carried_here ok fig rest room fits is =
-    ap (carried_of ok) (turns_here ok fig rest room fits) ∙ cond-true (ok fig) (fig ∷ carried_of ok (turns_in ok (room_after ok room fig) rest)) (carried_of ok (turns_in ok (room_after ok room fig) rest)) is
+    ap (carried_of ok) (turns_here ok fig rest room fits)
+    ∙ cond-true (ok fig) (fig ∷ carried_of ok (turns_in ok (room_after ok room fig) rest))
+    (carried_of ok (turns_in ok (room_after ok room fig) rest)) is
     ∙ ap (λ n. fig ∷ carried_in ok n rest) (room_carried ok fig room is)
 
-none_stale : (ok : List ℕ → Bool) (fig : List ℕ) (rest : List (List ℕ)) (room : ℕ) → leb (length fig) room ≡ true → ok fig ≡ true
+none_stale : (ok : List ℕ → Bool) (fig : List ℕ) (rest : List (List ℕ)) (room : ℕ) → leb (length fig) room ≡ true
+    → ok fig ≡ true
     → stale_in ok room (fig ∷ rest) ≡ stale_in ok (room - length fig) rest
 none_stale ok fig rest room fits is =
-    ap (stale_of ok) (turns_here ok fig rest room fits) ∙ cond-true (ok fig) (stale_of ok (turns_in ok (room_after ok room fig) rest)) (fig ∷ stale_of ok (turns_in ok (room_after ok room fig) rest)) is
+    ap (stale_of ok) (turns_here ok fig rest room fits)
+    ∙ cond-true (ok fig) (stale_of ok (turns_in ok (room_after ok room fig) rest))
+    (fig ∷ stale_of ok (turns_in ok (room_after ok room fig) rest)) is
     ∙ ap (λ n. stale_in ok n rest) (room_carried ok fig room is)
 
 -- one that does not
-none_carried : (ok : List ℕ → Bool) (fig : List ℕ) (rest : List (List ℕ)) (room : ℕ) → leb (length fig) room ≡ true → ok fig ≡ false
+none_carried : (ok : List ℕ → Bool) (fig : List ℕ) (rest : List (List ℕ)) (room : ℕ) → leb (length fig) room ≡ true
+    → ok fig ≡ false
     → carried_in ok room (fig ∷ rest) ≡ carried_in ok room rest
 none_carried ok fig rest room fits is =
-    ap (carried_of ok) (turns_here ok fig rest room fits) ∙ cond-false (ok fig) (fig ∷ carried_of ok (turns_in ok (room_after ok room fig) rest)) (carried_of ok (turns_in ok (room_after ok room fig) rest)) is
+    ap (carried_of ok) (turns_here ok fig rest room fits)
+    ∙ cond-false (ok fig) (fig ∷ carried_of ok (turns_in ok (room_after ok room fig) rest))
+    (carried_of ok (turns_in ok (room_after ok room fig) rest)) is
     ∙ ap (λ n. carried_in ok n rest) (room_stale ok fig room is)
 
-stale_here : (ok : List ℕ → Bool) (fig : List ℕ) (rest : List (List ℕ)) (room : ℕ) → leb (length fig) room ≡ true → ok fig ≡ false
+stale_here : (ok : List ℕ → Bool) (fig : List ℕ) (rest : List (List ℕ)) (room : ℕ) → leb (length fig) room ≡ true
+    → ok fig ≡ false
     → stale_in ok room (fig ∷ rest) ≡ fig ∷ stale_in ok room rest
 stale_here ok fig rest room fits is =
-    ap (stale_of ok) (turns_here ok fig rest room fits) ∙ cond-false (ok fig) (stale_of ok (turns_in ok (room_after ok room fig) rest)) (fig ∷ stale_of ok (turns_in ok (room_after ok room fig) rest)) is
+    ap (stale_of ok) (turns_here ok fig rest room fits)
+    ∙ cond-false (ok fig) (stale_of ok (turns_in ok (room_after ok room fig) rest))
+    (fig ∷ stale_of ok (turns_in ok (room_after ok room fig) rest)) is
     ∙ ap (λ n. fig ∷ stale_in ok n rest) (room_stale ok fig room is)
 
 -- ---- the pass so far: what is done and what is still to be done together are all
-pub record IsPassed (ok : List ℕ → Bool) (bytes0 : List ℕ) (waiting : List (List ℕ)) (room0 : ℕ) (bytes : List ℕ) (front rest : List (List ℕ)) (room count stale : ℕ) : Type 0 where
+pub record IsPassed (ok : List ℕ → Bool) (bytes0 : List ℕ) (waiting : List (List ℕ)) (room0 : ℕ) (bytes : List ℕ)
+    (front rest : List (List ℕ)) (room count stale : ℕ) : Type 0 where
   pub carried : bytes ++ concat (carried_in ok room rest) ≡ bytes0 ++ concat (carried_in ok room0 waiting)
-  pub left : front ++ left_in ok room rest ≡ left_in ok room0 waiting
+  pub left : front ++ left_waiting ok room rest ≡ left_waiting ok room0 waiting
   pub counted : count + length (carried_in ok room rest) ≡ length (carried_in ok room0 waiting)
   pub gone : stale + length (stale_in ok room rest) ≡ length (stale_in ok room0 waiting)
 
-module _ (ok : List ℕ → Bool) (bytes0 bytes fig : List ℕ) (waiting front rest : List (List ℕ)) (room0 room count stale : ℕ) where
+module _ (ok : List ℕ → Bool) (bytes0 bytes fig : List ℕ) (waiting front rest : List (List ℕ))
+    (room0 room count stale : ℕ) where
   passed_over : leb (length fig) room ≡ false
-      → IsPassed ok bytes0 waiting room0 bytes front (fig ∷ rest) room count stale → IsPassed ok bytes0 waiting room0 bytes (front ++ fig ∷ []) rest room count stale
+      → IsPassed ok bytes0 waiting room0 bytes front (fig ∷ rest) room count stale
+      → IsPassed ok bytes0 waiting room0 bytes (front ++ fig ∷ []) rest room count stale
   passed_over over h = record {
     carried = ap (λ xs. bytes ++ concat (carried_of ok xs)) (sym (turns_over ok fig rest room over)) ∙ h.carried;
-    left = append_assoc front (fig ∷ []) (left_in ok room rest) ∙ ap (λ xs. front ++ xs) (sym (left_over ok fig rest room over)) ∙ h.left;
+    left = append_assoc front (fig ∷ []) (left_waiting ok room rest)
+        ∙ ap (λ xs. front ++ xs) (sym (left_over ok fig rest room over)) ∙ h.left;
     counted = ap (λ xs. count + length (carried_of ok xs)) (sym (turns_over ok fig rest room over)) ∙ h.counted;
     gone = ap (λ xs. stale + length (stale_of ok xs)) (sym (turns_over ok fig rest room over)) ∙ h.gone;
   }
@@ -75,11 +105,14 @@ module _ (ok : List ℕ → Bool) (bytes0 bytes fig : List ℕ) (waiting front r
       → IsPassed ok bytes0 waiting room0 (bytes ++ fig) front rest (room - length fig) (count + 1) stale
   passed_in fits is h =
       let more = carried_in ok (room - length fig) rest in
-      let longer : length (carried_in ok room (fig ∷ rest)) ≡ length (fig ∷ more) = ap length (carried_here ok fig rest room fits is) in
+      let longer : length (carried_in ok room (fig ∷ rest)) ≡ length (fig ∷ more) =
+      ap length (carried_here ok fig rest room fits is) in
       let all = h.counted in
       record {
-        carried = append_assoc bytes fig (concat more) ∙ ap (λ xs. bytes ++ concat xs) (sym (carried_here ok fig rest room fits is)) ∙ h.carried;
-        left = ap (λ n. front ++ left_in ok n rest) (sym (room_carried ok fig room is)) ∙ ap (λ xs. front ++ xs) (sym (left_here ok fig rest room fits)) ∙ h.left;
+        carried = append_assoc bytes fig (concat more)
+            ∙ ap (λ xs. bytes ++ concat xs) (sym (carried_here ok fig rest room fits is)) ∙ h.carried;
+        left = ap (λ n. front ++ left_waiting ok n rest) (sym (room_carried ok fig room is))
+            ∙ ap (λ xs. front ++ xs) (sym (left_here ok fig rest room fits)) ∙ h.left;
         counted = omega (arith, longer, all);
         gone = ap (λ xs. stale + length xs) (sym (none_stale ok fig rest room fits is)) ∙ h.gone;
       }
@@ -88,11 +121,13 @@ module _ (ok : List ℕ → Bool) (bytes0 bytes fig : List ℕ) (waiting front r
       → IsPassed ok bytes0 waiting room0 bytes front (fig ∷ rest) room count stale
       → IsPassed ok bytes0 waiting room0 bytes front rest room count (stale + 1)
   passed_by fits is h =
-      let longer : length (stale_in ok room (fig ∷ rest)) ≡ length (fig ∷ stale_in ok room rest) = ap length (stale_here ok fig rest room fits is) in
+      let longer : length (stale_in ok room (fig ∷ rest)) ≡ length (fig ∷ stale_in ok room rest) =
+      ap length (stale_here ok fig rest room fits is) in
       let all = h.gone in
       record {
         carried = ap (λ xs. bytes ++ concat xs) (sym (none_carried ok fig rest room fits is)) ∙ h.carried;
-        left = ap (λ n. front ++ left_in ok n rest) (sym (room_stale ok fig room is)) ∙ ap (λ xs. front ++ xs) (sym (left_here ok fig rest room fits)) ∙ h.left;
+        left = ap (λ n. front ++ left_waiting ok n rest) (sym (room_stale ok fig room is))
+            ∙ ap (λ xs. front ++ xs) (sym (left_here ok fig rest room fits)) ∙ h.left;
         counted = ap (λ xs. count + length xs) (sym (none_carried ok fig rest room fits is)) ∙ h.counted;
         gone = omega (arith, longer, all);
       }
@@ -106,12 +141,14 @@ take_zeros (suc n) (suc m) le = ap (λ xs. 0 ∷ xs) (take_zeros n m (omega (ari
 padding_is : (n : ℕ) → n ≤ 29 → take {A = ℕ} (suc n) (255 ∷ replicate 29 0) ≡ 255 ∷ replicate n 0
 padding_is n le = ap (λ xs. 255 ∷ xs) (take_zeros n 29 le)
 
-padding_fills : (front : List ℕ) → length front ≤ 30 → front ++ take (30 - length front) (255 ∷ replicate 29 0) ≡ filled front
+padding_fills : (front : List ℕ) → length front ≤ 30 → front
+    ++ take (30 - length front) (255 ∷ replicate 29 0) ≡ filled front
 padding_fills front le =
     let marker : List ℕ = 255 ∷ replicate (29 - length front) 0 in
     elim (cases_lt (length front) 30) [
       | inl lt ↦ let more : 30 - length front ≡ suc (29 - length front) = omega (arith, lt) in
-          ap (λ n. front ++ take n (255 ∷ replicate 29 0)) more ∙ ap (λ xs. front ++ xs) (padding_is (29 - length front) (omega arith))
+          ap (λ n. front ++ take n (255 ∷ replicate 29 0)) more
+          ∙ ap (λ xs. front ++ xs) (padding_is (29 - length front) (omega arith))
           ∙ sym (cond-true (ltb (length front) 30) (front ++ marker) front (lt-ltb _ _ lt))
       | inr ge ↦ let none : 30 - length front ≡ 0 = omega (arith, ge) in
           ap (λ n. front ++ take n (255 ∷ replicate 29 0)) none ∙ append-nil front
@@ -130,57 +167,76 @@ padded bytes padding new used whole within is written =
     let few : length end ≡ 30 - used = length-take-le (30 - used) padding (omega (arith, long)) in
     let all : length (front ++ end) ≡ 30 = omega (arith, length-append front end, size, few, within) in
     let fills : front ++ take (30 - used) (255 ∷ replicate 29 0) ≡ filled front =
-    ap (λ n. front ++ take (30 - n) (255 ∷ replicate 29 0)) (sym size) ∙ padding_fills front (omega (arith, size, within)) in
+    ap (λ n. front ++ take (30 - n) (255 ∷ replicate 29 0)) (sym size)
+    ∙ padding_fills front (omega (arith, size, within)) in
     ap (take 30) (written ∙ sym (append_assoc front end rest)) ∙ take_at (front ++ end) rest 30 all
     ∙ ap (λ xs. front ++ take (30 - used) xs) is ∙ fills
 
 -- ---- a step of the pass
-cut_at : (figs : List (List ℕ)) (at : ℕ) (fig : List ℕ) → at < length figs → fig ≡ get_or figs at fig → drop at figs ≡ fig ∷ drop (at + 1) figs
+cut_at : (figs : List (List ℕ)) (at : ℕ) (fig : List ℕ) → at < length figs → fig ≡ get_or figs at fig
+    → drop at figs ≡ fig ∷ drop (at + 1) figs
 cut_at figs at fig lt is =
     let next : suc at ≡ at + 1 = omega arith in
     drop-cons figs at fig lt ∙ ap₂ (λ x n. x ∷ drop n figs) (sym is) next
 
-taken_at : (figs : List (List ℕ)) (at : ℕ) (fig : List ℕ) → at < length figs → fig ≡ get_or figs at fig → take (at + 1) figs ≡ take at figs ++ fig ∷ []
+taken_at : (figs : List (List ℕ)) (at : ℕ) (fig : List ℕ) → at < length figs → fig ≡ get_or figs at fig
+    → take (at + 1) figs ≡ take at figs ++ fig ∷ []
 taken_at figs at fig lt is = take_more figs at fig lt ∙ ap (λ x. take at figs ++ x ∷ []) (sym is)
 
-pub step_over : (ok : List ℕ → Bool) (bytes0 bytes fig : List ℕ) (waiting figs : List (List ℕ)) (room0 room at count stale : ℕ) → at < length figs → fig ≡ get_or figs at fig
+pub step_over : (ok : List ℕ → Bool) (bytes0 bytes fig : List ℕ) (waiting figs : List (List ℕ))
+    (room0 room at count stale : ℕ) → at < length figs → fig ≡ get_or figs at fig
     → room < length fig → IsPassed ok bytes0 waiting room0 bytes (take at figs) (drop at figs) room count stale
     → IsPassed ok bytes0 waiting room0 bytes (take (at + 1) figs) (drop (at + 1) figs) room count stale
 step_over ok bytes0 bytes fig waiting figs room0 room at count stale lt is long h =
     let here : IsPassed ok bytes0 waiting room0 bytes (take at figs) (fig ∷ drop (at + 1) figs) room count stale =
-    subst (λ (xs : List (List ℕ)). IsPassed ok bytes0 waiting room0 bytes (take at figs) xs room count stale) (cut_at figs at fig lt is) h in
-    subst (λ (xs : List (List ℕ)). IsPassed ok bytes0 waiting room0 bytes xs (drop (at + 1) figs) room count stale) (sym (taken_at figs at fig lt is))
-    (passed_over ok bytes0 bytes fig waiting (take at figs) (drop (at + 1) figs) room0 room count stale (lt-leb (length fig) room long) here)
+    subst (λ (xs : List (List ℕ)). IsPassed ok bytes0 waiting room0 bytes (take at figs) xs room count stale)
+    (cut_at figs at fig lt is) h in
+    subst (λ (xs : List (List ℕ)). IsPassed ok bytes0 waiting room0 bytes xs (drop (at + 1) figs) room count stale)
+    (sym (taken_at figs at fig lt is))
+    (passed_over ok bytes0 bytes fig waiting (take at figs) (drop (at + 1) figs) room0 room count stale
+    (lt-leb (length fig) room long) here)
 
 -- a FIG is removed
-module _ (ok : List ℕ → Bool) (bytes0 bytes fig : List ℕ) (waiting figs new : List (List ℕ)) (room0 room at count stale : ℕ) (lt : at < length figs) (is : fig ≡ get_or figs at fig)
-    (short : length fig ≤ room) (removed : new ≡ take at figs ++ drop (suc at) figs) (h : IsPassed ok bytes0 waiting room0 bytes (take at figs) (drop at figs) room count stale) where
+module _ (ok : List ℕ → Bool) (bytes0 bytes fig : List ℕ) (waiting figs new : List (List ℕ))
+    (room0 room at count stale : ℕ) (lt : at < length figs) (is : fig ≡ get_or figs at fig)
+    (short : length fig ≤ room) (removed : new ≡ take at figs ++ drop (suc at) figs)
+    (h : IsPassed ok bytes0 waiting room0 bytes (take at figs) (drop at figs) room count stale) where
   front : take at new ≡ take at figs
-  front = ap (take at) removed ∙ take_at (take at figs) (drop (suc at) figs) at (length-take-le at figs (omega (arith, lt)))
+  front = ap (take at) removed ∙ take_at (take at figs) (drop (suc at) figs) at
+      (length-take-le at figs (omega (arith, lt)))
 
   back : drop at new ≡ drop (at + 1) figs
   back =
       let next : suc at ≡ at + 1 = omega arith in
-      ap (drop at) removed ∙ drop_at (take at figs) (drop (suc at) figs) at (length-take-le at figs (omega (arith, lt))) ∙ ap (λ n. drop n figs) next
+      ap (drop at) removed ∙ drop_at (take at figs) (drop (suc at) figs) at (length-take-le at figs (omega (arith, lt)))
+      ∙ ap (λ n. drop n figs) next
 
   here : IsPassed ok bytes0 waiting room0 bytes (take at figs) (fig ∷ drop (at + 1) figs) room count stale
-  here = subst (λ (xs : List (List ℕ)). IsPassed ok bytes0 waiting room0 bytes (take at figs) xs room count stale) (cut_at figs at fig lt is) h
+  here = subst (λ (xs : List (List ℕ)). IsPassed ok bytes0 waiting room0 bytes (take at figs) xs room count stale)
+      (cut_at figs at fig lt is) h
 
-  pub step_in : ok fig ≡ true → IsPassed ok bytes0 waiting room0 (bytes ++ fig) (take at new) (drop at new) (room - length fig) (count + 1) stale
+  pub step_in : ok fig ≡ true → IsPassed ok bytes0 waiting room0 (bytes ++ fig) (take at new) (drop at new)
+      (room - length fig) (count + 1) stale
   step_in agrees =
-      subst₂ (λ (xs ys : List (List ℕ)). IsPassed ok bytes0 waiting room0 (bytes ++ fig) xs ys (room - length fig) (count + 1) stale) (sym front) (sym back)
-      (passed_in ok bytes0 bytes fig waiting (take at figs) (drop (at + 1) figs) room0 room count stale (le-leb (length fig) room short) agrees here)
+      subst₂ (λ (xs ys : List (List ℕ)). IsPassed ok bytes0 waiting room0 (bytes ++ fig) xs ys (room - length fig)
+      (count + 1) stale) (sym front) (sym back)
+      (passed_in ok bytes0 bytes fig waiting (take at figs) (drop (at + 1) figs) room0 room count stale
+      (le-leb (length fig) room short) agrees here)
 
-  pub step_by : ok fig ≡ false → IsPassed ok bytes0 waiting room0 bytes (take at new) (drop at new) room count (stale + 1)
+  pub step_by : ok fig ≡ false → IsPassed ok bytes0 waiting room0 bytes (take at new) (drop at new) room count
+      (stale + 1)
   step_by agrees =
-      subst₂ (λ (xs ys : List (List ℕ)). IsPassed ok bytes0 waiting room0 bytes xs ys room count (stale + 1)) (sym front) (sym back)
-      (passed_by ok bytes0 bytes fig waiting (take at figs) (drop (at + 1) figs) room0 room count stale (le-leb (length fig) room short) agrees here)
+      subst₂ (λ (xs ys : List (List ℕ)). IsPassed ok bytes0 waiting room0 bytes xs ys room count (stale + 1))
+      (sym front) (sym back)
+      (passed_by ok bytes0 bytes fig waiting (take at figs) (drop (at + 1) figs) room0 room count stale
+      (le-leb (length fig) room short) agrees here)
 
 pub written_behind : (fib new fig : List ℕ) (used : ℕ) → used + length fig ≤ length fib
     → new ≡ take used fib ++ (fig ++ drop (used + length fig) fib) → take (used + length fig) new ≡ take used fib ++ fig
 written_behind fib new fig used within is =
     let size : length (take used fib) ≡ used = length-take-le used fib (omega (arith, within)) in
-    let all : length (take used fib ++ fig) ≡ used + length fig = omega (arith, length-append (take used fib) fig, size) in
+    let all : length (take used fib ++ fig) ≡ used + length fig =
+    omega (arith, length-append (take used fib) fig, size) in
     ap (take (used + length fig)) (is ∙ sym (append_assoc (take used fib) fig (drop (used + length fig) fib)))
     ∙ take_at (take used fib ++ fig) (drop (used + length fig) fib) (used + length fig) all
 
@@ -190,7 +246,14 @@ written_length fib new fig used within is =
     let rest = drop (used + length fig) fib in
     let size : length (take used fib) ≡ used = length-take-le used fib (omega (arith, within)) in
     let whole : length new ≡ length (take used fib ++ (fig ++ rest)) = ap length is in
-    omega (arith, whole, length-append (take used fib) (fig ++ rest), length-append fig rest, length-drop (used + length fig) fib, size)
+    omega (
+      arith,
+      whole,
+      length-append (take used fib) (fig ++ rest),
+      length-append fig rest,
+      length-drop (used + length fig) fib,
+      size,
+    )
 
 pub same_at : (figs : List (List ℕ)) (at : ℕ) (d e : List ℕ) → at < length figs → get_or figs at d ≡ get_or figs at e
 same_at [] at d e lt = absurd (omega (arith, lt))

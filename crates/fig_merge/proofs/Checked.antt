@@ -1,5 +1,6 @@
 -- The checker finds in frames with FIGs carried behind their own what it finds in the frames, if those FIGs agree.
-use Rattle.std.proofs.Common.{◌≡◌, ℕ, ◌==◌, ◌&&◌, ◌||◌, nat_le, nat_lt, Bool, true, false, cond, List, [], ◌∷◌, ◌++◌, length, map, Some, None, refl, sym, ap, ap₂, ◌∙◌, append_assoc, append-nil}
+use Rattle.std.proofs.Common.{◌≡◌, ℕ, ◌==◌, ◌&&◌, ◌||◌, nat_le, nat_lt, Bool, true, false, cond, List, [], ◌∷◌, ◌++◌}
+use Rattle.std.proofs.Common.{length, map, Some, None, refl, sym, ap, ap₂, ◌∙◌, append_assoc, append-nil}
 use Rattle.std.specs.Prelude.{Option}
 use Rattle.std.specs.List.{list_all}
 use Rattle.std.proofs.lemmas.Bool.{false≢true}
@@ -7,7 +8,8 @@ use Rattle.mux_config.proofs.Keeping.{present, absent_found}
 use Rattle.mux_config.specs.Tables.{entry_at}
 use Rattle.fib_codec.specs.Grammar.{Fig, Open, Other, is_next}
 use Rattle.fig_mentions.specs.Agreeing.{fig_agrees}
-use Rattle.stream_check.specs.Listening.{Listening, Pictured, untuned, at_ensemble, has_room, hear_entry, hear_entries, hear_figs, identifier_of, into, kept, pictured, picture_of, where_heard}
+use Rattle.stream_check.specs.Listening.{Listening, Pictured, untuned, at_ensemble, has_room, hear_entry, hear_entries}
+use Rattle.stream_check.specs.Listening.{hear_figs, identifier_of, into, kept, pictured, picture_of, where_heard}
 use Rattle.stream_check.specs.Raw.{Raw, entries_in, ensemble_in}
 use Rattle.stream_check.specs.declared.contradiction.Contradiction.{Contradiction}
 use Rattle.stream_check.specs.declared.finding.Finding.{Finding}
@@ -15,12 +17,15 @@ use Rattle.stream_check.specs.declared.finding.What.{What}
 use Rattle.stream_check.specs.declared.heard_table.Lookup.TheVariants.{Absent, Full}
 use Rattle.stream_check.specs.Contradictions.{new_findings, noted_with}
 use Rattle.stream_check.specs.Frames.{Fib}
-use Rattle.stream_check.specs.History.{Item, Moment, Said, said, is_ensemble, items_of, fig_items, figs_items, fibs_items, frame_items, listening, listener, listener_after, due, frames_ended}
+use Rattle.stream_check.specs.History.{Item, Moment, Said, said, is_ensemble, items_of, fig_items, figs_items}
+use Rattle.stream_check.specs.History.{fibs_items, frame_items, listening, listener, listener_after, due, frames_ended}
 use Rattle.stream_check.specs.Lookup.{lookup, lookup_among, lookup_in}
 use Rattle.stream_check.specs.Reporting.{in_frame}
 use Rattle.stream_check.specs.Rules.{known_of, finds_no_room, has_no_room}
-use Rattle.stream_check.specs.Sent.{Sent, FigSent, fig_sent, figs_sent, fibs_sent, items_in, contradictions_at, noted_after}
-use Rattle.stream_check.specs.Stream.{findings_at_sent, runs_full, last_findings, findings_in, noted_in, after_frame, findings_from}
+use Rattle.stream_check.specs.Sent.{Sent, FigSent, fig_sent, figs_sent, fibs_sent, items_in, contradictions_at}
+use Rattle.stream_check.specs.Sent.{noted_after}
+use Rattle.stream_check.specs.Stream.{findings_at_sent, runs_full, last_findings, findings_in, noted_in}
+use Rattle.stream_check.specs.Stream.{past_after_frame, findings_from}
 use Rattle.stream_check.proofs.Agreement.{agreeing_none}
 use Rattle.stream_check.proofs.Saying.{said_append, full_append, full_stays}
 use Rattle.stream_check.proofs.Sending.{figs_have_items, findings_append, findings_stay, noted_append}
@@ -43,7 +48,8 @@ room_where raw rs free = by (entry_at identifier_of (identifier_of raw) rs) refl
         some_room true e = refl
         some_room false e = absurd (false≢true (sym e))
 
-kept_some : (raw : Raw) (p : Pictured) → finds_no_room (lookup_in raw p) ≡ false → (q : Pictured) × (pictured raw p ≡ Some q)
+kept_some : (raw : Raw) (p : Pictured) → finds_no_room (lookup_in raw p) ≡ false → (q : Pictured)
+    × (pictured raw p ≡ Some q)
 kept_some raw p = by (raw.ext == 1) (raw.ext == 2)
   where
     subs : Pictured
@@ -56,12 +62,15 @@ kept_some raw p = by (raw.ext == 1) (raw.ext == 2)
     packets = record p { packets = kept raw p.packets }
 
     by : (a b : Bool) → finds_no_room (lookup raw (cond a p.subs (cond b p.services p.packets))) ≡ false
-        → (q : Pictured) × (cond a (Some subs) (cond b (cond (has_room raw p.services) (Some services) None) (cond (has_room raw p.packets) (Some packets) None)) ≡ Some q)
+        → (q : Pictured) × (cond a (Some subs)
+        (cond b (cond (has_room raw p.services) (Some services) None)
+        (cond (has_room raw p.packets) (Some packets) None)) ≡ Some q)
     by true b free = (subs, refl)
     by false true free = (services, ap (λ t. cond t (Some services) None) (room_where raw p.services free))
     by false false free = (packets, ap (λ t. cond t (Some packets) None) (room_where raw p.packets free))
 
-into_some : (next : Bool) (l : Listening) (o : Option Pictured) (p : Pictured) → o ≡ Some p → (m : Listening) × (into next l o ≡ Some m)
+into_some : (next : Bool) (l : Listening) (o : Option Pictured) (p : Pictured) → o ≡ Some p → (m : Listening)
+    × (into next l o ≡ Some m)
 into_some true l o p is = (record l { next = p }, ap (into true l) is)
 into_some false l o p is = (record l { current = p }, ap (into false l) is)
 
@@ -73,7 +82,8 @@ entry_heard : (i : Item) (l : Listening) → no_room i l ≡ false → (m : List
 entry_heard i l = by (is_ensemble i) l.tuned
   where
     by : (b t : Bool) → cond b false (t && finds_no_room (lookup_in i.raw (cond i.next l.next l.current))) ≡ false
-        → (m : Listening) × (cond b (Some (at_ensemble (ensemble_in i.raw) l)) (cond t (into i.next l (pictured i.raw (picture_of i.next l))) (Some l)) ≡ Some m)
+        → (m : Listening) × (cond b (Some (at_ensemble (ensemble_in i.raw) l))
+        (cond t (into i.next l (pictured i.raw (picture_of i.next l))) (Some l)) ≡ Some m)
     by true t free = (at_ensemble (ensemble_in i.raw) l, refl)
     by false false free = (l, refl)
     by false true free =
@@ -83,16 +93,20 @@ entry_heard i l = by (is_ensemble i) l.tuned
 listener_is : (past : List Moment) (l : Listening) → listening past ≡ Some l → listener_after past ≡ l
 listener_is past l is = ap listener is
 
-one_heard : (step period : ℕ) (past : List Moment) (i : Item) (l : Listening) → has_no_room (known_of step period past) i ≡ false → listening past ≡ Some l
+one_heard : (step period : ℕ) (past : List Moment) (i : Item) (l : Listening)
+    → has_no_room (known_of step period past) i ≡ false → listening past ≡ Some l
     → (m : Listening) × (listening (Said i ∷ past) ≡ Some m)
 one_heard step period past i l free is =
     let there = entry_heard i l (sym (ap (no_room i) (listener_is past l is)) ∙ free) in
     (there.0, ap (λ o. where_heard o (hear_entry i.next i.raw)) is ∙ there.1)
 
-items_heard : (step period : ℕ) (items : List Item) (past : List Moment) (l : Listening) → runs_full step period past items ≡ false → listening past ≡ Some l
+items_heard : (step period : ℕ) (items : List Item) (past : List Moment) (l : Listening)
+    → runs_full step period past items ≡ false → listening past ≡ Some l
     → (m : Listening) × (listening (said items past) ≡ Some m)
 items_heard step period [] past l room is = (l, is)
-items_heard step period (i ∷ items) past l room is = elim (has_no_room (known_of step period past) i) as (λ t. has_no_room (known_of step period past) i ≡ t → cond t true (runs_full step period (Said i ∷ past) items) ≡ false
+items_heard step period (i ∷ items) past l room is =
+    elim (has_no_room (known_of step period past) i) as (λ t. has_no_room (known_of step period past) i ≡ t
+    → cond t true (runs_full step period (Said i ∷ past) items) ≡ false
     → (m : Listening) × (listening (said items (Said i ∷ past)) ≡ Some m)) [
       | true ↦ λ full more. absurd (false≢true (sym more))
       | false ↦ λ free more.
@@ -102,7 +116,8 @@ items_heard step period (i ∷ items) past l room is = elim (has_no_room (known_
 
 -- ---- FIGs are heard entry by entry
 
-entries_said : (first next : Bool) (raws : List Raw) (past : List Moment) → listening (said (items_of first next raws) past) ≡ where_heard (listening past) (hear_entries next raws)
+entries_said : (first next : Bool) (raws : List Raw) (past : List Moment)
+    → listening (said (items_of first next raws) past) ≡ where_heard (listening past) (hear_entries next raws)
 entries_said first next [] past = by (listening past)
   where
     by : (o : Option Listening) → o ≡ where_heard o (hear_entries next [])
@@ -111,11 +126,13 @@ entries_said first next [] past = by (listening past)
 entries_said first next (raw ∷ raws) past =
     entries_said first next raws (Said (record { first = first; next = next; raw = raw }) ∷ past) ∙ by (listening past)
   where
-    by : (o : Option Listening) → where_heard (where_heard o (hear_entry next raw)) (hear_entries next raws) ≡ where_heard o (hear_entries next (raw ∷ raws))
+    by : (o : Option Listening) → where_heard (where_heard o (hear_entry next raw)) (hear_entries next raws)
+        ≡ where_heard o (hear_entries next (raw ∷ raws))
     by None = refl
     by (Some l) = refl
 
-figs_said : (first : Bool) (figs : List Fig) (past : List Moment) → listening (said (figs_items first figs) past) ≡ where_heard (listening past) (hear_figs figs)
+figs_said : (first : Bool) (figs : List Fig) (past : List Moment)
+    → listening (said (figs_items first figs) past) ≡ where_heard (listening past) (hear_figs figs)
 figs_said first [] past = by (listening past)
   where
     by : (o : Option Listening) → o ≡ where_heard o (hear_figs [])
@@ -124,9 +141,12 @@ figs_said first [] past = by (listening past)
 figs_said first (Open second es ∷ fs) past =
     let items = fig_items first (Open second es) in
     ap listening (said_append items (figs_items false fs) past) ∙ figs_said false fs (said items past)
-    ∙ ap (λ o. where_heard o (hear_figs fs)) (entries_said first (is_next second) (entries_in (Open second es)) past) ∙ by (listening past)
+    ∙ ap (λ o. where_heard o (hear_figs fs)) (entries_said first (is_next second) (entries_in (Open second es)) past)
+    ∙ by (listening past)
   where
-    by : (o : Option Listening) → where_heard (where_heard o (hear_entries (is_next second) (entries_in (Open second es)))) (hear_figs fs) ≡ where_heard o (hear_figs (Open second es ∷ fs))
+    by : (o : Option Listening)
+        → where_heard (where_heard o (hear_entries (is_next second) (entries_in (Open second es)))) (hear_figs fs)
+        ≡ where_heard o (hear_figs (Open second es ∷ fs))
     by None = refl
     by (Some l) = refl
 figs_said first (Other given ∷ fs) past = figs_said false fs past ∙ by (listening past)
@@ -139,7 +159,8 @@ some_heard : (o : Option Listening) (l m : Listening) → o ≡ Some m → o ≡
 some_heard None l m is = absurd cc
 some_heard (Some n) l m is = refl
 
-pub figs_hearing : (step period : ℕ) (first : Bool) (figs : List Fig) (past : List Moment) (l : Listening) → runs_full step period past (figs_items first figs) ≡ false → listening past ≡ Some l
+pub figs_hearing : (step period : ℕ) (first : Bool) (figs : List Fig) (past : List Moment) (l : Listening)
+    → runs_full step period past (figs_items first figs) ≡ false → listening past ≡ Some l
     → listening (said (figs_items first figs) past) ≡ Some (hearing figs l)
 figs_hearing step period first figs past l room is =
     let there = items_heard step period (figs_items first figs) past l room is in
@@ -151,23 +172,29 @@ front_free : (step period : ℕ) (xs ys : List Item) (past : List Moment) → ru
     → (runs_full step period past xs ≡ false) × (runs_full step period (said xs past) ys ≡ false)
 front_free step period xs ys past room = by (runs_full step period past xs) refl
   where
-    by : (b : Bool) → runs_full step period past xs ≡ b → (runs_full step period past xs ≡ false) × (runs_full step period (said xs past) ys ≡ false)
+    by : (b : Bool) → runs_full step period past xs ≡ b → (runs_full step period past xs ≡ false)
+        × (runs_full step period (said xs past) ys ≡ false)
     by true full = absurd (false≢true (sym room ∙ full_stays step period xs ys past full))
     by false free = (free, sym (full_append step period xs ys past free) ∙ room)
 
-pub fibs_hearing : (step period : ℕ) (first : Bool) (fibs : List Fib) (past : List Moment) (l : Listening) → runs_full step period past (fibs_items first fibs) ≡ false → listening past ≡ Some l
+pub fibs_hearing : (step period : ℕ) (first : Bool) (fibs : List Fib) (past : List Moment) (l : Listening)
+    → runs_full step period past (fibs_items first fibs) ≡ false → listening past ≡ Some l
     → listening (said (fibs_items first fibs) past) ≡ Some (hearing_fibs fibs l)
 fibs_hearing step period first [] past l room is = is
 fibs_hearing step period first (None ∷ fibs) past l room is = fibs_hearing step period false fibs past l room is
 fibs_hearing step period first (Some figs ∷ fibs) past l room is =
     let front = front_free step period (figs_items first figs) (fibs_items false fibs) past room in
     ap listening (said_append (figs_items first figs) (fibs_items false fibs) past)
-    ∙ fibs_hearing step period false fibs (said (figs_items first figs) past) (hearing figs l) front.1 (figs_hearing step period first figs past l front.0 is)
+    ∙ fibs_hearing step period false fibs (said (figs_items first figs) past) (hearing figs l) front.1
+    (figs_hearing step period first figs past l front.0 is)
 
 -- ---- FIGs that agree add nothing
 
-none_at : (period : ℕ) (past : List Moment) (fig : List ℕ) → fig_agrees (listener_after past).current fig ≡ true → contradictions_at period past fig ≡ []
-none_at period past fig agrees = ap (λ cs. cond (nat_le period (frames_ended past)) cs []) (agreeing_none (listener_after past).current fig agrees) ∙ same (nat_le period (frames_ended past))
+none_at : (period : ℕ) (past : List Moment) (fig : List ℕ) → fig_agrees (listener_after past).current fig ≡ true
+    → contradictions_at period past fig ≡ []
+none_at period past fig agrees =
+    ap (λ cs. cond (nat_le period (frames_ended past)) cs []) (agreeing_none (listener_after past).current fig agrees)
+    ∙ same (nat_le period (frames_ended past))
   where
     none : List Contradiction
     none = []
@@ -181,47 +208,65 @@ both_true true true e = (refl, refl)
 both_true true false e = absurd (false≢true e)
 both_true false b e = absurd (false≢true e)
 
-pub found_quietly : (step period : ℕ) (carried : List (List ℕ)) (rest : List Sent) (past : List Moment) (noted : List Contradiction) → list_all (fig_agrees (listener_after past).current) carried ≡ true
-    → findings_at_sent step period past noted (map FigSent carried ++ rest) ≡ findings_at_sent step period past noted rest
+pub found_quietly : (step period : ℕ) (carried : List (List ℕ)) (rest : List Sent) (past : List Moment)
+    (noted : List Contradiction) → list_all (fig_agrees (listener_after past).current) carried ≡ true
+    → findings_at_sent step period past noted (map FigSent carried ++ rest)
+    ≡ findings_at_sent step period past noted rest
 found_quietly step period [] rest past noted all = refl
 found_quietly step period (c ∷ cs) rest past noted all =
-    let both = both_true (fig_agrees (listener_after past).current c) (list_all (fig_agrees (listener_after past).current) cs) all in
-    ap (λ some. new_findings noted some ++ findings_at_sent step period past (noted_with noted some) (map FigSent cs ++ rest)) (none_at period past c both.0)
+    let both = both_true (fig_agrees (listener_after past).current c)
+    (list_all (fig_agrees (listener_after past).current) cs) all in
+    ap (λ some. new_findings noted some ++ findings_at_sent step period past (noted_with noted some)
+    (map FigSent cs ++ rest)) (none_at period past c both.0)
     ∙ ap (λ n. findings_at_sent step period past n (map FigSent cs ++ rest)) (append-nil noted)
     ∙ found_quietly step period cs rest past noted both.1
 
-pub noted_quietly : (period : ℕ) (carried : List (List ℕ)) (rest : List Sent) (past : List Moment) (noted : List Contradiction) → list_all (fig_agrees (listener_after past).current) carried ≡ true
+pub noted_quietly : (period : ℕ) (carried : List (List ℕ)) (rest : List Sent) (past : List Moment)
+    (noted : List Contradiction) → list_all (fig_agrees (listener_after past).current) carried ≡ true
     → noted_after period past noted (map FigSent carried ++ rest) ≡ noted_after period past noted rest
 noted_quietly period [] rest past noted all = refl
 noted_quietly period (c ∷ cs) rest past noted all =
-    let both = both_true (fig_agrees (listener_after past).current c) (list_all (fig_agrees (listener_after past).current) cs) all in
+    let both = both_true (fig_agrees (listener_after past).current c)
+    (list_all (fig_agrees (listener_after past).current) cs) all in
     ap (λ some. noted_after period past (noted_with noted some) (map FigSent cs ++ rest)) (none_at period past c both.0)
     ∙ ap (λ n. noted_after period past n (map FigSent cs ++ rest)) (append-nil noted)
     ∙ noted_quietly period cs rest past noted both.1
 
-others_sent : (first : Bool) (figs : List Fig) (carried : List (List ℕ)) → figs_sent first (figs ++ map Other carried) ≡ figs_sent first figs ++ map FigSent carried
+others_sent : (first : Bool) (figs : List Fig) (carried : List (List ℕ))
+    → figs_sent first (figs ++ map Other carried) ≡ figs_sent first figs ++ map FigSent carried
 others_sent first [] [] = refl
 others_sent first [] (c ∷ cs) = ap (λ ss. FigSent c ∷ ss) (others_sent false [] cs)
 others_sent first (f ∷ fs) carried =
-    ap (λ ss. fig_sent first f ++ ss) (others_sent false fs carried) ∙ sym (append_assoc (fig_sent first f) (figs_sent false fs) (map FigSent carried))
+    ap (λ ss. fig_sent first f ++ ss) (others_sent false fs carried)
+    ∙ sym (append_assoc (fig_sent first f) (figs_sent false fs) (map FigSent carried))
 
 -- ---- what is sent in the FIBs of a frame
 
 -- those that agree when their turn comes, for the listener that has heard the FIB's own FIGs
-agree_then : (step period : ℕ) (first : Bool) (figs : List Fig) (carried : List (List ℕ)) (past : List Moment) (l : Listening) → runs_full step period past (items_in (figs_sent first figs)) ≡ false → listening past ≡ Some l
+agree_then : (step period : ℕ) (first : Bool) (figs : List Fig) (carried : List (List ℕ)) (past : List Moment)
+    (l : Listening) → runs_full step period past (items_in (figs_sent first figs)) ≡ false → listening past ≡ Some l
     → list_all (agrees_with figs l) carried ≡ true
-    → (listening (said (items_in (figs_sent first figs)) past) ≡ Some (hearing figs l)) × (list_all (fig_agrees (listener_after (said (items_in (figs_sent first figs)) past)).current) carried ≡ true)
+    → (listening (said (items_in (figs_sent first figs)) past) ≡ Some (hearing figs l))
+    × (list_all (fig_agrees (listener_after (said (items_in (figs_sent first figs)) past)).current) carried ≡ true)
 agree_then step period first figs carried past l room is all =
     let own = figs_have_items first figs in
     let heard : listening (said (items_in (figs_sent first figs)) past) ≡ Some (hearing figs l) =
-    ap (λ items. listening (said items past)) own ∙ figs_hearing step period first figs past l (ap (runs_full step period past) (sym own) ∙ room) is in
-    (heard, ap (λ (m : Listening). list_all (fig_agrees m.current) carried) (listener_is (said (items_in (figs_sent first figs)) past) (hearing figs l) heard) ∙ all)
+    ap (λ items. listening (said items past)) own ∙ figs_hearing step period first figs past l
+    (ap (runs_full step period past) (sym own) ∙ room) is in (
+      heard,
+      ap (λ (m : Listening). list_all (fig_agrees m.current) carried)
+          (listener_is (said (items_in (figs_sent first figs)) past) (hearing figs l) heard) ∙ all,
+    )
 
-pub found_alike : (step period : ℕ) (first : Bool) (fibs sent : List Fib) (past : List Moment) (noted : List Contradiction) (l : Listening) → AreFilled agreeing l fibs sent → listening past ≡ Some l
-    → findings_at_sent step period past noted (fibs_sent first sent) ≡ findings_at_sent step period past noted (fibs_sent first fibs)
-found_alike step period first [] sent past noted l h is = ap (λ fs. findings_at_sent step period past noted (fibs_sent first fs)) h
+pub found_alike : (step period : ℕ) (first : Bool) (fibs sent : List Fib) (past : List Moment)
+    (noted : List Contradiction) (l : Listening) → AreFilled agreeing l fibs sent → listening past ≡ Some l
+    → findings_at_sent step period past noted (fibs_sent first sent)
+    ≡ findings_at_sent step period past noted (fibs_sent first fibs)
+found_alike step period first [] sent past noted l h is =
+    ap (λ fs. findings_at_sent step period past noted (fibs_sent first fs)) h
 found_alike step period first (None ∷ fibs) sent past noted l h is =
-    ap (λ fs. findings_at_sent step period past noted (fibs_sent first fs)) h.2 ∙ found_alike step period false fibs h.1 past noted l h.4 is
+    ap (λ fs. findings_at_sent step period past noted (fibs_sent first fs)) h.2
+    ∙ found_alike step period false fibs h.1 past noted l h.4 is
 found_alike step period first (Some figs ∷ fibs) sent past noted l h is =
     let own = figs_sent first figs in
     let others = map FigSent h.0 in
@@ -230,11 +275,15 @@ found_alike step period first (Some figs ∷ fibs) sent past noted l h is =
     ap (λ fs. findings_at_sent step period past noted (fibs_sent first fs)) h.2
     ∙ ap (λ ss. findings_at_sent step period past noted (ss ++ later)) (others_sent first figs h.0)
     ∙ ap (findings_at_sent step period past noted) (append_assoc own others later)
-    ∙ by (λ then now is. found_alike step period false fibs h.1 then now (hearing figs l) h.4 is) (runs_full step period past (items_in own)) refl
+    ∙ by (λ then now is. found_alike step period false fibs h.1 then now (hearing figs l) h.4 is)
+    (runs_full step period past (items_in own)) refl
   where
-    by : ((then : List Moment) (now : List Contradiction) → listening then ≡ Some (hearing figs l) → findings_at_sent step period then now (fibs_sent false h.1) ≡ findings_at_sent step period then now (fibs_sent false fibs))
+    by : ((then : List Moment) (now : List Contradiction) → listening then ≡ Some (hearing figs l)
+        → findings_at_sent step period then now (fibs_sent false h.1)
+        ≡ findings_at_sent step period then now (fibs_sent false fibs))
         → (b : Bool) → runs_full step period past (items_in (figs_sent first figs)) ≡ b
-        → findings_at_sent step period past noted (figs_sent first figs ++ (map FigSent h.0 ++ fibs_sent false h.1)) ≡ findings_at_sent step period past noted (figs_sent first figs ++ fibs_sent false fibs)
+        → findings_at_sent step period past noted (figs_sent first figs ++ (map FigSent h.0 ++ fibs_sent false h.1))
+        ≡ findings_at_sent step period past noted (figs_sent first figs ++ fibs_sent false fibs)
     by behind true full =
         findings_stay step period (figs_sent first figs) (map FigSent h.0 ++ fibs_sent false h.1) past noted full
         ∙ sym (findings_stay step period (figs_sent first figs) (fibs_sent false fibs) past noted full)
@@ -248,11 +297,15 @@ found_alike step period first (Some figs ∷ fibs) sent past noted l h is =
         (found_quietly step period h.0 (fibs_sent false h.1) then now agree.1 ∙ behind then now agree.0)
         ∙ sym (findings_append step period own (fibs_sent false fibs) past noted free)
 
-pub noted_alike : (step period : ℕ) (first : Bool) (fibs sent : List Fib) (past : List Moment) (noted : List Contradiction) (l : Listening) → runs_full step period past (fibs_items first fibs) ≡ false → AreFilled agreeing l fibs sent → listening past ≡ Some l
+pub noted_alike : (step period : ℕ) (first : Bool) (fibs sent : List Fib) (past : List Moment)
+    (noted : List Contradiction) (l : Listening) → runs_full step period past (fibs_items first fibs) ≡ false
+    → AreFilled agreeing l fibs sent → listening past ≡ Some l
     → noted_after period past noted (fibs_sent first sent) ≡ noted_after period past noted (fibs_sent first fibs)
-noted_alike step period first [] sent past noted l room h is = ap (λ fs. noted_after period past noted (fibs_sent first fs)) h
+noted_alike step period first [] sent past noted l room h is =
+    ap (λ fs. noted_after period past noted (fibs_sent first fs)) h
 noted_alike step period first (None ∷ fibs) sent past noted l room h is =
-    ap (λ fs. noted_after period past noted (fibs_sent first fs)) h.2 ∙ noted_alike step period false fibs h.1 past noted l room h.4 is
+    ap (λ fs. noted_after period past noted (fibs_sent first fs)) h.2
+    ∙ noted_alike step period false fibs h.1 past noted l room h.4 is
 noted_alike step period first (Some figs ∷ fibs) sent past noted l room h is =
     let own = figs_sent first figs in
     let others = map FigSent h.0 in
@@ -262,7 +315,9 @@ noted_alike step period first (Some figs ∷ fibs) sent past noted l room h is =
     let now = noted_after period past noted own in
     let front = front_free step period (figs_items first figs) (fibs_items false fibs) past room in
     let free = ap (runs_full step period past) (figs_have_items first figs) ∙ front.0 in
-    let behind : runs_full step period then (fibs_items false fibs) ≡ false = ap (λ items. runs_full step period (said items past) (fibs_items false fibs)) (figs_have_items first figs) ∙ front.1 in
+    let behind : runs_full step period then (fibs_items false fibs) ≡ false =
+    ap (λ items. runs_full step period (said items past) (fibs_items false fibs)) (figs_have_items first figs)
+    ∙ front.1 in
     let agree = agree_then step period first figs h.0 past l free is h.3 in
     ap (λ fs. noted_after period past noted (fibs_sent first fs)) h.2
     ∙ ap (λ ss. noted_after period past noted (ss ++ later)) (others_sent first figs h.0)
@@ -274,7 +329,8 @@ noted_alike step period first (Some figs ∷ fibs) sent past noted l room h is =
 
 -- ---- frames
 
-frame_found : (size step period : ℕ) (past : List Moment) (noted : List Contradiction) (l : Listening) (frame sent : List Fib) → AreFilled agreeing l frame sent → listening past ≡ Some l
+frame_found : (size step period : ℕ) (past : List Moment) (noted : List Contradiction) (l : Listening)
+    (frame sent : List Fib) → AreFilled agreeing l frame sent → listening past ≡ Some l
     → findings_in size step period past noted sent ≡ findings_in size step period past noted frame
 frame_found size step period past noted l frame sent h is =
     let a = frame_alike agreeing l frame sent h in
@@ -282,27 +338,37 @@ frame_found size step period past noted l frame sent h is =
     (count_alike step (due past) frame sent a)
     (ap₂ joined (whole_alike size step (due past) frame sent a)
     (ap₂ joined (found_alike step period true frame sent past noted l h is)
-    (ap (λ (items : List Item). last_findings (runs_full step period past items) period (said items past)) (a.items true))))
+    (ap (λ (items : List Item). last_findings (runs_full step period past items) period (said items past))
+    (a.items true))))
 
-frames_found : (size step period : ℕ) (frames sent : List (List Fib)) (past : List Moment) (noted : List Contradiction) (l : Listening) → AreFilledFrames agreeing l frames sent → listening past ≡ Some l
+frames_found : (size step period : ℕ) (frames sent : List (List Fib)) (past : List Moment) (noted : List Contradiction)
+    (l : Listening) → AreFilledFrames agreeing l frames sent → listening past ≡ Some l
     → findings_from size step period past noted sent ≡ findings_from size step period past noted frames
 frames_found size step period [] sent past noted l h is = ap (findings_from size step period past noted) h
 frames_found size step period (frame ∷ frames) sent past noted l h is =
     let a = frame_alike agreeing l frame h.0 h.3 in
     ap (findings_from size step period past noted) h.2
     ∙ ap₂ (λ (xs ys : List Finding). xs ++ ys) (frame_found size step period past noted l frame h.0 h.3 is)
-    (ap (λ (full : Bool). cond full [] (findings_from size step period (after_frame step past h.0) (noted_in period past noted h.0) h.1)) (ap (runs_full step period past) (a.items true))
-    ∙ by (λ then now is. frames_found size step period frames h.1 then now (hearing_fibs frame l) h.4 is) (runs_full step period past (frame_items frame)) refl)
+    (ap (λ (full : Bool). cond full []
+    (findings_from size step period (past_after_frame step past h.0) (noted_in period past noted h.0) h.1))
+    (ap (runs_full step period past) (a.items true))
+    ∙ by (λ then now is. frames_found size step period frames h.1 then now (hearing_fibs frame l) h.4 is)
+    (runs_full step period past (frame_items frame)) refl)
   where
-    by : ((then : List Moment) (now : List Contradiction) → listening then ≡ Some (hearing_fibs frame l) → findings_from size step period then now h.1 ≡ findings_from size step period then now frames)
+    by : ((then : List Moment) (now : List Contradiction) → listening then ≡ Some (hearing_fibs frame l)
+        → findings_from size step period then now h.1 ≡ findings_from size step period then now frames)
         → (full : Bool) → runs_full step period past (frame_items frame) ≡ full
-        → cond full [] (findings_from size step period (after_frame step past h.0) (noted_in period past noted h.0) h.1)
-        ≡ cond full [] (findings_from size step period (after_frame step past frame) (noted_in period past noted frame) frames)
+        → cond full [] (findings_from size step period (past_after_frame step past h.0) (noted_in period past noted h.0)
+        h.1)
+        ≡ cond full [] (findings_from size step period (past_after_frame step past frame)
+        (noted_in period past noted frame) frames)
     by behind true room = refl
     by behind false room =
-        ap (λ (p : List Moment). findings_from size step period p (noted_in period past noted h.0) h.1) (after_alike step past frame h.0 (frame_alike agreeing l frame h.0 h.3))
-        ∙ ap (λ n. findings_from size step period (after_frame step past frame) n h.1) (noted_alike step period true frame h.0 past noted l room h.3 is)
-        ∙ behind (after_frame step past frame) (noted_in period past noted frame)
+        ap (λ (p : List Moment). findings_from size step period p (noted_in period past noted h.0) h.1)
+        (after_alike step past frame h.0 (frame_alike agreeing l frame h.0 h.3))
+        ∙ ap (λ n. findings_from size step period (past_after_frame step past frame) n h.1)
+        (noted_alike step period true frame h.0 past noted l room h.3 is)
+        ∙ behind (past_after_frame step past frame) (noted_in period past noted frame)
         (fibs_hearing step period true frame past l room is)
 
 pub checked_alike : FilledIsCheckedAlike

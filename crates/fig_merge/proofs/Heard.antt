@@ -1,5 +1,6 @@
 -- The entries of a filled FIB are those of the plan's, and the checker has room for those of both or of neither.
-use Rattle.std.proofs.Common.{◌≡◌, ◌↔◌, ℕ, Bool, true, cond, inl, inr, List, [], ◌∷◌, ◌++◌, length, map, Some, None, refl, sym, ap, ap₂, subst, ◌∙◌}
+use Rattle.std.proofs.Common.{◌≡◌, ◌↔◌, ℕ, Bool, true, cond, inl, inr, List, [], ◌∷◌, ◌++◌, length, map, Some, None}
+use Rattle.std.proofs.Common.{refl, sym, ap, ap₂, subst, ◌∙◌}
 use Rattle.std.specs.Prelude.{Contains}
 use Rattle.std.specs.List.{AllByRecursion}
 use Rattle.std.proofs.lemmas.List.Elements.{Contains-append_left, Contains-append_cases}
@@ -12,10 +13,11 @@ use Rattle.fib_codec.proofs.Uniqueness.{one_fib}
 use Rattle.fib_reader.specs.Listening.{Listening}
 use Rattle.stream_check.specs.Frames.{Fib, Reads}
 use Rattle.stream_check.specs.History.{Moment}
-use Rattle.stream_check.specs.Stream.{runs_full, frames_full, after_frame}
+use Rattle.stream_check.specs.Stream.{runs_full, frames_full, past_after_frame}
 use Rattle.fig_merge.specs.Taking.{Merging, IsMerging}
 use Rattle.fig_merge.specs.Filling.{agrees_with, filled_fib, merged, carried_in, room_of}
-use Rattle.fig_merge.specs.Passing.{FilledHasTheEntries, FilledIsAsLong, Judge, hearing_fibs, AreFilledFrames, FilledIsFullAlike}
+use Rattle.fig_merge.specs.Passing.{FilledHasTheEntries, FilledIsAsLong, Judge, hearing_fibs, AreFilledFrames}
+use Rattle.fig_merge.specs.Passing.{FilledIsFullAlike}
 use Rattle.fig_merge.proofs.Passing.{filled_is}
 use Rattle.fig_merge.proofs.Alike.{frame_alike, after_alike}
 
@@ -28,20 +30,25 @@ none_carried : (carried : List (List ℕ)) (entry : Marked) → AllByRecursion (
 none_carried [] entry = tt
 none_carried (c ∷ cs) entry = (λ inside. inside, none_carried cs entry)
 
-in_either : (bytes : List ℕ) (m : Merging) (entry : Marked) (fib : Fib) → Reads bytes fib → IsMerging m → IsInFib (merged bytes fib m) entry ↔ IsInFib bytes entry
+in_either : (bytes : List ℕ) (m : Merging) (entry : Marked) (fib : Fib) → Reads bytes fib → IsMerging m
+    → IsInFib (merged bytes fib m) entry ↔ IsInFib bytes entry
 in_either bytes m entry None damaged h = (λ there. there, λ there. there)
 in_either bytes m entry (Some figs) is h =
     let carried = map Other (carried_in (agrees_with figs m.heard) (room_of figs) m.waiting) in
     let new = filled_fib figs m.heard m.waiting in
     let new_is : IsFib new (figs ++ carried) = filled_is bytes figs m.heard m.waiting is h.passed_over in (
       λ there.
-          let here : Contains (figs ++ carried) there.1 = subst (λ (fs : List Fig). Contains fs there.1) (one_fib new there.0 (figs ++ carried) there.2 new_is) there.3 in
+          let here : Contains (figs ++ carried) there.1 =
+          subst (λ (fs : List Fig). Contains fs there.1) (one_fib new there.0 (figs ++ carried) there.2 new_is)
+          there.3 in
           elim (Contains-append_cases figs carried there.1 here) [
             | inl own ↦ (figs, there.1, is, own, there.4)
-            | inr other ↦ absurd (each_contains (NoEntry entry) carried there.1 (none_carried (carried_in (agrees_with figs m.heard) (room_of figs) m.waiting) entry) other there.4)
+            | inr other ↦ absurd (each_contains (NoEntry entry) carried there.1
+                (none_carried (carried_in (agrees_with figs m.heard) (room_of figs) m.waiting) entry) other there.4)
           ],
       λ there.
-          let here : Contains figs there.1 = subst (λ (fs : List Fig). Contains fs there.1) (one_fib bytes there.0 figs there.2 is) there.3 in
+          let here : Contains figs there.1 =
+          subst (λ (fs : List Fig). Contains fs there.1) (one_fib bytes there.0 figs there.2 is) there.3 in
           (figs ++ carried, there.1, new_is, Contains-append_left figs carried there.1 here, there.4),
     )
 
@@ -50,23 +57,27 @@ filled_has_the_entries r bytes m entry h = in_either bytes m entry (r.read bytes
 
 -- ---- lengths
 
-as_long : FibHas32Bytes → (bytes : List ℕ) (m : Merging) (fib : Fib) → Reads bytes fib → IsMerging m → length (merged bytes fib m) ≡ length bytes
+as_long : FibHas32Bytes → (bytes : List ℕ) (m : Merging) (fib : Fib) → Reads bytes fib → IsMerging m
+    → length (merged bytes fib m) ≡ length bytes
 as_long size bytes m None damaged h = refl
 as_long size bytes m (Some figs) is h =
-    size (filled_fib figs m.heard m.waiting) (figs ++ map Other (carried_in (agrees_with figs m.heard) (room_of figs) m.waiting)) (filled_is bytes figs m.heard m.waiting is h.passed_over) ∙ sym (size bytes figs is)
+    size (filled_fib figs m.heard m.waiting)
+    (figs ++ map Other (carried_in (agrees_with figs m.heard) (room_of figs) m.waiting))
+    (filled_is bytes figs m.heard m.waiting is h.passed_over) ∙ sym (size bytes figs is)
 
 pub filled_is_as_long : FibHas32Bytes → FilledIsAsLong
 filled_is_as_long size r bytes m h = as_long size bytes m (r.read bytes) (r.right bytes) h
 
 -- ---- room
 
-full_alike_from : (may : Judge) (l : Listening) (step period : ℕ) (frames sent : List (List Fib)) (past : List Moment) → AreFilledFrames may l frames sent
+full_alike_from : (may : Judge) (l : Listening) (step period : ℕ) (frames sent : List (List Fib)) (past : List Moment)
+    → AreFilledFrames may l frames sent
     → frames_full step period past sent ≡ frames_full step period past frames
 full_alike_from may l step period [] sent past h = ap (frames_full step period past) h
 full_alike_from may l step period (frame ∷ frames) sent past h =
     let a = frame_alike may l frame h.0 h.3 in
     let rest = ap (λ (p : List Moment). frames_full step period p h.1) (after_alike step past frame h.0 a)
-    ∙ full_alike_from may (hearing_fibs frame l) step period frames h.1 (after_frame step past frame) h.4 in
+    ∙ full_alike_from may (hearing_fibs frame l) step period frames h.1 (past_after_frame step past frame) h.4 in
     ap (frames_full step period past) h.2
     ∙ ap₂ (λ (full others : Bool). cond full true others) (ap (runs_full step period past) (a.items true)) rest
 

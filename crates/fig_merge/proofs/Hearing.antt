@@ -5,34 +5,51 @@ use Rattle.fib_reader.specs.Listening.{Listening, Pictured, Heard}
 use Rattle.fib_reader.specs.declared.fault.ListenFault.{ListenFault}
 use Rattle.fig_mentions.specs.Agreeing.{fig_agrees}
 use Rattle.fig_merge.specs.Taking.{Merging, limited}
-use Rattle.fig_merge.specs.Filling.{after_fill, agrees_with, carried_in, data_of, heard_or, hearing, left_in, room_of, stale_in}
+use Rattle.fig_merge.specs.Filling.{after_fill, agrees_with, carried_in, data_of, heard_or, hearing, left_waiting}
+use Rattle.fig_merge.specs.Filling.{room_of, stale_in}
 
-pub heard_is : (o : Option Listening) (old new : Listening) (answer : Result (Unit {0}) ListenFault) → Heard o old new answer → new ≡ heard_or old o
+pub heard_is : (o : Option Listening) (old new : Listening) (answer : Result (Unit {0}) ListenFault)
+    → Heard o old new answer → new ≡ heard_or old o
 heard_is None old new answer h = h.1
 heard_is (Some l) old new answer h = h.1
 
 -- the FIGs that agree with the picture that is then current
-pub judges : (figs : List Fig) (l new : Listening) (k : Pictured) → new ≡ hearing figs l → k ≡ new.current → fig_agrees k ≡ agrees_with figs l
+pub judges : (figs : List Fig) (l new : Listening) (k : Pictured) → new ≡ hearing figs l → k ≡ new.current
+    → fig_agrees k ≡ agrees_with figs l
 judges figs l new k heard is = ap (λ (p : Pictured). fig_agrees p) (is ∙ ap (λ (h : Listening). h.current) heard)
 
 abbrev made : Merging → List (List ℕ) → (carried stale : ℕ) → Listening → Merging
 made m waiting carried stale heard =
-    record { waiting = waiting; carried = carried; dropped = m.dropped; stale = stale; damaged = m.damaged; heard = heard }
+    record {
+      waiting = waiting;
+      carried = carried;
+      dropped = m.dropped;
+      stale = stale;
+      damaged = m.damaged;
+      heard = heard;
+    }
 
-pub fill_is : (figs : List Fig) (m : Merging) (k : List ℕ → Bool) (used : ℕ) (waiting : List (List ℕ)) (carried stale more gone : ℕ) (heard : Listening)
-    → used ≡ length (data_of figs) → k ≡ agrees_with figs m.heard → waiting ≡ left_in k (30 - used) m.waiting
+pub fill_is : (figs : List Fig) (m : Merging) (k : List ℕ → Bool) (used : ℕ) (waiting : List (List ℕ))
+    (carried stale more gone : ℕ) (heard : Listening)
+    → used ≡ length (data_of figs) → k ≡ agrees_with figs m.heard → waiting ≡ left_waiting k (30 - used) m.waiting
     → more ≡ length (carried_in k (30 - used) m.waiting) → gone ≡ length (stale_in k (30 - used) m.waiting)
     → carried ≡ limited (m.carried + more) → stale ≡ limited (m.stale + gone) → heard ≡ hearing figs m.heard
     → made m waiting carried stale heard ≡ after_fill (Some figs) m
 fill_is figs m k used waiting carried stale more gone heard size same left one other c s hears =
     let ok = agrees_with figs m.heard in
-    let waits_on : waiting ≡ left_in ok (room_of figs) m.waiting =
-    left ∙ ap (λ n. left_in k (30 - n) m.waiting) size ∙ ap (λ (j : List ℕ → Bool). left_in j (room_of figs) m.waiting) same in
+    let waits_on : waiting ≡ left_waiting ok (room_of figs) m.waiting =
+    left ∙ ap (λ n. left_waiting k (30 - n) m.waiting) size
+    ∙ ap (λ (j : List ℕ → Bool). left_waiting j (room_of figs) m.waiting) same in
     let sent : carried ≡ limited (m.carried + length (carried_in ok (room_of figs) m.waiting)) =
-    c ∙ ap (λ n. limited (m.carried + n)) (one ∙ ap (λ n. length (carried_in k (30 - n) m.waiting)) size ∙ ap (λ (j : List ℕ → Bool). length (carried_in j (room_of figs) m.waiting)) same) in
+    c ∙ ap (λ n. limited (m.carried + n)) (one ∙ ap (λ n. length (carried_in k (30 - n) m.waiting)) size
+    ∙ ap (λ (j : List ℕ → Bool). length (carried_in j (room_of figs) m.waiting)) same) in
     let left_out : stale ≡ limited (m.stale + length (stale_in ok (room_of figs) m.waiting)) =
-    s ∙ ap (λ n. limited (m.stale + n)) (other ∙ ap (λ n. length (stale_in k (30 - n) m.waiting)) size ∙ ap (λ (j : List ℕ → Bool). length (stale_in j (room_of figs) m.waiting)) same) in
+    s ∙ ap (λ n. limited (m.stale + n)) (other ∙ ap (λ n. length (stale_in k (30 - n) m.waiting)) size
+    ∙ ap (λ (j : List ℕ → Bool). length (stale_in j (room_of figs) m.waiting)) same) in
     ap (λ (w : List (List ℕ)). made m w carried stale heard) waits_on
-    ∙ ap (λ n. made m (left_in ok (room_of figs) m.waiting) n stale heard) sent
-    ∙ ap (λ n. made m (left_in ok (room_of figs) m.waiting) (limited (m.carried + length (carried_in ok (room_of figs) m.waiting))) n heard) left_out
-    ∙ ap (λ (l : Listening). made m (left_in ok (room_of figs) m.waiting) (limited (m.carried + length (carried_in ok (room_of figs) m.waiting))) (limited (m.stale + length (stale_in ok (room_of figs) m.waiting))) l) hears
+    ∙ ap (λ n. made m (left_waiting ok (room_of figs) m.waiting) n stale heard) sent
+    ∙ ap (λ n. made m (left_waiting ok (room_of figs) m.waiting)
+    (limited (m.carried + length (carried_in ok (room_of figs) m.waiting))) n heard) left_out
+    ∙ ap (λ (l : Listening). made m (left_waiting ok (room_of figs) m.waiting)
+    (limited (m.carried + length (carried_in ok (room_of figs) m.waiting)))
+    (limited (m.stale + length (stale_in ok (room_of figs) m.waiting))) l) hears

@@ -1,14 +1,20 @@
 -- What becomes of the FIGs that are taken.
-use Rattle.std.proofs.Common.{◌≡◌, ℕ, ◌+◌, ◌-◌, ◌^◌, ◌≤◌, ◌<◌, leb, ltb, cond, Bool, true, false, ◌||◌, inl, inr, List, [], ◌∷◌, ◌++◌, length, ◌⊎◌, refl, sym, ap, subst, subst₂, ◌∙◌, arith, append_assoc, append-nil, length-append}
+use Rattle.std.proofs.Common.{◌≡◌, ℕ, ◌+◌, ◌-◌, ◌^◌, ◌≤◌, ◌<◌, leb, ltb, cond, Bool, true, false, ◌||◌, inl, inr, List}
+use Rattle.std.proofs.Common.{[], ◌∷◌, ◌++◌, length, ◌⊎◌, refl, sym, ap, subst, subst₂, ◌∙◌, arith, append_assoc}
+use Rattle.std.proofs.Common.{append-nil, length-append}
 use Rattle.std.proofs.lemmas.Bool.{cond-true, cond-false, lt-ltb, le-ltb, ltb-true, leb-true, leb-false, cases_lt}
 use Rattle.std.proofs.lemmas.Slice.Eq.{bytes_eq-Decides}
 use Rattle.std.specs.Prelude.{Some, None}
 use Rattle.std.specs.List.{AllByRecursion}
 use Rattle.std.specs.Str.{bytes_eq}
 use Rattle.stream_check.specs.Frames.{Fib, Reading}
-use Rattle.fig_merge.specs.Taking.{Merging, nothing_taken, most, limited, waits, with_fig, with_figs, taken_in, taken_of, after_take}
-use Rattle.fig_merge.specs.Filling.{agrees_with, room_after, room_of, turns_in, carried_of, stale_of, carried_in, stale_in, left_in, turns_by, carried_by, stale_by, after_fill}
-use Rattle.fig_merge.specs.Steps.{Step, Take, Fill, after_step, after_steps, taken_at, turns_at, carried_at, stale_at, repeated_of, dropped_of, all_taken, all_carried, all_stale, all_repeated, all_dropped, times, AreDifferent, AllAreAccounted, Go, TheLongestWaitingGoes}
+use Rattle.fig_merge.specs.Taking.{Merging, nothing_taken, most, limited, waits, with_fig, with_figs, taken_in}
+use Rattle.fig_merge.specs.Taking.{taken_of, after_take}
+use Rattle.fig_merge.specs.Filling.{agrees_with, room_after, room_of, turns_in, carried_of, stale_of, carried_in}
+use Rattle.fig_merge.specs.Filling.{stale_in, left_waiting, turns_by, carried_by, stale_by, after_fill}
+use Rattle.fig_merge.specs.Steps.{Step, Take, Fill, after_step, after_steps, taken_at, turns_at, carried_at, stale_at}
+use Rattle.fig_merge.specs.Steps.{repeated_of, dropped_of, all_taken, all_carried, all_stale, all_repeated, all_dropped}
+use Rattle.fig_merge.specs.Steps.{times, AreDifferent, AllAreAccounted, Go, TheLongestWaitingGoes}
 use Rattle.fig_merge.proofs.Passing.{few_left}
 
 -- ---- a measure of lists: how long they are, or how often they have some bytes
@@ -27,9 +33,11 @@ how_often : (fig : List ℕ) → IsMeasure (times fig)
 how_often fig = record { none = refl; more = λ x xs. omega arith }
 
 -- ---- a FIG that is taken
-fate_by : (size : List (List ℕ) → ℕ) → IsMeasure size → (there room : Bool) (fig : List ℕ) (m one other : Merging) → one.waiting ≡ m.waiting ++ fig ∷ [] → other.waiting ≡ m.waiting
+fate_by : (size : List (List ℕ) → ℕ) → IsMeasure size → (there room : Bool) (fig : List ℕ) (m one other : Merging)
+    → one.waiting ≡ m.waiting ++ fig ∷ [] → other.waiting ≡ m.waiting
     → size (fig ∷ []) + size m.waiting
-    ≡ size (cond there m (cond room one other)).waiting + size (cond there (fig ∷ []) []) + size (cond there [] (cond room [] (fig ∷ [])))
+    ≡ size (cond there m (cond room one other)).waiting + size (cond there (fig ∷ []) [])
+    + size (cond there [] (cond room [] (fig ∷ [])))
 fate_by size is true room fig m one other e f = omega (arith, is.none)
 fate_by size is false true fig m one other e f =
     let all : size one.waiting ≡ size m.waiting + size (fig ∷ []) = ap size e ∙ both size is m.waiting (fig ∷ []) in
@@ -40,68 +48,96 @@ fate_by size is false false fig m one other e f =
 
 fate : (size : List (List ℕ) → ℕ) → IsMeasure size → (fig : List ℕ) (m : Merging)
     → size (fig ∷ []) + size m.waiting
-    ≡ size (with_fig fig m).waiting + size (cond (waits fig m.waiting) (fig ∷ []) []) + size (cond (waits fig m.waiting) [] (cond (ltb (length m.waiting) most) [] (fig ∷ [])))
+    ≡ size (with_fig fig m).waiting + size (cond (waits fig m.waiting) (fig ∷ []) [])
+    + size (cond (waits fig m.waiting) [] (cond (ltb (length m.waiting) most) [] (fig ∷ [])))
 fate size is fig m =
-    fate_by size is (waits fig m.waiting) (ltb (length m.waiting) most) fig m (record m { waiting = m.waiting ++ fig ∷ [] }) (record m { dropped = limited (m.dropped + 1) }) refl refl
+    fate_by size is (waits fig m.waiting) (ltb (length m.waiting) most) fig m
+    (record m { waiting = m.waiting ++ fig ∷ [] }) (record m { dropped = limited (m.dropped + 1) }) refl refl
 
 fates : (size : List (List ℕ) → ℕ) → IsMeasure size → (figs : List (List ℕ)) (m : Merging)
-    → size figs + size m.waiting ≡ size (with_figs figs m).waiting + size (repeated_of figs m) + size (dropped_of figs m)
+    → size figs + size m.waiting ≡ size (with_figs figs m).waiting + size (repeated_of figs m)
+    + size (dropped_of figs m)
 fates size is [] m = omega (arith, is.none)
 fates size is (fig ∷ figs) m =
     let again : List (List ℕ) = cond (waits fig m.waiting) (fig ∷ []) [] in
     let gone : List (List ℕ) = cond (waits fig m.waiting) [] (cond (ltb (length m.waiting) most) [] (fig ∷ [])) in
     let later = with_fig fig m in
-    omega (arith, is.more fig figs, fate size is fig m, fates size is figs later, both size is again (repeated_of figs later), both size is gone (dropped_of figs later))
+    omega (
+      arith,
+      is.more fig figs,
+      fate size is fig m,
+      fates size is figs later,
+      both size is again (repeated_of figs later),
+      both size is gone (dropped_of figs later),
+    )
 
 -- ---- FIGs that are carried, or wait on
-parts_by : (size : List (List ℕ) → ℕ) → IsMeasure size → (fits : Bool) (fig : List ℕ) (figs there left gone on : List (List ℕ)) → size there + size left ≡ size figs → size gone + size on ≡ size figs
+parts_by : (size : List (List ℕ) → ℕ) → IsMeasure size
+    → (fits : Bool) (fig : List ℕ) (figs there left gone on : List (List ℕ)) → size there + size left ≡ size figs
+    → size gone + size on ≡ size figs
     → size (cond fits (fig ∷ there) gone) + size (cond fits left (fig ∷ on)) ≡ size (fig ∷ figs)
 parts_by size is true fig figs there left gone on e f = omega (arith, is.more fig figs, is.more fig there, e)
 parts_by size is false fig figs there left gone on e f = omega (arith, is.more fig figs, is.more fig on, f)
 
-parts : (size : List (List ℕ) → ℕ) → IsMeasure size → (ok : List ℕ → Bool) (room : ℕ) (waiting : List (List ℕ)) → size (turns_in ok room waiting) + size (left_in ok room waiting) ≡ size waiting
+parts : (size : List (List ℕ) → ℕ) → IsMeasure size → (ok : List ℕ → Bool) (room : ℕ) (waiting : List (List ℕ))
+    → size (turns_in ok room waiting) + size (left_waiting ok room waiting) ≡ size waiting
 parts size is ok room [] = omega (arith, is.none)
 parts size is ok room (fig ∷ figs) =
-    parts_by size is (leb (length fig) room) fig figs (turns_in ok (room_after ok room fig) figs) (left_in ok (room_after ok room fig) figs) (turns_in ok room figs) (left_in ok room figs)
+    parts_by size is (leb (length fig) room) fig figs (turns_in ok (room_after ok room fig) figs)
+    (left_waiting ok (room_after ok room fig) figs) (turns_in ok room figs) (left_waiting ok room figs)
     (parts size is ok (room_after ok room fig) figs) (parts size is ok room figs)
 
 -- those whose turn comes are carried, or stale
-judged_by : (size : List (List ℕ) → ℕ) → IsMeasure size → (agrees : Bool) (fig : List ℕ) (figs carried stale : List (List ℕ)) → size carried + size stale ≡ size figs
+judged_by : (size : List (List ℕ) → ℕ) → IsMeasure size
+    → (agrees : Bool) (fig : List ℕ) (figs carried stale : List (List ℕ)) → size carried + size stale ≡ size figs
     → size (cond agrees (fig ∷ carried) carried) + size (cond agrees stale (fig ∷ stale)) ≡ size (fig ∷ figs)
 judged_by size is true fig figs carried stale e = omega (arith, is.more fig figs, is.more fig carried, e)
 judged_by size is false fig figs carried stale e = omega (arith, is.more fig figs, is.more fig stale, e)
 
-judged : (size : List (List ℕ) → ℕ) → IsMeasure size → (ok : List ℕ → Bool) (turns : List (List ℕ)) → size (carried_of ok turns) + size (stale_of ok turns) ≡ size turns
+judged : (size : List (List ℕ) → ℕ) → IsMeasure size → (ok : List ℕ → Bool) (turns : List (List ℕ))
+    → size (carried_of ok turns) + size (stale_of ok turns) ≡ size turns
 judged size is ok [] = omega (arith, is.none)
-judged size is ok (fig ∷ figs) = judged_by size is (ok fig) fig figs (carried_of ok figs) (stale_of ok figs) (judged size is ok figs)
+judged size is ok (fig ∷ figs) =
+    judged_by size is (ok fig) fig figs (carried_of ok figs) (stale_of ok figs) (judged size is ok figs)
 
-fib_judged : (size : List (List ℕ) → ℕ) → IsMeasure size → (fib : Fib) (m : Merging) → size (turns_by fib m) ≡ size (carried_by fib m) + size (stale_by fib m)
+fib_judged : (size : List (List ℕ) → ℕ) → IsMeasure size → (fib : Fib) (m : Merging)
+    → size (turns_by fib m) ≡ size (carried_by fib m) + size (stale_by fib m)
 fib_judged size is None m = omega (arith, is.none)
-fib_judged size is (Some figs) m = omega (arith, judged size is (agrees_with figs m.heard) (turns_in (agrees_with figs m.heard) (room_of figs) m.waiting))
+fib_judged size is (Some figs) m =
+    omega (
+      arith,
+      judged size is (agrees_with figs m.heard)
+          (turns_in (agrees_with figs m.heard) (room_of figs) m.waiting),
+    )
 
-step_judged : (size : List (List ℕ) → ℕ) → IsMeasure size → (r : Reading) (s : Step) (m : Merging) → size (turns_at r s m) ≡ size (carried_at r s m) + size (stale_at r s m)
+step_judged : (size : List (List ℕ) → ℕ) → IsMeasure size → (r : Reading) (s : Step) (m : Merging)
+    → size (turns_at r s m) ≡ size (carried_at r s m) + size (stale_at r s m)
 step_judged size is r (Take fib) m = omega (arith, is.none)
 step_judged size is r (Fill fib) m = fib_judged size is (r.read fib) m
 
 -- ---- a call
 taken_fate : (size : List (List ℕ) → ℕ) → IsMeasure size → (fib : Fib) (m : Merging)
-    → size (taken_in fib) + size m.waiting ≡ size (after_take fib m).waiting + size (repeated_of (taken_in fib) m) + size (dropped_of (taken_in fib) m)
+    → size (taken_in fib) + size m.waiting ≡ size (after_take fib m).waiting + size (repeated_of (taken_in fib) m)
+    + size (dropped_of (taken_in fib) m)
 taken_fate size is None m = omega (arith, is.none)
 taken_fate size is (Some figs) m = fates size is (taken_of figs) m
 
-filled_fate : (size : List (List ℕ) → ℕ) → IsMeasure size → (fib : Fib) (m : Merging) → size m.waiting ≡ size (turns_by fib m) + size (after_fill fib m).waiting
+filled_fate : (size : List (List ℕ) → ℕ) → IsMeasure size → (fib : Fib) (m : Merging)
+    → size m.waiting ≡ size (turns_by fib m) + size (after_fill fib m).waiting
 filled_fate size is None m = omega (arith, is.none)
 filled_fate size is (Some figs) m = omega (arith, parts size is (agrees_with figs m.heard) (room_of figs) m.waiting)
 
 step_fate : (size : List (List ℕ) → ℕ) → IsMeasure size → (r : Reading) (s : Step) (m : Merging)
     → size (taken_at r s) + size m.waiting
-    ≡ size (turns_at r s m) + size (after_step r s m).waiting + size (repeated_of (taken_at r s) m) + size (dropped_of (taken_at r s) m)
+    ≡ size (turns_at r s m) + size (after_step r s m).waiting + size (repeated_of (taken_at r s) m)
+    + size (dropped_of (taken_at r s) m)
 step_fate size is r (Take fib) m = omega (arith, is.none, taken_fate size is (r.read fib) m)
 step_fate size is r (Fill fib) m = omega (arith, is.none, filled_fate size is (r.read fib) m)
 
 steps_fate : (size : List (List ℕ) → ℕ) → IsMeasure size → (r : Reading) (steps : List Step) (m : Merging)
     → size (all_taken r steps) + size m.waiting
-    ≡ size (all_carried r steps m) + size (after_steps r steps m).waiting + size (all_repeated r steps m) + size (all_dropped r steps m) + size (all_stale r steps m)
+    ≡ size (all_carried r steps m) + size (after_steps r steps m).waiting + size (all_repeated r steps m)
+    + size (all_dropped r steps m) + size (all_stale r steps m)
 steps_fate size is r [] m = omega (arith, is.none)
 steps_fate size is r (s ∷ ss) m =
     let later = after_step r s m in
@@ -133,8 +169,11 @@ limit_more top n more some = elim (cases_lt n top) [
   | inr ge ↦ ap (λ k. limit_of top (k + more)) (at_limit top n ge) ∙ at_end (cases_lt (top - 1 + more) top) ge
 ]
   where
-    at_end : (top - 1 + more < top) ⊎ (top ≤ top - 1 + more) → top ≤ n → limit_of top (top - 1 + more) ≡ limit_of top (n + more)
-    at_end (inl lt) ge = below_limit top (top - 1 + more) lt ∙ (let e : top - 1 + more ≡ top - 1 = omega (arith, lt, some) in e) ∙ sym (at_limit top (n + more) (omega (arith, ge)))
+    at_end : (top - 1 + more < top) ⊎ (top ≤ top - 1 + more) → top ≤ n
+        → limit_of top (top - 1 + more) ≡ limit_of top (n + more)
+    at_end (inl lt) ge = below_limit top (top - 1 + more) lt
+        ∙ (let e : top - 1 + more ≡ top - 1 = omega (arith, lt, some) in e)
+        ∙ sym (at_limit top (n + more) (omega (arith, ge)))
     at_end (inr le) ge = at_limit top (top - 1 + more) le ∙ sym (at_limit top (n + more) (omega (arith, ge)))
 
 more_limited : (n more : ℕ) → limited (limited n + more) ≡ limited (n + more)
@@ -159,38 +198,46 @@ or_both : (a b : Bool) → a ≡ false → b ≡ false → (a || b) ≡ false
 or_both true b e f = absurd cc
 or_both false b e f = f
 
-waits_last : (x fig : List ℕ) (figs : List (List ℕ)) → waits x figs ≡ false → bytes_eq x fig ≡ false → waits x (figs ++ fig ∷ []) ≡ false
+waits_last : (x fig : List ℕ) (figs : List (List ℕ)) → waits x figs ≡ false → bytes_eq x fig ≡ false
+    → waits x (figs ++ fig ∷ []) ≡ false
 waits_last x fig [] h e = or_both (bytes_eq x fig) false e refl
 waits_last x fig (y ∷ ys) h e =
     let parts = or_none (bytes_eq x y) (waits x ys) h in
     or_both (bytes_eq x y) (waits x (ys ++ fig ∷ [])) parts.0 (waits_last x fig ys parts.1 e)
 
-different_last : (fig : List ℕ) (figs : List (List ℕ)) → waits fig figs ≡ false → AreDifferent figs → AreDifferent (figs ++ fig ∷ [])
+different_last : (fig : List ℕ) (figs : List (List ℕ)) → waits fig figs ≡ false → AreDifferent figs
+    → AreDifferent (figs ++ fig ∷ [])
 different_last fig [] h d = (refl, tt)
 different_last fig (x ∷ xs) h d =
     let parts = or_none (bytes_eq fig x) (waits fig xs) h in
     (waits_last x fig xs d.0 (others fig x parts.0), different_last fig xs parts.1 d.1)
 
-none_left_by : (fits : Bool) (x fig : List ℕ) (there on : List (List ℕ)) → bytes_eq x fig ≡ false → waits x there ≡ false → waits x on ≡ false → waits x (cond fits there (fig ∷ on)) ≡ false
+none_left_by : (fits : Bool) (x fig : List ℕ) (there on : List (List ℕ)) → bytes_eq x fig ≡ false
+    → waits x there ≡ false → waits x on ≡ false → waits x (cond fits there (fig ∷ on)) ≡ false
 none_left_by true x fig there on e f g = f
 none_left_by false x fig there on e f g = or_both (bytes_eq x fig) (waits x on) e g
 
-none_left : (x : List ℕ) (ok : List ℕ → Bool) (room : ℕ) (waiting : List (List ℕ)) → waits x waiting ≡ false → waits x (left_in ok room waiting) ≡ false
+none_left : (x : List ℕ) (ok : List ℕ → Bool) (room : ℕ) (waiting : List (List ℕ)) → waits x waiting ≡ false
+    → waits x (left_waiting ok room waiting) ≡ false
 none_left x ok room [] h = refl
 none_left x ok room (fig ∷ figs) h =
     let parts = or_none (bytes_eq x fig) (waits x figs) h in
-    none_left_by (leb (length fig) room) x fig (left_in ok (room_after ok room fig) figs) (left_in ok room figs) parts.0
+    none_left_by (leb (length fig) room) x fig (left_waiting ok (room_after ok room fig) figs)
+    (left_waiting ok room figs) parts.0
     (none_left x ok (room_after ok room fig) figs parts.1) (none_left x ok room figs parts.1)
 
-different_by : (fits : Bool) (fig : List ℕ) (there on : List (List ℕ)) → AreDifferent there → waits fig on ≡ false → AreDifferent on → AreDifferent (cond fits there (fig ∷ on))
+different_by : (fits : Bool) (fig : List ℕ) (there on : List (List ℕ)) → AreDifferent there → waits fig on ≡ false
+    → AreDifferent on → AreDifferent (cond fits there (fig ∷ on))
 different_by true fig there on d e f = d
 different_by false fig there on d e f = (e, f)
 
-different_left : (ok : List ℕ → Bool) (room : ℕ) (waiting : List (List ℕ)) → AreDifferent waiting → AreDifferent (left_in ok room waiting)
+different_left : (ok : List ℕ → Bool) (room : ℕ) (waiting : List (List ℕ)) → AreDifferent waiting
+    → AreDifferent (left_waiting ok room waiting)
 different_left ok room [] d = tt
 different_left ok room (fig ∷ figs) d =
-    different_by (leb (length fig) room) fig (left_in ok (room_after ok room fig) figs) (left_in ok room figs)
-    (different_left ok (room_after ok room fig) figs d.1) (none_left fig ok room figs d.0) (different_left ok room figs d.1)
+    different_by (leb (length fig) room) fig (left_waiting ok (room_after ok room fig) figs) (left_waiting ok room figs)
+    (different_left ok (room_after ok room fig) figs d.1) (none_left fig ok room figs d.0)
+    (different_left ok room figs d.1)
 
 -- ---- what holds after each call
 record IsKept (m : Merging) (carried dropped stale : ℕ) : Type 0 where
@@ -200,10 +247,20 @@ record IsKept (m : Merging) (carried dropped stale : ℕ) : Type 0 where
   different : AreDifferent m.waiting
   few : length m.waiting ≤ most
 
-kept_by : (there room : Bool) (fig : List ℕ) (m : Merging) (c d e : ℕ) → waits fig m.waiting ≡ there → ltb (length m.waiting) most ≡ room → IsKept m c d e
-    → IsKept (cond there m (cond room (record m { waiting = m.waiting ++ fig ∷ [] }) (record m { dropped = limited (m.dropped + 1) })))
+kept_by : (there room : Bool) (fig : List ℕ) (m : Merging) (c d e : ℕ) → waits fig m.waiting ≡ there
+    → ltb (length m.waiting) most ≡ room → IsKept m c d e
+    → IsKept (cond there m (cond room (record m { waiting = m.waiting ++ fig ∷ [] })
+    (record m { dropped = limited (m.dropped + 1) })))
     c (d + length (cond there [] (cond room [] (fig ∷ [])))) e
-kept_by true room fig m c d e waits_so full k = record { carried_is = k.carried_is; dropped_is = k.dropped_is ∙ ap limited (let z : d ≡ d + 0 = omega arith in z); stale_is = k.stale_is; different = k.different; few = k.few }
+kept_by true room fig m c d e waits_so full k =
+    record {
+      carried_is = k.carried_is;
+      dropped_is = k.dropped_is
+          ∙ ap limited (let z : d ≡ d + 0 = omega arith in z);
+      stale_is = k.stale_is;
+      different = k.different;
+      few = k.few;
+    }
 kept_by false true fig m c d e waits_so full k = record {
   carried_is = k.carried_is;
   dropped_is = k.dropped_is ∙ ap limited (let z : d ≡ d + 0 = omega arith in z);
@@ -219,25 +276,43 @@ kept_by false false fig m c d e waits_so full k = record {
   few = k.few;
 }
 
-kept_figs : (figs : List (List ℕ)) (m : Merging) (c d e : ℕ) → IsKept m c d e → IsKept (with_figs figs m) c (d + length (dropped_of figs m)) e
+kept_figs : (figs : List (List ℕ)) (m : Merging) (c d e : ℕ) → IsKept m c d e
+    → IsKept (with_figs figs m) c (d + length (dropped_of figs m)) e
 kept_figs [] m c d e k = subst (λ (n : ℕ). IsKept m c n e) (let z : d ≡ d + 0 = omega arith in z) k
 kept_figs (fig ∷ figs) m c d e k =
     let gone : List (List ℕ) = cond (waits fig m.waiting) [] (cond (ltb (length m.waiting) most) [] (fig ∷ [])) in
     let one = kept_by (waits fig m.waiting) (ltb (length m.waiting) most) fig m c d e refl refl k in
-    let all : d + length gone + length (dropped_of figs (with_fig fig m)) ≡ d + length (gone ++ dropped_of figs (with_fig fig m)) =
+    let all : d + length gone + length (dropped_of figs (with_fig fig m)) ≡ d
+    + length (gone ++ dropped_of figs (with_fig fig m)) =
     omega (arith, length-append gone (dropped_of figs (with_fig fig m))) in
-    subst (λ (n : ℕ). IsKept (with_figs figs (with_fig fig m)) c n e) all (kept_figs figs (with_fig fig m) c (d + length gone) e one)
+    subst (λ (n : ℕ). IsKept (with_figs figs (with_fig fig m)) c n e) all
+    (kept_figs figs (with_fig fig m) c (d + length gone) e one)
 
-kept_take : (fib : Fib) (m : Merging) (c d e : ℕ) → IsKept m c d e → IsKept (after_take fib m) c (d + length (dropped_of (taken_in fib) m)) e
-kept_take None m c d e k = subst (λ (n : ℕ). IsKept (after_take None m) c n e) (let z : d ≡ d + 0 = omega arith in z) (record { carried_is = k.carried_is; dropped_is = k.dropped_is; stale_is = k.stale_is; different = k.different; few = k.few })
+kept_take : (fib : Fib) (m : Merging) (c d e : ℕ) → IsKept m c d e
+    → IsKept (after_take fib m) c (d + length (dropped_of (taken_in fib) m)) e
+kept_take None m c d e k = subst (λ (n : ℕ). IsKept (after_take None m) c n e) (let z : d ≡ d + 0 = omega arith in z)
+    (record {
+      carried_is = k.carried_is;
+      dropped_is = k.dropped_is;
+      stale_is = k.stale_is;
+      different = k.different;
+      few = k.few;
+    })
 kept_take (Some figs) m c d e k = kept_figs (taken_of figs) m c d e k
 
 -- the counts are as many as these
 counted : (m : Merging) (c d e c2 d2 e2 : ℕ) → c ≡ c2 → d ≡ d2 → e ≡ e2 → IsKept m c d e → IsKept m c2 d2 e2
 counted m c d e c2 d2 e2 one two three k =
-    record { carried_is = k.carried_is ∙ ap limited one; dropped_is = k.dropped_is ∙ ap limited two; stale_is = k.stale_is ∙ ap limited three; different = k.different; few = k.few }
+    record {
+      carried_is = k.carried_is ∙ ap limited one;
+      dropped_is = k.dropped_is ∙ ap limited two;
+      stale_is = k.stale_is ∙ ap limited three;
+      different = k.different;
+      few = k.few;
+    }
 
-kept_fill : (fib : Fib) (m : Merging) (c d e : ℕ) → IsKept m c d e → IsKept (after_fill fib m) (c + length (carried_by fib m)) d (e + length (stale_by fib m))
+kept_fill : (fib : Fib) (m : Merging) (c d e : ℕ) → IsKept m c d e
+    → IsKept (after_fill fib m) (c + length (carried_by fib m)) d (e + length (stale_by fib m))
 kept_fill None m c d e k = record {
   carried_is = k.carried_is ∙ ap limited (let z : c ≡ c + 0 = omega arith in z);
   dropped_is = k.dropped_is;
@@ -258,20 +333,29 @@ kept_fill (Some figs) m c d e k =
     }
 
 kept_step : (r : Reading) (s : Step) (m : Merging) (c d e : ℕ) → IsKept m c d e
-    → IsKept (after_step r s m) (c + length (carried_at r s m)) (d + length (dropped_of (taken_at r s) m)) (e + length (stale_at r s m))
+    → IsKept (after_step r s m) (c + length (carried_at r s m)) (d + length (dropped_of (taken_at r s) m))
+    (e + length (stale_at r s m))
 kept_step r (Take fib) m c d e k =
-    counted (after_take (r.read fib) m) c (d + length (dropped_of (taken_in (r.read fib)) m)) e (c + 0) (d + length (dropped_of (taken_in (r.read fib)) m)) (e + 0) (omega arith) refl (omega arith) (kept_take (r.read fib) m c d e k)
+    counted (after_take (r.read fib) m) c (d + length (dropped_of (taken_in (r.read fib)) m)) e (c + 0)
+    (d + length (dropped_of (taken_in (r.read fib)) m)) (e + 0) (omega arith) refl (omega arith)
+    (kept_take (r.read fib) m c d e k)
 kept_step r (Fill fib) m c d e k =
-    counted (after_fill (r.read fib) m) (c + length (carried_by (r.read fib) m)) d (e + length (stale_by (r.read fib) m)) (c + length (carried_by (r.read fib) m)) (d + 0) (e + length (stale_by (r.read fib) m)) refl (omega arith) refl (kept_fill (r.read fib) m c d e k)
+    counted (after_fill (r.read fib) m) (c + length (carried_by (r.read fib) m)) d
+    (e + length (stale_by (r.read fib) m)) (c + length (carried_by (r.read fib) m)) (d + 0)
+    (e + length (stale_by (r.read fib) m)) refl (omega arith) refl (kept_fill (r.read fib) m c d e k)
 
 kept_steps : (r : Reading) (steps : List Step) (m : Merging) (c d e : ℕ) → IsKept m c d e
-    → IsKept (after_steps r steps m) (c + length (all_carried r steps m)) (d + length (all_dropped r steps m)) (e + length (all_stale r steps m))
+    → IsKept (after_steps r steps m) (c + length (all_carried r steps m)) (d + length (all_dropped r steps m))
+    (e + length (all_stale r steps m))
 kept_steps r [] m c d e k = counted m c d e (c + 0) (d + 0) (e + 0) (omega arith) (omega arith) (omega arith) k
 kept_steps r (s ∷ ss) m c d e k =
     let later = after_step r s m in
     let one = kept_step r s m c d e k in
-    let more = kept_steps r ss later (c + length (carried_at r s m)) (d + length (dropped_of (taken_at r s) m)) (e + length (stale_at r s m)) one in
-    counted (after_steps r ss later) _ _ _ (c + length (carried_at r s m ++ all_carried r ss later)) (d + length (dropped_of (taken_at r s) m ++ all_dropped r ss later)) (e + length (stale_at r s m ++ all_stale r ss later))
+    let more = kept_steps r ss later (c + length (carried_at r s m)) (d + length (dropped_of (taken_at r s) m))
+    (e + length (stale_at r s m)) one in
+    counted (after_steps r ss later) _ _ _ (c + length (carried_at r s m ++ all_carried r ss later))
+    (d + length (dropped_of (taken_at r s) m ++ all_dropped r ss later))
+    (e + length (stale_at r s m ++ all_stale r ss later))
     (omega (arith, length-append (carried_at r s m) (all_carried r ss later)))
     (omega (arith, length-append (dropped_of (taken_at r s) m) (all_dropped r ss later)))
     (omega (arith, length-append (stale_at r s m) (all_stale r ss later)))
@@ -282,7 +366,8 @@ from_nothing n count is = let same : 0 + n ≡ n = omega arith in is ∙ ap limi
 
 pub all_are_accounted : AllAreAccounted
 all_are_accounted r steps =
-    let start : IsKept nothing_taken 0 0 0 = record { carried_is = refl; dropped_is = refl; stale_is = refl; different = tt; few = omega arith } in
+    let start : IsKept nothing_taken 0 0 0 =
+    record { carried_is = refl; dropped_is = refl; stale_is = refl; different = tt; few = omega arith } in
     let kept = kept_steps r steps nothing_taken 0 0 0 start in
     record {
       adds_up = λ fig. omega (arith, steps_fate (times fig) (how_often fig) r steps nothing_taken);
@@ -295,11 +380,13 @@ all_are_accounted r steps =
     }
 
 -- ---- order
-longer_all : (room less : ℕ) (figs : List (List ℕ)) → less ≤ room → AllByRecursion (λ fig. room < length fig) figs → AllByRecursion (λ fig. less < length fig) figs
+longer_all : (room less : ℕ) (figs : List (List ℕ)) → less ≤ room → AllByRecursion (λ fig. room < length fig) figs
+    → AllByRecursion (λ fig. less < length fig) figs
 longer_all room less [] le all = tt
 longer_all room less (fig ∷ figs) le all = (omega (arith, le, all.0), longer_all room less figs le all.1)
 
-longer_more : (room : ℕ) (fig : List ℕ) (figs : List (List ℕ)) → AllByRecursion (λ fig. room < length fig) figs → room < length fig → AllByRecursion (λ fig. room < length fig) (figs ++ fig ∷ [])
+longer_more : (room : ℕ) (fig : List ℕ) (figs : List (List ℕ)) → AllByRecursion (λ fig. room < length fig) figs
+    → room < length fig → AllByRecursion (λ fig. room < length fig) (figs ++ fig ∷ [])
 longer_more room fig [] all long = (long, tt)
 longer_more room fig (x ∷ xs) all long = (all.0, longer_more room fig xs all.1 long)
 
@@ -310,22 +397,29 @@ smaller ok room fig = by_case (ok fig)
     by_case true = omega arith
     by_case false = omega arith
 
-go_case : (ok : List ℕ → Bool) (fits : Bool) (room : ℕ) (fig : List ℕ) (before figs : List (List ℕ)) → leb (length fig) room ≡ fits → AllByRecursion (λ fig. room < length fig) before
-    → Go ok (room_after ok room fig) (before ++ figs) (turns_in ok (room_after ok room fig) figs) (before ++ left_in ok (room_after ok room fig) figs)
-    → (room < length fig → Go ok room ((before ++ fig ∷ []) ++ figs) (turns_in ok room figs) ((before ++ fig ∷ []) ++ left_in ok room figs))
-    → Go ok room (before ++ fig ∷ figs) (cond fits (fig ∷ turns_in ok (room_after ok room fig) figs) (turns_in ok room figs))
-    (before ++ cond fits (left_in ok (room_after ok room fig) figs) (fig ∷ left_in ok room figs))
+go_case : (ok : List ℕ → Bool) (fits : Bool) (room : ℕ) (fig : List ℕ) (before figs : List (List ℕ))
+    → leb (length fig) room ≡ fits → AllByRecursion (λ fig. room < length fig) before
+    → Go ok (room_after ok room fig) (before ++ figs) (turns_in ok (room_after ok room fig) figs)
+    (before ++ left_waiting ok (room_after ok room fig) figs)
+    → (room < length fig → Go ok room ((before ++ fig ∷ []) ++ figs) (turns_in ok room figs)
+    ((before ++ fig ∷ []) ++ left_waiting ok room figs))
+    → Go ok room (before ++ fig ∷ figs)
+    (cond fits (fig ∷ turns_in ok (room_after ok room fig) figs) (turns_in ok room figs))
+    (before ++ cond fits (left_waiting ok (room_after ok room fig) figs) (fig ∷ left_waiting ok room figs))
 go_case ok true room fig before figs e all one two = (before, figs, refl, all, leb-true (length fig) room e, one)
 go_case ok false room fig before figs e all one two =
     subst₂ (λ (xs ys : List (List ℕ)). Go ok room xs (turns_in ok room figs) ys) (append_assoc before (fig ∷ []) figs)
-    (append_assoc before (fig ∷ []) (left_in ok room figs)) (two (leb-false (length fig) room e))
+    (append_assoc before (fig ∷ []) (left_waiting ok room figs)) (two (leb-false (length fig) room e))
 
-go_from : (ok : List ℕ → Bool) (room : ℕ) (before waiting : List (List ℕ)) → AllByRecursion (λ fig. room < length fig) before
-    → Go ok room (before ++ waiting) (turns_in ok room waiting) (before ++ left_in ok room waiting)
-go_from ok room before [] all = (refl, subst (λ (xs : List (List ℕ)). AllByRecursion (λ fig. room < length fig) xs) (sym (append-nil before)) all)
+go_from : (ok : List ℕ → Bool) (room : ℕ) (before waiting : List (List ℕ))
+    → AllByRecursion (λ fig. room < length fig) before
+    → Go ok room (before ++ waiting) (turns_in ok room waiting) (before ++ left_waiting ok room waiting)
+go_from ok room before [] all =
+    (refl, subst (λ (xs : List (List ℕ)). AllByRecursion (λ fig. room < length fig) xs) (sym (append-nil before)) all)
 go_from ok room before (fig ∷ figs) all =
     go_case ok (leb (length fig) room) room fig before figs refl all
-    (go_from ok (room_after ok room fig) before figs (longer_all room (room_after ok room fig) before (smaller ok room fig) all))
+    (go_from ok (room_after ok room fig) before figs
+    (longer_all room (room_after ok room fig) before (smaller ok room fig) all))
     (λ long. go_from ok room (before ++ fig ∷ []) figs (longer_more room fig before all long))
 
 pub the_longest_waiting_goes : TheLongestWaitingGoes

@@ -1,5 +1,7 @@
 -- A FIB of the plan with FIGs behind its own, in the grammar.
-use Rattle.std.proofs.Common.{◌≡◌, ℕ, ◌+◌, ◌-◌, ◌≤◌, leb, ltb, cond, Bool, true, false, suc, inl, inr, List, [], ◌∷◌, ◌++◌, length, take, map, replicate, refl, sym, ap, subst, ◌∙◌, arith, append_assoc, append-nil, length-append, length-take, take_at, take-take}
+use Rattle.std.proofs.Common.{◌≡◌, ℕ, ◌+◌, ◌-◌, ◌≤◌, leb, ltb, cond, Bool, true, false, suc, inl, inr, List, [], ◌∷◌}
+use Rattle.std.proofs.Common.{◌++◌, length, take, map, replicate, refl, sym, ap, subst, ◌∙◌, arith, append_assoc}
+use Rattle.std.proofs.Common.{append-nil, length-append, length-take, take_at, take-take}
 use Rattle.std.proofs.lemmas.Bool.{cond-true, cond-false, lt-ltb, le-ltb, leb-true, cases_lt}
 use Rattle.std.specs.List.{AllByRecursion, concat}
 use Rattle.fib_codec.specs.Grammar.{Fig, Open, Other, AreFigs, IsFig, IsFib, fig_spelled}
@@ -10,10 +12,12 @@ use Rattle.fib_reader.proofs.FigLists.{spelled_fig}
 use Rattle.fib_reader.proofs.Places.{front_of_figs}
 use Rattle.fig_merge.specs.Taking.{IsPassedOver, IsSendable}
 use Rattle.fib_reader.specs.Listening.{Listening}
-use Rattle.fig_merge.specs.Filling.{agrees_with, carried_of, data_of, room_after, room_of, turns_in, carried_in, left_in, filled_fib}
+use Rattle.fig_merge.specs.Filling.{agrees_with, carried_of, data_of, room_after, room_of, turns_in, carried_in}
+use Rattle.fig_merge.specs.Filling.{left_waiting, filled_fib}
 
 -- ---- FIGs, and then others
-figs_then : (bytes tail : List ℕ) (figs more : List Fig) → AreFigs bytes figs → AreFigs tail more → AreFigs (data_of figs ++ tail) (figs ++ more)
+figs_then : (bytes tail : List ℕ) (figs more : List Fig) → AreFigs bytes figs → AreFigs tail more
+    → AreFigs (data_of figs ++ tail) (figs ++ more)
 figs_then bytes tail [] more h then = then
 figs_then bytes tail (f ∷ fs) more h then = (
   fig_spelled f,
@@ -23,33 +27,41 @@ figs_then bytes tail (f ∷ fs) more h then = (
   figs_then h.1 tail fs more h.4 then,
 )
 
-others_then : (figs : List (List ℕ)) (tail : List ℕ) → AllByRecursion IsPassedOver figs → AreFigs tail [] → AreFigs (concat figs ++ tail) (map Other figs)
+others_then : (figs : List (List ℕ)) (tail : List ℕ) → AllByRecursion IsPassedOver figs → AreFigs tail []
+    → AreFigs (concat figs ++ tail) (map Other figs)
 others_then [] tail all ends = ends
 others_then (fig ∷ figs) tail all ends =
     (fig, concat figs ++ tail, append_assoc fig (concat figs) tail, (refl, all.0.0), others_then figs tail all.1 ends)
 
 -- ---- those that are carried
-carried_by_case : (P : List ℕ → Type 0) (fits : Bool) (fig : List ℕ) (there gone : List (List ℕ)) → P fig → AllByRecursion P there → AllByRecursion P gone
+carried_by_case : (P : List ℕ → Type 0) (fits : Bool) (fig : List ℕ) (there gone : List (List ℕ)) → P fig
+    → AllByRecursion P there → AllByRecursion P gone
     → AllByRecursion P (cond fits (fig ∷ there) gone)
 carried_by_case P true fig there gone one all none = (one, all)
 carried_by_case P false fig there gone one all none = none
 
-pub all_turns_of : (P : List ℕ → Type 0) (ok : List ℕ → Bool) (room : ℕ) (waiting : List (List ℕ)) → AllByRecursion P waiting → AllByRecursion P (turns_in ok room waiting)
+pub all_turns_of : (P : List ℕ → Type 0) (ok : List ℕ → Bool) (room : ℕ) (waiting : List (List ℕ))
+    → AllByRecursion P waiting → AllByRecursion P (turns_in ok room waiting)
 all_turns_of P ok room [] all = tt
 all_turns_of P ok room (fig ∷ figs) all =
-    carried_by_case P (leb (length fig) room) fig (turns_in ok (room_after ok room fig) figs) (turns_in ok room figs) all.0
+    carried_by_case P (leb (length fig) room) fig (turns_in ok (room_after ok room fig) figs) (turns_in ok room figs)
+    all.0
     (all_turns_of P ok (room_after ok room fig) figs all.1) (all_turns_of P ok room figs all.1)
 
-pub all_carried_of : (P : List ℕ → Type 0) (ok : List ℕ → Bool) (turns : List (List ℕ)) → AllByRecursion P turns → AllByRecursion P (carried_of ok turns)
+pub all_carried_of : (P : List ℕ → Type 0) (ok : List ℕ → Bool) (turns : List (List ℕ)) → AllByRecursion P turns
+    → AllByRecursion P (carried_of ok turns)
 all_carried_of P ok [] all = tt
 all_carried_of P ok (fig ∷ figs) all =
-    carried_by_case P (ok fig) fig (carried_of ok figs) (carried_of ok figs) all.0 (all_carried_of P ok figs all.1) (all_carried_of P ok figs all.1)
+    carried_by_case P (ok fig) fig (carried_of ok figs) (carried_of ok figs) all.0 (all_carried_of P ok figs all.1)
+    (all_carried_of P ok figs all.1)
 
-pub all_carried : (P : List ℕ → Type 0) (ok : List ℕ → Bool) (room : ℕ) (waiting : List (List ℕ)) → AllByRecursion P waiting → AllByRecursion P (carried_in ok room waiting)
+pub all_carried : (P : List ℕ → Type 0) (ok : List ℕ → Bool) (room : ℕ) (waiting : List (List ℕ))
+    → AllByRecursion P waiting → AllByRecursion P (carried_in ok room waiting)
 all_carried P ok room waiting all = all_carried_of P ok (turns_in ok room waiting) (all_turns_of P ok room waiting all)
 
 -- those that are carried agree
-agree_by_case : (ok : List ℕ → Bool) (b : Bool) (fig : List ℕ) (rest : List (List ℕ)) → ok fig ≡ b → AllByRecursion (λ x. ok x ≡ true) rest → AllByRecursion (λ x. ok x ≡ true) (cond b (fig ∷ rest) rest)
+agree_by_case : (ok : List ℕ → Bool) (b : Bool) (fig : List ℕ) (rest : List (List ℕ)) → ok fig ≡ b
+    → AllByRecursion (λ x. ok x ≡ true) rest → AllByRecursion (λ x. ok x ≡ true) (cond b (fig ∷ rest) rest)
 agree_by_case ok true fig rest is all = (is, all)
 agree_by_case ok false fig rest is all = all
 
@@ -57,54 +69,70 @@ pub all_agree : (ok : List ℕ → Bool) (turns : List (List ℕ)) → AllByRecu
 all_agree ok [] = tt
 all_agree ok (fig ∷ figs) = agree_by_case ok (ok fig) fig (carried_of ok figs) refl (all_agree ok figs)
 
-left_by_case : (P : List ℕ → Type 0) (fits : Bool) (fig : List ℕ) (there gone : List (List ℕ)) → P fig → AllByRecursion P there → AllByRecursion P gone
+left_by_case : (P : List ℕ → Type 0) (fits : Bool) (fig : List ℕ) (there gone : List (List ℕ)) → P fig
+    → AllByRecursion P there → AllByRecursion P gone
     → AllByRecursion P (cond fits there (fig ∷ gone))
 left_by_case P true fig there gone one all none = all
 left_by_case P false fig there gone one all none = (one, none)
 
-pub all_left : (P : List ℕ → Type 0) (ok : List ℕ → Bool) (room : ℕ) (waiting : List (List ℕ)) → AllByRecursion P waiting → AllByRecursion P (left_in ok room waiting)
+pub all_left : (P : List ℕ → Type 0) (ok : List ℕ → Bool) (room : ℕ) (waiting : List (List ℕ))
+    → AllByRecursion P waiting → AllByRecursion P (left_waiting ok room waiting)
 all_left P ok room [] all = tt
 all_left P ok room (fig ∷ figs) all =
-    left_by_case P (leb (length fig) room) fig (left_in ok (room_after ok room fig) figs) (left_in ok room figs) all.0
+    left_by_case P (leb (length fig) room) fig (left_waiting ok (room_after ok room fig) figs)
+    (left_waiting ok room figs) all.0
     (all_left P ok (room_after ok room fig) figs all.1) (all_left P ok room figs all.1)
 
-few_by_case : (fits : Bool) (fig : List ℕ) (there gone : List (List ℕ)) (n : ℕ) → length there ≤ n → length gone ≤ n → length (cond fits there (fig ∷ gone)) ≤ suc n
+few_by_case : (fits : Bool) (fig : List ℕ) (there gone : List (List ℕ)) (n : ℕ) → length there ≤ n → length gone ≤ n
+    → length (cond fits there (fig ∷ gone)) ≤ suc n
 few_by_case true fig there gone n few more = omega (arith, few)
 few_by_case false fig there gone n few more = omega (arith, more)
 
-pub few_left : (ok : List ℕ → Bool) (room : ℕ) (waiting : List (List ℕ)) → length (left_in ok room waiting) ≤ length waiting
+pub few_left : (ok : List ℕ → Bool) (room : ℕ) (waiting : List (List ℕ))
+    → length (left_waiting ok room waiting) ≤ length waiting
 few_left ok room [] = omega arith
 few_left ok room (fig ∷ figs) =
-    few_by_case (leb (length fig) room) fig (left_in ok (room_after ok room fig) figs) (left_in ok room figs) (length figs)
+    few_by_case (leb (length fig) room) fig (left_waiting ok (room_after ok room fig) figs) (left_waiting ok room figs)
+    (length figs)
     (few_left ok (room_after ok room fig) figs) (few_left ok room figs)
 
-fits_by_case : (ok : List ℕ → Bool) (agrees fits : Bool) (room : ℕ) (fig : List ℕ) (there gone : List (List ℕ)) → ok fig ≡ agrees → leb (length fig) room ≡ fits
-    → length (concat (carried_of ok there)) ≤ cond agrees (room - length fig) room → length (concat (carried_of ok gone)) ≤ room
+fits_by_case : (ok : List ℕ → Bool) (agrees fits : Bool) (room : ℕ) (fig : List ℕ) (there gone : List (List ℕ))
+    → ok fig ≡ agrees → leb (length fig) room ≡ fits
+    → length (concat (carried_of ok there)) ≤ cond agrees (room - length fig) room
+    → length (concat (carried_of ok gone)) ≤ room
     → length (concat (carried_of ok (cond fits (fig ∷ there) gone))) ≤ room
 fits_by_case ok true true room fig there gone so is short others =
-    let here : carried_of ok (fig ∷ there) ≡ fig ∷ carried_of ok there = ap (λ b. cond b (fig ∷ carried_of ok there) (carried_of ok there)) so in
-    let all : length (concat (carried_of ok (fig ∷ there))) ≡ length (fig ++ concat (carried_of ok there)) = ap (λ l. length (concat l)) here in
+    let here : carried_of ok (fig ∷ there) ≡ fig ∷ carried_of ok there =
+    ap (λ b. cond b (fig ∷ carried_of ok there) (carried_of ok there)) so in
+    let all : length (concat (carried_of ok (fig ∷ there))) ≡ length (fig ++ concat (carried_of ok there)) =
+    ap (λ l. length (concat l)) here in
     omega (arith, all, length-append fig (concat (carried_of ok there)), leb-true (length fig) room is, short)
 fits_by_case ok false true room fig there gone so is short others =
-    let here : carried_of ok (fig ∷ there) ≡ carried_of ok there = ap (λ b. cond b (fig ∷ carried_of ok there) (carried_of ok there)) so in
-    let all : length (concat (carried_of ok (fig ∷ there))) ≡ length (concat (carried_of ok there)) = ap (λ l. length (concat l)) here in
+    let here : carried_of ok (fig ∷ there) ≡ carried_of ok there =
+    ap (λ b. cond b (fig ∷ carried_of ok there) (carried_of ok there)) so in
+    let all : length (concat (carried_of ok (fig ∷ there))) ≡ length (concat (carried_of ok there)) =
+    ap (λ l. length (concat l)) here in
     omega (arith, all, short)
 fits_by_case ok agrees false room fig there gone so is short others = others
 
-pub carried_fit : (ok : List ℕ → Bool) (room : ℕ) (waiting : List (List ℕ)) → length (concat (carried_in ok room waiting)) ≤ room
+pub carried_fit : (ok : List ℕ → Bool) (room : ℕ) (waiting : List (List ℕ))
+    → length (concat (carried_in ok room waiting)) ≤ room
 carried_fit ok room [] = omega arith
 carried_fit ok room (fig ∷ figs) =
-    fits_by_case ok (ok fig) (leb (length fig) room) room fig (turns_in ok (room_after ok room fig) figs) (turns_in ok room figs) refl refl
+    fits_by_case ok (ok fig) (leb (length fig) room) room fig (turns_in ok (room_after ok room fig) figs)
+    (turns_in ok room figs) refl refl
     (carried_fit ok (room_after ok room fig) figs) (carried_fit ok room figs)
 
 -- ---- the data bytes of a FIB
 pub data_short : (bytes : List ℕ) (figs : List Fig) → IsFib bytes figs → length (data_of figs) ≤ 30
 data_short bytes figs h =
     let front = front_of_figs (take 30 bytes) figs h.1 in
-    let size : length (take 30 bytes) ≡ length (data_of figs) + length front.0 = ap length front.1 ∙ length-append (data_of figs) front.0 in
+    let size : length (take 30 bytes) ≡ length (data_of figs) + length front.0 =
+    ap length front.1 ∙ length-append (data_of figs) front.0 in
     omega (arith, size, length-take 30 bytes)
 
-pub data_front : (bytes : List ℕ) (figs : List Fig) → IsFib bytes figs → take (length (data_of figs)) bytes ≡ data_of figs
+pub data_front : (bytes : List ℕ) (figs : List Fig) → IsFib bytes figs
+    → take (length (data_of figs)) bytes ≡ data_of figs
 data_front bytes figs h =
     let front = front_of_figs (take 30 bytes) figs h.1 in
     let short = data_short bytes figs h in
@@ -112,7 +140,8 @@ data_front bytes figs h =
     ∙ ap (take (length (data_of figs))) front.1 ∙ take_at (data_of figs) front.0 (length (data_of figs)) refl
 
 -- ---- the whole FIB
-ends_filled : (figs : List Fig) (ok : List ℕ → Bool) (waiting : List (List ℕ)) (all : List ℕ) → all ≡ data_of figs ++ concat (carried_in ok (room_of figs) waiting)
+ends_filled : (figs : List Fig) (ok : List ℕ → Bool) (waiting : List (List ℕ)) (all : List ℕ) → all ≡ data_of figs
+    ++ concat (carried_in ok (room_of figs) waiting)
     → (bytes : List ℕ) → AreFigs bytes figs → AllByRecursion IsPassedOver waiting
     → AreFigs (filled all) (figs ++ map Other (carried_in ok (room_of figs) waiting))
 ends_filled figs ok waiting all is bytes h passed =
@@ -132,14 +161,20 @@ ends_filled figs ok waiting all is bytes h passed =
           (goal [] (inl refl))
     ]
 
-pub filled_is : (bytes : List ℕ) (figs : List Fig) (l : Listening) (waiting : List (List ℕ)) → IsFib bytes figs → AllByRecursion IsPassedOver waiting
+pub filled_is : (bytes : List ℕ) (figs : List Fig) (l : Listening) (waiting : List (List ℕ)) → IsFib bytes figs
+    → AllByRecursion IsPassedOver waiting
     → IsFib (filled_fib figs l waiting) (figs ++ map Other (carried_in (agrees_with figs l) (room_of figs) waiting))
 filled_is bytes figs l waiting h passed =
     let ok = agrees_with figs l in
     let more = carried_in ok (room_of figs) waiting in
     let all = data_of figs ++ concat more in
     let short : length all ≤ 30 =
-    omega (arith, length-append (data_of figs) (concat more), data_short bytes figs h, carried_fit ok (room_of figs) waiting) in
+    omega (
+      arith,
+      length-append (data_of figs) (concat more),
+      data_short bytes figs h,
+      carried_fit ok (room_of figs) waiting,
+    ) in
     let long : length (filled all) ≡ 30 = length-filled all short in (
       checked_is (filled all) long,
       subst (λ (xs : List ℕ). AreFigs xs (figs ++ map Other more)) (sym (take_at (filled all) _ 30 long))

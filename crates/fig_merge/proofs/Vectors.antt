@@ -1,11 +1,13 @@
 -- Small cases, computed by the checker from the definitions: for each definition one that holds and one that fails.
-use Rattle.std.proofs.Common.{◌≡◌, ℕ, ◌==◌, not, Bool, true, false, List, [], ◌∷◌, ◌++◌, length, replicate, Some, None, refl, arith}
+use Rattle.std.proofs.Common.{◌≡◌, ℕ, ◌==◌, not, Bool, true, false, List, [], ◌∷◌, ◌++◌, length, replicate, Some, None}
+use Rattle.std.proofs.Common.{refl, arith}
 use Rattle.fib_codec.specs.Grammar.{Open, Other}
 use Rattle.fib_codec.specs.Spelling.{filled}
 use Rattle.fib_reader.specs.Listening.{untuned}
 use Rattle.fig_mentions.specs.Mentions.{mentions_in}
-use Rattle.fig_merge.specs.Taking.{Merging, nothing_taken, is_left_out, taken_of, taken_in, limited, with_fig, after_take}
-use Rattle.fig_merge.specs.Filling.{room_of, carried_in, stale_in, left_in, carried_by}
+use Rattle.fig_merge.specs.Taking.{Merging, nothing_taken, is_left_out, taken_of, taken_in, limited, with_fig}
+use Rattle.fig_merge.specs.Taking.{after_take}
+use Rattle.fig_merge.specs.Filling.{room_of, carried_in, stale_in, left_waiting, carried_by}
 use Rattle.fig_merge.specs.Steps.{Go, times, AreDifferent, repeated_of, dropped_of}
 use Rattle.fig_merge.specs.Passing.{with_carried, any_carried, agreeing, hearing_fibs, AreFilled}
 
@@ -17,7 +19,8 @@ sub_channels = refl
 of_another_ensemble : is_left_out (Other (5 ∷ 65 ∷ 4 ∷ 0 ∷ 136 ∷ 96 ∷ [])) ≡ false
 of_another_ensemble = refl
 
-taken_in_order : taken_of (Other (33 ∷ 1 ∷ []) ∷ Open 1 ((4 ∷ 0 ∷ 136 ∷ 96 ∷ []) ∷ []) ∷ Other (33 ∷ 2 ∷ []) ∷ []) ≡ (33 ∷ 1 ∷ []) ∷ (33 ∷ 2 ∷ []) ∷ []
+taken_in_order : taken_of (Other (33 ∷ 1 ∷ []) ∷ Open 1 ((4 ∷ 0 ∷ 136 ∷ 96 ∷ []) ∷ []) ∷ Other (33 ∷ 2 ∷ []) ∷ [])
+    ≡ (33 ∷ 1 ∷ []) ∷ (33 ∷ 2 ∷ []) ∷ []
 taken_in_order = refl
 
 none_of_a_damaged_one : taken_in None ≡ []
@@ -76,7 +79,7 @@ not_middle fig = not (length fig == 5)
 short_overtakes_longer : carried_in always 10 (long ∷ middle ∷ short ∷ []) ≡ long ∷ short ∷ []
 short_overtakes_longer = refl
 
-longer_waits_on : left_in always 10 (long ∷ middle ∷ short ∷ []) ≡ middle ∷ []
+longer_waits_on : left_waiting always 10 (long ∷ middle ∷ short ∷ []) ≡ middle ∷ []
 longer_waits_on = refl
 
 -- one that does not agree takes no room
@@ -86,7 +89,7 @@ stale_takes_no_room = refl
 it_is_stale : stale_in not_middle 11 (middle ∷ long ∷ short ∷ []) ≡ middle ∷ []
 it_is_stale = refl
 
-it_waits_no_more : left_in not_middle 11 (middle ∷ long ∷ short ∷ []) ≡ []
+it_waits_no_more : left_waiting not_middle 11 (middle ∷ long ∷ short ∷ []) ≡ []
 it_waits_no_more = refl
 
 -- one that does not fit is not judged

@@ -1,5 +1,6 @@
 -- Filling the FIBs of a plan with FIGs that wait (EN 300 401 clauses 5.2.1 and 5.2.2).
-use Rattle.std.specs.Prelude.{ℕ, ◌+◌, ◌-◌, if◌then◌else◌, nat_le, Bool, List, [], ◌∷◌, ◌++◌, length, flat_map, Option, Some, None}
+use Rattle.std.specs.Prelude.{ℕ, ◌+◌, ◌-◌, if◌then◌else◌, nat_le, Bool, List, [], ◌∷◌, ◌++◌, length, flat_map, Option}
+use Rattle.std.specs.Prelude.{Some, None}
 use Rattle.std.specs.List.{concat}
 use Rattle.fib_codec.specs.Grammar.{Fig, fig_spelled}
 use Rattle.fib_codec.specs.Spelling.{filled, checked}
@@ -41,11 +42,11 @@ turns_in agrees room (fig ∷ figs) =
     else turns_in agrees room figs
 
 -- and those that wait on
-abbrev pub left_in : (List ℕ → Bool) → ℕ → List (List ℕ) → List (List ℕ)
-left_in agrees room [] = []
-left_in agrees room (fig ∷ figs) =
-    if nat_le (length fig) room then left_in agrees (room_after agrees room fig) figs
-    else fig ∷ left_in agrees room figs
+abbrev pub left_waiting : (List ℕ → Bool) → ℕ → List (List ℕ) → List (List ℕ)
+left_waiting agrees room [] = []
+left_waiting agrees room (fig ∷ figs) =
+    if nat_le (length fig) room then left_waiting agrees (room_after agrees room fig) figs
+    else fig ∷ left_waiting agrees room figs
 
 -- of those whose turn comes, the ones that agree are carried, and the others are stale
 abbrev pub carried_of : (List ℕ → Bool) → List (List ℕ) → List (List ℕ)
@@ -91,7 +92,7 @@ stale_by (Some figs) m = stale_in (agrees_with figs m.heard) (room_of figs) m.wa
 abbrev pub after_fill : Fib → Merging → Merging
 after_fill None m = with_damaged m
 after_fill (Some figs) m = record m {
-  waiting = left_in (agrees_with figs m.heard) (room_of figs) m.waiting;
+  waiting = left_waiting (agrees_with figs m.heard) (room_of figs) m.waiting;
   carried = limited (m.carried + length (carried_in (agrees_with figs m.heard) (room_of figs) m.waiting));
   stale = limited (m.stale + length (stale_in (agrees_with figs m.heard) (room_of figs) m.waiting));
   heard = hearing figs m.heard;

@@ -42,7 +42,8 @@ FilledHasTheEntries =
 
 -- the law of lengths
 abbrev pub FilledIsAsLong : Type 0
-FilledIsAsLong = (r : Reading) (bytes : List ℕ) (m : Merging) → IsMerging m → length (merged bytes (r.read bytes) m) ≡ length bytes
+FilledIsAsLong = (r : Reading) (bytes : List ℕ) (m : Merging) → IsMerging m
+    → length (merged bytes (r.read bytes) m) ≡ length bytes
 
 -- ---- streams
 
@@ -113,7 +114,8 @@ FilledIsFullAlike =
     → frames_full step period [] sent ≡ frames_full step period [] frames
 
 -- a stream filled so
-pub record IsFramedAlike (may : Judge) (size : ℕ) (skipped : List Fib) (frames : List (List Fib)) (rest sent : List Fib) : Type 0 where
+pub record IsFramedAlike (may : Judge) (size : ℕ) (skipped : List Fib) (frames : List (List Fib))
+    (rest sent : List Fib) : Type 0 where
   pub skipped_sent : List Fib
   pub frames_sent : List (List Fib)
   pub rest_sent : List Fib
@@ -126,4 +128,5 @@ pub record IsFramedAlike (may : Judge) (size : ℕ) (skipped : List Fib) (frames
 abbrev pub FilledIsFramedAlike : Type 0
 FilledIsFramedAlike =
     (may : Judge) (size : ℕ) (stream sent skipped : List Fib) (frames : List (List Fib)) (rest : List Fib)
-    → AreFilled may untuned stream sent → IsFramed size stream skipped frames rest → IsFramedAlike may size skipped frames rest sent
+    → AreFilled may untuned stream sent → IsFramed size stream skipped frames rest
+    → IsFramedAlike may size skipped frames rest sent

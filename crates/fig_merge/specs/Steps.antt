@@ -1,12 +1,15 @@
 -- What becomes of the FIGs that are taken, over any sequence of calls of a merger.
-use Rattle.std.specs.Prelude.{◌≡◌, ℕ, ◌+◌, ◌<◌, ◌≤◌, Bool, true, false, if◌then◌else◌, nat_lt, List, [], ◌∷◌, ◌++◌, length, flat_map, Some, Contains}
+use Rattle.std.specs.Prelude.{◌≡◌, ℕ, ◌+◌, ◌<◌, ◌≤◌, Bool, true, false, if◌then◌else◌, nat_lt, List, [], ◌∷◌, ◌++◌}
+use Rattle.std.specs.Prelude.{length, flat_map, Some, Contains}
 use Rattle.std.specs.List.{AllByRecursion}
 use Rattle.std.specs.Str.{bytes_eq}
 use Rattle.stream_check.specs.Frames.{Reading}
-use Rattle.fig_merge.specs.Taking.{Merging, IsMerging, nothing_taken, most, limited, waits, with_fig, taken_in, after_take}
+use Rattle.fig_merge.specs.Taking.{Merging, IsMerging, nothing_taken, most, limited, waits, with_fig, taken_in}
+use Rattle.fig_merge.specs.Taking.{after_take}
 use Rattle.fig_mentions.specs.Agreeing.{fig_agrees}
 use Rattle.fib_codec.specs.Grammar.{Fig}
-use Rattle.fig_merge.specs.Filling.{room_after, turns_in, left_in, turns_by, carried_by, stale_by, hearing, after_fill}
+use Rattle.fig_merge.specs.Filling.{room_after, turns_in, left_waiting, turns_by, carried_by, stale_by, hearing}
+use Rattle.fig_merge.specs.Filling.{after_fill}
 
 -- ---- sequences of calls
 
@@ -51,7 +54,8 @@ repeated_of (fig ∷ figs) m = (if waits fig m.waiting then fig ∷ [] else []) 
 abbrev pub dropped_of : List (List ℕ) → Merging → List (List ℕ)
 dropped_of [] m = []
 dropped_of (fig ∷ figs) m =
-    (if waits fig m.waiting then [] else if nat_lt (length m.waiting) most then [] else fig ∷ []) ++ dropped_of figs (with_fig fig m)
+    (if waits fig m.waiting then [] else if nat_lt (length m.waiting) most then [] else fig ∷ [])
+    ++ dropped_of figs (with_fig fig m)
 
 abbrev pub all_taken : Reading → List Step → List (List ℕ)
 all_taken r [] = []
@@ -124,7 +128,7 @@ Go agrees room waiting (fig ∷ figs) left =
 abbrev pub TheLongestWaitingGoes : Type 0
 TheLongestWaitingGoes =
     (agrees : List ℕ → Bool) (room : ℕ) (waiting : List (List ℕ))
-    → Go agrees room waiting (turns_in agrees room waiting) (left_in agrees room waiting)
+    → Go agrees room waiting (turns_in agrees room waiting) (left_waiting agrees room waiting)
 
 -- ---- agreement
 
@@ -163,4 +167,5 @@ pub record IsCarriedInTime (r : Reading) (m : Merging) (frames : List (List Step
 
 abbrev pub AllAreCarried : Type 0
 AllAreCarried =
-    (r : Reading) (m : Merging) (frames : List (List Step)) → IsMerging m → AllByRecursion (HasEmpty r) frames → IsCarriedInTime r m frames
+    (r : Reading) (m : Merging) (frames : List (List Step)) → IsMerging m → AllByRecursion (HasEmpty r) frames
+    → IsCarriedInTime r m frames

@@ -10,8 +10,8 @@ use fib_codec::bytes::byte_at;
 use fib_reader::{Fig, Figs, Listener, check};
 use std::marker::Model;
 
-/// The FIGs of a multiplexer that wait to be carried in the FIBs of a plan, at most 256, and counts; and what was heard
-/// of the plan. It does not allocate.
+/// The FIGs of a multiplexer that wait to be carried in the FIBs of a plan, at most 256, and
+/// counts; and what was heard of the plan. It does not allocate.
 #[derive(Drop)]
 pub struct Merger {
     queue: Queue,
@@ -85,7 +85,8 @@ impl Merger {
     ghost use Rattle.fib_codec.specs.Grammar as grammar;
     ghost use Rattle.std.specs.List.{AllByRecursion};
     ghost use Rattle.stream_check.specs.Frames.{Reading};
-    ghost use Rattle.fig_merge.specs.Taking.{nothing_taken, with_fig, with_figs, with_damaged, taken_of, after_take, IsPassedOver, IsSendable};
+    ghost use Rattle.fig_merge.specs.Taking.{nothing_taken, with_fig, with_figs, with_damaged};
+    ghost use Rattle.fig_merge.specs.Taking.{taken_of, after_take, IsPassedOver, IsSendable};
     ghost use Rattle.fig_merge.specs.Filling.{agrees_with, merged, after_fill, carried_in, room_of};
 
     /// A merger that has taken nothing.
@@ -137,9 +138,9 @@ impl Merger {
         self.damaged
     }
 
-    /// Takes the FIGs of a FIB of the multiplexer, in order, but for FIG 0/0 to 0/3 and 0/7 of this ensemble. Each
-    /// waits, unless one with the same bytes waits already; where 256 wait, it is dropped, and counted. A damaged FIB
-    /// gives none, and is counted.
+    /// Takes the FIGs of a FIB of the multiplexer, in order, but for FIG 0/0 to 0/3 and 0/7 of this
+    /// ensemble. Each waits, unless one with the same bytes waits already; where 256 wait, it is
+    /// dropped, and counted. A damaged FIB gives none, and is counted.
     pub fn take(&mut self, fib: &[u8; 32])
         ensures { (r : Reading) → self.new ≡ after_take (r.read fib.now) self.old }
     {
@@ -183,10 +184,11 @@ impl Merger {
         self.damaged = sum(self.damaged, 1);
     }
 
-    /// Appends FIGs that wait to those of a FIB of the plan: as long as one of them fits into what is left of the thirty
-    /// data bytes, the turn of the one that has waited longest of those that fit comes. It is carried if it agrees with
-    /// the current configuration, as far as it was heard in the plan's FIBs up to and with this one; else it is let go,
-    /// and counted. A damaged FIB stays as it is, and is counted.
+    /// Appends FIGs that wait to those of a FIB of the plan: as long as one of them fits into what
+    /// is left of the thirty data bytes, the turn of the one that has waited longest of those that
+    /// fit comes. It is carried if it agrees with the current configuration, as far as it was heard
+    /// in the plan's FIBs up to and with this one; else it is let go, and counted. A damaged FIB
+    /// stays as it is, and is counted.
     pub fn fill(&mut self, fib: &mut [u8; 32])
         ensures merger { (r : Reading) → self.new ≡ after_fill (r.read fib.old) self.old }
         ensures bytes { (r : Reading) → fib.new ≡ merged fib.old (r.read fib.old) self.old }

@@ -38,11 +38,12 @@ pub(crate) struct Carried {
 }
 
 impl Queue {
-    ghost use Rattle.std.specs.Prelude.{◌≡◌, ◌-◌, ◌<◌, ◌≤◌, ◌++◌, ◌∷◌, [], true, false, length, take};
+    ghost use Rattle.std.specs.Prelude.{◌≡◌, ◌-◌, ◌<◌, ◌≤◌, ◌++◌, ◌∷◌, [], true, false, length};
+    ghost use Rattle.std.specs.Prelude.{take};
     ghost use Rattle.std.specs.List.{concat};
     ghost use Rattle.fig_merge.specs.Taking.{most, waits};
     ghost use Rattle.fig_mentions.specs.Agreeing.{fig_agrees};
-    ghost use Rattle.fig_merge.specs.Filling.{carried_in, left_in, stale_in};
+    ghost use Rattle.fig_merge.specs.Filling.{carried_in, left_waiting, stale_in};
 
     /// No FIG.
     pub(crate) fn new() -> Queue
@@ -90,9 +91,9 @@ impl Queue {
         self.figs.push(StoredFig::of(fig));
     }
 
-    /// Moves FIGs into a FIB, behind its first `front` data bytes: from the one that has waited longest on, each that
-    /// fits into what is left of the thirty data bytes, and agrees with a configuration. One that fits and does not
-    /// agree is let go.
+    /// Moves FIGs into a FIB, behind its first `front` data bytes: from the one that has waited
+    /// longest on, each that fits into what is left of the thirty data bytes, and agrees with a
+    /// configuration. One that fits and does not agree is let go.
     pub(crate) fn carry(&mut self, fib: &mut [u8], front: usize, current: &Picture) -> Carried
         requires whole { length fib.old ≡ 32 }
         requires within { front ≤ 30 }
@@ -100,7 +101,7 @@ impl Queue {
             ++ concat (carried_in (fig_agrees current.now) (30 - front) self.old) }
         ensures whole { length fib.new ≡ 32 }
         ensures within { result.used ≤ 30 }
-        ensures left { self.new ≡ left_in (fig_agrees current.now) (30 - front) self.old }
+        ensures left { self.new ≡ left_waiting (fig_agrees current.now) (30 - front) self.old }
         ensures count { result.figs
             ≡ length (carried_in (fig_agrees current.now) (30 - front) self.old) }
         ensures stale { result.stale

@@ -15,7 +15,8 @@ pub(crate) fn write_at(fib: &mut [u8], offset: usize, bytes: &[u8])
     fib[offset..offset + bytes.len()].copy_from_slice(bytes);
 }
 
-/// Ends a FIB after this many data bytes: with the end marker and zeros if there is room for them, and the CRC.
+/// Ends a FIB after this many data bytes: with the end marker and zeros if there is room for them,
+/// and the CRC.
 pub(crate) fn end_fib(fib: &mut [u8], used: usize)
     requires whole { length fib.old ≡ 32 }
     requires within { used ≤ 30 }

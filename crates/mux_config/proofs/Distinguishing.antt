@@ -1,6 +1,7 @@
 -- Entries distinguish configurations: if the facts are the same, so are the configurations.
 
-use Rattle.std.proofs.Common.{◌≡◌, ℕ, ◌-◌, Bool, true, false, List, [], ◌∷◌, ◌++◌, map, refl, sym, ap, ◌∙◌, subst, None, arith}
+use Rattle.std.proofs.Common.{◌≡◌, ℕ, ◌-◌, Bool, true, false, List, [], ◌∷◌, ◌++◌, map, refl, sym, ap, ◌∙◌, subst, None}
+use Rattle.std.proofs.Common.{arith}
 use Rattle.std.proofs.lemmas.Bool.{false≢true}
 use Rattle.mux_eep.specs.declared.sizes.EepSet.{EepSet}
 use Rattle.mux_eep.specs.declared.sizes.EepSet.TheVariants.{A, B}
@@ -17,12 +18,14 @@ use Rattle.mux_types.specs.declared.entry.ServiceEntry.{ServiceEntry}
 use Rattle.mux_types.specs.declared.entry.PacketEntry.{PacketEntry}
 use Rattle.mux_types.specs.Configuration.{Configuration, IsConfiguration, IsPlaced, size_of_sub}
 use Rattle.std.specs.List.{AllByRecursion}
-use Rattle.mux_types.specs.Facts.{Marked, marked, option_of, sub_entry, component_entry, component_entries, service_entry, packet_entry, sub_entries, service_entries, FactsIdentify}
+use Rattle.mux_types.specs.Facts.{Marked, marked, option_of, sub_entry, component_entry, component_entries}
+use Rattle.mux_types.specs.Facts.{service_entry, packet_entry, sub_entries, service_entries, FactsIdentify}
 
 -- ---- lists
 
 -- a function that distinguishes values distinguishes lists of them
-pub lists_told : {T U : Type 0} (f : T → U) (P : T → Type 0) → ((a b : T) → P a → P b → f a ≡ f b → a ≡ b) → (xs ys : List T) → AllByRecursion P xs → AllByRecursion P ys → map f xs ≡ map f ys → xs ≡ ys
+pub lists_told : {T U : Type 0} (f : T → U) (P : T → Type 0) → ((a b : T) → P a → P b → f a ≡ f b → a ≡ b)
+    → (xs ys : List T) → AllByRecursion P xs → AllByRecursion P ys → map f xs ≡ map f ys → xs ≡ ys
 lists_told f P told [] [] h k e = refl
 lists_told f P told [] (y ∷ ys) h k e = absurd (cc)
 lists_told f P told (x ∷ xs) [] h k e = absurd (cc)
@@ -38,7 +41,9 @@ each_holds [] = tt
 each_holds (x ∷ xs) = (tt, each_holds xs)
 
 -- if a test is true for each element before a boundary and for none after it, the boundary is determined
-pub parts_told : {T : Type 0} (test : T → Bool) (xs ys rs ts : List T) → AllByRecursion (λ x. test x ≡ true) xs → AllByRecursion (λ x. test x ≡ true) ys → AllByRecursion (λ x. test x ≡ false) rs → AllByRecursion (λ x. test x ≡ false) ts → xs ++ rs ≡ ys ++ ts → (xs ≡ ys) × (rs ≡ ts)
+pub parts_told : {T : Type 0} (test : T → Bool) (xs ys rs ts : List T) → AllByRecursion (λ x. test x ≡ true) xs
+    → AllByRecursion (λ x. test x ≡ true) ys → AllByRecursion (λ x. test x ≡ false) rs
+    → AllByRecursion (λ x. test x ≡ false) ts → xs ++ rs ≡ ys ++ ts → (xs ≡ ys) × (rs ≡ ts)
 parts_told test [] [] rs ts h k i j e = (refl, e)
 parts_told test [] (y ∷ ys) [] ts h k i j e = absurd (cc)
 parts_told test [] (y ∷ ys) (r ∷ rs) ts h k i j e =
@@ -55,7 +60,8 @@ parts_told test (x ∷ xs) (y ∷ ys) rs ts h k i j e =
     let front : x ∷ xs ≡ y ∷ ys = cc in
     (front, more.1)
 
-pub each_map : {T U : Type 0} (f : T → U) (P : U → Type 0) → ((x : T) → P (f x)) → (xs : List T) → AllByRecursion P (map f xs)
+pub each_map : {T U : Type 0} (f : T → U) (P : U → Type 0) → ((x : T) → P (f x)) → (xs : List T)
+    → AllByRecursion P (map f xs)
 each_map f P holds [] = tt
 each_map f P holds (x ∷ xs) = (holds x, each_map f P holds xs)
 
@@ -81,13 +87,28 @@ packet_of other (PacketOf p) = p
 packet_of other e = other
 
 abbrev sub_value : Sub → SubEntry
-sub_value s = record { id = s.id; start = s.start; option = option_of s.protection.set; level = s.protection.level - 1; size = size_of_sub s }
+sub_value s = record {
+  id = s.id;
+  start = s.start;
+  option = option_of s.protection.set;
+  level = s.protection.level - 1;
+  size = size_of_sub s;
+}
 
 abbrev service_value : Service → ServiceEntry
 service_value s = record { sid = s.sid; rfa = false; ca_id = 0; components = component_entries s.components }
 
 abbrev packet_value : Packet → PacketEntry
-packet_value p = record { scid = p.scid; rfa = 0; dg = p.dg; rfu = false; ty = p.ty; sub = p.sub; address = p.address; ca_org = None }
+packet_value p = record {
+  scid = p.scid;
+  rfa = 0;
+  dg = p.dg;
+  rfu = false;
+  ty = p.ty;
+  sub = p.sub;
+  address = p.address;
+  ca_org = None;
+}
 
 abbrev pub is_sub : Entry → Bool
 is_sub (SubOf s) = true
@@ -102,13 +123,15 @@ sub_told rates a b h k e =
     let same : sub_value a ≡ sub_value b = ap (sub_of (sub_value a)) e in
     let id : a.id ≡ b.id = ap (λ (x : SubEntry). x.id) same in
     let start : a.start ≡ b.start = ap (λ (x : SubEntry). x.start) same in
-    let set : a.protection.set ≡ b.protection.set = set_told a.protection.set b.protection.set (ap (λ (x : SubEntry). x.option) same) in
+    let set : a.protection.set ≡ b.protection.set =
+    set_told a.protection.set b.protection.set (ap (λ (x : SubEntry). x.option) same) in
     let sent : a.protection.level - 1 ≡ b.protection.level - 1 = ap (λ (x : SubEntry). x.level) same in
     let level : a.protection.level ≡ b.protection.level = omega (arith, h.from_one, k.from_one) in
     let size : size_of_sub a ≡ size_of_sub b = ap (λ (x : SubEntry). x.size) same in
     let profile : a.protection ≡ b.protection = λ i. record { set = set i; level = level i } in
     let other : IsSize b.protection a.kbits (size_of_sub b) =
-    subst (λ (p : Profile). IsSize p a.kbits (size_of_sub b)) profile (subst (λ (n : ℕ). IsSize a.protection a.kbits n) size h.sized) in
+    subst (λ (p : Profile). IsSize p a.kbits (size_of_sub b)) profile
+    (subst (λ (n : ℕ). IsSize a.protection a.kbits n) size h.sized) in
     let kbits : a.kbits ≡ b.kbits = rates b.protection a.kbits b.kbits (size_of_sub b) other k.sized in
     λ i. record { id = id i; start = start i; protection = profile i; kbits = kbits i }
 
@@ -131,14 +154,16 @@ components_told (m ∷ ms) (n ∷ ns) e =
     let first : component_entry true m ≡ component_entry true n = cc in
     let rest : map (component_entry false) ms ≡ map (component_entry false) ns = cc in
     let head : m ≡ n = component_told true m n first in
-    let tail : ms ≡ ns = lists_told (component_entry false) (λ (x : Component). Unit {0}) (λ x y _ _. component_told false x y) ms ns (each_holds ms) (each_holds ns) rest in
+    let tail : ms ≡ ns = lists_told (component_entry false) (λ (x : Component). Unit {0})
+    (λ x y _ _. component_told false x y) ms ns (each_holds ms) (each_holds ns) rest in
     cc
 
 pub service_told : (a b : Service) → service_entry a ≡ service_entry b → a ≡ b
 service_told a b e =
     let same : service_value a ≡ service_value b = ap (service_of (service_value a)) e in
     let sid : a.sid ≡ b.sid = ap (λ (x : ServiceEntry). x.sid) same in
-    let components : a.components ≡ b.components = components_told a.components b.components (ap (λ (x : ServiceEntry). x.components) same) in
+    let components : a.components ≡ b.components =
+    components_told a.components b.components (ap (λ (x : ServiceEntry). x.components) same) in
     λ i. record { sid = sid i; components = components i }
 
 pub packet_told : (a b : Packet) → packet_entry a ≡ packet_entry b → a ≡ b
@@ -153,30 +178,44 @@ packet_told a b e =
 
 -- ---- the entries of a configuration
 
-pub subs_told : OneRate → (c d : Configuration) → IsConfiguration c → IsConfiguration d → sub_entries c ≡ sub_entries d → c.subs ≡ d.subs
+pub subs_told : OneRate → (c d : Configuration) → IsConfiguration c → IsConfiguration d → sub_entries c ≡ sub_entries d
+    → c.subs ≡ d.subs
 subs_told rates c d h k e = lists_told sub_entry IsPlaced (sub_told rates) c.subs d.subs h.subs_placed k.subs_placed e
 
-pub services_told : (c d : Configuration) → service_entries c ≡ service_entries d → (c.services ≡ d.services) × (c.packets ≡ d.packets)
+pub services_told : (c d : Configuration) → service_entries c ≡ service_entries d → (c.services ≡ d.services)
+    × (c.packets ≡ d.packets)
 services_told c d e =
-    let parts = parts_told is_service (map service_entry c.services) (map service_entry d.services) (map packet_entry c.packets) (map packet_entry d.packets)
-    (each_map service_entry (λ x. is_service x ≡ true) (λ s. refl) c.services) (each_map service_entry (λ x. is_service x ≡ true) (λ s. refl) d.services)
-    (each_map packet_entry (λ x. is_service x ≡ false) (λ p. refl) c.packets) (each_map packet_entry (λ x. is_service x ≡ false) (λ p. refl) d.packets) e in (
-      lists_told service_entry (λ (x : Service). Unit {0}) (λ x y _ _. service_told x y) c.services d.services (each_holds c.services) (each_holds d.services) parts.0,
-      lists_told packet_entry (λ (x : Packet). Unit {0}) (λ x y _ _. packet_told x y) c.packets d.packets (each_holds c.packets) (each_holds d.packets) parts.1,
+    let parts = parts_told is_service (map service_entry c.services) (map service_entry d.services)
+    (map packet_entry c.packets) (map packet_entry d.packets)
+    (each_map service_entry (λ x. is_service x ≡ true) (λ s. refl) c.services)
+    (each_map service_entry (λ x. is_service x ≡ true) (λ s. refl) d.services)
+    (each_map packet_entry (λ x. is_service x ≡ false) (λ p. refl) c.packets)
+    (each_map packet_entry (λ x. is_service x ≡ false) (λ p. refl) d.packets) e in (
+      lists_told service_entry (λ (x : Service). Unit {0}) (λ x y _ _. service_told x y) c.services d.services
+          (each_holds c.services) (each_holds d.services) parts.0,
+      lists_told packet_entry (λ (x : Packet). Unit {0}) (λ x y _ _. packet_told x y) c.packets d.packets
+          (each_holds c.packets) (each_holds d.packets) parts.1,
     )
 
-pub each_join : {T : Type 0} (P : T → Type 0) (xs ys : List T) → AllByRecursion P xs → AllByRecursion P ys → AllByRecursion P (xs ++ ys)
+pub each_join : {T : Type 0} (P : T → Type 0) (xs ys : List T) → AllByRecursion P xs → AllByRecursion P ys
+    → AllByRecursion P (xs ++ ys)
 each_join P [] ys h k = k
 each_join P (x ∷ xs) ys h k = (h.0, each_join P xs ys h.1 k)
 
 pub facts_told : OneRate → FactsIdentify
 facts_told rates c d next h k e =
     let plain : (sub_entries c ++ service_entries c) ≡ (sub_entries d ++ service_entries d) =
-    lists_told (marked next) (λ (x : Entry). Unit {0}) (λ x y _ _ same. ap (λ (m : Marked). m.entry) same) (sub_entries c ++ service_entries c) (sub_entries d ++ service_entries d) (each_holds _) (each_holds _) e in
+    lists_told (marked next) (λ (x : Entry). Unit {0}) (λ x y _ _ same. ap (λ (m : Marked). m.entry) same)
+    (sub_entries c ++ service_entries c) (sub_entries d ++ service_entries d) (each_holds _) (each_holds _) e in
     let parts = parts_told is_sub (sub_entries c) (sub_entries d) (service_entries c) (service_entries d)
-    (each_map sub_entry (λ x. is_sub x ≡ true) (λ s. refl) c.subs) (each_map sub_entry (λ x. is_sub x ≡ true) (λ s. refl) d.subs)
-    (each_join (λ x. is_sub x ≡ false) (map service_entry c.services) (map packet_entry c.packets) (each_map service_entry (λ x. is_sub x ≡ false) (λ s. refl) c.services) (each_map packet_entry (λ x. is_sub x ≡ false) (λ p. refl) c.packets))
-    (each_join (λ x. is_sub x ≡ false) (map service_entry d.services) (map packet_entry d.packets) (each_map service_entry (λ x. is_sub x ≡ false) (λ s. refl) d.services) (each_map packet_entry (λ x. is_sub x ≡ false) (λ p. refl) d.packets))
+    (each_map sub_entry (λ x. is_sub x ≡ true) (λ s. refl) c.subs)
+    (each_map sub_entry (λ x. is_sub x ≡ true) (λ s. refl) d.subs)
+    (each_join (λ x. is_sub x ≡ false) (map service_entry c.services) (map packet_entry c.packets)
+    (each_map service_entry (λ x. is_sub x ≡ false) (λ s. refl) c.services)
+    (each_map packet_entry (λ x. is_sub x ≡ false) (λ p. refl) c.packets))
+    (each_join (λ x. is_sub x ≡ false) (map service_entry d.services) (map packet_entry d.packets)
+    (each_map service_entry (λ x. is_sub x ≡ false) (λ s. refl) d.services)
+    (each_map packet_entry (λ x. is_sub x ≡ false) (λ p. refl) d.packets))
     plain in
     let subs : c.subs ≡ d.subs = subs_told rates c d h k parts.0 in
     let rest = services_told c d parts.1 in

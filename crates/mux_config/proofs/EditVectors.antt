@@ -9,9 +9,11 @@ use Rattle.mux_types.specs.declared.parts.Component.TheVariants.{Sound, Packet a
 use Rattle.mux_types.specs.declared.parts.Carrier.TheVariants.{Sub as BySub}
 use Rattle.mux_types.specs.declared.parts.Packet.{Packet}
 use Rattle.mux_types.specs.declared.numbers.Sid.TheVariants.{Short as ShortSid, Long as LongSid}
-use Rattle.mux_config.specs.declared.fault.EditFault.TheVariants.{IdUsed, IdAbsent, TooManyComponents, TableFull, PastEnd, BadRate, BadAddress}
+use Rattle.mux_config.specs.declared.fault.EditFault.TheVariants.{IdUsed, IdAbsent, TooManyComponents, TableFull}
+use Rattle.mux_config.specs.declared.fault.EditFault.TheVariants.{PastEnd, BadRate, BadAddress}
 use Rattle.mux_config.specs.declared.fault.ConfigFault.TheVariants.{Overlap, Orphan, AddressUsed, EmptyService}
-use Rattle.mux_config.specs.declared.edit.Edit.TheVariants.{AddSub, MoveSub, RateSub, AddService, DropService, AddComponent, DropComponent, AddPacket}
+use Rattle.mux_config.specs.declared.edit.Edit.TheVariants.{AddSub, MoveSub, RateSub, AddService, DropService}
+use Rattle.mux_config.specs.declared.edit.Edit.TheVariants.{AddComponent, DropComponent, AddPacket}
 use Rattle.mux_types.specs.Configuration.{Configuration, nothing}
 use Rattle.mux_config.specs.Edits.{edited}
 use Rattle.mux_config.specs.Sound.{first_fault}
@@ -52,14 +54,19 @@ sub-bad_rate = refl
 sub-rated : edited (RateSub 1 96) one_programme ≡ Ok (record one_programme { subs = sub 1 0 96 ∷ [] })
 sub-rated = refl
 
-service-added : edited (AddService (LongSid 0)) one_programme ≡ Ok (record one_programme { services = service 49697 (Sound 63 1 ∷ []) ∷ record { sid = LongSid 0; components = [] } ∷ [] })
+service-added : edited (AddService (LongSid 0)) one_programme
+    ≡ Ok (record one_programme {
+      services = service 49697 (Sound 63 1 ∷ [])
+          ∷ record { sid = LongSid 0; components = [] } ∷ [];
+    })
 service-added = refl
 
 -- the 32-bit SId with the same number is another one
 service-absent : edited (DropService (LongSid 49697)) one_programme ≡ Err IdAbsent
 service-absent = refl
 
-service-table_full : edited (AddService (ShortSid 64)) (record nothing { services = map (λ n. service n []) (range_with_len 0 64) }) ≡ Err TableFull
+service-table_full : edited (AddService (ShortSid 64))
+    (record nothing { services = map (λ n. service n []) (range_with_len 0 64) }) ≡ Err TableFull
 service-table_full = refl
 
 -- a service of twelve components
@@ -72,10 +79,12 @@ component-used = refl
 component-too_many : edited (AddComponent (ShortSid 7) (Sound 5 12)) full_service ≡ Err TooManyComponents
 component-too_many = refl
 
-component-at_the_end : edited (AddComponent (ShortSid 49697) (InPackets 1)) one_programme ≡ Ok (record one_programme { services = service 49697 (Sound 63 1 ∷ InPackets 1 ∷ []) ∷ [] })
+component-at_the_end : edited (AddComponent (ShortSid 49697) (InPackets 1)) one_programme
+    ≡ Ok (record one_programme { services = service 49697 (Sound 63 1 ∷ InPackets 1 ∷ []) ∷ [] })
 component-at_the_end = refl
 
-component-dropped : edited (DropComponent (ShortSid 49697) (BySub 1)) one_programme ≡ Ok (record one_programme { services = service 49697 [] ∷ [] })
+component-dropped : edited (DropComponent (ShortSid 49697) (BySub 1)) one_programme
+    ≡ Ok (record one_programme { services = service 49697 [] ∷ [] })
 component-dropped = refl
 
 packet-bad_address : edited (AddPacket (packet 1 5 0)) one_programme ≡ Err BadAddress
@@ -86,7 +95,8 @@ packet-bad_address = refl
 sound : first_fault one_programme ≡ None
 sound = refl
 
-least_overlap : first_fault (record one_programme { subs = sub 1 48 64 ∷ sub 2 0 64 ∷ sub 3 40 64 ∷ sub 4 90 64 ∷ [] }) ≡ Some (Overlap 1 3)
+least_overlap : first_fault (record one_programme { subs = sub 1 48 64 ∷ sub 2 0 64 ∷ sub 3 40 64 ∷ sub 4 90 64 ∷ [] })
+    ≡ Some (Overlap 1 3)
 least_overlap = refl
 
 orphan : first_fault (record one_programme { subs = sub 2 0 128 ∷ [] }) ≡ Some Orphan

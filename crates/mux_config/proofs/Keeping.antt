@@ -1,9 +1,12 @@
 -- An edit of a configuration without a fault results in a configuration.
-use Rattle.std.proofs.Common.{◌≡◌, ◌≢◌, ℕ, zero, suc, ◌+◌, ◌%◌, ◌<◌, ◌≤◌, ◌==◌, Bool, true, false, not, cond, ◌||◌, ltb, leb, List, [], ◌∷◌, ◌++◌, length, Option, Some, None, Ok, Err, refl, sym, ap, ◌∙◌, subst, inl, inr, arith, length-append, slice_get, is_some}
+use Rattle.std.proofs.Common.{◌≡◌, ◌≢◌, ℕ, zero, suc, ◌+◌, ◌%◌, ◌<◌, ◌≤◌, ◌==◌, Bool, true, false, not, cond, ◌||◌, ltb}
+use Rattle.std.proofs.Common.{leb, List, [], ◌∷◌, ◌++◌, length, Option, Some, None, Ok, Err, refl, sym, ap, ◌∙◌, subst}
+use Rattle.std.proofs.Common.{inl, inr, arith, length-append, slice_get, is_some}
 use Rattle.std.specs.Option.{option_map}
 use Rattle.std.specs.Result.{is_err}
 use Rattle.std.specs.List.{list_any, filter, remove, AllByRecursion}
-use Rattle.std.proofs.lemmas.Bool.{false≢true, cases_eq, cases_lt, lt-ltb, le-ltb, eq-eqb, ne_eqb, eqb-true, eqb-false, ltb-false, leb-false}
+use Rattle.std.proofs.lemmas.Bool.{false≢true, cases_eq, cases_lt, lt-ltb, le-ltb, eq-eqb, ne_eqb, eqb-true, eqb-false}
+use Rattle.std.proofs.lemmas.Bool.{ltb-false, leb-false}
 use Rattle.std.proofs.lemmas.List.{length-map}
 use Rattle.mux_eep.specs.Sizes.{Profile, IsSize, size_or_fault, table_size, rate_step}
 use Rattle.mux_eep.specs.declared.fault.EepFault.TheVariants.{NotMultiple, ZeroRate, PastMultiplex}
@@ -15,14 +18,24 @@ use Rattle.mux_types.specs.declared.parts.Carrier.TheVariants.{Sub as BySub, Pac
 use Rattle.mux_types.specs.declared.parts.Packet.{Packet}
 use Rattle.mux_types.specs.declared.numbers.Sid.{Sid}
 use Rattle.mux_config.specs.declared.fault.EditFault.{EditFault}
-use Rattle.mux_config.specs.declared.fault.EditFault.TheVariants.{IdUsed, IdAbsent, TooManyComponents, TableFull, PastEnd, BadRate, BadAddress}
-use Rattle.mux_config.specs.declared.edit.Edit.TheVariants.{AddSub, DropSub, MoveSub, RateSub, AddService, DropService, AddComponent, DropComponent, AddPacket, DropPacket}
-use Rattle.mux_types.specs.Configuration.{Configuration, IsConfiguration, IsAscending, IsPlaced, IsService, IsAddressed, IsSid, IsComponent, AreDifferent, size_of_sub, sub_key, sid_key, service_key, packet_key, carrier_of, component_limit}
+use Rattle.mux_config.specs.declared.fault.EditFault.TheVariants.{IdUsed, IdAbsent, TooManyComponents, TableFull}
+use Rattle.mux_config.specs.declared.fault.EditFault.TheVariants.{PastEnd, BadRate, BadAddress}
+use Rattle.mux_config.specs.declared.edit.Edit.TheVariants.{AddSub, DropSub, MoveSub, RateSub, AddService, DropService}
+use Rattle.mux_config.specs.declared.edit.Edit.TheVariants.{AddComponent, DropComponent, AddPacket, DropPacket}
+use Rattle.mux_types.specs.Configuration.{Configuration, IsConfiguration, IsAscending, IsPlaced, IsService, IsAddressed}
+use Rattle.mux_types.specs.Configuration.{IsSid, IsComponent, AreDifferent, size_of_sub, sub_key, sid_key, service_key}
+use Rattle.mux_types.specs.Configuration.{packet_key, carrier_of, component_limit}
 use Rattle.mux_types.specs.Tables.{entry_at, with_entry, without_entry, with_entry_changed, has_entry, changed_at}
-use Rattle.mux_config.specs.Edits.{absent_or, sub_at, service_at, at_start, at_rate, has_bad_rate, is_past_end, placing_fault, component_fault, with_component, without_carrier, has_bad_address, add_sub_fault, sub_added, sub_dropped, move_sub_fault, sub_moved, rate_sub_fault, sub_rated, add_service_fault, service_added, service_dropped, add_component_fault, component_added, drop_component_fault, component_dropped, add_packet_fault, packet_added, packet_dropped, EditsKeep}
+use Rattle.mux_config.specs.Edits.{absent_or, sub_at, service_at, at_start, at_rate, has_bad_rate, is_past_end}
+use Rattle.mux_config.specs.Edits.{placing_fault, component_fault, with_component, without_carrier, has_bad_address}
+use Rattle.mux_config.specs.Edits.{add_sub_fault, sub_added, sub_dropped, move_sub_fault, sub_moved, rate_sub_fault}
+use Rattle.mux_config.specs.Edits.{sub_rated, add_service_fault, service_added, service_dropped, add_component_fault}
+use Rattle.mux_config.specs.Edits.{component_added, drop_component_fault, component_dropped, add_packet_fault}
+use Rattle.mux_config.specs.Edits.{packet_added, packet_dropped, EditsKeep}
 use Rattle.mux_types.specs.Sameness.{names, is_same_carrier}
 use Rattle.mux_types.proofs.Walking.{each_at}
-use Rattle.mux_types.proofs.Tables.{each_weaker, each_pushed, each_with, each_without, each_changed, ascends_with, ascends_without, ascends_changed}
+use Rattle.mux_types.proofs.Tables.{each_weaker, each_pushed, each_with, each_without, each_changed, ascends_with}
+use Rattle.mux_types.proofs.Tables.{ascends_without, ascends_changed}
 
 -- ---- tests
 
@@ -30,11 +43,13 @@ some_none : {T : Type 0} {P : Type 0} (x : T) → Some x ≡ None → P
 some_none x e = absurd (cc)
 
 -- no fault: the test is false, and there is none after it
-pub passed : (t : Bool) (fault : EditFault) (rest : Option EditFault) → cond t (Some fault) rest ≡ None → (t ≡ false) × (rest ≡ None)
+pub passed : (t : Bool) (fault : EditFault) (rest : Option EditFault) → cond t (Some fault) rest ≡ None → (t ≡ false)
+    × (rest ≡ None)
 passed true fault rest e = some_none fault e
 passed false fault rest e = (refl, e)
 
-pub there : {T : Type 0} (o : Option T) (fault : T → Option EditFault) → absent_or o fault ≡ None → (x : T) × (o ≡ Some x) × (fault x ≡ None)
+pub there : {T : Type 0} (o : Option T) (fault : T → Option EditFault) → absent_or o fault ≡ None → (x : T)
+    × (o ≡ Some x) × (fault x ≡ None)
 there None fault e = some_none IdAbsent e
 there (Some x) fault e = (x, refl, e)
 
@@ -44,20 +59,25 @@ decided false h = refl
 
 -- ---- the member with a key
 
-absent_by : {T : Type 0} (key : T → ℕ) (k : ℕ) (x : T) (xs : List T) (t : Bool) → (t || has_entry key k xs) ≡ false → (has_entry key k xs ≡ false → entry_at key k xs ≡ None) → cond t (Some x) (entry_at key k xs) ≡ None
+absent_by : {T : Type 0} (key : T → ℕ) (k : ℕ) (x : T) (xs : List T) (t : Bool) → (t || has_entry key k xs) ≡ false
+    → (has_entry key k xs ≡ false → entry_at key k xs ≡ None) → cond t (Some x) (entry_at key k xs) ≡ None
 absent_by key k x xs true e rest = absurd (false≢true (sym e))
 absent_by key k x xs false e rest = rest e
 
-pub absent_told : {T : Type 0} (key : T → ℕ) (k : ℕ) (xs : List T) → has_entry key k xs ≡ false → entry_at key k xs ≡ None
+pub absent_told : {T : Type 0} (key : T → ℕ) (k : ℕ) (xs : List T) → has_entry key k xs ≡ false
+    → entry_at key k xs ≡ None
 absent_told key k [] e = refl
 absent_told key k (x ∷ xs) e = absent_by key k x xs (key x == k) e (absent_told key k xs)
 
-same_by : {T : Type 0} (key : T → ℕ) (k : ℕ) (x : T) (xs : List T) (t : Bool) → (o : Option T) → cond t (Some x) (entry_at key k xs) ≡ o → (has_entry key k xs ≡ true → (y : T) × (entry_at key k xs ≡ Some y)) → (t || has_entry key k xs) ≡ true → (y : T) × (o ≡ Some y)
+same_by : {T : Type 0} (key : T → ℕ) (k : ℕ) (x : T) (xs : List T) (t : Bool) → (o : Option T)
+    → cond t (Some x) (entry_at key k xs) ≡ o → (has_entry key k xs ≡ true → (y : T) × (entry_at key k xs ≡ Some y))
+    → (t || has_entry key k xs) ≡ true → (y : T) × (o ≡ Some y)
 same_by key k x xs true o is rest e = (x, sym is)
 same_by key k x xs false o is rest e = let found = rest e in (found.0, sym is ∙ found.1)
 
 -- a set has a member with a key exactly if one is found
-pub entry_found : {T : Type 0} (key : T → ℕ) (k : ℕ) (xs : List T) → has_entry key k xs ≡ true → (x : T) × (entry_at key k xs ≡ Some x)
+pub entry_found : {T : Type 0} (key : T → ℕ) (k : ℕ) (xs : List T) → has_entry key k xs ≡ true → (x : T)
+    × (entry_at key k xs ≡ Some x)
 entry_found key k [] e = absurd (false≢true e)
 entry_found key k (x ∷ xs) e = same_by key k x xs (key x == k) (entry_at key k (x ∷ xs)) refl (entry_found key k xs) e
 
@@ -69,41 +89,54 @@ absent_found_by : (t : Bool) → (t ≡ true → ⊥) → t ≡ false
 absent_found_by true h = absurd (h refl)
 absent_found_by false h = refl
 
-pub present : {T : Type 0} (key : T → ℕ) (k : ℕ) (xs : List T) (x : T) → entry_at key k xs ≡ Some x → has_entry key k xs ≡ true
-present key k xs x e = present_by (has_entry key k xs) (λ none. let wrong : Some x ≡ None = sym e ∙ absent_told key k xs none in some_none x wrong)
+pub present : {T : Type 0} (key : T → ℕ) (k : ℕ) (xs : List T) (x : T) → entry_at key k xs ≡ Some x
+    → has_entry key k xs ≡ true
+present key k xs x e = present_by (has_entry key k xs)
+    (λ none. let wrong : Some x ≡ None = sym e ∙ absent_told key k xs none in some_none x wrong)
 
-pub absent_found : {T : Type 0} (key : T → ℕ) (k : ℕ) (xs : List T) → entry_at key k xs ≡ None → has_entry key k xs ≡ false
-absent_found key k xs e = absent_found_by (has_entry key k xs) (λ some. let found = entry_found key k xs some in let wrong : Some found.0 ≡ None = sym found.1 ∙ e in some_none found.0 wrong)
+pub absent_found : {T : Type 0} (key : T → ℕ) (k : ℕ) (xs : List T) → entry_at key k xs ≡ None
+    → has_entry key k xs ≡ false
+absent_found key k xs e = absent_found_by (has_entry key k xs)
+    (λ some. let found = entry_found key k xs some in let wrong : Some found.0 ≡ None = sym found.1 ∙ e in
+    some_none found.0 wrong)
 
 -- a look-up finds a member exactly if the set has its key
-pub is_found : {T : Type 0} (key : T → ℕ) (k : ℕ) (xs : List T) (o : Option T) → o ≡ entry_at key k xs → is_some o ≡ has_entry key k xs
+pub is_found : {T : Type 0} (key : T → ℕ) (k : ℕ) (xs : List T) (o : Option T) → o ≡ entry_at key k xs
+    → is_some o ≡ has_entry key k xs
 is_found key k xs None e = sym (absent_found key k xs (sym e))
 is_found key k xs (Some x) e = sym (present key k xs x (sym e))
 
 -- and so does one that borrows it
-pub is_found_lent : {R T : Type 0} (now : R → T) (key : T → ℕ) (k : ℕ) (xs : List T) (o : Option R) → option_map now o ≡ entry_at key k xs → is_some o ≡ has_entry key k xs
+pub is_found_lent : {R T : Type 0} (now : R → T) (key : T → ℕ) (k : ℕ) (xs : List T) (o : Option R)
+    → option_map now o ≡ entry_at key k xs → is_some o ≡ has_entry key k xs
 is_found_lent now key k xs None e = sym (absent_found key k xs (sym e))
 is_found_lent now key k xs (Some r) e = sym (present key k xs (now r) (sym e))
 
-key_by : {T : Type 0} (key : T → ℕ) (k : ℕ) (x y : T) (rest : Option T) (t : Bool) → (t ≡ true → key x ≡ k) → cond t (Some x) rest ≡ Some y → (rest ≡ Some y → key y ≡ k) → key y ≡ k
+key_by : {T : Type 0} (key : T → ℕ) (k : ℕ) (x y : T) (rest : Option T) (t : Bool) → (t ≡ true → key x ≡ k)
+    → cond t (Some x) rest ≡ Some y → (rest ≡ Some y → key y ≡ k) → key y ≡ k
 key_by key k x y rest true here e later = let same : x ≡ y = cc in sym (ap key same) ∙ here refl
 key_by key k x y rest false here e later = later e
 
 pub entry_key : {T : Type 0} (key : T → ℕ) (k : ℕ) (xs : List T) (y : T) → entry_at key k xs ≡ Some y → key y ≡ k
 entry_key key k [] y e = some_none y (sym e)
-entry_key key k (x ∷ xs) y e = key_by key k x y (entry_at key k xs) (key x == k) (eqb-true (key x) k) e (entry_key key k xs y)
+entry_key key k (x ∷ xs) y e =
+    key_by key k x y (entry_at key k xs) (key x == k) (eqb-true (key x) k) e (entry_key key k xs y)
 
-holds_by : {T : Type 0} (P : T → Type 0) (x y : T) (rest : Option T) (t : Bool) → P x → cond t (Some x) rest ≡ Some y → (rest ≡ Some y → P y) → P y
+holds_by : {T : Type 0} (P : T → Type 0) (x y : T) (rest : Option T) (t : Bool) → P x → cond t (Some x) rest ≡ Some y
+    → (rest ≡ Some y → P y) → P y
 holds_by P x y rest true h e later = let same : x ≡ y = cc in subst P same h
 holds_by P x y rest false h e later = later e
 
-pub entry_holds : {T : Type 0} (P : T → Type 0) (key : T → ℕ) (k : ℕ) (xs : List T) (y : T) → AllByRecursion P xs → entry_at key k xs ≡ Some y → P y
+pub entry_holds : {T : Type 0} (P : T → Type 0) (key : T → ℕ) (k : ℕ) (xs : List T) (y : T) → AllByRecursion P xs
+    → entry_at key k xs ≡ Some y → P y
 entry_holds P key k [] y h e = some_none y (sym e)
-entry_holds P key k (x ∷ xs) y h e = holds_by P x y (entry_at key k xs) (key x == k) h.0 e (entry_holds P key k xs y h.1)
+entry_holds P key k (x ∷ xs) y h e =
+    holds_by P x y (entry_at key k xs) (key x == k) h.0 e (entry_holds P key k xs y h.1)
 
 -- ---- a set with one member changed
 
-unchanged : {T : Type 0} (key : T → ℕ) (k : ℕ) (change : T → T) (y : T) (xs : List T) → key y ≡ k → AllByRecursion (λ x. k < key x) xs → with_entry_changed key y xs ≡ changed_at key k change xs
+unchanged : {T : Type 0} (key : T → ℕ) (k : ℕ) (change : T → T) (y : T) (xs : List T) → key y ≡ k
+    → AllByRecursion (λ x. k < key x) xs → with_entry_changed key y xs ≡ changed_at key k change xs
 unchanged key k change y [] same above = refl
 unchanged key k change y (x ∷ xs) same above =
     let one : key x == key y ≡ false = ne_eqb (key x) (key y) (λ e. let h = above.0 in omega (arith, h)) in
@@ -112,7 +145,9 @@ unchanged key k change y (x ∷ xs) same above =
     rw (one, two) (ap (λ zs. x ∷ zs) tail)
 
 -- the changed member in place of the one with its key
-pub changed_here : {T : Type 0} (key : T → ℕ) (k : ℕ) (change : T → T) (xs : List T) (x : T) → IsAscending key xs → entry_at key k xs ≡ Some x → key (change x) ≡ k → with_entry_changed key (change x) xs ≡ changed_at key k change xs
+pub changed_here : {T : Type 0} (key : T → ℕ) (k : ℕ) (change : T → T) (xs : List T) (x : T) → IsAscending key xs
+    → entry_at key k xs ≡ Some x → key (change x) ≡ k → with_entry_changed key (change x) xs
+    ≡ changed_at key k change xs
 changed_here key k change [] x up e same = some_none x (sym e)
 changed_here key k change (y ∷ ys) x up e same =
     elim (cases_eq (key y) k) [
@@ -121,13 +156,15 @@ changed_here key k change (y ∷ ys) x up e same =
           let two : key y == k ≡ true = eq-eqb (key y) k here in
           let first : Some y ≡ Some x = sym (ap (λ (t : Bool). cond t (Some y) (entry_at key k ys)) two) ∙ e in
           let is : y ≡ x = cc in
-          let tail = unchanged key k change (change x) ys same (each_weaker (λ z. key y < key z) (λ z. k < key z) (λ z h. omega (arith, h, here)) ys up.0) in
+          let tail = unchanged key k change (change x) ys same
+          (each_weaker (λ z. key y < key z) (λ z. k < key z) (λ z h. omega (arith, h, here)) ys up.0) in
           let head : change x ≡ change y = ap change (sym is) in
           rw (one, two) (cc)
       | inr other ↦
           let one : key y == key (change x) ≡ false = ne_eqb (key y) (key (change x)) (λ h. other (h ∙ same)) in
           let two : key y == k ≡ false = ne_eqb (key y) k other in
-          let later : entry_at key k ys ≡ Some x = sym (ap (λ (t : Bool). cond t (Some y) (entry_at key k ys)) two) ∙ e in
+          let later : entry_at key k ys ≡ Some x = sym (ap (λ (t : Bool). cond t (Some y) (entry_at key k ys)) two)
+          ∙ e in
           let tail = changed_here key k change ys x up.1 later same in
           rw (one, two) (ap (λ zs. y ∷ zs) tail)
     ]
@@ -142,7 +179,8 @@ length_with key y (x ∷ xs) =
       | inr ge ↦ rw (le-ltb _ _ ge) (ap suc (length_with key y xs))
     ]
 
-filtered_by : {T : Type 0} (test : T → Bool) (x : T) (xs : List T) (t : Bool) → length (filter test xs) ≤ length xs → length (cond t (x ∷ filter test xs) (filter test xs)) ≤ suc (length xs)
+filtered_by : {T : Type 0} (test : T → Bool) (x : T) (xs : List T) (t : Bool) → length (filter test xs) ≤ length xs
+    → length (cond t (x ∷ filter test xs) (filter test xs)) ≤ suc (length xs)
 filtered_by test x xs true h = omega arith
 filtered_by test x xs false h = omega arith
 
@@ -150,21 +188,25 @@ pub length_filtered : {T : Type 0} (test : T → Bool) (xs : List T) → length 
 length_filtered test [] = omega arith
 length_filtered test (x ∷ xs) = filtered_by test x xs (test x) (length_filtered test xs)
 
-kept_by : {T : Type 0} (P : T → Type 0) (test : T → Bool) (x : T) (xs : List T) (t : Bool) → P x → AllByRecursion P (filter test xs) → AllByRecursion P (cond t (x ∷ filter test xs) (filter test xs))
+kept_by : {T : Type 0} (P : T → Type 0) (test : T → Bool) (x : T) (xs : List T) (t : Bool) → P x
+    → AllByRecursion P (filter test xs) → AllByRecursion P (cond t (x ∷ filter test xs) (filter test xs))
 kept_by P test x xs true h rest = (h, rest)
 kept_by P test x xs false h rest = rest
 
-pub each_filtered : {T : Type 0} (P : T → Type 0) (test : T → Bool) (xs : List T) → AllByRecursion P xs → AllByRecursion P (filter test xs)
+pub each_filtered : {T : Type 0} (P : T → Type 0) (test : T → Bool) (xs : List T) → AllByRecursion P xs
+    → AllByRecursion P (filter test xs)
 each_filtered P test [] h = tt
 each_filtered P test (x ∷ xs) h = kept_by P test x xs (test x) h.0 (each_filtered P test xs h.1)
 
 -- ascending keys in a range are at most as many as its numbers
-bounded : {T : Type 0} (key : T → ℕ) (xs : List T) (low high : ℕ) → IsAscending key xs → AllByRecursion (λ x. low ≤ key x) xs → AllByRecursion (λ x. key x < high) xs → low ≤ high → low + length xs ≤ high
+bounded : {T : Type 0} (key : T → ℕ) (xs : List T) (low high : ℕ) → IsAscending key xs
+    → AllByRecursion (λ x. low ≤ key x) xs → AllByRecursion (λ x. key x < high) xs → low ≤ high → low + length xs ≤ high
 bounded key [] low high up from to le = omega arith
 bounded key (x ∷ xs) low high up from to le =
     let first : low ≤ key x = from.0 in
     let last : key x < high = to.0 in
-    let rest = bounded key xs (suc (key x)) high up.1 (each_weaker (λ z. key x < key z) (λ z. suc (key x) ≤ key z) (λ z h. omega arith) xs up.0) to.1 (omega arith) in
+    let rest = bounded key xs (suc (key x)) high up.1
+    (each_weaker (λ z. key x < key z) (λ z. suc (key x) ≤ key z) (λ z h. omega arith) xs up.0) to.1 (omega arith) in
     omega (arith, rest)
 
 each_any : {T : Type 0} (key : T → ℕ) (xs : List T) → AllByRecursion (λ x. 0 ≤ key x) xs
@@ -187,7 +229,8 @@ services_set c h = record { ascends = h.services_ascend; each = h.services_forme
 pub packets_set : (c : Configuration) → IsConfiguration c → IsSet IsAddressed packet_key c.packets
 packets_set c h = record { ascends = h.packets_ascend; each = h.packets_addressed; few = h.packets_few }
 
-pub subs_keep : (c : Configuration) (xs : List Sub) → IsConfiguration c → IsSet IsPlaced sub_key xs → IsConfiguration (record c { subs = xs })
+pub subs_keep : (c : Configuration) (xs : List Sub) → IsConfiguration c → IsSet IsPlaced sub_key xs
+    → IsConfiguration (record c { subs = xs })
 subs_keep c xs h k = record {
   subs_ascend = k.ascends;
   services_ascend = h.services_ascend;
@@ -200,7 +243,8 @@ subs_keep c xs h k = record {
   packets_few = h.packets_few;
 }
 
-pub services_keep : (c : Configuration) (xs : List Service) → IsConfiguration c → IsSet IsService service_key xs → IsConfiguration (record c { services = xs })
+pub services_keep : (c : Configuration) (xs : List Service) → IsConfiguration c → IsSet IsService service_key xs
+    → IsConfiguration (record c { services = xs })
 services_keep c xs h k = record {
   subs_ascend = h.subs_ascend;
   services_ascend = k.ascends;
@@ -213,7 +257,8 @@ services_keep c xs h k = record {
   packets_few = h.packets_few;
 }
 
-pub packets_keep : (c : Configuration) (xs : List Packet) → IsConfiguration c → IsSet IsAddressed packet_key xs → IsConfiguration (record c { packets = xs })
+pub packets_keep : (c : Configuration) (xs : List Packet) → IsConfiguration c → IsSet IsAddressed packet_key xs
+    → IsConfiguration (record c { packets = xs })
 packets_keep c xs h k = record {
   subs_ascend = h.subs_ascend;
   services_ascend = h.services_ascend;
@@ -226,21 +271,25 @@ packets_keep c xs h k = record {
   packets_few = k.few;
 }
 
-pub set_with : {T : Type 0} (P : T → Type 0) (key : T → ℕ) (y : T) (xs : List T) → IsSet P key xs → entry_at key (key y) xs ≡ None → P y → length xs < 64 → IsSet P key (with_entry key y xs)
+pub set_with : {T : Type 0} (P : T → Type 0) (key : T → ℕ) (y : T) (xs : List T) → IsSet P key xs
+    → entry_at key (key y) xs ≡ None → P y → length xs < 64 → IsSet P key (with_entry key y xs)
 set_with P key y xs h absent holds room = record {
   ascends = ascends_with key y xs h.ascends absent;
   each = each_with P key y xs holds h.each;
   few = omega (arith, length_with key y xs);
 }
 
-pub set_without : {T : Type 0} (P : T → Type 0) (key : T → ℕ) (k : ℕ) (xs : List T) → IsSet P key xs → IsSet P key (without_entry key k xs)
+pub set_without : {T : Type 0} (P : T → Type 0) (key : T → ℕ) (k : ℕ) (xs : List T) → IsSet P key xs
+    → IsSet P key (without_entry key k xs)
 set_without P key k xs h = record {
   ascends = ascends_without key k xs h.ascends;
   each = each_without P key k xs h.each;
   few = let shorter = length_filtered (λ x. not (key x == k)) xs in omega (arith, shorter, h.few);
 }
 
-pub set_changed : {T : Type 0} (P : T → Type 0) (key : T → ℕ) (k : ℕ) (change : T → T) (xs : List T) (x : T) → IsSet P key xs → entry_at key k xs ≡ Some x → key (change x) ≡ k → P (change x) → IsSet P key (changed_at key k change xs)
+pub set_changed : {T : Type 0} (P : T → Type 0) (key : T → ℕ) (k : ℕ) (change : T → T) (xs : List T) (x : T)
+    → IsSet P key xs → entry_at key k xs ≡ Some x → key (change x) ≡ k → P (change x)
+    → IsSet P key (changed_at key k change xs)
 set_changed P key k change xs x h found same holds =
     subst (IsSet P key) (changed_here key k change xs x h.ascends found same) (record {
       ascends = ascends_changed key (change x) xs h.ascends;
@@ -250,7 +299,9 @@ set_changed P key k change xs x h found same holds =
 
 -- ---- sub-channels
 
-three_tests : (a b c : Bool) (n : ℕ) → is_err (cond a (Err ZeroRate) (cond b (Err NotMultiple) (cond c (Err PastMultiplex) (Ok n)))) ≡ false → (a ≡ false) × (b ≡ false) × (c ≡ false)
+three_tests : (a b c : Bool) (n : ℕ)
+    → is_err (cond a (Err ZeroRate) (cond b (Err NotMultiple) (cond c (Err PastMultiplex) (Ok n)))) ≡ false
+    → (a ≡ false) × (b ≡ false) × (c ≡ false)
 three_tests true b c n e = absurd (false≢true (sym e))
 three_tests false true c n e = absurd (false≢true (sym e))
 three_tests false false true n e = absurd (false≢true (sym e))
@@ -258,7 +309,8 @@ three_tests false false false n e = (refl, refl, refl)
 
 pub sized : (p : Profile) (kbits : ℕ) → is_err (size_or_fault p kbits) ≡ false → IsSize p kbits (table_size p kbits)
 sized p kbits e =
-    let tests = three_tests (kbits == 0) (ltb 0 (kbits % rate_step p.set)) (ltb 864 (table_size p kbits)) (table_size p kbits) e in
+    let tests = three_tests (kbits == 0) (ltb 0 (kbits % rate_step p.set)) (ltb 864 (table_size p kbits))
+    (table_size p kbits) e in
     record {
       positive = let some = eqb-false kbits 0 tests.0 in omega (arith, some);
       multiple = let none = ltb-false 0 (kbits % rate_step p.set) tests.1 in omega (arith, none);
@@ -266,7 +318,8 @@ sized p kbits e =
       within = ltb-false 864 (table_size p kbits) tests.2;
     }
 
-pub placed : (s : Sub) → s.id < 64 → 1 ≤ s.protection.level → s.protection.level ≤ 4 → placing_fault s ≡ None → IsPlaced s
+pub placed : (s : Sub) → s.id < 64 → 1 ≤ s.protection.level → s.protection.level ≤ 4 → placing_fault s ≡ None
+    → IsPlaced s
 placed s named from to e =
     let rate = passed (has_bad_rate s) BadRate (cond (is_past_end s) (Some PastEnd) None) e in
     let end = passed (is_past_end s) PastEnd None rate.1 in
@@ -282,7 +335,8 @@ each_named : (xs : List Sub) → AllByRecursion IsPlaced xs → AllByRecursion (
 each_named xs h = each_weaker IsPlaced (λ s. sub_key s < 64) (λ s k. k.named) xs h
 
 -- if an identifier is free, there is room for a sub-channel
-pub sub_room : (c : Configuration) (s : Sub) → IsConfiguration c → s.id < 64 → entry_at sub_key s.id c.subs ≡ None → length c.subs < 64
+pub sub_room : (c : Configuration) (s : Sub) → IsConfiguration c → s.id < 64 → entry_at sub_key s.id c.subs ≡ None
+    → length c.subs < 64
 sub_room c s h named absent =
     let more = with_entry sub_key s c.subs in
     let up = ascends_with sub_key s c.subs h.subs_ascend absent in
@@ -291,22 +345,28 @@ sub_room c s h named absent =
     omega (arith, count, length_with sub_key s c.subs)
 
 -- what an insertion requires
-pub add_sub_fits : (s : Sub) (c : Configuration) → s.id < 64 → IsConfiguration c → add_sub_fault s c ≡ None → (entry_at sub_key s.id c.subs ≡ None) × (length c.subs < 64)
+pub add_sub_fits : (s : Sub) (c : Configuration) → s.id < 64 → IsConfiguration c → add_sub_fault s c ≡ None
+    → (entry_at sub_key s.id c.subs ≡ None) × (length c.subs < 64)
 add_sub_fits s c named h e =
     let parts = passed (has_entry sub_key s.id c.subs) IdUsed (placing_fault s) e in
     let absent = absent_told sub_key s.id c.subs parts.0 in
     (absent, sub_room c s h named absent)
 
-pub add_sub_keeps : (s : Sub) (c : Configuration) → s.id < 64 → 1 ≤ s.protection.level → s.protection.level ≤ 4 → IsConfiguration c → add_sub_fault s c ≡ None → IsConfiguration (sub_added s c)
+pub add_sub_keeps : (s : Sub) (c : Configuration) → s.id < 64 → 1 ≤ s.protection.level → s.protection.level ≤ 4
+    → IsConfiguration c → add_sub_fault s c ≡ None → IsConfiguration (sub_added s c)
 add_sub_keeps s c named from to h e =
     let parts = passed (has_entry sub_key s.id c.subs) IdUsed (placing_fault s) e in
     let absent = absent_told sub_key s.id c.subs parts.0 in
-    subs_keep c (with_entry sub_key s c.subs) h (set_with IsPlaced sub_key s c.subs (subs_set c h) absent (placed s named from to parts.1) (sub_room c s h named absent))
+    subs_keep c (with_entry sub_key s c.subs) h
+    (set_with IsPlaced sub_key s c.subs (subs_set c h) absent (placed s named from to parts.1)
+    (sub_room c s h named absent))
 
 pub drop_sub_keeps : (id : ℕ) (c : Configuration) → IsConfiguration c → IsConfiguration (sub_dropped id c)
-drop_sub_keeps id c h = subs_keep c (without_entry sub_key id c.subs) h (set_without IsPlaced sub_key id c.subs (subs_set c h))
+drop_sub_keeps id c h = subs_keep c (without_entry sub_key id c.subs) h
+    (set_without IsPlaced sub_key id c.subs (subs_set c h))
 
-pub moved_placed : (start : ℕ) (s : Sub) → IsPlaced s → is_past_end (at_start start s) ≡ false → IsPlaced (at_start start s)
+pub moved_placed : (start : ℕ) (s : Sub) → IsPlaced s → is_past_end (at_start start s) ≡ false
+    → IsPlaced (at_start start s)
 moved_placed start s h e = record {
   named = h.named;
   from_one = h.from_one;
@@ -315,42 +375,52 @@ moved_placed start s h e = record {
   ends = ltb-false 864 (start + size_of_sub s) e;
 }
 
-pub move_sub_keeps : (id start : ℕ) (c : Configuration) → IsConfiguration c → move_sub_fault id start c ≡ None → IsConfiguration (sub_moved id start c)
+pub move_sub_keeps : (id start : ℕ) (c : Configuration) → IsConfiguration c → move_sub_fault id start c ≡ None
+    → IsConfiguration (sub_moved id start c)
 move_sub_keeps id start c h e =
     let found = there (sub_at id c) (λ s. cond (is_past_end (at_start start s)) (Some PastEnd) None) e in
     let s = found.0 in
     let was : IsPlaced s = entry_holds IsPlaced sub_key id c.subs s h.subs_placed found.1 in
     let parts = passed (is_past_end (at_start start s)) PastEnd None found.2 in
     subs_keep c (changed_at sub_key id (at_start start) c.subs) h
-    (set_changed IsPlaced sub_key id (at_start start) c.subs s (subs_set c h) found.1 (entry_key sub_key id c.subs s found.1) (moved_placed start s was parts.0))
+    (set_changed IsPlaced sub_key id (at_start start) c.subs s (subs_set c h) found.1
+    (entry_key sub_key id c.subs s found.1) (moved_placed start s was parts.0))
 
-pub rate_sub_keeps : (id kbits : ℕ) (c : Configuration) → IsConfiguration c → rate_sub_fault id kbits c ≡ None → IsConfiguration (sub_rated id kbits c)
+pub rate_sub_keeps : (id kbits : ℕ) (c : Configuration) → IsConfiguration c → rate_sub_fault id kbits c ≡ None
+    → IsConfiguration (sub_rated id kbits c)
 rate_sub_keeps id kbits c h e =
     let found = there (sub_at id c) (λ s. placing_fault (at_rate kbits s)) e in
     let s = found.0 in
     let was : IsPlaced s = entry_holds IsPlaced sub_key id c.subs s h.subs_placed found.1 in
     subs_keep c (changed_at sub_key id (at_rate kbits) c.subs) h
-    (set_changed IsPlaced sub_key id (at_rate kbits) c.subs s (subs_set c h) found.1 (entry_key sub_key id c.subs s found.1) (placed (at_rate kbits s) was.named was.from_one was.to_four found.2))
+    (set_changed IsPlaced sub_key id (at_rate kbits) c.subs s (subs_set c h) found.1
+    (entry_key sub_key id c.subs s found.1) (placed (at_rate kbits s) was.named was.from_one was.to_four found.2))
 
 -- ---- services
 
-pub add_service_fits : (sid : Sid) (c : Configuration) → add_service_fault sid c ≡ None → (entry_at service_key (sid_key sid) c.services ≡ None) × (length c.services < 64)
+pub add_service_fits : (sid : Sid) (c : Configuration) → add_service_fault sid c ≡ None
+    → (entry_at service_key (sid_key sid) c.services ≡ None) × (length c.services < 64)
 add_service_fits sid c e =
-    let one = passed (has_entry service_key (sid_key sid) c.services) IdUsed (cond (leb 64 (length c.services)) (Some TableFull) None) e in
+    let one = passed (has_entry service_key (sid_key sid) c.services) IdUsed
+    (cond (leb 64 (length c.services)) (Some TableFull) None) e in
     let two = passed (leb 64 (length c.services)) TableFull None one.1 in
     (absent_told service_key (sid_key sid) c.services one.0, leb-false 64 (length c.services) two.0)
 
-pub add_service_keeps : (sid : Sid) (c : Configuration) → IsSid sid → IsConfiguration c → add_service_fault sid c ≡ None → IsConfiguration (service_added sid c)
+pub add_service_keeps : (sid : Sid) (c : Configuration) → IsSid sid → IsConfiguration c → add_service_fault sid c ≡ None
+    → IsConfiguration (service_added sid c)
 add_service_keeps sid c named h e =
-    let one = passed (has_entry service_key (sid_key sid) c.services) IdUsed (cond (leb 64 (length c.services)) (Some TableFull) None) e in
+    let one = passed (has_entry service_key (sid_key sid) c.services) IdUsed
+    (cond (leb 64 (length c.services)) (Some TableFull) None) e in
     let two = passed (leb 64 (length c.services)) TableFull None one.1 in
     let fresh : Service = record { sid = sid; components = [] } in
     services_keep c (with_entry service_key fresh c.services) h
-    (set_with IsService service_key fresh c.services (services_set c h) (absent_told service_key (sid_key sid) c.services one.0)
+    (set_with IsService service_key fresh c.services (services_set c h)
+    (absent_told service_key (sid_key sid) c.services one.0)
     (record { named = named; within = tt; carriers = tt; few = omega arith }) (leb-false 64 (length c.services) two.0))
 
 pub drop_service_keeps : (sid : Sid) (c : Configuration) → IsConfiguration c → IsConfiguration (service_dropped sid c)
-drop_service_keeps sid c h = services_keep c (without_entry service_key (sid_key sid) c.services) h (set_without IsService service_key (sid_key sid) c.services (services_set c h))
+drop_service_keeps sid c h = services_keep c (without_entry service_key (sid_key sid) c.services) h
+    (set_without IsService service_key (sid_key sid) c.services (services_set c h))
 
 -- ---- components
 
@@ -359,36 +429,47 @@ same_itself (BySub n) = eq-eqb n n refl
 same_itself (ByPacket n) = eq-eqb n n refl
 
 pub names_told : (carrier : Carrier) (m : Component) → names carrier m ≡ false → carrier_of m ≢ carrier
-names_told carrier m e same = false≢true (sym e ∙ subst (λ (a : Carrier). is_same_carrier a carrier ≡ true) (sym same) (same_itself carrier))
+names_told carrier m e same = false≢true (sym e ∙ subst (λ (a : Carrier). is_same_carrier a carrier ≡ true) (sym same)
+    (same_itself carrier))
 
 either : (a b : Bool) → (a || b) ≡ false → (a ≡ false) × (b ≡ false)
 either true b e = absurd (false≢true (sym e))
 either false b e = (refl, e)
 
-different_pushed : (ms : List Component) (m : Component) → AreDifferent ms → list_any (names (carrier_of m)) ms ≡ false → AreDifferent (ms ++ m ∷ [])
+different_pushed : (ms : List Component) (m : Component) → AreDifferent ms → list_any (names (carrier_of m)) ms ≡ false
+    → AreDifferent (ms ++ m ∷ [])
 different_pushed [] m h e = (tt, tt)
 different_pushed (n ∷ ns) m h e =
-    let parts = either (names (carrier_of m) n) (list_any (names (carrier_of m)) ns) e in
-    (each_pushed (λ d. carrier_of n ≢ carrier_of d) ns m h.0 (names_told (carrier_of m) n parts.0), different_pushed ns m h.1 parts.1)
+    let parts = either (names (carrier_of m) n) (list_any (names (carrier_of m)) ns) e in (
+      each_pushed (λ d. carrier_of n ≢ carrier_of d) ns m h.0 (names_told (carrier_of m) n parts.0),
+      different_pushed ns m h.1 parts.1,
+    )
 
-different_by : (test : Component → Bool) (m : Component) (ms : List Component) (t : Bool) → AllByRecursion (λ d. carrier_of m ≢ carrier_of d) (filter test ms) → AreDifferent (filter test ms) → AreDifferent (cond t (m ∷ filter test ms) (filter test ms))
+different_by : (test : Component → Bool) (m : Component) (ms : List Component) (t : Bool)
+    → AllByRecursion (λ d. carrier_of m ≢ carrier_of d) (filter test ms) → AreDifferent (filter test ms)
+    → AreDifferent (cond t (m ∷ filter test ms) (filter test ms))
 different_by test m ms true h rest = (h, rest)
 different_by test m ms false h rest = rest
 
 different_filtered : (test : Component → Bool) (ms : List Component) → AreDifferent ms → AreDifferent (filter test ms)
 different_filtered test [] h = tt
-different_filtered test (m ∷ ms) h = different_by test m ms (test m) (each_filtered (λ d. carrier_of m ≢ carrier_of d) test ms h.0) (different_filtered test ms h.1)
+different_filtered test (m ∷ ms) h =
+    different_by test m ms (test m) (each_filtered (λ d. carrier_of m ≢ carrier_of d) test ms h.0)
+    (different_filtered test ms h.1)
 
 -- the length of a list after one more
 pushed_length : {T : Type 0} (xs : List T) (x : T) → length (xs ++ x ∷ []) ≡ length xs + 1
 pushed_length xs x = length-append xs (x ∷ [])
 
-pub grown : (m : Component) (s : Service) → IsComponent m → IsService s → list_any (names (carrier_of m)) s.components ≡ false → leb (component_limit s.sid) (length s.components) ≡ false → IsService (with_component m s)
+pub grown : (m : Component) (s : Service) → IsComponent m → IsService s
+    → list_any (names (carrier_of m)) s.components ≡ false → leb (component_limit s.sid) (length s.components) ≡ false
+    → IsService (with_component m s)
 grown m s within h free room = record {
   named = h.named;
   within = each_pushed IsComponent s.components m h.within within;
   carriers = different_pushed s.components m h.carriers free;
-  few = let less = leb-false (component_limit s.sid) (length s.components) room in omega (arith, less, pushed_length s.components m);
+  few = let less = leb-false (component_limit s.sid) (length s.components) room in
+      omega (arith, less, pushed_length s.components m);
 }
 
 pub shrunk : (carrier : Carrier) (s : Service) → IsService s → IsService (without_carrier carrier s)
@@ -400,28 +481,34 @@ shrunk carrier s h = record {
 }
 
 -- a service that accepts one more component has room for it
-pub component_fits : (m : Component) (s : Service) → IsComponent m → IsService s → component_fault m s ≡ None → (length s.components < component_limit s.sid) × IsService (with_component m s)
+pub component_fits : (m : Component) (s : Service) → IsComponent m → IsService s → component_fault m s ≡ None
+    → (length s.components < component_limit s.sid) × IsService (with_component m s)
 component_fits m s within h e =
-    let one = passed (list_any (names (carrier_of m)) s.components) IdUsed (cond (leb (component_limit s.sid) (length s.components)) (Some TooManyComponents) None) e in
+    let one = passed (list_any (names (carrier_of m)) s.components) IdUsed
+    (cond (leb (component_limit s.sid) (length s.components)) (Some TooManyComponents) None) e in
     let two = passed (leb (component_limit s.sid) (length s.components)) TooManyComponents None one.1 in
     (leb-false (component_limit s.sid) (length s.components) two.0, grown m s within h one.0 two.0)
 
-pub add_component_keeps : (sid : Sid) (m : Component) (c : Configuration) → IsComponent m → IsConfiguration c → add_component_fault sid m c ≡ None → IsConfiguration (component_added sid m c)
+pub add_component_keeps : (sid : Sid) (m : Component) (c : Configuration) → IsComponent m → IsConfiguration c
+    → add_component_fault sid m c ≡ None → IsConfiguration (component_added sid m c)
 add_component_keeps sid m c within h e =
     let found = there (service_at sid c) (component_fault m) e in
     let s = found.0 in
     let was : IsService s = entry_holds IsService service_key (sid_key sid) c.services s h.services_formed found.1 in
     let fits = component_fits m s within was found.2 in
     services_keep c (changed_at service_key (sid_key sid) (with_component m) c.services) h
-    (set_changed IsService service_key (sid_key sid) (with_component m) c.services s (services_set c h) found.1 (entry_key service_key (sid_key sid) c.services s found.1) fits.1)
+    (set_changed IsService service_key (sid_key sid) (with_component m) c.services s (services_set c h) found.1
+    (entry_key service_key (sid_key sid) c.services s found.1) fits.1)
 
-pub drop_component_keeps : (sid : Sid) (carrier : Carrier) (c : Configuration) → IsConfiguration c → drop_component_fault sid carrier c ≡ None → IsConfiguration (component_dropped sid carrier c)
+pub drop_component_keeps : (sid : Sid) (carrier : Carrier) (c : Configuration) → IsConfiguration c
+    → drop_component_fault sid carrier c ≡ None → IsConfiguration (component_dropped sid carrier c)
 drop_component_keeps sid carrier c h e =
     let found = there (service_at sid c) (λ s. cond (list_any (names carrier) s.components) None (Some IdAbsent)) e in
     let s = found.0 in
     let was : IsService s = entry_holds IsService service_key (sid_key sid) c.services s h.services_formed found.1 in
     services_keep c (changed_at service_key (sid_key sid) (without_carrier carrier) c.services) h
-    (set_changed IsService service_key (sid_key sid) (without_carrier carrier) c.services s (services_set c h) found.1 (entry_key service_key (sid_key sid) c.services s found.1) (shrunk carrier s was))
+    (set_changed IsService service_key (sid_key sid) (without_carrier carrier) c.services s (services_set c h) found.1
+    (entry_key service_key (sid_key sid) c.services s found.1) (shrunk carrier s was))
 
 -- carriers that the test finds the same are equal
 pub carrier_same : (a b : Carrier) → is_same_carrier a b ≡ true → a ≡ b
@@ -434,24 +521,30 @@ named_not : (carrier : Carrier) (m : Component) → (carrier_of m ≢ carrier) �
 named_not carrier m differ = decided (names carrier m) (λ e. differ (carrier_same (carrier_of m) carrier e))
 
 -- if no component has the carrier, all stay
-all_stay : (carrier : Carrier) (ms : List Component) → AllByRecursion (λ m. carrier_of m ≢ carrier) ms → filter (λ m. not (names carrier m)) ms ≡ ms
+all_stay : (carrier : Carrier) (ms : List Component) → AllByRecursion (λ m. carrier_of m ≢ carrier) ms
+    → filter (λ m. not (names carrier m)) ms ≡ ms
 all_stay carrier [] h = refl
 all_stay carrier (m ∷ ms) h = rw (named_not carrier m h.0) (ap (λ ns. m ∷ ns) (all_stay carrier ms h.1))
 
-pub stay_told : (carrier : Carrier) (ms : List Component) → list_any (names carrier) ms ≡ false → filter (λ m. not (names carrier m)) ms ≡ ms
+pub stay_told : (carrier : Carrier) (ms : List Component) → list_any (names carrier) ms ≡ false
+    → filter (λ m. not (names carrier m)) ms ≡ ms
 stay_told carrier [] e = refl
 stay_told carrier (m ∷ ms) e =
     let parts = either (names carrier m) (list_any (names carrier) ms) e in
     rw parts.0 (ap (λ ns. m ∷ ns) (stay_told carrier ms parts.1))
 
 -- the others close up
-pub closed_up : (carrier : Carrier) (ms : List Component) (i : ℕ) (m : Component) → AreDifferent ms → slice_get ms i ≡ Some m → carrier_of m ≡ carrier → remove ms i ≡ filter (λ n. not (names carrier n)) ms
+pub closed_up : (carrier : Carrier) (ms : List Component) (i : ℕ) (m : Component) → AreDifferent ms
+    → slice_get ms i ≡ Some m → carrier_of m ≡ carrier → remove ms i ≡ filter (λ n. not (names carrier n)) ms
 closed_up carrier [] i m h at is = some_none m (sym at)
 closed_up carrier (n ∷ ns) zero m h at is =
     let same : n ≡ m = cc in
     let here : carrier_of n ≡ carrier = ap carrier_of same ∙ is in
-    let named : names carrier n ≡ true = subst (λ (a : Carrier). is_same_carrier a carrier ≡ true) (sym here) (same_itself carrier) in
-    let stay = all_stay carrier ns (each_weaker (λ d. carrier_of n ≢ carrier_of d) (λ d. carrier_of d ≢ carrier) (λ d differ e. differ (here ∙ sym e)) ns h.0) in
+    let named : names carrier n ≡ true =
+    subst (λ (a : Carrier). is_same_carrier a carrier ≡ true) (sym here) (same_itself carrier) in
+    let stay = all_stay carrier ns
+    (each_weaker (λ d. carrier_of n ≢ carrier_of d) (λ d. carrier_of d ≢ carrier)
+    (λ d differ e. differ (here ∙ sym e)) ns h.0) in
     rw named (sym stay)
 closed_up carrier (n ∷ ns) (suc i) m h at is =
     let other : carrier_of n ≢ carrier = λ e. each_at (λ d. carrier_of n ≢ carrier_of d) ns i m h.0 at (e ∙ sym is) in
@@ -465,25 +558,31 @@ either_number p e =
     let some = eqb-false p.address 0 parts.0 in
     (omega (arith, some), ltb-false 1023 p.address parts.1)
 
-pub add_packet_fits : (p : Packet) (c : Configuration) → add_packet_fault p c ≡ None → (entry_at packet_key p.scid c.packets ≡ None) × (length c.packets < 64)
+pub add_packet_fits : (p : Packet) (c : Configuration) → add_packet_fault p c ≡ None
+    → (entry_at packet_key p.scid c.packets ≡ None) × (length c.packets < 64)
 add_packet_fits p c e =
-    let one = passed (has_entry packet_key p.scid c.packets) IdUsed (cond (has_bad_address p) (Some BadAddress) (cond (leb 64 (length c.packets)) (Some TableFull) None)) e in
+    let one = passed (has_entry packet_key p.scid c.packets) IdUsed
+    (cond (has_bad_address p) (Some BadAddress) (cond (leb 64 (length c.packets)) (Some TableFull) None)) e in
     let two = passed (has_bad_address p) BadAddress (cond (leb 64 (length c.packets)) (Some TableFull) None) one.1 in
     let three = passed (leb 64 (length c.packets)) TableFull None two.1 in
     (absent_told packet_key p.scid c.packets one.0, leb-false 64 (length c.packets) three.0)
 
-pub add_packet_keeps : (p : Packet) (c : Configuration) → p.scid < 4096 → p.ty < 64 → p.sub < 64 → IsConfiguration c → add_packet_fault p c ≡ None → IsConfiguration (packet_added p c)
+pub add_packet_keeps : (p : Packet) (c : Configuration) → p.scid < 4096 → p.ty < 64 → p.sub < 64 → IsConfiguration c
+    → add_packet_fault p c ≡ None → IsConfiguration (packet_added p c)
 add_packet_keeps p c named typed carried h e =
-    let one = passed (has_entry packet_key p.scid c.packets) IdUsed (cond (has_bad_address p) (Some BadAddress) (cond (leb 64 (length c.packets)) (Some TableFull) None)) e in
+    let one = passed (has_entry packet_key p.scid c.packets) IdUsed
+    (cond (has_bad_address p) (Some BadAddress) (cond (leb 64 (length c.packets)) (Some TableFull) None)) e in
     let two = passed (has_bad_address p) BadAddress (cond (leb 64 (length c.packets)) (Some TableFull) None) one.1 in
     let three = passed (leb 64 (length c.packets)) TableFull None two.1 in
     let address = either_number p two.0 in
     packets_keep c (with_entry packet_key p c.packets) h
     (set_with IsAddressed packet_key p c.packets (packets_set c h) (absent_told packet_key p.scid c.packets one.0)
-    (record { named = named; typed = typed; carried = carried; from_one = address.0; to_last = address.1 }) (leb-false 64 (length c.packets) three.0))
+    (record { named = named; typed = typed; carried = carried; from_one = address.0; to_last = address.1 })
+    (leb-false 64 (length c.packets) three.0))
 
 pub drop_packet_keeps : (scid : ℕ) (c : Configuration) → IsConfiguration c → IsConfiguration (packet_dropped scid c)
-drop_packet_keeps scid c h = packets_keep c (without_entry packet_key scid c.packets) h (set_without IsAddressed packet_key scid c.packets (packets_set c h))
+drop_packet_keeps scid c h = packets_keep c (without_entry packet_key scid c.packets) h
+    (set_without IsAddressed packet_key scid c.packets (packets_set c h))
 
 -- ---- all ten
 

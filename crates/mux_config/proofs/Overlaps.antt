@@ -1,6 +1,8 @@
 -- The searches of sub-channels for the first overlap, and of packet components for an address used twice.
 
-use Rattle.std.proofs.Common.{◌≡◌, ℕ, zero, suc, ◌+◌, ◌==◌, ◌&&◌, Bool, true, false, cond, ◌||◌, List, [], ◌∷◌, drop, Option, Some, None, is_some, refl, sym, ap, ◌∙◌, slice_get, slice_index_or, slice_set, replicate, length, ◌<◌, inl, inr, arith}
+use Rattle.std.proofs.Common.{◌≡◌, ℕ, zero, suc, ◌+◌, ◌==◌, ◌&&◌, Bool, true, false, cond, ◌||◌, List, [], ◌∷◌, drop}
+use Rattle.std.proofs.Common.{Option, Some, None, is_some, refl, sym, ap, ◌∙◌, slice_get, slice_index_or, slice_set}
+use Rattle.std.proofs.Common.{replicate, length, ◌<◌, inl, inr, arith}
 use Rattle.std.specs.List.{list_any}
 use Rattle.std.proofs.lemmas.Bool.{false≢true}
 use Rattle.std.proofs.lemmas.Bool.Decides.{eqb_tells}
@@ -10,15 +12,22 @@ use Rattle.mux_types.specs.declared.parts.Sub.{Sub}
 use Rattle.mux_types.specs.declared.parts.Packet.{Packet}
 use Rattle.mux_config.specs.declared.fault.ConfigFault.{ConfigFault}
 use Rattle.mux_config.specs.declared.fault.ConfigFault.TheVariants.{Overlap}
-use Rattle.mux_config.specs.Sound.{overlaps, overlap_with, first_overlap, first_of_two, has_same_address, has_address_twice}
+use Rattle.mux_config.specs.Sound.{overlaps, overlap_with, first_overlap, first_of_two, has_same_address}
+use Rattle.mux_config.specs.Sound.{has_address_twice}
 use Rattle.mux_types.proofs.Walking.{cut}
 
 -- ---- the search for the first overlap
 
-with_step : (a : Sub) (xs : List Sub) (i : ℕ) (b : Sub) → slice_get xs i ≡ Some b → overlap_with a (drop i xs) ≡ first_of_two (cond (overlaps a b) (Some (Overlap a.id b.id)) None) (overlap_with a (drop (i + 1) xs))
-with_step a xs i b e = rw (cut xs i b e) (elim (overlaps a b) as (λ t. cond t (Some (Overlap a.id b.id)) (overlap_with a (drop (i + 1) xs)) ≡ first_of_two (cond t (Some (Overlap a.id b.id)) None) (overlap_with a (drop (i + 1) xs))) [ true ↦ refl | false ↦ refl ])
+with_step : (a : Sub) (xs : List Sub) (i : ℕ) (b : Sub) → slice_get xs i ≡ Some b
+    → overlap_with a (drop i xs) ≡ first_of_two (cond (overlaps a b) (Some (Overlap a.id b.id)) None)
+    (overlap_with a (drop (i + 1) xs))
+with_step a xs i b e = rw (cut xs i b e)
+    (elim (overlaps a b) as (λ t. cond t (Some (Overlap a.id b.id)) (overlap_with a (drop (i + 1) xs))
+    ≡ first_of_two (cond t (Some (Overlap a.id b.id)) None) (overlap_with a (drop (i + 1) xs)))
+    [ true ↦ refl | false ↦ refl ])
 
-first_step : (xs : List Sub) (i : ℕ) (a : Sub) → slice_get xs i ≡ Some a → first_overlap (drop i xs) ≡ first_of_two (overlap_with a (drop (i + 1) xs)) (first_overlap (drop (i + 1) xs))
+first_step : (xs : List Sub) (i : ℕ) (a : Sub) → slice_get xs i ≡ Some a
+    → first_overlap (drop i xs) ≡ first_of_two (overlap_with a (drop (i + 1) xs)) (first_overlap (drop (i + 1) xs))
 first_step xs i a e = rw (cut xs i a e) refl
 
 found : (one other all : Option ConfigFault) → first_of_two one other ≡ all → is_some one ≡ true → one ≡ all
@@ -29,21 +38,31 @@ kept : (one other all : Option ConfigFault) → first_of_two one other ≡ all �
 kept None other all e none = e
 kept (Some fault) other all e none = absurd (false≢true (sym none))
 
-pub with_found : (a : Sub) (xs : List Sub) (i : ℕ) (b : Sub) (all : Option ConfigFault) → overlap_with a (drop i xs) ≡ all → slice_get xs i ≡ Some b → overlaps a b ≡ true → Some (Overlap a.id b.id) ≡ all
+pub with_found : (a : Sub) (xs : List Sub) (i : ℕ) (b : Sub) (all : Option ConfigFault)
+    → overlap_with a (drop i xs) ≡ all → slice_get xs i ≡ Some b → overlaps a b ≡ true → Some (Overlap a.id b.id) ≡ all
 with_found a xs i b all left e is =
-    ap (λ (t : Bool). first_of_two (cond t (Some (Overlap a.id b.id)) None) (overlap_with a (drop (i + 1) xs))) (sym is) ∙ sym (with_step a xs i b e) ∙ left
+    ap (λ (t : Bool). first_of_two (cond t (Some (Overlap a.id b.id)) None) (overlap_with a (drop (i + 1) xs))) (sym is)
+    ∙ sym (with_step a xs i b e) ∙ left
 
-pub with_more : (a : Sub) (xs : List Sub) (i : ℕ) (b : Sub) (all : Option ConfigFault) → overlap_with a (drop i xs) ≡ all → slice_get xs i ≡ Some b → overlaps a b ≡ false → overlap_with a (drop (i + 1) xs) ≡ all
+pub with_more : (a : Sub) (xs : List Sub) (i : ℕ) (b : Sub) (all : Option ConfigFault)
+    → overlap_with a (drop i xs) ≡ all → slice_get xs i ≡ Some b → overlaps a b ≡ false
+    → overlap_with a (drop (i + 1) xs) ≡ all
 with_more a xs i b all left e is =
-    ap (λ (t : Bool). first_of_two (cond t (Some (Overlap a.id b.id)) None) (overlap_with a (drop (i + 1) xs))) (sym is) ∙ sym (with_step a xs i b e) ∙ left
+    ap (λ (t : Bool). first_of_two (cond t (Some (Overlap a.id b.id)) None) (overlap_with a (drop (i + 1) xs))) (sym is)
+    ∙ sym (with_step a xs i b e) ∙ left
 
-pub first_found : (xs : List Sub) (i : ℕ) (a : Sub) (fault all : Option ConfigFault) → first_overlap (drop i xs) ≡ all → slice_get xs i ≡ Some a → fault ≡ overlap_with a (drop (i + 1) xs) → is_some fault ≡ true → fault ≡ all
+pub first_found : (xs : List Sub) (i : ℕ) (a : Sub) (fault all : Option ConfigFault) → first_overlap (drop i xs) ≡ all
+    → slice_get xs i ≡ Some a → fault ≡ overlap_with a (drop (i + 1) xs) → is_some fault ≡ true → fault ≡ all
 first_found xs i a fault all left e is some =
-    is ∙ found (overlap_with a (drop (i + 1) xs)) (first_overlap (drop (i + 1) xs)) all (sym (first_step xs i a e) ∙ left) (ap is_some (sym is) ∙ some)
+    is ∙ found (overlap_with a (drop (i + 1) xs)) (first_overlap (drop (i + 1) xs)) all
+    (sym (first_step xs i a e) ∙ left) (ap is_some (sym is) ∙ some)
 
-pub first_more : (xs : List Sub) (i : ℕ) (a : Sub) (fault all : Option ConfigFault) → first_overlap (drop i xs) ≡ all → slice_get xs i ≡ Some a → fault ≡ overlap_with a (drop (i + 1) xs) → is_some fault ≡ false → first_overlap (drop (i + 1) xs) ≡ all
+pub first_more : (xs : List Sub) (i : ℕ) (a : Sub) (fault all : Option ConfigFault) → first_overlap (drop i xs) ≡ all
+    → slice_get xs i ≡ Some a → fault ≡ overlap_with a (drop (i + 1) xs) → is_some fault ≡ false
+    → first_overlap (drop (i + 1) xs) ≡ all
 first_more xs i a fault all left e is none =
-    kept (overlap_with a (drop (i + 1) xs)) (first_overlap (drop (i + 1) xs)) all (sym (first_step xs i a e) ∙ left) (ap is_some (sym is) ∙ none)
+    kept (overlap_with a (drop (i + 1) xs)) (first_overlap (drop (i + 1) xs)) all (sym (first_step xs i a e) ∙ left)
+    (ap is_some (sym is) ∙ none)
 
 -- ---- the search for an address used twice
 
@@ -75,20 +94,27 @@ either_later false b e = e
 twice_later : (xs : List Packet) (i : ℕ) → has_address_twice (drop i xs) ≡ true → has_address_twice xs ≡ true
 twice_later xs zero e = e
 twice_later [] (suc i) e = e
-twice_later (x ∷ xs) (suc i) e = either_later (list_any (has_same_address x) xs) (has_address_twice xs) (twice_later xs i e)
+twice_later (x ∷ xs) (suc i) e =
+    either_later (list_any (has_same_address x) xs) (has_address_twice xs) (twice_later xs i e)
 
-twice_step : (xs : List Packet) (i : ℕ) (p : Packet) → slice_get xs i ≡ Some p → has_address_twice (drop i xs) ≡ (list_any (has_same_address p) (drop (i + 1) xs) || has_address_twice (drop (i + 1) xs))
+twice_step : (xs : List Packet) (i : ℕ) (p : Packet) → slice_get xs i ≡ Some p
+    → has_address_twice (drop i xs)
+    ≡ (list_any (has_same_address p) (drop (i + 1) xs) || has_address_twice (drop (i + 1) xs))
 twice_step xs i p e = rw (cut xs i p e) refl
 
-pub twice_found : (xs : List Packet) (i : ℕ) (p : Packet) → slice_get xs i ≡ Some p → list_any (has_same_address p) (drop (i + 1) xs) ≡ true → true ≡ has_address_twice xs
+pub twice_found : (xs : List Packet) (i : ℕ) (p : Packet) → slice_get xs i ≡ Some p
+    → list_any (has_same_address p) (drop (i + 1) xs) ≡ true → true ≡ has_address_twice xs
 twice_found xs i p e here =
     sym (twice_later xs i (twice_step xs i p e ∙ ap (λ (t : Bool). t || has_address_twice (drop (i + 1) xs)) here))
 
-pub twice_not : (xs : List Packet) (i : ℕ) (p : Packet) → slice_get xs i ≡ Some p → list_any (has_same_address p) (drop (i + 1) xs) ≡ false → has_address_twice (drop (i + 1) xs) ≡ false
+pub twice_not : (xs : List Packet) (i : ℕ) (p : Packet) → slice_get xs i ≡ Some p
+    → list_any (has_same_address p) (drop (i + 1) xs) ≡ false → has_address_twice (drop (i + 1) xs) ≡ false
     → has_address_twice (drop i xs) ≡ false
-twice_not xs i p e here later = twice_step xs i p e ∙ ap (λ (t : Bool). t || has_address_twice (drop (i + 1) xs)) here ∙ later
+twice_not xs i p e here later = twice_step xs i p e ∙ ap (λ (t : Bool). t || has_address_twice (drop (i + 1) xs)) here
+    ∙ later
 
-pub twice_unnamed : (xs : List Packet) (i : ℕ) (p : Packet) → slice_get xs i ≡ Some p → is_named p.sub (drop (i + 1) xs) ≡ false → has_address_twice (drop (i + 1) xs) ≡ false
+pub twice_unnamed : (xs : List Packet) (i : ℕ) (p : Packet) → slice_get xs i ≡ Some p
+    → is_named p.sub (drop (i + 1) xs) ≡ false → has_address_twice (drop (i + 1) xs) ≡ false
     → has_address_twice (drop i xs) ≡ false
 twice_unnamed xs i p e unnamed later = twice_not xs i p e (none_alike p (drop (i + 1) xs) unnamed) later
 
@@ -99,10 +125,13 @@ Marks named ps = (s : ℕ) → s < 64 → slice_index_or named s false ≡ is_na
 pub marks_none : (named : List Bool) (ps : List Packet) → named ≡ replicate 64 false → ps ≡ [] → Marks named ps
 marks_none named ps e f s lt = rw (e, f) (get_or-replicate 64 s false false lt)
 
-pub marks_one : (named : List Bool) (xs : List Packet) (i : ℕ) (p : Packet) → slice_get xs i ≡ Some p → length named ≡ 64 → p.sub < 64 → Marks named (drop (i + 1) xs)
+pub marks_one : (named : List Bool) (xs : List Packet) (i : ℕ) (p : Packet) → slice_get xs i ≡ Some p
+    → length named ≡ 64 → p.sub < 64 → Marks named (drop (i + 1) xs)
     → Marks (slice_set named p.sub true) (drop i xs)
 marks_one named xs i p e len lt marks s within = rw (cut xs i p e) (
     elim (eqb_tells s p.sub) [
-      | inl same ↦ get_or-set_at named p.sub s true false same.1 (omega (arith, len, lt)) ∙ ap (λ (t : Bool). t || is_named s (drop (i + 1) xs)) (sym same.0)
-      | inr other ↦ get_or-set_other named p.sub s true false other.1 ∙ marks s within ∙ ap (λ (t : Bool). t || is_named s (drop (i + 1) xs)) (sym other.0)
+      | inl same ↦ get_or-set_at named p.sub s true false same.1 (omega (arith, len, lt))
+          ∙ ap (λ (t : Bool). t || is_named s (drop (i + 1) xs)) (sym same.0)
+      | inr other ↦ get_or-set_other named p.sub s true false other.1 ∙ marks s within
+          ∙ ap (λ (t : Bool). t || is_named s (drop (i + 1) xs)) (sym other.0)
     ])

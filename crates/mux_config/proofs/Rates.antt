@@ -14,10 +14,13 @@ chosen false false false k l m n h i j g = g
 
 -- each step of a rate takes at least one unit
 pub units_positive : (set : EepSet) (level : ℕ) → 0 < units_of_step set level
-units_positive A level = chosen (eqb level 1) (eqb level 2) (eqb level 3) 12 8 6 4 (omega arith) (omega arith) (omega arith) (omega arith)
-units_positive B level = chosen (eqb level 1) (eqb level 2) (eqb level 3) 27 21 18 15 (omega arith) (omega arith) (omega arith) (omega arith)
+units_positive A level = chosen (eqb level 1) (eqb level 2) (eqb level 3) 12 8 6 4 (omega arith) (omega arith)
+    (omega arith) (omega arith)
+units_positive B level = chosen (eqb level 1) (eqb level 2) (eqb level 3) 27 21 18 15 (omega arith) (omega arith)
+    (omega arith) (omega arith)
 
-steps_told : (set : EepSet) (one other : ℕ) → one % rate_step set ≡ 0 → other % rate_step set ≡ 0 → one / rate_step set ≡ other / rate_step set → one ≡ other
+steps_told : (set : EepSet) (one other : ℕ) → one % rate_step set ≡ 0 → other % rate_step set ≡ 0
+    → one / rate_step set ≡ other / rate_step set → one ≡ other
 steps_told A one other h k e = omega arith
 steps_told B one other h k e = omega arith
 
@@ -28,4 +31,5 @@ one_rate p one other size h k =
     let n = other / rate_step p.set in
     let same : units * (one / rate_step p.set) ≡ units * (other / rate_step p.set) = sym h.from_table ∙ k.from_table in
     steps_told p.set one other h.multiple k.multiple
-    (sym (mul-div_cancel_left m (units_positive p.set p.level)) ∙ ap (λ (x : ℕ). x / units) same ∙ mul-div_cancel_left n (units_positive p.set p.level))
+    (sym (mul-div_cancel_left m (units_positive p.set p.level)) ∙ ap (λ (x : ℕ). x / units) same
+    ∙ mul-div_cancel_left n (units_positive p.set p.level))

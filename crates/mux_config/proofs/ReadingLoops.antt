@@ -1,5 +1,6 @@
 -- One iteration of the loops that read `count` components or members: the rest gives the same result as all of it.
-use Rattle.std.proofs.Common.{◌≡◌, ℕ, suc, ◌+◌, ◌-◌, ◌<◌, ◌≤◌, true, false, List, [], ◌∷◌, ◌++◌, Ok, Err, refl, sym, ◌∙◌, arith}
+use Rattle.std.proofs.Common.{◌≡◌, ℕ, suc, ◌+◌, ◌-◌, ◌<◌, ◌≤◌, true, false, List, [], ◌∷◌, ◌++◌, Ok, Err, refl, sym}
+use Rattle.std.proofs.Common.{◌∙◌, arith}
 use Rattle.std.specs.List.{list_any}
 use Rattle.mux_types.specs.declared.parts.Component.{Component}
 use Rattle.mux_config.specs.declared.record.RecordFault.{RecordFault}
@@ -11,14 +12,16 @@ use Rattle.mux_config.specs.Reading.{components_at, members_at}
 
 -- ---- components
 
-pub component_fault : (total : ℕ) (before : List Component) (count i : ℕ) (bytes : List ℕ) (whole : Reads (List Component)) (e : RecordFault) → i < count
+pub component_fault : (total : ℕ) (before : List Component) (count i : ℕ) (bytes : List ℕ)
+    (whole : Reads (List Component)) (e : RecordFault) → i < count
     → components_at total before (count - i) bytes ≡ whole → component_at total bytes ≡ Err e → whole ≡ Err e
 unfolding components_at
 component_fault total before count i bytes whole e lt so_far fault =
     let more : count - i ≡ suc (count - (i + 1)) = omega (arith, lt) in
     sym so_far ∙ rw (more, fault) refl
 
-pub component_repeated : (total : ℕ) (before : List Component) (count i : ℕ) (bytes : List ℕ) (whole : Reads (List Component)) (c : Component) (rest : List ℕ) → i < count
+pub component_repeated : (total : ℕ) (before : List Component) (count i : ℕ) (bytes : List ℕ)
+    (whole : Reads (List Component)) (c : Component) (rest : List ℕ) → i < count
     → components_at total before (count - i) bytes ≡ whole → component_at total bytes ≡ Ok (c, rest)
     → list_any (names (carrier_of c)) before ≡ true → whole ≡ Err (Field (place total bytes))
 unfolding components_at
@@ -26,15 +29,18 @@ component_repeated total before count i bytes whole c rest lt so_far read named 
     let more : count - i ≡ suc (count - (i + 1)) = omega (arith, lt) in
     sym so_far ∙ rw (more, read, named) refl
 
-pub component_fresh : (total : ℕ) (before : List Component) (count i : ℕ) (bytes : List ℕ) (whole : Reads (List Component)) (c : Component) (rest : List ℕ) → i < count
+pub component_fresh : (total : ℕ) (before : List Component) (count i : ℕ) (bytes : List ℕ)
+    (whole : Reads (List Component)) (c : Component) (rest : List ℕ) → i < count
     → components_at total before (count - i) bytes ≡ whole → component_at total bytes ≡ Ok (c, rest)
-    → list_any (names (carrier_of c)) before ≡ false → components_at total (before ++ c ∷ []) (count - (i + 1)) rest ≡ whole
+    → list_any (names (carrier_of c)) before ≡ false → components_at total (before ++ c ∷ []) (count - (i + 1)) rest
+    ≡ whole
 unfolding components_at
 component_fresh total before count i bytes whole c rest lt so_far read named =
     let more : count - i ≡ suc (count - (i + 1)) = omega (arith, lt) in
     sym (sym so_far ∙ rw (more, read, named) refl)
 
-pub components_done : (total : ℕ) (before : List Component) (count i : ℕ) (bytes : List ℕ) (whole : Reads (List Component)) → count ≤ i
+pub components_done : (total : ℕ) (before : List Component) (count i : ℕ) (bytes : List ℕ)
+    (whole : Reads (List Component)) → count ≤ i
     → components_at total before (count - i) bytes ≡ whole → whole ≡ Ok (before, bytes)
 unfolding components_at
 components_done total before count i bytes whole past so_far =
@@ -43,14 +49,16 @@ components_done total before count i bytes whole past so_far =
 
 -- ---- members
 
-pub member_fault : {T : Type 0} (key : T → ℕ) (member_at : ℕ → List ℕ → Reads T) (low : ℕ) (before : List T) (count i : ℕ) (bytes : List ℕ) (whole : Reads (List T)) (e : RecordFault) → i < count
+pub member_fault : {T : Type 0} (key : T → ℕ) (member_at : ℕ → List ℕ → Reads T) (low : ℕ) (before : List T)
+    (count i : ℕ) (bytes : List ℕ) (whole : Reads (List T)) (e : RecordFault) → i < count
     → members_at key member_at low before (count - i) bytes ≡ whole → member_at low bytes ≡ Err e → whole ≡ Err e
 unfolding members_at
 member_fault key member_at low before count i bytes whole e lt so_far fault =
     let more : count - i ≡ suc (count - (i + 1)) = omega (arith, lt) in
     sym so_far ∙ rw (more, fault) refl
 
-pub member_next : {T : Type 0} (key : T → ℕ) (member_at : ℕ → List ℕ → Reads T) (low : ℕ) (before : List T) (count i : ℕ) (bytes : List ℕ) (whole : Reads (List T)) (x : T) (rest : List ℕ) → i < count
+pub member_next : {T : Type 0} (key : T → ℕ) (member_at : ℕ → List ℕ → Reads T) (low : ℕ) (before : List T)
+    (count i : ℕ) (bytes : List ℕ) (whole : Reads (List T)) (x : T) (rest : List ℕ) → i < count
     → members_at key member_at low before (count - i) bytes ≡ whole → member_at low bytes ≡ Ok (x, rest)
     → members_at key member_at (key x + 1) (before ++ x ∷ []) (count - (i + 1)) rest ≡ whole
 unfolding members_at
@@ -58,7 +66,8 @@ member_next key member_at low before count i bytes whole x rest lt so_far read =
     let more : count - i ≡ suc (count - (i + 1)) = omega (arith, lt) in
     sym (sym so_far ∙ rw (more, read) refl)
 
-pub members_done : {T : Type 0} (key : T → ℕ) (member_at : ℕ → List ℕ → Reads T) (low : ℕ) (before : List T) (count i : ℕ) (bytes : List ℕ) (whole : Reads (List T)) → count ≤ i
+pub members_done : {T : Type 0} (key : T → ℕ) (member_at : ℕ → List ℕ → Reads T) (low : ℕ) (before : List T)
+    (count i : ℕ) (bytes : List ℕ) (whole : Reads (List T)) → count ≤ i
     → members_at key member_at low before (count - i) bytes ≡ whole → whole ≡ Ok (before, bytes)
 unfolding members_at
 members_done key member_at low before count i bytes whole past so_far =

@@ -16,7 +16,8 @@ use Rattle.mux_config.specs.declared.flags.Change.{Change}
 use Rattle.mux_types.specs.Configuration.{Configuration}
 use Rattle.mux_types.specs.Facts.{sub_entries, service_entries, sub_entry, HaveSameMembers}
 use Rattle.mux_config.specs.Change.{ChangeIsUnique, has_same_subs, has_same_services}
-use Rattle.mux_types.specs.Sameness.{is_same_flag, is_same_list, is_same_set, is_same_sub, is_same_sid, is_same_component, is_same_service, is_same_packet}
+use Rattle.mux_types.specs.Sameness.{is_same_flag, is_same_list, is_same_set, is_same_sub, is_same_sid}
+use Rattle.mux_types.specs.Sameness.{is_same_component, is_same_service, is_same_packet}
 use Rattle.mux_config.proofs.FactSets.{same_members, subs_of_sets, services_of_sets}
 
 -- ---- tests
@@ -40,7 +41,8 @@ flag_itself : (a : Bool) → is_same_flag a a ≡ true
 flag_itself true = refl
 flag_itself false = refl
 
-pub list_same : {T : Type 0} (same : T → T → Bool) → ((a b : T) → same a b ≡ true → a ≡ b) → (xs ys : List T) → is_same_list same xs ys ≡ true → xs ≡ ys
+pub list_same : {T : Type 0} (same : T → T → Bool) → ((a b : T) → same a b ≡ true → a ≡ b) → (xs ys : List T)
+    → is_same_list same xs ys ≡ true → xs ≡ ys
 list_same same told [] [] e = refl
 list_same same told [] (y ∷ ys) e = absurd (false≢true e)
 list_same same told (x ∷ xs) [] e = absurd (false≢true e)
@@ -50,12 +52,15 @@ list_same same told (x ∷ xs) (y ∷ ys) e =
     let tail : xs ≡ ys = list_same same told xs ys parts.1 in
     cc
 
-pub list_itself : {T : Type 0} (same : T → T → Bool) → ((a : T) → same a a ≡ true) → (xs : List T) → is_same_list same xs xs ≡ true
+pub list_itself : {T : Type 0} (same : T → T → Bool) → ((a : T) → same a a ≡ true) → (xs : List T)
+    → is_same_list same xs xs ≡ true
 list_itself same told [] = refl
 list_itself same told (x ∷ xs) = both_hold _ _ (told x) (list_itself same told xs)
 
-pub list_equal : {T : Type 0} (same : T → T → Bool) → ((a : T) → same a a ≡ true) → (xs ys : List T) → xs ≡ ys → is_same_list same xs ys ≡ true
-list_equal same told xs ys e = let P : List _ → Type 0 = λ zs. is_same_list same xs zs ≡ true in subst P e (list_itself same told xs)
+pub list_equal : {T : Type 0} (same : T → T → Bool) → ((a : T) → same a a ≡ true) → (xs ys : List T) → xs ≡ ys
+    → is_same_list same xs ys ≡ true
+list_equal same told xs ys e = let P : List _ → Type 0 = λ zs. is_same_list same xs zs ≡ true in
+    subst P e (list_itself same told xs)
 
 -- ---- the parts of a configuration
 
@@ -84,7 +89,9 @@ sub_same a b e =
 
 pub sub_itself : (a : Sub) → is_same_sub a a ≡ true
 sub_itself a =
-    both_hold _ _ (both_hold _ _ (both_hold _ _ (both_hold _ _ (eqb_itself a.id) (eqb_itself a.start)) (set_itself a.protection.set)) (eqb_itself a.protection.level)) (eqb_itself a.kbits)
+    both_hold _ _ (both_hold _ _
+    (both_hold _ _ (both_hold _ _ (eqb_itself a.id) (eqb_itself a.start)) (set_itself a.protection.set))
+    (eqb_itself a.protection.level)) (eqb_itself a.kbits)
 
 pub sid_same : (a b : Sid) → is_same_sid a b ≡ true → a ≡ b
 sid_same (Short a) (Short b) e = ap Short (eqb-true a b e)
@@ -97,11 +104,13 @@ sid_itself (Short a) = eqb_itself a
 sid_itself (Long a) = eqb_itself a
 
 pub component_same : (m n : Component) → is_same_component m n ≡ true → m ≡ n
-component_same (Sound ty sub) (Sound uy tub) e = let parts = both_parts _ _ e in let one : ty ≡ uy = eqb-true _ _ parts.0 in let two : sub ≡ tub = eqb-true _ _ parts.1 in cc
+component_same (Sound ty sub) (Sound uy tub) e = let parts = both_parts _ _ e in let one : ty ≡ uy =
+    eqb-true _ _ parts.0 in let two : sub ≡ tub = eqb-true _ _ parts.1 in cc
 component_same (Sound ty sub) (Stream uy tub) e = absurd (false≢true e)
 component_same (Sound ty sub) (InPackets scid) e = absurd (false≢true e)
 component_same (Stream ty sub) (Sound uy tub) e = absurd (false≢true e)
-component_same (Stream ty sub) (Stream uy tub) e = let parts = both_parts _ _ e in let one : ty ≡ uy = eqb-true _ _ parts.0 in let two : sub ≡ tub = eqb-true _ _ parts.1 in cc
+component_same (Stream ty sub) (Stream uy tub) e = let parts = both_parts _ _ e in let one : ty ≡ uy =
+    eqb-true _ _ parts.0 in let two : sub ≡ tub = eqb-true _ _ parts.1 in cc
 component_same (Stream ty sub) (InPackets scid) e = absurd (false≢true e)
 component_same (InPackets scid) (Sound uy tub) e = absurd (false≢true e)
 component_same (InPackets scid) (Stream uy tub) e = absurd (false≢true e)
@@ -137,7 +146,9 @@ packet_same p q e =
 
 pub packet_itself : (p : Packet) → is_same_packet p p ≡ true
 packet_itself p =
-    both_hold _ _ (both_hold _ _ (both_hold _ _ (both_hold _ _ (eqb_itself p.scid) (flag_itself p.dg)) (eqb_itself p.ty)) (eqb_itself p.sub)) (eqb_itself p.address)
+    both_hold _ _ (both_hold _ _
+    (both_hold _ _ (both_hold _ _ (eqb_itself p.scid) (flag_itself p.dg)) (eqb_itself p.ty)) (eqb_itself p.sub))
+    (eqb_itself p.address)
 
 -- ---- configurations
 
@@ -145,35 +156,50 @@ subs_same : (xs ys : List Sub) → is_same_list is_same_sub xs ys ≡ true → x
 subs_same xs ys e = list_same is_same_sub sub_same xs ys e
 
 subs_itself : (xs ys : List Sub) → xs ≡ ys → is_same_list is_same_sub xs ys ≡ true
-subs_itself xs ys e = subst (λ (zs : List Sub). is_same_list is_same_sub xs zs ≡ true) e (list_itself is_same_sub sub_itself xs)
+subs_itself xs ys e = subst (λ (zs : List Sub). is_same_list is_same_sub xs zs ≡ true) e
+    (list_itself is_same_sub sub_itself xs)
 
-services_same : (c d : Configuration) → has_same_services c d ≡ true → (c.services ≡ d.services) × (c.packets ≡ d.packets)
+services_same : (c d : Configuration) → has_same_services c d ≡ true → (c.services ≡ d.services)
+    × (c.packets ≡ d.packets)
 services_same c d e =
-    let parts = both_parts _ _ e in
-    (list_same is_same_service service_same c.services d.services parts.0, list_same is_same_packet packet_same c.packets d.packets parts.1)
+    let parts = both_parts _ _ e in (
+      list_same is_same_service service_same c.services d.services parts.0,
+      list_same is_same_packet packet_same c.packets d.packets parts.1,
+    )
 
 services_itself : (c d : Configuration) → c.services ≡ d.services → c.packets ≡ d.packets → has_same_services c d ≡ true
 services_itself c d e f =
     both_hold _ _
-    (subst (λ (zs : List Service). is_same_list is_same_service c.services zs ≡ true) e (list_itself is_same_service service_itself c.services))
-    (subst (λ (zs : List Packet). is_same_list is_same_packet c.packets zs ≡ true) f (list_itself is_same_packet packet_itself c.packets))
+    (subst (λ (zs : List Service). is_same_list is_same_service c.services zs ≡ true) e
+    (list_itself is_same_service service_itself c.services))
+    (subst (λ (zs : List Packet). is_same_list is_same_packet c.packets zs ≡ true) f
+    (list_itself is_same_packet packet_itself c.packets))
 
 -- the negation of a test for a property is the only flag that is true exactly if the property does not hold
-flag_told : (flag test : Bool) (P : Type 0) → (test ≡ true → P) → (P → test ≡ true) → ((flag ≡ true) ↔ (P → ⊥)) ↔ (flag ≡ not test)
+flag_told : (flag test : Bool) (P : Type 0) → (test ≡ true → P) → (P → test ≡ true) → ((flag ≡ true) ↔ (P → ⊥))
+    ↔ (flag ≡ not test)
 flag_told true true P same itself = (λ h. absurd (h.0 refl (same refl)), λ e. absurd (false≢true (sym e)))
 flag_told true false P same itself = (λ h. refl, λ e. (λ _ holds. false≢true (itself holds), λ _. refl))
-flag_told false true P same itself = (λ h. refl, λ e. (λ wrong. absurd (false≢true wrong), λ differ. absurd (differ (same refl))))
-flag_told false false P same itself = (λ h. absurd (false≢true (h.1 (λ holds. false≢true (itself holds)))), λ e. absurd (false≢true e))
+flag_told false true P same itself =
+    (λ h. refl, λ e. (λ wrong. absurd (false≢true wrong), λ differ. absurd (differ (same refl))))
+flag_told false false P same itself =
+    (λ h. absurd (false≢true (h.1 (λ holds. false≢true (itself holds)))), λ e. absurd (false≢true e))
 
 pub change_told : OneRate → ChangeIsUnique
 change_told rates c d change h k =
     let subs = flag_told change.subs (has_same_subs c d) (HaveSameMembers (sub_entries c) (sub_entries d))
-    (λ e. same_members (ap (map sub_entry) (subs_same c.subs d.subs e))) (λ e. subs_itself c.subs d.subs (subs_of_sets rates c d h k e)) in
-    let services = flag_told change.services (has_same_services c d) (HaveSameMembers (service_entries c) (service_entries d))
-    (λ e. let parts = services_same c d e in let equal : service_entries c ≡ service_entries d = cc in same_members equal)
+    (λ e. same_members (ap (map sub_entry) (subs_same c.subs d.subs e)))
+    (λ e. subs_itself c.subs d.subs (subs_of_sets rates c d h k e)) in
+    let services = flag_told change.services (has_same_services c d)
+    (HaveSameMembers (service_entries c) (service_entries d))
+    (λ e. let parts = services_same c d e in let equal : service_entries c ≡ service_entries d = cc in
+    same_members equal)
     (λ e. let parts = services_of_sets c d h k e in services_itself c d parts.0 parts.1) in (
       λ is. let one : change.subs ≡ not (has_same_subs c d) = subs.0 is.subs in
           let two : change.services ≡ not (has_same_services c d) = services.0 is.services in
           λ i. record { subs = one i; services = two i },
-      λ e. record { subs = subs.1 (ap (λ (x : Change). x.subs) e); services = services.1 (ap (λ (x : Change). x.services) e) },
+      λ e. record {
+        subs = subs.1 (ap (λ (x : Change). x.subs) e);
+        services = services.1 (ap (λ (x : Change). x.services) e);
+      },
     )

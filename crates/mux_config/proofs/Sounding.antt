@@ -1,5 +1,7 @@
 -- A configuration is sound exactly if no fault is found.
-use Rattle.std.proofs.Common.{◌≡◌, ◌≢◌, ℕ, ◌+◌, ◌/◌, ◌%◌, ◌<◌, ◌==◌, Bool, true, false, not, cond, ◌&&◌, ◌||◌, ltb, List, [], ◌∷◌, length, Contains, Option, Some, None, is_some, refl, sym, ap, ◌∙◌, subst, ◌⊎◌, inl, inr, arith}
+use Rattle.std.proofs.Common.{◌≡◌, ◌≢◌, ℕ, ◌+◌, ◌/◌, ◌%◌, ◌<◌, ◌==◌, Bool, true, false, not, cond, ◌&&◌, ◌||◌, ltb}
+use Rattle.std.proofs.Common.{List, [], ◌∷◌, length, Contains, Option, Some, None, is_some, refl, sym, ap, ◌∙◌, subst}
+use Rattle.std.proofs.Common.{◌⊎◌, inl, inr, arith}
 use Rattle.std.specs.List.{list_any, AllByRecursion}
 use Rattle.std.proofs.lemmas.Bool.{false≢true, eqb-true, eq-eqb, ne_eqb, ltb-true, lt-ltb, cases_lt}
 use Rattle.std.proofs.Math.Nat.{le-mul_of_pos_right}
@@ -14,9 +16,12 @@ use Rattle.mux_types.specs.declared.parts.Carrier.TheVariants.{Sub as BySub, Pac
 use Rattle.mux_types.specs.declared.parts.Packet.{Packet}
 use Rattle.mux_config.specs.declared.fault.ConfigFault.{ConfigFault}
 use Rattle.mux_config.specs.declared.fault.ConfigFault.TheVariants.{Overlap, Orphan, AddressUsed, EmptyService}
-use Rattle.mux_types.specs.Configuration.{Configuration, IsConfiguration, IsAscending, IsPlaced, size_of_sub, sub_key, packet_key, carrier_of}
+use Rattle.mux_types.specs.Configuration.{Configuration, IsConfiguration, IsAscending, IsPlaced, size_of_sub, sub_key}
+use Rattle.mux_types.specs.Configuration.{packet_key, carrier_of}
 use Rattle.mux_types.specs.Tables.{has_entry, entry_at}
-use Rattle.mux_config.specs.Sound.{IsUnitOf, IsThere, IsSound, IsCrowded, overlaps, overlap_with, first_of_two, first_overlap, is_crowded, is_missing, has_orphan, has_same_address, has_address_twice, is_empty_service, other_fault, first_fault}
+use Rattle.mux_config.specs.Sound.{IsUnitOf, IsThere, IsSound, IsCrowded, overlaps, overlap_with, first_of_two}
+use Rattle.mux_config.specs.Sound.{first_overlap, is_crowded, is_missing, has_orphan, has_same_address}
+use Rattle.mux_config.specs.Sound.{has_address_twice, is_empty_service, other_fault, first_fault}
 use Rattle.mux_config.specs.SoundFaults.{AreCarried, AreFilled}
 use Rattle.mux_config.proofs.Rates.{units_positive}
 use Rattle.mux_types.proofs.Elements.{contains_cases, contains_first, contains_later, contains_none, each_contains}
@@ -30,18 +35,27 @@ either false b e = (refl, e)
 neither : (a b : Bool) → a ≡ false → b ≡ false → (a || b) ≡ false
 neither a b p q = subst (λ (t : Bool). (t || b) ≡ false) (sym p) q
 
-pub none_told : {T : Type 0} (test : T → Bool) (xs : List T) (x : T) → list_any test xs ≡ false → Contains xs x → test x ≡ false
+pub none_told : {T : Type 0} (test : T → Bool) (xs : List T) (x : T) → list_any test xs ≡ false → Contains xs x
+    → test x ≡ false
 none_told test [] x e there = absurd (contains_none x there)
 none_told test (y ∷ ys) x e there =
     let parts = either (test y) (list_any test ys) e in
-    elim (contains_cases y ys x there) [ inl same ↦ ap test (sym same) ∙ parts.0 | inr later ↦ none_told test ys x parts.1 later ]
+    elim (contains_cases y ys x there) [
+      | inl same ↦ ap test (sym same) ∙ parts.0
+      | inr later ↦
+          none_told test ys x parts.1 later
+    ]
 
-pub none_holds : {T : Type 0} (test : T → Bool) (xs : List T) → ((x : T) → Contains xs x → test x ≡ false) → list_any test xs ≡ false
+pub none_holds : {T : Type 0} (test : T → Bool) (xs : List T) → ((x : T) → Contains xs x → test x ≡ false)
+    → list_any test xs ≡ false
 none_holds test [] h = refl
 none_holds test (y ∷ ys) h =
-    neither (test y) (list_any test ys) (h y (contains_first y ys)) (none_holds test ys (λ x there. h x (contains_later y ys x there)))
+    neither (test y) (list_any test ys) (h y (contains_first y ys))
+    (none_holds test ys (λ x there. h x (contains_later y ys x there)))
 
-any_told_by : {T : Type 0} (test : T → Bool) (y : T) (ys : List T) (t : Bool) → test y ≡ t → (t || list_any test ys) ≡ true → (list_any test ys ≡ true → (x : T) × Contains ys x × (test x ≡ true)) → (x : T) × Contains (y ∷ ys) x × (test x ≡ true)
+any_told_by : {T : Type 0} (test : T → Bool) (y : T) (ys : List T) (t : Bool) → test y ≡ t
+    → (t || list_any test ys) ≡ true → (list_any test ys ≡ true → (x : T) × Contains ys x × (test x ≡ true)) → (x : T)
+    × Contains (y ∷ ys) x × (test x ≡ true)
 any_told_by test y ys true is e rest = (y, contains_first y ys, is)
 any_told_by test y ys false is e rest = let found = rest e in (found.0, contains_later y ys found.0 found.1, found.2)
 
@@ -49,11 +63,13 @@ or_true : (a b : Bool) → b ≡ true → (a || b) ≡ true
 or_true true b e = refl
 or_true false b e = e
 
-pub any_told : {T : Type 0} (test : T → Bool) (xs : List T) → list_any test xs ≡ true → (x : T) × Contains xs x × (test x ≡ true)
+pub any_told : {T : Type 0} (test : T → Bool) (xs : List T) → list_any test xs ≡ true → (x : T) × Contains xs x
+    × (test x ≡ true)
 any_told test [] e = absurd (false≢true e)
 any_told test (y ∷ ys) e = any_told_by test y ys (test y) refl e (any_told test ys)
 
-pub any_holds : {T : Type 0} (test : T → Bool) (xs : List T) (x : T) → Contains xs x → test x ≡ true → list_any test xs ≡ true
+pub any_holds : {T : Type 0} (test : T → Bool) (xs : List T) (x : T) → Contains xs x → test x ≡ true
+    → list_any test xs ≡ true
 any_holds test [] x there e = absurd (contains_none x there)
 any_holds test (y ∷ ys) x there e =
     elim (contains_cases y ys x there) [
@@ -74,7 +90,8 @@ not_false : (t : Bool) → not t ≡ false → t ≡ true
 not_false true e = refl
 not_false false e = absurd (false≢true (sym e))
 
-no_pair : (t : Bool) (fault : ConfigFault) (rest : Option ConfigFault) → cond t (Some fault) rest ≡ None → (t ≡ false) × (rest ≡ None)
+no_pair : (t : Bool) (fault : ConfigFault) (rest : Option ConfigFault) → cond t (Some fault) rest ≡ None → (t ≡ false)
+    × (rest ≡ None)
 no_pair true fault rest e = absurd (cc)
 no_pair false fault rest e = (refl, e)
 
@@ -82,13 +99,15 @@ no_fault : (one other : Option ConfigFault) → first_of_two one other ≡ None 
 no_fault None other e = (refl, e)
 no_fault (Some fault) other e = absurd (cc)
 
-no_tests : (a b c : Bool) → cond a (Some Orphan) (cond b (Some AddressUsed) (cond c (Some EmptyService) None)) ≡ None → (a ≡ false) × (b ≡ false) × (c ≡ false)
+no_tests : (a b c : Bool) → cond a (Some Orphan) (cond b (Some AddressUsed) (cond c (Some EmptyService) None)) ≡ None
+    → (a ≡ false) × (b ≡ false) × (c ≡ false)
 no_tests true b c e = absurd (cc)
 no_tests false true c e = absurd (cc)
 no_tests false false true e = absurd (cc)
 no_tests false false false e = (refl, refl, refl)
 
-all_none : (one : Option ConfigFault) (a b c : Bool) → one ≡ None → a ≡ false → b ≡ false → c ≡ false → first_of_two one (cond a (Some Orphan) (cond b (Some AddressUsed) (cond c (Some EmptyService) None))) ≡ None
+all_none : (one : Option ConfigFault) (a b c : Bool) → one ≡ None → a ≡ false → b ≡ false → c ≡ false
+    → first_of_two one (cond a (Some Orphan) (cond b (Some AddressUsed) (cond c (Some EmptyService) None))) ≡ None
 all_none one a b c p q r s = rw (p, q, r, s) refl
 
 some_steps : (set : EepSet) (kbits : ℕ) → 0 < kbits → kbits % rate_step set ≡ 0 → 0 < kbits / rate_step set
@@ -99,40 +118,55 @@ some_steps B kbits h e = omega arith
 
 sized : (s : Sub) → IsPlaced s → 0 < size_of_sub s
 sized s h =
-    let steps : 0 < s.kbits / rate_step s.protection.set = some_steps s.protection.set s.kbits h.sized.positive h.sized.multiple in
-    let units : 0 < units_of_step s.protection.set s.protection.level = units_positive s.protection.set s.protection.level in
+    let steps : 0 < s.kbits / rate_step s.protection.set =
+    some_steps s.protection.set s.kbits h.sized.positive h.sized.multiple in
+    let units : 0 < units_of_step s.protection.set s.protection.level =
+    units_positive s.protection.set s.protection.level in
     let more = le-mul_of_pos_right (units_of_step s.protection.set s.protection.level) steps in
     omega (arith, units, more)
 
-pub overlaps_told : (a b : Sub) → IsPlaced a → IsPlaced b → overlaps a b ≡ true → (unit : ℕ) × IsUnitOf a unit × IsUnitOf b unit
+pub overlaps_told : (a b : Sub) → IsPlaced a → IsPlaced b → overlaps a b ≡ true → (unit : ℕ) × IsUnitOf a unit
+    × IsUnitOf b unit
 overlaps_told a b h k e =
     let parts = both_parts (ltb a.start (b.start + size_of_sub b)) (ltb b.start (a.start + size_of_sub a)) e in
     let one : a.start < b.start + size_of_sub b = ltb-true _ _ parts.0 in
     let two : b.start < a.start + size_of_sub a = ltb-true _ _ parts.1 in
     let m = sized a h in
     let n = sized b k in
-    elim (cases_lt a.start b.start) [ inl lt ↦ (b.start, (omega arith, two), (omega arith, omega (arith, n))) | inr ge ↦ (a.start, (omega arith, omega (arith, m)), (ge, one)) ]
+    elim (cases_lt a.start b.start) [
+      | inl lt ↦ (b.start, (omega arith, two), (omega arith, omega (arith, n)))
+      | inr ge ↦
+          (a.start, (omega arith, omega (arith, m)), (ge, one))
+    ]
 
 pub overlaps_found : (a b : Sub) (unit : ℕ) → IsUnitOf a unit → IsUnitOf b unit → overlaps a b ≡ true
 overlaps_found a b unit h k =
-    both_hold _ _ (lt-ltb a.start (b.start + size_of_sub b) (omega (arith, h.0, k.1))) (lt-ltb b.start (a.start + size_of_sub a) (omega (arith, k.0, h.1)))
+    both_hold _ _ (lt-ltb a.start (b.start + size_of_sub b) (omega (arith, h.0, k.1)))
+    (lt-ltb b.start (a.start + size_of_sub a) (omega (arith, k.0, h.1)))
 
 with_none : (a : Sub) (bs : List Sub) → ((b : Sub) → Contains bs b → overlaps a b ≡ false) → overlap_with a bs ≡ None
 with_none a [] h = refl
 with_none a (b ∷ bs) h =
-    ap (λ (t : Bool). cond t (Some (Overlap a.id b.id)) (overlap_with a bs)) (h b (contains_first b bs)) ∙ with_none a bs (λ x there. h x (contains_later b bs x there))
+    ap (λ (t : Bool). cond t (Some (Overlap a.id b.id)) (overlap_with a bs)) (h b (contains_first b bs))
+    ∙ with_none a bs (λ x there. h x (contains_later b bs x there))
 
 pub with_told : (a : Sub) (bs : List Sub) (b : Sub) → overlap_with a bs ≡ None → Contains bs b → overlaps a b ≡ false
 with_told a [] b e there = absurd (contains_none b there)
 with_told a (y ∷ ys) b e there =
     let parts = no_pair (overlaps a y) (Overlap a.id y.id) (overlap_with a ys) e in
-    elim (contains_cases y ys b there) [ inl same ↦ ap (overlaps a) (sym same) ∙ parts.0 | inr later ↦ with_told a ys b parts.1 later ]
+    elim (contains_cases y ys b there) [
+      | inl same ↦ ap (overlaps a) (sym same) ∙ parts.0
+      | inr later ↦
+          with_told a ys b parts.1 later
+    ]
 
 decided : (t : Bool) → (t ≡ true → ⊥) → t ≡ false
 decided true h = absurd (h refl)
 decided false h = refl
 
-pub apart_found : (xs : List Sub) → IsAscending sub_key xs → AllByRecursion IsPlaced xs → ((a b : Sub) (unit : ℕ) → Contains xs a → Contains xs b → IsUnitOf a unit → IsUnitOf b unit → a.id ≡ b.id) → first_overlap xs ≡ None
+pub apart_found : (xs : List Sub) → IsAscending sub_key xs → AllByRecursion IsPlaced xs
+    → ((a b : Sub) (unit : ℕ) → Contains xs a → Contains xs b → IsUnitOf a unit → IsUnitOf b unit → a.id ≡ b.id)
+    → first_overlap xs ≡ None
 apart_found [] order placed apart = refl
 apart_found (a ∷ bs) order placed apart =
     let none : overlap_with a bs ≡ None = with_none a bs (λ b there. decided (overlaps a b) (λ e.
@@ -141,19 +175,23 @@ apart_found (a ∷ bs) order placed apart =
     let less : a.id < b.id = each_contains (λ (y : Sub). a.id < y.id) bs b order.0 there in
     omega arith)) in
     ap (λ (o : Option ConfigFault). first_of_two o (first_overlap bs)) none
-    ∙ apart_found bs order.1 placed.1 (λ x y unit h k. apart x y unit (contains_later a bs x h) (contains_later a bs y k))
+    ∙ apart_found bs order.1 placed.1 (λ x y unit h k.
+    apart x y unit (contains_later a bs x h) (contains_later a bs y k))
 
-pub apart_told : (xs : List Sub) → first_overlap xs ≡ None → (a b : Sub) (unit : ℕ) → Contains xs a → Contains xs b → IsUnitOf a unit → IsUnitOf b unit → a.id ≡ b.id
+pub apart_told : (xs : List Sub) → first_overlap xs ≡ None → (a b : Sub) (unit : ℕ) → Contains xs a → Contains xs b
+    → IsUnitOf a unit → IsUnitOf b unit → a.id ≡ b.id
 apart_told [] e a b unit h k i j = absurd (contains_none a h)
 apart_told (x ∷ xs) e a b unit h k i j =
     let parts = no_fault (overlap_with x xs) (first_overlap xs) e in
     elim (contains_cases x xs a h) [
       | inl p ↦ elim (contains_cases x xs b k) [
         | inl q ↦ ap (λ (s : Sub). s.id) (sym p ∙ q)
-        | inr q ↦ absurd (false≢true (sym (with_told x xs b parts.0 q) ∙ overlaps_found x b unit (subst (λ (s : Sub). IsUnitOf s unit) (sym p) i) j))
+        | inr q ↦ absurd (false≢true (sym (with_told x xs b parts.0 q)
+            ∙ overlaps_found x b unit (subst (λ (s : Sub). IsUnitOf s unit) (sym p) i) j))
       ]
       | inr p ↦ elim (contains_cases x xs b k) [
-        | inl q ↦ absurd (false≢true (sym (with_told x xs a parts.0 p) ∙ overlaps_found x a unit (subst (λ (s : Sub). IsUnitOf s unit) (sym q) j) i))
+        | inl q ↦ absurd (false≢true (sym (with_told x xs a parts.0 p)
+            ∙ overlaps_found x a unit (subst (λ (s : Sub). IsUnitOf s unit) (sym q) j) i))
         | inr q ↦ apart_told xs parts.1 a b unit p q i j
       ]
     ]
@@ -170,34 +208,42 @@ missing_told c (ByPacket scid) e =
 
 missing_found : (c : Configuration) (carrier : Carrier) → IsThere c carrier → is_missing c carrier ≡ false
 missing_found c (BySub id) there = ap not (any_holds (λ x. sub_key x == id) c.subs there.0 there.1 (eq-eqb _ _ there.2))
-missing_found c (ByPacket scid) there = ap not (any_holds (λ x. packet_key x == scid) c.packets there.0 there.1 (eq-eqb _ _ there.2))
+missing_found c (ByPacket scid) there =
+    ap not (any_holds (λ x. packet_key x == scid) c.packets there.0 there.1 (eq-eqb _ _ there.2))
 
 -- ---- addresses
 
 same_address_told : (p q : Packet) → p.sub ≡ q.sub → p.address ≡ q.address → has_same_address p q ≡ true
 same_address_told p q e f = both_hold _ _ (eq-eqb _ _ e) (eq-eqb _ _ f)
 
-pub twice_told : (ps : List Packet) → has_address_twice ps ≡ false → (p q : Packet) → Contains ps p → Contains ps q → p.sub ≡ q.sub → p.address ≡ q.address → p.scid ≡ q.scid
+pub twice_told : (ps : List Packet) → has_address_twice ps ≡ false → (p q : Packet) → Contains ps p → Contains ps q
+    → p.sub ≡ q.sub → p.address ≡ q.address → p.scid ≡ q.scid
 twice_told [] e p q h k i j = absurd (contains_none p h)
 twice_told (x ∷ xs) e p q h k i j =
     let parts = either (list_any (has_same_address x) xs) (has_address_twice xs) e in
     elim (contains_cases x xs p h) [
       | inl s ↦ elim (contains_cases x xs q k) [
         | inl t ↦ ap (λ (y : Packet). y.scid) (sym s ∙ t)
-        | inr t ↦ absurd (false≢true (sym (none_told (has_same_address x) xs q parts.0 t) ∙ same_address_told x q (ap (λ (y : Packet). y.sub) s ∙ i) (ap (λ (y : Packet). y.address) s ∙ j)))
+        | inr t ↦ absurd (false≢true (sym (none_told (has_same_address x) xs q parts.0 t)
+            ∙ same_address_told x q (ap (λ (y : Packet). y.sub) s ∙ i) (ap (λ (y : Packet). y.address) s ∙ j)))
       ]
       | inr s ↦ elim (contains_cases x xs q k) [
-        | inl t ↦ absurd (false≢true (sym (none_told (has_same_address x) xs p parts.0 s) ∙ same_address_told x p (ap (λ (y : Packet). y.sub) t ∙ sym i) (ap (λ (y : Packet). y.address) t ∙ sym j)))
+        | inl t ↦ absurd (false≢true (sym (none_told (has_same_address x) xs p parts.0 s)
+            ∙ same_address_told x p (ap (λ (y : Packet). y.sub) t ∙ sym i) (ap (λ (y : Packet). y.address) t ∙ sym j)))
         | inr t ↦ twice_told xs parts.1 p q s t i j
       ]
     ]
 
-pub twice_none : (ps : List Packet) → IsAscending packet_key ps → ((p q : Packet) → Contains ps p → Contains ps q → p.sub ≡ q.sub → p.address ≡ q.address → p.scid ≡ q.scid) → has_address_twice ps ≡ false
+pub twice_none : (ps : List Packet) → IsAscending packet_key ps
+    → ((p q : Packet) → Contains ps p → Contains ps q → p.sub ≡ q.sub → p.address ≡ q.address → p.scid ≡ q.scid)
+    → has_address_twice ps ≡ false
 twice_none [] order h = refl
 twice_none (x ∷ xs) order h =
-    let first : list_any (has_same_address x) xs ≡ false = none_holds (has_same_address x) xs (λ q there. decided (has_same_address x q) (λ e.
+    let first : list_any (has_same_address x) xs ≡ false =
+    none_holds (has_same_address x) xs (λ q there. decided (has_same_address x q) (λ e.
     let parts = both_parts _ _ e in
-    let same : x.scid ≡ q.scid = h x q (contains_first x xs) (contains_later x xs q there) (eqb-true _ _ parts.0) (eqb-true _ _ parts.1) in
+    let same : x.scid ≡ q.scid =
+    h x q (contains_first x xs) (contains_later x xs q there) (eqb-true _ _ parts.0) (eqb-true _ _ parts.1) in
     let less : x.scid < q.scid = each_contains (λ (y : Packet). x.scid < y.scid) xs q order.0 there in
     omega arith)) in
     neither _ _ first (twice_none xs order.1 (λ p q i j. h p q (contains_later x xs p i) (contains_later x xs q j)))
@@ -213,20 +259,30 @@ empty_told (m ∷ ms) e = absurd (omega arith)
 
 pub orphans_told : (c : Configuration) → has_orphan c ≡ false → AreCarried c
 orphans_told c e =
-    let orphans = either (list_any (λ (s : Service). list_any (λ (m : Component). is_missing c (carrier_of m)) s.components) c.services) (list_any (λ (p : Packet). is_missing c (BySub p.sub)) c.packets) e in
+    let orphans = either (list_any
+    (λ (s : Service). list_any (λ (m : Component). is_missing c (carrier_of m)) s.components) c.services)
+    (list_any (λ (p : Packet). is_missing c (BySub p.sub)) c.packets) e in
     record {
-      components = λ s m h k. missing_told c (carrier_of m) (none_told (λ (m : Component). is_missing c (carrier_of m)) s.components m (none_told (λ (s : Service). list_any (λ (m : Component). is_missing c (carrier_of m)) s.components) c.services s orphans.0 h) k);
-      packets = λ p h. missing_told c (BySub p.sub) (none_told (λ (p : Packet). is_missing c (BySub p.sub)) c.packets p orphans.1 h);
+      components = λ s m h k. missing_told c (carrier_of m)
+          (none_told (λ (m : Component). is_missing c (carrier_of m)) s.components m
+          (none_told (λ (s : Service). list_any (λ (m : Component). is_missing c (carrier_of m)) s.components)
+          c.services s orphans.0 h) k);
+      packets = λ p h. missing_told c (BySub p.sub)
+          (none_told (λ (p : Packet). is_missing c (BySub p.sub)) c.packets p orphans.1 h);
     }
 
 pub orphans_found : (c : Configuration) → AreCarried c → has_orphan c ≡ false
 orphans_found c carried =
     neither _ _
-    (none_holds (λ (s : Service). list_any (λ (m : Component). is_missing c (carrier_of m)) s.components) c.services (λ s h. none_holds (λ (m : Component). is_missing c (carrier_of m)) s.components (λ m k. missing_found c (carrier_of m) (carried.components s m h k))))
-    (none_holds (λ (p : Packet). is_missing c (BySub p.sub)) c.packets (λ p h. missing_found c (BySub p.sub) (carried.packets p h)))
+    (none_holds (λ (s : Service). list_any (λ (m : Component). is_missing c (carrier_of m)) s.components) c.services
+    (λ s h. none_holds (λ (m : Component). is_missing c (carrier_of m)) s.components
+    (λ m k. missing_found c (carrier_of m) (carried.components s m h k))))
+    (none_holds (λ (p : Packet). is_missing c (BySub p.sub)) c.packets
+    (λ p h. missing_found c (BySub p.sub) (carried.packets p h)))
 
 pub filled_found : (c : Configuration) → AreFilled c → list_any is_empty_service c.services ≡ false
-filled_found c filled = none_holds is_empty_service c.services (λ s h. ne_eqb _ _ (λ e. filled s h (empty_told s.components e)))
+filled_found c filled = none_holds is_empty_service c.services
+    (λ s h. ne_eqb _ _ (λ e. filled s h (empty_told s.components e)))
 
 pub sound_told : (c : Configuration) → first_fault c ≡ None → IsSound c
 sound_told c e =
@@ -259,29 +315,51 @@ pub stays_first : (one other : Option ConfigFault) → is_some one ≡ true → 
 stays_first None other e = absurd (false≢true e)
 stays_first (Some fault) other e = refl
 
-either_some : (one other : Option ConfigFault) → is_some (first_of_two one other) ≡ true → (is_some one ≡ true) ⊎ (is_some other ≡ true)
+either_some : (one other : Option ConfigFault) → is_some (first_of_two one other) ≡ true → (is_some one ≡ true)
+    ⊎ (is_some other ≡ true)
 either_some None other e = inr e
 either_some (Some fault) other e = inl refl
 
-with_some_by : (a b : Sub) (bs : List Sub) (t : Bool) → overlaps a b ≡ t → is_some (cond t (Some (Overlap a.id b.id)) (overlap_with a bs)) ≡ true → (is_some (overlap_with a bs) ≡ true → (y : Sub) × Contains bs y × (overlaps a y ≡ true)) → (y : Sub) × Contains (b ∷ bs) y × (overlaps a y ≡ true)
+with_some_by : (a b : Sub) (bs : List Sub) (t : Bool) → overlaps a b ≡ t
+    → is_some (cond t (Some (Overlap a.id b.id)) (overlap_with a bs)) ≡ true
+    → (is_some (overlap_with a bs) ≡ true → (y : Sub) × Contains bs y × (overlaps a y ≡ true)) → (y : Sub)
+    × Contains (b ∷ bs) y × (overlaps a y ≡ true)
 with_some_by a b bs true is e rest = (b, contains_first b bs, is)
 with_some_by a b bs false is e rest = let found = rest e in (found.0, contains_later b bs found.0 found.1, found.2)
 
-with_some : (a : Sub) (bs : List Sub) → is_some (overlap_with a bs) ≡ true → (b : Sub) × Contains bs b × (overlaps a b ≡ true)
+with_some : (a : Sub) (bs : List Sub) → is_some (overlap_with a bs) ≡ true → (b : Sub) × Contains bs b
+    × (overlaps a b ≡ true)
 with_some a [] e = absurd (false≢true e)
 with_some a (b ∷ bs) e = with_some_by a b bs (overlaps a b) refl e (with_some a bs)
 
-shared : (xs : List Sub) → IsAscending sub_key xs → AllByRecursion IsPlaced xs → is_some (first_overlap xs) ≡ true → (a b : Sub) × (unit : ℕ) × Contains xs a × Contains xs b × (a.id < b.id) × IsUnitOf a unit × IsUnitOf b unit
+shared : (xs : List Sub) → IsAscending sub_key xs → AllByRecursion IsPlaced xs → is_some (first_overlap xs) ≡ true
+    → (a b : Sub) × (unit : ℕ) × Contains xs a × Contains xs b × (a.id < b.id) × IsUnitOf a unit × IsUnitOf b unit
 shared [] order placed e = absurd (false≢true e)
 shared (a ∷ bs) order placed e =
     elim (either_some (overlap_with a bs) (first_overlap bs) e) [
       | inl here ↦
           let found = with_some a bs here in
-          let unit = overlaps_told a found.0 placed.0 (each_contains IsPlaced bs found.0 placed.1 found.1) found.2 in
-          (a, found.0, unit.0, contains_first a bs, contains_later a bs found.0 found.1, each_contains (λ (y : Sub). a.id < y.id) bs found.0 order.0 found.1, unit.1, unit.2)
+          let unit = overlaps_told a found.0 placed.0 (each_contains IsPlaced bs found.0 placed.1 found.1) found.2 in (
+            a,
+            found.0,
+            unit.0,
+            contains_first a bs,
+            contains_later a bs found.0 found.1,
+            each_contains (λ (y : Sub). a.id < y.id) bs found.0 order.0 found.1,
+            unit.1,
+            unit.2,
+          )
       | inr later ↦
-          let found = shared bs order.1 placed.1 later in
-          (found.0, found.1, found.2, contains_later a bs found.0 found.3, contains_later a bs found.1 found.4, found.5, found.6, found.7)
+          let found = shared bs order.1 placed.1 later in (
+            found.0,
+            found.1,
+            found.2,
+            contains_later a bs found.0 found.3,
+            contains_later a bs found.1 found.4,
+            found.5,
+            found.6,
+            found.7,
+          )
     ]
 
 pub crowded_told : (c : Configuration) → IsConfiguration c → is_some (first_overlap c.subs) ≡ true → IsCrowded c
@@ -302,7 +380,8 @@ crowded_told c is e =
 pub crowded_found : (c : Configuration) → IsCrowded c → is_some (first_overlap c.subs) ≡ true
 crowded_found c h =
     elim (none_or_some (first_overlap c.subs)) [
-      | inl none ↦ absurd (h.differ (apart_told c.subs none h.first h.second h.unit h.has_first h.has_second h.of_first h.of_second))
+      | inl none ↦ absurd (h.differ
+          (apart_told c.subs none h.first h.second h.unit h.has_first h.has_second h.of_first h.of_second))
       | inr some ↦ some
     ]
 
@@ -313,24 +392,29 @@ not_crowded c is h =
       | inr some ↦ absurd (h (crowded_told c is some))
     ]
 
-with_any_by : (t : Bool) (fault : ConfigFault) (rest : Option ConfigFault) (u : Bool) → is_some rest ≡ u → is_some (cond t (Some fault) rest) ≡ (t || u)
+with_any_by : (t : Bool) (fault : ConfigFault) (rest : Option ConfigFault) (u : Bool) → is_some rest ≡ u
+    → is_some (cond t (Some fault) rest) ≡ (t || u)
 with_any_by true fault rest u e = refl
 with_any_by false fault rest u e = e
 
 with_any : (a : Sub) (bs : List Sub) → is_some (overlap_with a bs) ≡ list_any (overlaps a) bs
 with_any a [] = refl
-with_any a (b ∷ bs) = with_any_by (overlaps a b) (Overlap a.id b.id) (overlap_with a bs) (list_any (overlaps a) bs) (with_any a bs)
+with_any a (b ∷ bs) = with_any_by (overlaps a b) (Overlap a.id b.id) (overlap_with a bs) (list_any (overlaps a) bs)
+    (with_any a bs)
 
-first_any_by : (one other : Option ConfigFault) (t u : Bool) → is_some one ≡ t → is_some other ≡ u → is_some (first_of_two one other) ≡ (t || u)
+first_any_by : (one other : Option ConfigFault) (t u : Bool) → is_some one ≡ t → is_some other ≡ u
+    → is_some (first_of_two one other) ≡ (t || u)
 first_any_by None other t u e f = f ∙ ap (λ (b : Bool). b || u) e
 first_any_by (Some fault) other t u e f = ap (λ (b : Bool). b || u) e
 
 pub first_any : (xs : List Sub) → is_some (first_overlap xs) ≡ is_crowded xs
 first_any [] = refl
-first_any (a ∷ bs) = first_any_by (overlap_with a bs) (first_overlap bs) (list_any (overlaps a) bs) (is_crowded bs) (with_any a bs) (first_any bs)
+first_any (a ∷ bs) = first_any_by (overlap_with a bs) (first_overlap bs) (list_any (overlaps a) bs) (is_crowded bs)
+    (with_any a bs) (first_any bs)
 
 -- a look-up finds a member exactly if there is one
-has_found_by : {T : Type 0} (t : Bool) (x : T) (rest : Option T) (u : Bool) → is_some rest ≡ u → is_some (cond t (Some x) rest) ≡ (t || u)
+has_found_by : {T : Type 0} (t : Bool) (x : T) (rest : Option T) (u : Bool) → is_some rest ≡ u
+    → is_some (cond t (Some x) rest) ≡ (t || u)
 has_found_by true x rest u e = refl
 has_found_by false x rest u e = e
 

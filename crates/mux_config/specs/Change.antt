@@ -26,7 +26,8 @@ abbrev pub has_same_subs : Configuration → Configuration → Bool
 has_same_subs c d = is_same_list is_same_sub c.subs d.subs
 
 abbrev pub has_same_services : Configuration → Configuration → Bool
-has_same_services c d = is_same_list is_same_service c.services d.services && is_same_list is_same_packet c.packets d.packets
+has_same_services c d = is_same_list is_same_service c.services d.services
+    && is_same_list is_same_packet c.packets d.packets
 
 abbrev pub change_of : Configuration → Configuration → Change
 change_of c d = record { subs = not (has_same_subs c d); services = not (has_same_services c d) }

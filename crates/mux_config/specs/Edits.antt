@@ -1,5 +1,6 @@
 -- The ten edits of a configuration: what each changes, and why each is refused, in the order tested.
-use Rattle.std.specs.Prelude.{◌≡◌, ℕ, ◌+◌, ◌<◌, ◌≤◌, ◌==◌, ◌||◌, Bool, not, if◌then◌else◌, nat_lt, nat_le, [], ◌∷◌, ◌++◌, length, filter, Option, Some, None, Result, Ok, Err, is_err}
+use Rattle.std.specs.Prelude.{◌≡◌, ℕ, ◌+◌, ◌<◌, ◌≤◌, ◌==◌, ◌||◌, Bool, not, if◌then◌else◌, nat_lt, nat_le, [], ◌∷◌}
+use Rattle.std.specs.Prelude.{◌++◌, length, filter, Option, Some, None, Result, Ok, Err, is_err}
 use Rattle.std.specs.List.{list_any}
 use Rattle.mux_types.specs.declared.limits.TheConstants.{MEMBERS}
 use Rattle.mux_types.specs.declared.parts.Sub.{Sub}
@@ -8,11 +9,14 @@ use Rattle.mux_types.specs.declared.parts.Component.{Component}
 use Rattle.mux_types.specs.declared.parts.Carrier.{Carrier}
 use Rattle.mux_types.specs.declared.parts.Packet.{Packet}
 use Rattle.mux_config.specs.declared.edit.Edit.{Edit}
-use Rattle.mux_config.specs.declared.edit.Edit.TheVariants.{AddSub, DropSub, MoveSub, RateSub, AddService, DropService, AddComponent, DropComponent, AddPacket, DropPacket}
+use Rattle.mux_config.specs.declared.edit.Edit.TheVariants.{AddSub, DropSub, MoveSub, RateSub, AddService, DropService}
+use Rattle.mux_config.specs.declared.edit.Edit.TheVariants.{AddComponent, DropComponent, AddPacket, DropPacket}
 use Rattle.mux_types.specs.declared.numbers.Sid.{Sid}
 use Rattle.mux_config.specs.declared.fault.EditFault.{EditFault}
-use Rattle.mux_config.specs.declared.fault.EditFault.TheVariants.{IdUsed, IdAbsent, TooManyComponents, TableFull, PastEnd, BadRate, BadAddress}
-use Rattle.mux_types.specs.Configuration.{Configuration, IsConfiguration, IsSid, IsComponent, sub_key, sid_key, service_key, packet_key, size_of_sub, carrier_of, component_limit}
+use Rattle.mux_config.specs.declared.fault.EditFault.TheVariants.{IdUsed, IdAbsent, TooManyComponents, TableFull}
+use Rattle.mux_config.specs.declared.fault.EditFault.TheVariants.{PastEnd, BadRate, BadAddress}
+use Rattle.mux_types.specs.Configuration.{Configuration, IsConfiguration, IsSid, IsComponent, sub_key, sid_key}
+use Rattle.mux_types.specs.Configuration.{service_key, packet_key, size_of_sub, carrier_of, component_limit}
 use Rattle.mux_types.specs.Tables.{entry_at, with_entry, without_entry, has_entry, changed_at}
 use Rattle.mux_types.specs.Sameness.{names}
 use Rattle.mux_eep.specs.declared.limits.TheConstants.{CAPACITY_UNITS}

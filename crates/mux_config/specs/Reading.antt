@@ -12,8 +12,10 @@ use Rattle.mux_types.specs.declared.parts.Component.{Component}
 use Rattle.mux_types.specs.declared.parts.Packet.{Packet}
 use Rattle.mux_config.specs.declared.record.RecordFault.{RecordFault}
 use Rattle.mux_config.specs.declared.record.RecordFault.TheVariants.{Field, Order}
-use Rattle.mux_config.specs.FieldReading.{Reads, ◌>>=◌, refuse, place, number_at, byte_within, u16_in_range, flag_at, protection_at, sid_at, component_at}
-use Rattle.mux_types.specs.Configuration.{Configuration, sub_key, sid_key, service_key, packet_key, carrier_of, component_limit}
+use Rattle.mux_config.specs.FieldReading.{Reads, ◌>>=◌, refuse, place, number_at, byte_within, u16_in_range, flag_at}
+use Rattle.mux_config.specs.FieldReading.{protection_at, sid_at, component_at}
+use Rattle.mux_types.specs.Configuration.{Configuration, sub_key, sid_key, service_key, packet_key, carrier_of}
+use Rattle.mux_types.specs.Configuration.{component_limit}
 use Rattle.mux_types.specs.Sameness.{names}
 
 -- ---- sub-channels
@@ -70,7 +72,8 @@ read_packet total low bytes = do
 
 -- `count` members of a set after those already read, each with an identifier above the previous one: the next is at
 -- least `low`
-unfoldable pub members_at : {T : Type 0} → (key : T → ℕ) → (member_at : ℕ → List ℕ → Reads T) → (low : ℕ) → (before : List T) → (count : ℕ) → List ℕ → Reads (List T)
+unfoldable pub members_at : {T : Type 0} → (key : T → ℕ) → (member_at : ℕ → List ℕ → Reads T) → (low : ℕ)
+    → (before : List T) → (count : ℕ) → List ℕ → Reads (List T)
 members_at key member_at low before zero bytes = Ok (before, bytes)
 members_at key member_at low before (suc count) bytes = do
   x ← member_at low bytes

@@ -15,7 +15,8 @@ BeginsWithNone bytes = (c : Configuration) (rest : List ℕ) → IsConfiguration
 
 -- a truncated record is short, wherever it ends
 abbrev pub CutsAreShort : Type 0
-CutsAreShort = (c : Configuration) (n : ℕ) → IsConfiguration c → n < length (config_bytes c) → HasFault (take n (config_bytes c)) Short
+CutsAreShort = (c : Configuration) (n : ℕ) → IsConfiguration c → n < length (config_bytes c)
+    → HasFault (take n (config_bytes c)) Short
 
 -- any other fault lies in the bytes that were read: it stays whatever follows them, and nothing that begins with them
 -- has a record at its front
@@ -34,4 +35,5 @@ FaultsAreFirst =
 -- is at fault
 abbrev pub ShortBeforePlaces : Type 0
 ShortBeforePlaces =
-    (bytes : List ℕ) (place : ℕ) → HasFault bytes (Field place) → (place < length bytes) × HasFault (take place bytes) Short
+    (bytes : List ℕ) (place : ℕ) → HasFault bytes (Field place) → (place < length bytes)
+    × HasFault (take place bytes) Short

@@ -1,5 +1,6 @@
 -- When a configuration is sound, and the first thing that makes it unsound.
-use Rattle.std.specs.Prelude.{◌≡◌, ◌≢◌, ℕ, ◌+◌, ◌<◌, ◌≤◌, ◌==◌, ◌||◌, ◌&&◌, Bool, false, not, if◌then◌else◌, nat_lt, List, [], ◌∷◌, length, Contains, Option, Some, None, Result, Ok, Err}
+use Rattle.std.specs.Prelude.{◌≡◌, ◌≢◌, ℕ, ◌+◌, ◌<◌, ◌≤◌, ◌==◌, ◌||◌, ◌&&◌, Bool, false, not, if◌then◌else◌, nat_lt}
+use Rattle.std.specs.Prelude.{List, [], ◌∷◌, length, Contains, Option, Some, None, Result, Ok, Err}
 use Rattle.std.specs.List.{list_any}
 use Rattle.mux_types.specs.declared.parts.Sub.{Sub}
 use Rattle.mux_types.specs.declared.parts.Service.{Service}
@@ -33,10 +34,13 @@ pub record IsCrowded (c : Configuration) : Type 0 where
   pub of_second : IsUnitOf second unit
 
 pub record IsSound (c : Configuration) : Type 0 where
-  pub apart : (a b : Sub) (unit : ℕ) → Contains c.subs a → Contains c.subs b → IsUnitOf a unit → IsUnitOf b unit → a.id ≡ b.id
-  pub carried : (s : Service) (m : Component) → Contains c.services s → Contains s.components m → IsThere c (carrier_of m)
+  pub apart : (a b : Sub) (unit : ℕ) → Contains c.subs a → Contains c.subs b → IsUnitOf a unit → IsUnitOf b unit
+      → a.id ≡ b.id
+  pub carried : (s : Service) (m : Component) → Contains c.services s → Contains s.components m
+      → IsThere c (carrier_of m)
   pub placed : (p : Packet) → Contains c.packets p → IsThere c (BySub p.sub)
-  pub addressed : (p q : Packet) → Contains c.packets p → Contains c.packets q → p.sub ≡ q.sub → p.address ≡ q.address → p.scid ≡ q.scid
+  pub addressed : (p q : Packet) → Contains c.packets p → Contains c.packets q → p.sub ≡ q.sub → p.address ≡ q.address
+      → p.scid ≡ q.scid
   pub filled : (s : Service) → Contains c.services s → s.components ≢ []
 
 -- ---- the first fault, in the order tested

@@ -18,13 +18,15 @@ AreApart c =
 
 -- what each component and each packet component refers to exists
 pub record AreCarried (c : Configuration) : Type 0 where
-  pub components : (s : Service) (m : Component) → Contains c.services s → Contains s.components m → IsThere c (carrier_of m)
+  pub components : (s : Service) (m : Component) → Contains c.services s → Contains s.components m
+      → IsThere c (carrier_of m)
   pub packets : (p : Packet) → Contains c.packets p → IsThere c (BySub p.sub)
 
 -- no two packet components of one sub-channel have the same address
 abbrev pub AreAddressed : Configuration → Type 0
 AreAddressed c =
-    (p q : Packet) → Contains c.packets p → Contains c.packets q → p.sub ≡ q.sub → p.address ≡ q.address → p.scid ≡ q.scid
+    (p q : Packet) → Contains c.packets p → Contains c.packets q → p.sub ≡ q.sub → p.address ≡ q.address
+    → p.scid ≡ q.scid
 
 -- each service has a component
 abbrev pub AreFilled : Configuration → Type 0
@@ -44,7 +46,8 @@ pub record IsFirstOverlap (c : Configuration) (i j : ℕ) : Type 0 where
   pub of_first : IsUnitOf first unit
   pub of_second : IsUnitOf second unit
   pub least :
-      (s t : Sub) (shared : ℕ) → Contains c.subs s → Contains c.subs t → IsUnitOf s shared → IsUnitOf t shared → s.id < t.id
+      (s t : Sub) (shared : ℕ) → Contains c.subs s → Contains c.subs t → IsUnitOf s shared → IsUnitOf t shared
+      → s.id < t.id
       → (i < s.id) ⊎ ((i ≡ s.id) × (j ≤ t.id))
 
 -- the fault of a configuration: the first condition that fails
@@ -56,4 +59,5 @@ IsFault c EmptyService = AreApart c × AreCarried c × AreAddressed c × (AreFil
 
 -- it is the fault that is reported, and no other
 abbrev pub FaultIsUnique : Type 0
-FaultIsUnique = (c : Configuration) (fault : ConfigFault) → IsConfiguration c → (sound_or_fault c ≡ Err fault) ↔ IsFault c fault
+FaultIsUnique = (c : Configuration) (fault : ConfigFault) → IsConfiguration c → (sound_or_fault c ≡ Err fault)
+    ↔ IsFault c fault

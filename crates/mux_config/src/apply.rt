@@ -8,8 +8,8 @@ use crate::fault::EditFault;
 use crate::store::Store;
 
 impl Edit {
-    /// Applies the edit. A refused edit returns the first of its faults, in the order that the method of [`Store`]
-    /// states, and changes nothing.
+    /// Applies the edit. A refused edit returns the first of its faults, in the order that the
+    /// method of [`Store`] states, and changes nothing.
     pub fn apply<S: Store>(self, store: &mut S) -> Result<(), EditFault>
         ensures { Edits (S.content store.old) (S.content store.new)
             (edited self (S.content store.old)) result }

@@ -2,16 +2,19 @@
 
 ghost use Rattle.std.specs.Prelude.{◌≡◌, ◌+◌, ◌^◌, ◌<◌, ◌≤◌, length, drop};
 ghost use Rattle.std.specs.Int.{w16, w32};
-ghost use Rattle.mux_config.specs.FieldReading.{Unread, Takes, place, byte_at, number_at, byte_within, u16_in_range, flag_at, protection_at, sid_at, component_at};
+ghost use Rattle.mux_config.specs.FieldReading.{Unread, Takes, place, byte_at, number_at};
+ghost use Rattle.mux_config.specs.FieldReading.{byte_within, u16_in_range, flag_at, protection_at};
+ghost use Rattle.mux_config.specs.FieldReading.{sid_at, component_at};
 
 use crate::record::RecordFault;
 use mux_eep::{EepSet, Protection};
 use mux_types::{Component, ScId, ScTy, Sid, SubId};
 use std::marker::Model;
 
-/// Reads fields from the front of bytes, one after the other. Each read returns the field or its fault: `Short` if
-/// bytes are missing, `Field` with the offset of its first byte if it is out of range. Offsets are counted from the
-/// first byte that the reader was given. After a fault the reader is somewhere within the field.
+/// Reads fields from the front of bytes, one after the other. Each read returns the field or its
+/// fault: `Short` if bytes are missing, `Field` with the offset of its first byte if it is out of
+/// range. Offsets are counted from the first byte that the reader was given. After a fault the
+/// reader is somewhere within the field.
 #[derive(Drop)]
 pub struct Reader<'a> {
     total: usize,
@@ -177,7 +180,8 @@ impl<'a> Reader<'a> {
         ScId::new(word).ok_or(RecordFault::Field(place))
     }
 
-    /// Reads a protection profile: a byte 0 for set A or 1 for set B, and a byte for the level, 1 to 4.
+    /// Reads a protection profile: a byte 0 for set A or 1 for set B, and a byte for the level, 1
+    /// to 4.
     #[tactic(auto, unfolding(crate::specs::FieldReading::protection_at))]
     pub fn protection(&mut self) -> Result<Protection, RecordFault>
         ensures read { Takes (protection_at self.old.total self.old.rest) result self.new }
@@ -206,8 +210,8 @@ impl<'a> Reader<'a> {
         }
     }
 
-    /// Reads a component: its TMId in a byte, 0, 1 or 3, and then its type and SubChId, a byte each, or its
-    /// SCId, two bytes.
+    /// Reads a component: its TMId in a byte, 0, 1 or 3, and then its type and SubChId, a byte
+    /// each, or its SCId, two bytes.
     #[tactic(auto, unfolding(crate::specs::FieldReading::component_at, crate::specs::FieldReading::component_of))]
     pub fn component(&mut self) -> Result<Component, RecordFault>
         ensures read { Takes (component_at self.old.total self.old.rest) result self.new }

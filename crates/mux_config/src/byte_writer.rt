@@ -2,7 +2,8 @@
 
 ghost use Rattle.std.specs.Prelude.{◌≡◌, ◌++◌, OnOk};
 ghost use Rattle.std.specs.Int.{w32, to_be_bytes};
-ghost use Rattle.mux_config.specs.FieldSpelling.{u16_bytes, protection_bytes, sid_field, component_bytes};
+ghost use Rattle.mux_config.specs.FieldSpelling.{u16_bytes, protection_bytes, sid_field};
+ghost use Rattle.mux_config.specs.FieldSpelling.{component_bytes};
 
 use byteorder::{BigEndian, ByteOrder};
 use mux_eep::{EepSet, Protection};

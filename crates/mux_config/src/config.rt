@@ -95,7 +95,8 @@ impl Config {
         self.packets.copy_from(&other.packets);
     }
 
-    /// Copies the services and packet components of another configuration; the sub-channels are unchanged.
+    /// Copies the services and packet components of another configuration; the sub-channels are
+    /// unchanged.
     pub fn copy_others_from(&mut self, other: &Config)
         ensures value { self.new ≡ record other.now { subs = self.old.subs } }
         ensures configuration { IsConfiguration self.new }

@@ -6,8 +6,8 @@ use mux_eep::Protection;
 use mux_types::{Carrier, Component, Packet, ScId, Sid, Sub, SubId};
 use std::marker::Model;
 
-/// A start address as FIG 0/1 can carry it, in capacity units: 10 bits, 0 to 1023 (EN 300 401 clause
-/// 6.2.1).
+/// A start address as FIG 0/1 can carry it, in capacity units: 10 bits, 0 to 1023 (EN 300 401
+/// clause 6.2.1).
 #[derive(Clone, Copy, Debug, PartialEq, Eq, PartialOrd, Ord)]
 pub struct StartAddress {
     address: u16,
@@ -47,8 +47,8 @@ impl StartAddress {
     }
 }
 
-/// A sub-channel to be added: a [`Sub`] whose start address is at most 1023. The edit checks whether it has a size and
-/// fits in the multiplex.
+/// A sub-channel to be added: a [`Sub`] whose start address is at most 1023. The edit checks
+/// whether it has a size and fits in the multiplex.
 #[derive(Clone, Copy, Debug, PartialEq, Eq)]
 pub struct NewSub {
     sub: Sub,

@@ -1,10 +1,15 @@
-//! Why an edit of a configuration is refused, in any [`Store`]: the first of its faults, in the order given at the
-//! methods of `Store`.
+//! Why an edit of a configuration is refused, in any [`Store`]: the first of its faults, in the
+//! order given at the methods of `Store`.
 
 ghost use Rattle.std.specs.Prelude.{◌≡◌, ◌+◌, ◌≤◌, nat_lt, if◌then◌else◌, Some, None, IfSome};
-ghost use Rattle.mux_types.specs.Configuration.{IsPlaced, sub_key, service_key, packet_key, sid_key};
+ghost use Rattle.mux_types.specs.Configuration.{IsPlaced, sub_key, service_key, packet_key};
+ghost use Rattle.mux_types.specs.Configuration.{sid_key};
 ghost use Rattle.mux_types.specs.Tables.{has_entry};
-ghost use Rattle.mux_config.specs.Edits.{sub_at, at_start, placing_fault, component_fault, is_past_end, add_sub_fault, drop_sub_fault, move_sub_fault, rate_sub_fault, add_service_fault, drop_service_fault, add_component_fault, drop_component_fault, add_packet_fault, drop_packet_fault};
+ghost use Rattle.mux_config.specs.Edits.{sub_at, at_start, placing_fault, component_fault};
+ghost use Rattle.mux_config.specs.Edits.{is_past_end, add_sub_fault, drop_sub_fault};
+ghost use Rattle.mux_config.specs.Edits.{move_sub_fault, rate_sub_fault, add_service_fault};
+ghost use Rattle.mux_config.specs.Edits.{drop_service_fault, add_component_fault};
+ghost use Rattle.mux_config.specs.Edits.{drop_component_fault, add_packet_fault, drop_packet_fault};
 ghost use Rattle.mux_config.specs.declared.fault.EditFault.TheVariants.{PastEnd};
 
 use crate::fault::EditFault;

@@ -32,12 +32,12 @@ pub enum EditFault {
 /// What makes a configuration unsound, in the order tested by [`crate::soundness`].
 #[derive(Clone, Copy, Debug, PartialEq, Eq, Error)]
 pub enum ConfigFault {
-    /// Two sub-channels share a capacity unit: the lowest that shares one with a higher one, and the lowest with which
-    /// it shares one.
+    /// Two sub-channels share a capacity unit: the lowest that shares one with a higher one, and
+    /// the lowest with which it shares one.
     #[error("Overlap {} {}", .0.get(), .1.get())]
     Overlap(SubId, SubId),
-    /// A component in stream mode or a packet component refers to a sub-channel that does not exist, or a component in
-    /// packet mode refers to a packet component that does not exist.
+    /// A component in stream mode or a packet component refers to a sub-channel that does not
+    /// exist, or a component in packet mode refers to a packet component that does not exist.
     #[error("Orphan")]
     Orphan,
     /// Two packet components of one sub-channel have the same address.

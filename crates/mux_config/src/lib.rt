@@ -1,13 +1,13 @@
-//! Configurations of a multiplex, with their edits, soundness and records: the sub-channels, services and packet
-//! components at one time (EN 300 401 clauses 6.1 to 6.3).
+//! Configurations of a multiplex, with their edits, soundness and records: the sub-channels,
+//! services and packet components at one time (EN 300 401 clauses 6.1 to 6.3).
 //!
-//! Begin with `Config`, and with `Store`, the trait of a configuration in any representation. Edits are defined in
-//! `specs/Edits.antt`, the record of a configuration in `specs/Reading.antt`; the entries that describe one on air are
-//! defined in `specs/Facts.antt` of `mux_types`.
+//! Begin with `Config`, and with `Store`, the trait of a configuration in any representation. Edits
+//! are defined in `specs/Edits.antt`, the record of a configuration in `specs/Reading.antt`; the
+//! entries that describe one on air are defined in `specs/Facts.antt` of `mux_types`.
 //!
-//! The fields of records and files are read by `Reader`, whose methods return the field or its fault, a `RecordFault`,
-//! and written by the functions of `byte_writer`: `specs/FieldReading.antt` defines what is read, and
-//! `specs/FieldSpelling.antt` what is written.
+//! The fields of records and files are read by `Reader`, whose methods return the field or its
+//! fault, a `RecordFault`, and written by the functions of `byte_writer`: `specs/FieldReading.antt`
+//! defines what is read, and `specs/FieldSpelling.antt` what is written.
 #![tactic(auto)]
 
 mod apply;

@@ -9,8 +9,9 @@ use crate::flags::Change;
 use crate::store::Store;
 use mux_types::sameness::{is_same_packet, is_same_service, is_same_sub};
 
-/// What a reconfiguration from one configuration to the next changes: the sub-channel organization if their entries of
-/// FIG 0/1 differ, the service organization if those of FIG 0/2 or 0/3 differ (EN 300 401 clauses 6.4 and 6.5).
+/// What a reconfiguration from one configuration to the next changes: the sub-channel organization
+/// if their entries of FIG 0/1 differ, the service organization if those of FIG 0/2 or 0/3 differ
+/// (EN 300 401 clauses 6.4 and 6.5).
 pub fn change<S: Store>(current: &S, next: &S) -> Change
     ensures value { result ≡ change_of (S.content current.now) (S.content next.now) }
     ensures entries_differ { IsChange (S.content current.now) (S.content next.now) result }
@@ -38,8 +39,8 @@ pub fn has_same_subs<S: Store, T: Store>(current: &S, next: &T) -> bool
     true
 }
 
-/// Whether two stores hold the same services, with the same components in the same order, and the same packet
-/// components.
+/// Whether two stores hold the same services, with the same components in the same order, and the
+/// same packet components.
 pub fn has_same_services<S: Store, T: Store>(current: &S, next: &T) -> bool
     ensures { result ≡ has_same_services (S.content current.now) (T.content next.now) }
 {

@@ -1,10 +1,12 @@
 //! Reads a configuration record.
 
-ghost use Rattle.std.specs.Prelude.{◌≡◌, ℕ, ◌<◌, ◌≤◌, ◌^◌, ◌++◌, [], List, length, drop, Ok, Err, IfOk, IfErr};
+ghost use Rattle.std.specs.Prelude.{◌≡◌, ℕ, ◌<◌, ◌≤◌, ◌^◌, ◌++◌, [], List, length, drop, Ok, Err};
+ghost use Rattle.std.specs.Prelude.{IfOk, IfErr};
 ghost use Rattle.mux_types.specs.Configuration.{Configuration, IsConfiguration, sid_key};
 ghost use Rattle.mux_config.specs.Spelling.{config_bytes};
 ghost use Rattle.mux_config.specs.FieldReading.{Reads, Takes};
-ghost use Rattle.mux_config.specs.Reading.{read_sub, components_at, read_service, read_packet, members_at, record_at, config_at};
+ghost use Rattle.mux_config.specs.Reading.{read_sub, components_at, read_service, read_packet};
+ghost use Rattle.mux_config.specs.Reading.{members_at, record_at, config_at};
 
 use crate::config::Config;
 use crate::{Reader, RecordFault};
@@ -19,8 +21,8 @@ trait Member: Keyed {
 
     ghost member_at: { ℕ → ℕ → List ℕ → Reads Self };
 
-    /// Reads a member whose key is at least `low`. Fault: `Order` as soon as its identifier is read and is below `low`;
-    /// else the first field at fault.
+    /// Reads a member whose key is at least `low`. Fault: `Order` as soon as its identifier is read
+    /// and is below `low`; else the first field at fault.
     fn read(reader: &mut Reader, low: u64) -> Result<Self, RecordFault>
         ensures read { Takes (member_at reader.old.total low reader.old.rest) result reader.new }
         ensures total { reader.new.total ≡ reader.old.total }
@@ -155,14 +157,15 @@ fn record(bytes: &[u8]) -> Result<(Config, usize), RecordFault>
     Ok((config, reader.place()))
 }
 
-/// Reads the configuration record at the front of these bytes: the configuration, and the length of its record. It does
-/// not allocate.
+/// Reads the configuration record at the front of these bytes: the configuration, and the length of
+/// its record. It does not allocate.
 ///
-/// The fault is the first one in the order of the bytes: `Short` if bytes of a field are missing; `Field` with the
-/// offset of the first byte of a field that is out of range; `Order` if an identifier is not above the previous one, as
-/// soon as it is read and in range. A bit rate without a size is at fault at its own bytes; after that a sub-channel
-/// that ends past the last capacity unit is at fault at its start address. A component whose carrier the service
-/// already has is at fault at its first byte.
+/// The fault is the first one in the order of the bytes: `Short` if bytes of a field are missing;
+/// `Field` with the offset of the first byte of a field that is out of range; `Order` if an
+/// identifier is not above the previous one, as soon as it is read and in range. A bit rate without
+/// a size is at fault at its own bytes; after that a sub-channel that ends past the last capacity
+/// unit is at fault at its start address. A component whose carrier the service already has is at
+/// fault at its first byte.
 pub fn read_config(bytes: &[u8]) -> Result<(Config, usize), RecordFault>
     ensures configuration { IfOk result (λ found. IsConfiguration found.0) }
     ensures spelled { IfOk result (λ found.

@@ -4,7 +4,8 @@ ghost use Rattle.std.specs.Prelude.{◌≡◌, ℕ, ◌++◌, List, Ok, OnOk, If
 ghost use Rattle.std.specs.List.{flat_map};
 ghost use Rattle.mux_types.specs.Configuration.{IsConfiguration};
 ghost use Rattle.mux_config.specs.FieldSpelling.{set_byte, component_bytes};
-ghost use Rattle.mux_config.specs.Spelling.{sub_record, service_record, packet_record, config_bytes};
+ghost use Rattle.mux_config.specs.Spelling.{sub_record, service_record, packet_record};
+ghost use Rattle.mux_config.specs.Spelling.{config_bytes};
 ghost use Rattle.mux_config.specs.Reading.{config_at};
 
 use crate::config::Config;

@@ -3,7 +3,9 @@
 ghost use Rattle.std.specs.Prelude.{◌≡◌, ◌≤◌, ◌↔◌, length, drop, Some, None, IsOk};
 ghost use Rattle.std.specs.List.{list_any};
 ghost use Rattle.mux_types.specs.Configuration.{IsConfiguration, IsPlaced, carrier_of};
-ghost use Rattle.mux_config.specs.Sound.{IsSound, sound_or_fault, first_fault, other_fault, first_overlap, overlap_with, has_orphan, is_missing, has_address_twice, has_same_address, is_empty_service};
+ghost use Rattle.mux_config.specs.Sound.{IsSound, sound_or_fault, first_fault, other_fault};
+ghost use Rattle.mux_config.specs.Sound.{first_overlap, overlap_with, has_orphan, is_missing};
+ghost use Rattle.mux_config.specs.Sound.{has_address_twice, has_same_address, is_empty_service};
 ghost use Rattle.mux_config.specs.declared.fault.ConfigFault.TheVariants.{Overlap};
 ghost use Rattle.mux_types.specs.declared.parts.Carrier.TheVariants.{Sub as BySub};
 
@@ -12,13 +14,14 @@ use crate::overlap::overlaps;
 use crate::store::Store;
 use mux_types::{Carrier, Component, Packet, Sub};
 
-/// Whether a configuration is sound: no two sub-channels share a capacity unit, what each component and each packet
-/// component refers to exists, no two packet components of a sub-channel have the same address, and each service has a
-/// component (EN 300 401 clauses 6.2.1, 6.3.1 and 6.3.2).
+/// Whether a configuration is sound: no two sub-channels share a capacity unit, what each component
+/// and each packet component refers to exists, no two packet components of a sub-channel have the
+/// same address, and each service has a component (EN 300 401 clauses 6.2.1, 6.3.1 and 6.3.2).
 ///
-/// The faults are tested in this order: `Overlap(a, b)` (the lowest `a` that shares a capacity unit with a higher
-/// sub-channel, and the lowest such `b`), `Orphan` (what a component or a packet component refers to does not exist),
-/// `AddressUsed` (two packet components of one sub-channel have the same address), `EmptyService`.
+/// The faults are tested in this order: `Overlap(a, b)` (the lowest `a` that shares a capacity unit
+/// with a higher sub-channel, and the lowest such `b`), `Orphan` (what a component or a packet
+/// component refers to does not exist), `AddressUsed` (two packet components of one sub-channel
+/// have the same address), `EmptyService`.
 pub fn soundness<S: Store>(store: &S) -> Result<(), ConfigFault>
     ensures first_fault { result ≡ sound_or_fault (S.content store.now) }
     ensures sound { IsOk result ↔ IsSound (S.content store.now) }
@@ -143,8 +146,8 @@ fn is_missing<S: Store>(store: &S, carrier: Carrier) -> bool
     }
 }
 
-/// Whether two packet components of one sub-channel have the same address. They are compared from the last to the
-/// first, and only if a later one has the same sub-channel.
+/// Whether two packet components of one sub-channel have the same address. They are compared from
+/// the last to the first, and only if a later one has the same sub-channel.
 fn has_address_twice<S: Store>(store: &S) -> bool
     ensures { let c = S.content store.now in result ≡ has_address_twice c.packets }
 {

@@ -1,9 +1,19 @@
 //! `Store`: a configuration in any representation.
 
-ghost use Rattle.std.specs.Prelude.{◌≡◌, ◌<◌, ◌↔◌, IsTrue, length, option_copied, slice_get, Some, None};
+ghost use Rattle.std.specs.Prelude.{◌≡◌, ◌<◌, ◌↔◌, IsTrue, length, option_copied, slice_get, Some};
+ghost use Rattle.std.specs.Prelude.{None};
 ghost use Rattle.mux_types.specs.Configuration.{Configuration, IsConfiguration, nothing};
 ghost use Rattle.mux_config.specs.Sound.{IsCrowded};
-ghost use Rattle.mux_config.specs.Edits.{Edits, sub_at, service_at, packet_at, add_sub, add_sub_fault, sub_added, drop_sub, drop_sub_fault, sub_dropped, move_sub, move_sub_fault, sub_moved, rate_sub, rate_sub_fault, sub_rated, add_service, add_service_fault, service_added, drop_service, drop_service_fault, service_dropped, add_component, add_component_fault, component_added, drop_component, drop_component_fault, component_dropped, add_packet, add_packet_fault, packet_added, drop_packet, drop_packet_fault, packet_dropped};
+ghost use Rattle.mux_config.specs.Edits.{Edits, sub_at, service_at, packet_at, add_sub};
+ghost use Rattle.mux_config.specs.Edits.{add_sub_fault, sub_added, drop_sub, drop_sub_fault};
+ghost use Rattle.mux_config.specs.Edits.{sub_dropped, move_sub, move_sub_fault, sub_moved};
+ghost use Rattle.mux_config.specs.Edits.{rate_sub, rate_sub_fault, sub_rated, add_service};
+ghost use Rattle.mux_config.specs.Edits.{add_service_fault, service_added, drop_service};
+ghost use Rattle.mux_config.specs.Edits.{drop_service_fault, service_dropped, add_component};
+ghost use Rattle.mux_config.specs.Edits.{add_component_fault, component_added, drop_component};
+ghost use Rattle.mux_config.specs.Edits.{drop_component_fault, component_dropped, add_packet};
+ghost use Rattle.mux_config.specs.Edits.{add_packet_fault, packet_added, drop_packet};
+ghost use Rattle.mux_config.specs.Edits.{drop_packet_fault, packet_dropped};
 
 use crate::config::Config;
 use crate::edit_faults::{
@@ -13,11 +23,13 @@ use crate::edit_faults::{
 use crate::fault::EditFault;
 use mux_types::{Carrier, Component, Packet, ScId, Service, Sid, Sub, SubId};
 
-/// A configuration in any representation: its three sets, in ascending order, and the ten edits (EN 300 401 clauses 6.1
-/// to 6.3). Contracts see the configuration that it represents. No call allocates.
+/// A configuration in any representation: its three sets, in ascending order, and the ten edits (EN
+/// 300 401 clauses 6.1 to 6.3). Contracts see the configuration that it represents. No call
+/// allocates.
 ///
-/// A refused edit returns the first of its faults, in the order given in its documentation, and changes nothing. The
-/// method of the same name with `_known` is for a caller that knows that there is no fault.
+/// A refused edit returns the first of its faults, in the order given in its documentation, and
+/// changes nothing. The method of the same name with `_known` is for a caller that knows that there
+/// is no fault.
 pub trait Store: Drop {
     ghost use Rattle.mux_types.specs.Configuration.{Configuration};
 
@@ -53,7 +65,8 @@ pub trait Store: Drop {
         ensures value { let c = content self.now in result ≡ length c.subs }
         ensures configuration { IsConfiguration (content self.now) };
 
-    /// The sub-channel at an index, from 0 in ascending order of SubChId. The index must be in range.
+    /// The sub-channel at an index, from 0 in ascending order of SubChId. The index must be in
+    /// range.
     fn sub_at(&self, place: usize) -> Sub
         requires { let c = content self.now in place < length c.subs }
         ensures value { let c = content self.now in slice_get c.subs place ≡ Some result }
@@ -64,7 +77,8 @@ pub trait Store: Drop {
         ensures value { let c = content self.now in result ≡ length c.services }
         ensures configuration { IsConfiguration (content self.now) };
 
-    /// The service at an index, from 0 in ascending order of SId, the 16-bit ones first. The index must be in range.
+    /// The service at an index, from 0 in ascending order of SId, the 16-bit ones first. The index
+    /// must be in range.
     fn service_at(&self, place: usize) -> &Service
         requires { let c = content self.now in place < length c.services }
         ensures value { let c = content self.now in slice_get c.services place ≡ Some result.now }
@@ -75,7 +89,8 @@ pub trait Store: Drop {
         ensures value { let c = content self.now in result ≡ length c.packets }
         ensures configuration { IsConfiguration (content self.now) };
 
-    /// The packet component at an index, from 0 in ascending order of SCId. The index must be in range.
+    /// The packet component at an index, from 0 in ascending order of SCId. The index must be in
+    /// range.
     fn packet_at(&self, place: usize) -> Packet
         requires { let c = content self.now in place < length c.packets }
         ensures value { let c = content self.now in slice_get c.packets place ≡ Some result }
@@ -101,8 +116,8 @@ pub trait Store: Drop {
         ensures value { IsTrue result ↔ IsCrowded (content self.now) }
         ensures configuration { IsConfiguration (content self.now) };
 
-    /// Adds a sub-channel. Faults: `IdUsed` (its identifier is in use), `BadRate` (its profile has no size at its
-    /// rate), `PastEnd` (it would end past capacity unit 863).
+    /// Adds a sub-channel. Faults: `IdUsed` (its identifier is in use), `BadRate` (its profile has
+    /// no size at its rate), `PastEnd` (it would end past capacity unit 863).
     final fn add_sub(&mut self, sub: Sub) -> Result<(), EditFault>
         ensures { Edits (content self.old) (content self.new)
             (add_sub sub (content self.old)) result }
@@ -136,8 +151,8 @@ pub trait Store: Drop {
         requires { drop_sub_fault id (content self.old) ≡ None }
         ensures { content self.new ≡ sub_dropped id (content self.old) };
 
-    /// Gives a sub-channel another start address. Faults: `IdAbsent` (it does not exist), `PastEnd` (it would end past
-    /// capacity unit 863).
+    /// Gives a sub-channel another start address. Faults: `IdAbsent` (it does not exist), `PastEnd`
+    /// (it would end past capacity unit 863).
     final fn move_sub(&mut self, id: SubId, start: u16) -> Result<(), EditFault>
         ensures { Edits (content self.old) (content self.new)
             (move_sub id start (content self.old)) result }
@@ -154,8 +169,9 @@ pub trait Store: Drop {
         requires { move_sub_fault id start (content self.old) ≡ None }
         ensures { content self.new ≡ sub_moved id start (content self.old) };
 
-    /// Gives a sub-channel another bit rate, in kbit/s, with the same protection profile. Faults: `IdAbsent` (it does
-    /// not exist), `BadRate` (its profile has no size at that rate), `PastEnd` (it would end past capacity unit 863).
+    /// Gives a sub-channel another bit rate, in kbit/s, with the same protection profile. Faults:
+    /// `IdAbsent` (it does not exist), `BadRate` (its profile has no size at that rate), `PastEnd`
+    /// (it would end past capacity unit 863).
     final fn rate_sub(&mut self, id: SubId, kbits: u16) -> Result<(), EditFault>
         ensures { Edits (content self.old) (content self.new)
             (rate_sub id kbits (content self.old)) result }
@@ -172,8 +188,8 @@ pub trait Store: Drop {
         requires { rate_sub_fault id kbits (content self.old) ≡ None }
         ensures { content self.new ≡ sub_rated id kbits (content self.old) };
 
-    /// Adds a service without components. Faults: `IdUsed` (its identifier is in use), `TableFull` (there are 64
-    /// services).
+    /// Adds a service without components. Faults: `IdUsed` (its identifier is in use), `TableFull`
+    /// (there are 64 services).
     final fn add_service(&mut self, sid: Sid) -> Result<(), EditFault>
         ensures { Edits (content self.old) (content self.new)
             (add_service sid (content self.old)) result }
@@ -207,8 +223,9 @@ pub trait Store: Drop {
         requires { drop_service_fault sid (content self.old) ≡ None }
         ensures { content self.new ≡ service_dropped sid (content self.old) };
 
-    /// Adds a component at the end of a service. Faults: `IdAbsent` (the service does not exist), `IdUsed` (it has a
-    /// component with that carrier), `TooManyComponents` (it has 12, or 11 with a 32-bit SId).
+    /// Adds a component at the end of a service. Faults: `IdAbsent` (the service does not exist),
+    /// `IdUsed` (it has a component with that carrier), `TooManyComponents` (it has 12, or 11 with
+    /// a 32-bit SId).
     final fn add_component(&mut self, sid: Sid, component: Component) -> Result<(), EditFault>
         ensures { Edits (content self.old) (content self.new)
             (add_component sid component (content self.old)) result }
@@ -225,8 +242,8 @@ pub trait Store: Drop {
         requires { add_component_fault sid component (content self.old) ≡ None }
         ensures { content self.new ≡ component_added sid component (content self.old) };
 
-    /// Removes the component with a carrier from a service; the later ones move up. Fault: `IdAbsent` (the service does
-    /// not exist, or has no component with that carrier).
+    /// Removes the component with a carrier from a service; the later ones move up. Fault:
+    /// `IdAbsent` (the service does not exist, or has no component with that carrier).
     final fn drop_component(&mut self, sid: Sid, carrier: Carrier) -> Result<(), EditFault>
         ensures { Edits (content self.old) (content self.new)
             (drop_component sid carrier (content self.old)) result }
@@ -243,8 +260,8 @@ pub trait Store: Drop {
         requires { drop_component_fault sid carrier (content self.old) ≡ None }
         ensures { content self.new ≡ component_dropped sid carrier (content self.old) };
 
-    /// Adds a packet component. Faults: `IdUsed` (its SCId is in use), `BadAddress` (its address is 0 or above 1023),
-    /// `TableFull` (there are 64 packet components).
+    /// Adds a packet component. Faults: `IdUsed` (its SCId is in use), `BadAddress` (its address is
+    /// 0 or above 1023), `TableFull` (there are 64 packet components).
     final fn add_packet(&mut self, packet: Packet) -> Result<(), EditFault>
         ensures { Edits (content self.old) (content self.new)
             (add_packet packet (content self.old)) result }

@@ -2,7 +2,8 @@
 
 use thiserror::Error;
 
-/// Why a protection profile has no size at a bit rate. [`crate::size_of`] says in which order the faults are tested.
+/// Why a protection profile has no size at a bit rate. [`crate::size_of`] says in which order the
+/// faults are tested.
 #[derive(Clone, Copy, Debug, PartialEq, Eq, Error)]
 pub enum EepFault {
     /// The rate is not a multiple of 8 kbit/s in set A, or of 32 kbit/s in set B.

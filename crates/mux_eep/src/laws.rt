@@ -2,8 +2,8 @@
 
 ghost use Rattle.mux_eep.specs.Sizes.{SizesGrow, OneRate};
 
-/// The law of sizes: at each protection profile a greater bit rate takes more capacity units, so that no
-/// two rates share a size. The function does nothing; its contract is the law.
+/// The law of sizes: at each protection profile a greater bit rate takes more capacity units, so
+/// that no two rates share a size. The function does nothing; its contract is the law.
 pub fn sizes()
     ensures grow { SizesGrow }
     ensures one_rate { OneRate }

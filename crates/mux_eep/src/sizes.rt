@@ -8,7 +8,8 @@ use crate::fault::EepFault;
 use crate::limits::CAPACITY_UNITS;
 use std::marker::Model;
 
-/// The set of protection levels of a profile (EN 300 401 clause 6.2.1, option 000 and 001 of FIG 0/1).
+/// The set of protection levels of a profile (EN 300 401 clause 6.2.1, option 000 and 001 of FIG
+/// 0/1).
 #[derive(Clone, Copy, Debug, PartialEq, Eq, PartialOrd, Ord)]
 pub enum EepSet {
     /// Rates that are multiples of 8 kbit/s.
@@ -115,11 +116,11 @@ impl EepSet {
     }
 }
 
-/// The size, in capacity units, of a sub-channel of profile `p` that carries `kbits` kbit/s: 1 to 864
-/// (EN 300 401 clause 6.2.1).
+/// The size, in capacity units, of a sub-channel of profile `p` that carries `kbits` kbit/s: 1 to
+/// 864 (EN 300 401 clause 6.2.1).
 ///
-/// The faults are tested in this order: `ZeroRate` (0 kbit/s), `NotMultiple` (not a multiple of 8 kbit/s
-/// in set A, or of 32 in set B), `PastMultiplex` (more than 864 capacity units).
+/// The faults are tested in this order: `ZeroRate` (0 kbit/s), `NotMultiple` (not a multiple of 8
+/// kbit/s in set A, or of 32 in set B), `PastMultiplex` (more than 864 capacity units).
 pub fn size_of(p: Protection, kbits: u16) -> Result<u16, EepFault>
     ensures first_fault { result ≡ size_or_fault p kbits }
     ensures is_size { IfOk result (λ size. IsSize p kbits size) }
@@ -139,8 +140,8 @@ pub fn size_of(p: Protection, kbits: u16) -> Result<u16, EepFault>
     Ok(size as u16)
 }
 
-/// The one rate, in kbit/s, at which a sub-channel of profile `p` takes `cu` capacity units; None if no rate does (EN
-/// 300 401 clause 6.2.1).
+/// The one rate, in kbit/s, at which a sub-channel of profile `p` takes `cu` capacity units; None
+/// if no rate does (EN 300 401 clause 6.2.1).
 pub fn rate_of(p: Protection, cu: u16) -> Option<u16>
     ensures is_rate { IfSome result (λ kbits. IsSize p kbits cu) }
     ensures only_rate { IfSome result (λ kbits. (other : ℕ) → IsSize p other cu → other ≡ kbits) }

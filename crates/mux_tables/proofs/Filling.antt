@@ -1,5 +1,6 @@
 -- Sub-channels are added one after another, and removed again.
-use Rattle.std.proofs.Common.{◌≡◌, ℕ, zero, suc, ◌+◌, ◌%◌, ◌<◌, ◌==◌, false, ltb, List, [], ◌∷◌, take, Option, Some, None, IfSome, slice_get, refl, sym, ap, ◌∙◌, subst, add-one, arith}
+use Rattle.std.proofs.Common.{◌≡◌, ℕ, zero, suc, ◌+◌, ◌%◌, ◌<◌, ◌==◌, false, ltb, List, [], ◌∷◌, take, Option, Some}
+use Rattle.std.proofs.Common.{None, IfSome, slice_get, refl, sym, ap, ◌∙◌, subst, add-one, arith}
 use Rattle.std.proofs.lemmas.Bool.{le-ltb, ne_eqb}
 use Rattle.mux_types.specs.declared.parts.Sub.{Sub}
 use Rattle.mux_config.specs.Configuration.{Configuration, IsAscending, IsPlaced, sub_key, size_of_sub}
@@ -9,18 +10,21 @@ use Rattle.mux_config.specs.Tables.{entry_at, with_entry}
 use Rattle.mux_config.specs.Edits.{placing_fault, add_sub_fault, sub_added}
 use Rattle.mux_config.proofs.Keeping.{entry_holds, absent_found}
 
-pub placed_if : (id : ℕ) (xs : List Sub) (o : Option Sub) → AllByRecursion IsPlaced xs → o ≡ entry_at sub_key id xs → IfSome o (λ s. IsPlaced s)
+pub placed_if : (id : ℕ) (xs : List Sub) (o : Option Sub) → AllByRecursion IsPlaced xs → o ≡ entry_at sub_key id xs
+    → IfSome o (λ s. IsPlaced s)
 placed_if id xs None h e = tt
 placed_if id xs (Some s) h e = entry_holds IsPlaced sub_key id xs s h (sym e)
 
 -- ---- a member of a list in ascending order
 
-member : {T : Type 0} (P : T → Type 0) (xs : List T) (i : ℕ) (y : T) → AllByRecursion P xs → slice_get xs i ≡ Some y → P y
+member : {T : Type 0} (P : T → Type 0) (xs : List T) (i : ℕ) (y : T) → AllByRecursion P xs → slice_get xs i ≡ Some y
+    → P y
 member P [] i y h e = absurd (cc)
 member P (x ∷ xs) zero y h e = let is : x ≡ y = cc in subst P is h.0
 member P (x ∷ xs) (suc i) y h e = member P xs i y h.1 e
 
-absent_before : (xs : List Sub) (i : ℕ) (y : Sub) → IsAscending sub_key xs → slice_get xs i ≡ Some y → entry_at sub_key y.id (take i xs) ≡ None
+absent_before : (xs : List Sub) (i : ℕ) (y : Sub) → IsAscending sub_key xs → slice_get xs i ≡ Some y
+    → entry_at sub_key y.id (take i xs) ≡ None
 absent_before [] i y h e = absurd (cc)
 absent_before (x ∷ xs) zero y h e = refl
 absent_before (x ∷ xs) (suc i) y h e =
@@ -28,7 +32,8 @@ absent_before (x ∷ xs) (suc i) y h e =
     let other : (x.id == y.id) ≡ false = ne_eqb x.id y.id (λ f. omega (arith, less, f)) in
     rw (other) (absent_before xs i y h.1 e)
 
-with_next : (xs : List Sub) (i : ℕ) (y : Sub) → IsAscending sub_key xs → slice_get xs i ≡ Some y → with_entry sub_key y (take i xs) ≡ take (suc i) xs
+with_next : (xs : List Sub) (i : ℕ) (y : Sub) → IsAscending sub_key xs → slice_get xs i ≡ Some y
+    → with_entry sub_key y (take i xs) ≡ take (suc i) xs
 with_next [] i y h e = absurd (cc)
 with_next (x ∷ xs) zero y h e = let is : x ≡ y = cc in ap (λ (z : Sub). z ∷ []) (sym is)
 with_next (x ∷ xs) (suc i) y h e =
@@ -42,16 +47,20 @@ placing_none y h =
     let positive = size.positive in
     let multiple = size.multiple in
     let some : (y.kbits == 0) ≡ false = ne_eqb y.kbits 0 (λ e. omega (arith, positive, e)) in
-    let whole : ltb 0 (y.kbits % rate_step y.protection.set) ≡ false = le-ltb 0 (y.kbits % rate_step y.protection.set) (omega (arith, multiple)) in
+    let whole : ltb 0 (y.kbits % rate_step y.protection.set) ≡ false =
+    le-ltb 0 (y.kbits % rate_step y.protection.set) (omega (arith, multiple)) in
     let within : ltb 864 (size_of_sub y) ≡ false = le-ltb 864 (size_of_sub y) size.within in
     let ends : ltb 864 (y.start + size_of_sub y) ≡ false = le-ltb 864 (y.start + size_of_sub y) h.ends in
     rw (some, whole, within, ends) refl
 
-pub fits_next : (c d : Configuration) (xs : List Sub) (i : ℕ) (y : Sub) → IsAscending sub_key xs → AllByRecursion IsPlaced xs → slice_get xs i ≡ Some y → d ≡ record c { subs = take i xs } → add_sub_fault y d ≡ None
+pub fits_next : (c d : Configuration) (xs : List Sub) (i : ℕ) (y : Sub) → IsAscending sub_key xs
+    → AllByRecursion IsPlaced xs → slice_get xs i ≡ Some y → d ≡ record c { subs = take i xs }
+    → add_sub_fault y d ≡ None
 fits_next c d xs i y order placed e is =
     let absent = absent_found sub_key y.id (take i xs) (absent_before xs i y order e) in
     rw (is, absent) (placing_none y (member IsPlaced xs i y placed e))
 
-pub added_next : (c d : Configuration) (xs : List Sub) (i : ℕ) (y : Sub) → IsAscending sub_key xs → slice_get xs i ≡ Some y → d ≡ record c { subs = take i xs } → sub_added y d ≡ record c { subs = take (i + 1) xs }
+pub added_next : (c d : Configuration) (xs : List Sub) (i : ℕ) (y : Sub) → IsAscending sub_key xs
+    → slice_get xs i ≡ Some y → d ≡ record c { subs = take i xs } → sub_added y d ≡ record c { subs = take (i + 1) xs }
 added_next c d xs i y order e is =
     ap (sub_added y) is ∙ ap (λ (zs : List Sub). record c { subs = zs }) (rw add-one (with_next xs i y order e))

@@ -1,5 +1,7 @@
 -- The lanes of the unit map: a span is added and removed, and a lane above 1 is found.
-use Rattle.std.proofs.Common.{◌⊎◌, ◌≡◌, ℕ, zero, suc, ◌+◌, ◌-◌, ◌*◌, ◌%◌, ◌<◌, ◌≤◌, Bool, true, false, cond, ltb, ◌^◌, ◌/◌, inl, inr, subst, add-one, List, [], ◌∷◌, map, length, get_or, set, ◌≢◌, below_more, get_or-set_same, get_or-set_other, refl, sym, ap, ◌∙◌, arith}
+use Rattle.std.proofs.Common.{◌⊎◌, ◌≡◌, ℕ, zero, suc, ◌+◌, ◌-◌, ◌*◌, ◌%◌, ◌<◌, ◌≤◌, Bool, true, false, cond, ltb, ◌^◌}
+use Rattle.std.proofs.Common.{◌/◌, inl, inr, subst, add-one, List, [], ◌∷◌, map, length, get_or, set, ◌≢◌, below_more}
+use Rattle.std.proofs.Common.{get_or-set_same, get_or-set_other, refl, sym, ap, ◌∙◌, arith}
 use Rattle.std.specs.List.{range_with_len}
 use Rattle.std.specs.Simd.Lanes.{zip2, top, mask_l}
 use Rattle.std.specs.Prelude.{replicate}
@@ -13,13 +15,15 @@ use Rattle.mux_tables.specs.declared.unit_map.Block.{Block}
 use Rattle.mux_tables.specs.Units.{share, counts_of_block, units_at, no_units, Counts}
 
 -- functions that agree on a range
-pub map_agree : {X : Type 0} (f g : ℕ → X) (a n : ℕ) → ((j : ℕ) → a ≤ j → j < a + n → f j ≡ g j) → map f (range_with_len a n) ≡ map g (range_with_len a n)
+pub map_agree : {X : Type 0} (f g : ℕ → X) (a n : ℕ) → ((j : ℕ) → a ≤ j → j < a + n → f j ≡ g j)
+    → map f (range_with_len a n) ≡ map g (range_with_len a n)
 map_agree f g a zero h = refl
 map_agree f g a (suc n) h =
     ap (λ x. x ∷ map f (range_with_len (a + 1) n)) (h a (omega arith) (omega arith))
     ∙ ap (λ xs. g a ∷ xs) (map_agree f g (a + 1) n (λ j le lt. h j (omega arith) (omega arith)))
 
-pub block_agree : (f g : ℕ → ℕ) (b : ℕ) → ((j : ℕ) → j < 32 → f (32 * b + j) ≡ g (32 * b + j)) → counts_of_block f b ≡ counts_of_block g b
+pub block_agree : (f g : ℕ → ℕ) (b : ℕ) → ((j : ℕ) → j < 32 → f (32 * b + j) ≡ g (32 * b + j))
+    → counts_of_block f b ≡ counts_of_block g b
 unfolding counts_of_block
 block_agree f g b h = map_agree (λ j. f (32 * b + j)) (λ j. g (32 * b + j)) 0 32 (λ j le lt. h j (omega arith))
 
@@ -39,30 +43,38 @@ lane_is s base from to j lt e f =
 
 pub mask_is : (s : Span) (b from to : ℕ)
     → from ≡ cond (ltb s.start (b * 32)) 0 (cond (ltb s.start (b * 32 + 32)) (s.start - b * 32) 32)
-    → to ≡ cond (ltb (s.start + s.size) (b * 32)) 0 (cond (ltb (s.start + s.size) (b * 32 + 32)) (s.start + s.size - b * 32) 32)
+    → to ≡ cond (ltb (s.start + s.size) (b * 32)) 0
+    (cond (ltb (s.start + s.size) (b * 32 + 32)) (s.start + s.size - b * 32) 32)
     → map (lane from to) (range_with_len 0 32) ≡ counts_of_block (share s) b
 unfolding counts_of_block
 mask_is s b from to e f =
     map_agree (lane from to) (λ j. share s (32 * b + j)) 0 32
-    (λ j le lt. let swapped : b * 32 ≡ 32 * b = omega arith in lane_is s (b * 32) from to j (omega arith) e f ∙ ap (λ n. share s (n + j)) swapped)
+    (λ j le lt. let swapped : b * 32 ≡ 32 * b = omega arith in
+    lane_is s (b * 32) from to j (omega arith) e f ∙ ap (λ n. share s (n + j)) swapped)
 
 -- ---- counting in and out, block by block
 
 share_small : (s : Span) (u : ℕ) → share s u ≤ 1
 share_small s u = grind (arith, nat_tests)
 
-added : (uses : ℕ → ℕ) (s : Span) (b : ℕ) → ((u : ℕ) → uses u < 255) → zip2 (λ x y. (x + y) % 256) (counts_of_block uses b) (counts_of_block (share s) b) ≡ counts_of_block (λ u. uses u + share s u) b
+added : (uses : ℕ → ℕ) (s : Span) (b : ℕ) → ((u : ℕ) → uses u < 255)
+    → zip2 (λ x y. (x + y) % 256) (counts_of_block uses b) (counts_of_block (share s) b)
+    ≡ counts_of_block (λ u. uses u + share s u) b
 unfolding counts_of_block
 added uses s b small =
     zip2-map (λ x y. (x + y) % 256) (λ j. uses (32 * b + j)) (λ j. share s (32 * b + j)) (range_with_len 0 32)
-    ∙ map_agree (λ j. (uses (32 * b + j) + share s (32 * b + j)) % 256) (λ j. uses (32 * b + j) + share s (32 * b + j)) 0 32
+    ∙ map_agree (λ j. (uses (32 * b + j) + share s (32 * b + j)) % 256) (λ j. uses (32 * b + j) + share s (32 * b + j))
+    0 32
     (λ j le lt. let one = small (32 * b + j) in let two = share_small s (32 * b + j) in omega (arith, one, two))
 
-taken : (op : ℕ → ℕ → ℕ) (uses : ℕ → ℕ) (s : Span) (b : ℕ) → ((x y : ℕ) → x < 255 → y ≤ 1 → op (x + y) y ≡ x) → ((u : ℕ) → uses u < 255) → zip2 op (counts_of_block (λ u. uses u + share s u) b) (counts_of_block (share s) b) ≡ counts_of_block uses b
+taken : (op : ℕ → ℕ → ℕ) (uses : ℕ → ℕ) (s : Span) (b : ℕ) → ((x y : ℕ) → x < 255 → y ≤ 1 → op (x + y) y ≡ x)
+    → ((u : ℕ) → uses u < 255) → zip2 op (counts_of_block (λ u. uses u + share s u) b) (counts_of_block (share s) b)
+    ≡ counts_of_block uses b
 unfolding counts_of_block
 taken op uses s b undoes small =
     zip2-map op (λ j. uses (32 * b + j) + share s (32 * b + j)) (λ j. share s (32 * b + j)) (range_with_len 0 32)
-    ∙ map_agree (λ j. op (uses (32 * b + j) + share s (32 * b + j)) (share s (32 * b + j))) (λ j. uses (32 * b + j)) 0 32
+    ∙ map_agree (λ j. op (uses (32 * b + j) + share s (32 * b + j)) (share s (32 * b + j))) (λ j. uses (32 * b + j)) 0
+    32
     (λ j le lt. undoes (uses (32 * b + j)) (share s (32 * b + j)) (small (32 * b + j)) (share_small s (32 * b + j)))
 
 pub record Stepped (op : ℕ → ℕ → ℕ) (before blocks : List Block) (s : Span) (from n : ℕ) : Type 0 where
@@ -70,17 +82,21 @@ pub record Stepped (op : ℕ → ℕ → ℕ) (before blocks : List Block) (s : 
   pub low : (b : ℕ) → b < from → units_at blocks b ≡ units_at before b
   pub left : (b : ℕ) → n ≤ b → units_at blocks b ≡ units_at before b
 
-pub step : (op : ℕ → ℕ → ℕ) (before blocks : List Block) (s : Span) (from n : ℕ) (x : List ℕ) (y : Block) → n < length blocks → from ≤ n
+pub step : (op : ℕ → ℕ → ℕ) (before blocks : List Block) (s : Span) (from n : ℕ) (x : List ℕ) (y : Block)
+    → n < length blocks → from ≤ n
     → x ≡ units_at blocks n → y.units ≡ zip2 op x (counts_of_block (share s) n)
     → Stepped op before blocks s from n → Stepped op before (set blocks n y) s from (n + 1)
 step op before blocks s from n x y lt le is made h =
     let same : get_or (set blocks n y) n no_units ≡ y = rw get_or-set_same refl in
     let others : (b : ℕ) → b ≢ n → units_at (set blocks n y) b ≡ units_at blocks b =
-    λ b ne. let e : get_or (set blocks n y) b no_units ≡ get_or blocks b no_units = rw get_or-set_other refl in ap (λ (k : Block). k.units) e in
+    λ b ne. let e : get_or (set blocks n y) b no_units ≡ get_or blocks b no_units = rw get_or-set_other refl in
+    ap (λ (k : Block). k.units) e in
     record {
-      done = λ b low less. below_more (λ (k : ℕ). from ≤ k → units_at (set blocks n y) k ≡ zip2 op (units_at before k) (counts_of_block (share s) k)) n
+      done = λ b low less. below_more (λ (k : ℕ). from ≤ k
+          → units_at (set blocks n y) k ≡ zip2 op (units_at before k) (counts_of_block (share s) k)) n
           (λ k lk lf. let ne : k ≢ n = omega arith in others k ne ∙ h.done k lf lk)
-          (λ lf. ap (λ (k : Block). k.units) same ∙ made ∙ ap (λ (xs : List ℕ). zip2 op xs (counts_of_block (share s) n)) (is ∙ h.left n (omega arith)))
+          (λ lf. ap (λ (k : Block). k.units) same ∙ made
+          ∙ ap (λ (xs : List ℕ). zip2 op xs (counts_of_block (share s) n)) (is ∙ h.left n (omega arith)))
           b less low;
       low = λ b less. let ne : b ≢ n = omega arith in others b ne ∙ h.low b less;
       left = λ b more. let ne : b ≢ n = omega arith in others b ne ∙ h.left b (omega arith);
@@ -93,25 +109,32 @@ none_below s b j less lt = let k : 32 * b + j < s.start = omega arith in grind (
 none_above : (s : Span) (b j n : ℕ) → s.start + s.size ≤ 32 * n → n ≤ b → share s (32 * b + j) ≡ 0
 none_above s b j n le more = let k : s.start + s.size ≤ 32 * b + j = omega arith in grind (arith, nat_tests, k)
 
-same_outside : (uses : ℕ → ℕ) (s : Span) (b : ℕ) → ((j : ℕ) → j < 32 → share s (32 * b + j) ≡ 0) → counts_of_block (λ u. uses u + share s u) b ≡ counts_of_block uses b
-same_outside uses s b none = block_agree (λ u. uses u + share s u) uses b (λ j lt. let z = none j lt in omega (arith, z))
+same_outside : (uses : ℕ → ℕ) (s : Span) (b : ℕ) → ((j : ℕ) → j < 32 → share s (32 * b + j) ≡ 0)
+    → counts_of_block (λ u. uses u + share s u) b ≡ counts_of_block uses b
+same_outside uses s b none = block_agree (λ u. uses u + share s u) uses b
+    (λ j lt. let z = none j lt in omega (arith, z))
 
-outside : (s : Span) (from n b : ℕ) → from ≡ s.start / 32 → s.start + s.size ≤ 32 * n → (b < from) ⊎ (n ≤ b) → (j : ℕ) → j < 32 → share s (32 * b + j) ≡ 0
+outside : (s : Span) (from n b : ℕ) → from ≡ s.start / 32 → s.start + s.size ≤ 32 * n → (b < from) ⊎ (n ≤ b) → (j : ℕ)
+    → j < 32 → share s (32 * b + j) ≡ 0
 outside s from n b is le (inl lt) j less = none_below s b j less (omega (arith, is, lt))
 outside s from n b is le (inr ge) j less = none_above s b j n le ge
 
-kept : (op : ℕ → ℕ → ℕ) (before blocks : List Block) (s : Span) (from n b : ℕ) → Stepped op before blocks s from n → (b < from) ⊎ (n ≤ b) → units_at blocks b ≡ units_at before b
+kept : (op : ℕ → ℕ → ℕ) (before blocks : List Block) (s : Span) (from n b : ℕ) → Stepped op before blocks s from n
+    → (b < from) ⊎ (n ≤ b) → units_at blocks b ≡ units_at before b
 kept op before blocks s from n b h (inl lt) = h.low b lt
 kept op before blocks s from n b h (inr ge) = h.left b ge
 
-pub raised : (before blocks : List Block) (s : Span) (from n : ℕ) → from ≡ s.start / 32 → s.start + s.size ≤ 32 * n → Stepped (λ x y. (x + y) % 256) before blocks s from n
+pub raised : (before blocks : List Block) (s : Span) (from n : ℕ) → from ≡ s.start / 32 → s.start + s.size ≤ 32 * n
+    → Stepped (λ x y. (x + y) % 256) before blocks s from n
     → (uses : ℕ → ℕ) → ((u : ℕ) → uses u < 255) → Counts before uses → Counts blocks (λ u. uses u + share s u)
 raised before blocks s from n is le h uses small counts = record {
   each = λ b lt. elim (cases_lt b from) [
-    | inl low ↦ kept (λ x y. (x + y) % 256) before blocks s from n b h (inl low) ∙ counts.each b lt ∙ sym (same_outside uses s b (outside s from n b is le (inl low)))
+    | inl low ↦ kept (λ x y. (x + y) % 256) before blocks s from n b h (inl low) ∙ counts.each b lt
+        ∙ sym (same_outside uses s b (outside s from n b is le (inl low)))
     | inr high ↦ elim (cases_lt b n) [
       | inl in_span ↦ h.done b high in_span ∙ rw (counts.each b lt) (added uses s b small)
-      | inr past ↦ kept (λ x y. (x + y) % 256) before blocks s from n b h (inr past) ∙ counts.each b lt ∙ sym (same_outside uses s b (outside s from n b is le (inr past)))
+      | inr past ↦ kept (λ x y. (x + y) % 256) before blocks s from n b h (inr past) ∙ counts.each b lt
+          ∙ sym (same_outside uses s b (outside s from n b is le (inr past)))
     ]
   ];
 }
@@ -119,14 +142,18 @@ raised before blocks s from n is le h uses small counts = record {
 undoes : (x y : ℕ) → x < 255 → y ≤ 1 → (x + y + (256 - y)) % 256 ≡ x
 undoes x y small one = omega arith
 
-pub lowered : (before blocks : List Block) (s : Span) (from n : ℕ) → from ≡ s.start / 32 → s.start + s.size ≤ 32 * n → Stepped (λ x y. (x + (256 - y)) % 256) before blocks s from n
+pub lowered : (before blocks : List Block) (s : Span) (from n : ℕ) → from ≡ s.start / 32 → s.start + s.size ≤ 32 * n
+    → Stepped (λ x y. (x + (256 - y)) % 256) before blocks s from n
     → (uses : ℕ → ℕ) → ((u : ℕ) → uses u < 255) → Counts before (λ u. uses u + share s u) → Counts blocks uses
 lowered before blocks s from n is le h uses small counts = record {
   each = λ b lt. elim (cases_lt b from) [
-    | inl low ↦ kept (λ x y. (x + (256 - y)) % 256) before blocks s from n b h (inl low) ∙ counts.each b lt ∙ same_outside uses s b (outside s from n b is le (inl low))
+    | inl low ↦ kept (λ x y. (x + (256 - y)) % 256) before blocks s from n b h (inl low) ∙ counts.each b lt
+        ∙ same_outside uses s b (outside s from n b is le (inl low))
     | inr high ↦ elim (cases_lt b n) [
-      | inl in_span ↦ h.done b high in_span ∙ rw (counts.each b lt) (taken (λ x y. (x + (256 - y)) % 256) uses s b undoes small)
-      | inr past ↦ kept (λ x y. (x + (256 - y)) % 256) before blocks s from n b h (inr past) ∙ counts.each b lt ∙ same_outside uses s b (outside s from n b is le (inr past))
+      | inl in_span ↦ h.done b high in_span ∙ rw (counts.each b lt)
+          (taken (λ x y. (x + (256 - y)) % 256) uses s b undoes small)
+      | inr past ↦ kept (λ x y. (x + (256 - y)) % 256) before blocks s from n b h (inr past) ∙ counts.each b lt
+          ∙ same_outside uses s b (outside s from n b is le (inr past))
     ]
   ];
 }
@@ -171,7 +198,12 @@ set_told (x ∷ xs) some =
 
 unset_told : (xs : List ℕ) → mask_l (map is_high xs) ≡ 0 → (j : ℕ) → j < length xs → get_or xs j 0 ≤ 1
 unset_told [] none j lt = absurd (omega arith)
-unset_told (x ∷ xs) none zero lt = elim (cases_lt 1 x) [ inl lt' ↦ let high : ltb 1 x ≡ true = lt-ltb 1 x lt' in absurd (let e = rw high at none in omega (arith, e)) | inr ge ↦ ge ]
+unset_told (x ∷ xs) none zero lt =
+    elim (cases_lt 1 x) [
+      | inl lt' ↦ let high : ltb 1 x ≡ true = lt-ltb 1 x lt' in
+          absurd (let e = rw high at none in omega (arith, e))
+      | inr ge ↦ ge
+    ]
 unset_told (x ∷ xs) none (suc j) lt = unset_told xs (omega (arith, none)) j (omega arith)
 
 pub above_told : (xs : List ℕ) → length xs ≡ 32 → (bits_above xs ≡ 0 → ⊥) → (j : ℕ) × (j < 32) × (1 < get_or xs j 0)
@@ -182,10 +214,13 @@ above_told xs long some =
 pub above_none : (xs : List ℕ) → length xs ≡ 32 → bits_above xs ≡ 0 → (j : ℕ) → j < 32 → get_or xs j 0 ≤ 1
 above_none xs long none j lt = unset_told xs (sym (bits_are xs long) ∙ none) j (omega arith)
 
-pub high_told : (lanes : List Block) (uses : ℕ → ℕ) (b j : ℕ) → Counts lanes uses → b < 27 → j < 32 → 1 < get_or (units_at lanes b) j 0 → 1 < uses (32 * b + j)
-high_told lanes uses b j counts lt less high = let e = lane_at uses b j less in let f = counts.each b lt in let g = rw (f, e) at high in g
+pub high_told : (lanes : List Block) (uses : ℕ → ℕ) (b j : ℕ) → Counts lanes uses → b < 27 → j < 32
+    → 1 < get_or (units_at lanes b) j 0 → 1 < uses (32 * b + j)
+high_told lanes uses b j counts lt less high = let e = lane_at uses b j less in let f = counts.each b lt in let g =
+    rw (f, e) at high in g
 
-pub none_high : (lanes : List Block) (uses : ℕ → ℕ) → Counts lanes uses → ((b j : ℕ) → b < 27 → j < 32 → get_or (units_at lanes b) j 0 ≤ 1) → (u : ℕ) → u < 864 → uses u ≤ 1
+pub none_high : (lanes : List Block) (uses : ℕ → ℕ) → Counts lanes uses
+    → ((b j : ℕ) → b < 27 → j < 32 → get_or (units_at lanes b) j 0 ≤ 1) → (u : ℕ) → u < 864 → uses u ≤ 1
 none_high lanes uses counts h u lt =
     let b : u / 32 < 27 = omega arith in
     let j : u % 32 < 32 = omega arith in
@@ -205,5 +240,6 @@ blank = record { units = replicate 32 0 }
 
 pub none_counted : (uses : ℕ → ℕ) → ((u : ℕ) → uses u ≡ 0) → Counts (replicate 27 blank) uses
 none_counted uses h = record {
-  each = λ b lt. ap (λ (k : Block). k.units) (get_or-replicate 27 b blank no_units lt) ∙ sym (block_agree uses (λ u. 0) b (λ j less. h (32 * b + j)) ∙ zeros b);
+  each = λ b lt. ap (λ (k : Block). k.units) (get_or-replicate 27 b blank no_units lt)
+      ∙ sym (block_agree uses (λ u. 0) b (λ j less. h (32 * b + j)) ∙ zeros b);
 }

@@ -2,7 +2,8 @@
 use Rattle.std.proofs.Common.{◌≡◌, List, [], Option, Some, None, Ok, refl, sym, ap, ◌∙◌, subst}
 use Rattle.mux_types.specs.declared.parts.Sub.{Sub}
 use Rattle.mux_config.specs.declared.edit.Edit.{Edit}
-use Rattle.mux_config.specs.declared.edit.Edit.TheVariants.{AddSub, DropSub, MoveSub, RateSub, AddService, DropService, AddComponent, DropComponent, AddPacket, DropPacket}
+use Rattle.mux_config.specs.declared.edit.Edit.TheVariants.{AddSub, DropSub, MoveSub, RateSub, AddService, DropService}
+use Rattle.mux_config.specs.declared.edit.Edit.TheVariants.{AddComponent, DropComponent, AddPacket, DropPacket}
 use Rattle.mux_config.specs.declared.fault.EditFault.{EditFault}
 use Rattle.mux_config.specs.Configuration.{Configuration, IsConfiguration}
 use Rattle.mux_config.specs.Edits.{outcome, edit_fault, changed, IsInRange}
@@ -16,7 +17,8 @@ IsOfOthers (MoveSub id start) = ⊥
 IsOfOthers (RateSub id kbits) = ⊥
 IsOfOthers e = Unit {0}
 
-pub same_fault : (e : Edit) → IsOfOthers e → (xs : List Sub) (d : Configuration) → edit_fault e (with_sub_channels xs d) ≡ edit_fault e d
+pub same_fault : (e : Edit) → IsOfOthers e → (xs : List Sub) (d : Configuration)
+    → edit_fault e (with_sub_channels xs d) ≡ edit_fault e d
 same_fault (AddSub s) of xs d = absurd of
 same_fault (DropSub id) of xs d = absurd of
 same_fault (MoveSub id start) of xs d = absurd of
@@ -28,7 +30,8 @@ same_fault (DropComponent sid carrier) of xs d = refl
 same_fault (AddPacket p) of xs d = refl
 same_fault (DropPacket scid) of xs d = refl
 
-pub same_change : (e : Edit) → IsOfOthers e → (xs : List Sub) (d : Configuration) → changed e (with_sub_channels xs d) ≡ with_sub_channels xs (changed e d)
+pub same_change : (e : Edit) → IsOfOthers e → (xs : List Sub) (d : Configuration)
+    → changed e (with_sub_channels xs d) ≡ with_sub_channels xs (changed e d)
 same_change (AddSub s) of xs d = absurd of
 same_change (DropSub id) of xs d = absurd of
 same_change (MoveSub id start) of xs d = absurd of
@@ -53,14 +56,17 @@ same_subs (AddPacket p) of d = refl
 same_subs (DropPacket scid) of d = refl
 
 -- if there is no fault
-pub known : (e : Edit) → IsOfOthers e → (xs : List Sub) (old new : Configuration) → new ≡ changed e old → with_sub_channels xs new ≡ changed e (with_sub_channels xs old)
+pub known : (e : Edit) → IsOfOthers e → (xs : List Sub) (old new : Configuration) → new ≡ changed e old
+    → with_sub_channels xs new ≡ changed e (with_sub_channels xs old)
 known e of xs old new is = ap (with_sub_channels xs) is ∙ sym (same_change e of xs old)
 
-pub known_keeps : (e : Edit) → IsOfOthers e → IsInRange e → (xs : List Sub) (old new : Configuration) → old.subs ≡ [] → IsConfiguration (with_sub_channels xs old) → edit_fault e old ≡ None → new ≡ changed e old
+pub known_keeps : (e : Edit) → IsOfOthers e → IsInRange e → (xs : List Sub) (old new : Configuration) → old.subs ≡ []
+    → IsConfiguration (with_sub_channels xs old) → edit_fault e old ≡ None → new ≡ changed e old
     → (new.subs ≡ []) × IsConfiguration (with_sub_channels xs new)
 known_keeps e of within xs old new none c fault is = (
   ap (λ (d : Configuration). d.subs) is ∙ same_subs e of old ∙ none,
-  subst IsConfiguration (sym (known e of xs old new is)) (edits_keep e (with_sub_channels xs old) within c (same_fault e of xs old ∙ fault)),
+  subst IsConfiguration (sym (known e of xs old new is))
+      (edits_keep e (with_sub_channels xs old) within c (same_fault e of xs old ∙ fault)),
 )
 
 -- and with its result

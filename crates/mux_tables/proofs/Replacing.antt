@@ -6,7 +6,8 @@ use Rattle.mux_config.specs.Tables.{with_entry_changed}
 use Rattle.mux_types.proofs.Tables.{each_changed, ascends_changed}
 use Rattle.mux_config.proofs.Keeping.{subs_keep}
 
-pub replaced_keeps : (y : Sub) (c : Configuration) → IsConfiguration c → IsPlaced y → IsConfiguration (record c { subs = with_entry_changed sub_key y c.subs })
+pub replaced_keeps : (y : Sub) (c : Configuration) → IsConfiguration c → IsPlaced y
+    → IsConfiguration (record c { subs = with_entry_changed sub_key y c.subs })
 replaced_keeps y c is placed =
     subs_keep c (with_entry_changed sub_key y c.subs) is
     (record {

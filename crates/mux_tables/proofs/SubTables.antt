@@ -1,5 +1,6 @@
 -- A table of sub-channels and the list of their identifiers stay consistent.
-use Rattle.std.proofs.Common.{◌≡◌, ℕ, zero, suc, ◌<◌, List, [], ◌∷◌, map, length, get_or, set, Option, Some, None, slice_get, refl, sym, ap, ◌∙◌, arith}
+use Rattle.std.proofs.Common.{◌≡◌, ℕ, zero, suc, ◌<◌, List, [], ◌∷◌, map, length, get_or, set, Option, Some, None}
+use Rattle.std.proofs.Common.{slice_get, refl, sym, ap, ◌∙◌, arith}
 use Rattle.std.proofs.lemmas.List.{length-map}
 use Rattle.mux_types.specs.declared.parts.Sub.{Sub}
 use Rattle.mux_config.specs.Configuration.{sub_key}
@@ -7,7 +8,8 @@ use Rattle.mux_config.specs.Tables.{entry_at, with_entry, without_entry, with_en
 use Rattle.mux_tables.specs.declared.sub_table.ListedId.{ListedId}
 use Rattle.mux_tables.specs.Listed.{listed}
 use Rattle.mux_tables.specs.Members.{members, InPlace}
-use Rattle.mux_tables.proofs.Members.{is_found, is_added, is_removed, is_changed, stays_in_place, in_place_none, room, stands, found_mapped, with_mapped, without_mapped, changed_mapped}
+use Rattle.mux_tables.proofs.Members.{is_found, is_added, is_removed, is_changed, stays_in_place, in_place_none, room}
+use Rattle.mux_tables.proofs.Members.{stands, found_mapped, with_mapped, without_mapped, changed_mapped}
 
 abbrev pub listed_key : ListedId → ℕ
 listed_key l = l.id
@@ -20,38 +22,50 @@ with_default [] i d lt = absurd (omega arith)
 with_default (x ∷ xs) zero d lt = refl
 with_default (x ∷ xs) (suc i) d lt = with_default xs i d (omega arith)
 
-pub found_at : (places : List (Option Sub)) (id p : ℕ) (d : Option Sub) → length places ≡ 64 → id < 64 → InPlace sub_key 0 places → p ≡ id → get_or places p d ≡ entry_at sub_key id (members places)
-found_at places id p d long lt h e = with_default places p d (omega (arith, long, lt, e)) ∙ rw (e) (is_found sub_key places id h)
+pub found_at : (places : List (Option Sub)) (id p : ℕ) (d : Option Sub) → length places ≡ 64 → id < 64
+    → InPlace sub_key 0 places → p ≡ id → get_or places p d ≡ entry_at sub_key id (members places)
+found_at places id p d long lt h e = with_default places p d (omega (arith, long, lt, e))
+    ∙ rw (e) (is_found sub_key places id h)
 
-pub id_absent : (places : List (Option Sub)) (ids : List ListedId) (id : ℕ) → ids ≡ ids_of places → entry_at sub_key id (members places) ≡ None → entry_at listed_key id ids ≡ None
-id_absent places ids id same absent = rw (same) (found_mapped sub_key listed_key listed (λ x. refl) id (members places) absent)
+pub id_absent : (places : List (Option Sub)) (ids : List ListedId) (id : ℕ) → ids ≡ ids_of places
+    → entry_at sub_key id (members places) ≡ None → entry_at listed_key id ids ≡ None
+id_absent places ids id same absent =
+    rw (same) (found_mapped sub_key listed_key listed (λ x. refl) id (members places) absent)
 
-pub id_room : (places : List (Option Sub)) (ids : List ListedId) (id : ℕ) → length places ≡ 64 → id < 64 → InPlace sub_key 0 places → ids ≡ ids_of places → entry_at sub_key id (members places) ≡ None → length ids < 64
+pub id_room : (places : List (Option Sub)) (ids : List ListedId) (id : ℕ) → length places ≡ 64 → id < 64
+    → InPlace sub_key 0 places → ids ≡ ids_of places → entry_at sub_key id (members places) ≡ None → length ids < 64
 id_room places ids id long lt h same absent =
     let few = room sub_key places id (omega (arith, long, lt)) (is_found sub_key places id h ∙ absent) in
     let len : length ids ≡ length (members places) = ap length same ∙ simp length-map in
     omega (arith, few, len, long)
 
-pub added : (places : List (Option Sub)) (y : Sub) (p : ℕ) → length places ≡ 64 → y.id < 64 → InPlace sub_key 0 places → p ≡ y.id → entry_at sub_key y.id (members places) ≡ None → members (set places p (Some y)) ≡ with_entry sub_key y (members places)
+pub added : (places : List (Option Sub)) (y : Sub) (p : ℕ) → length places ≡ 64 → y.id < 64 → InPlace sub_key 0 places
+    → p ≡ y.id → entry_at sub_key y.id (members places) ≡ None
+    → members (set places p (Some y)) ≡ with_entry sub_key y (members places)
 added places y p long lt h e absent = rw (e) (is_added sub_key places y h (omega (arith, long, lt)) absent)
 
-pub added_in_place : (places : List (Option Sub)) (y : Sub) (p : ℕ) → InPlace sub_key 0 places → p ≡ y.id → InPlace sub_key 0 (set places p (Some y))
+pub added_in_place : (places : List (Option Sub)) (y : Sub) (p : ℕ) → InPlace sub_key 0 places → p ≡ y.id
+    → InPlace sub_key 0 (set places p (Some y))
 added_in_place places y p h e = rw (e) (stays_in_place sub_key places y h)
 
-pub ids_added : (places : List (Option Sub)) (ids : List ListedId) (y : Sub) (p : ℕ) → length places ≡ 64 → y.id < 64 → InPlace sub_key 0 places → ids ≡ ids_of places → p ≡ y.id → entry_at sub_key y.id (members places) ≡ None
+pub ids_added : (places : List (Option Sub)) (ids : List ListedId) (y : Sub) (p : ℕ) → length places ≡ 64 → y.id < 64
+    → InPlace sub_key 0 places → ids ≡ ids_of places → p ≡ y.id → entry_at sub_key y.id (members places) ≡ None
     → with_entry listed_key (listed y) ids ≡ ids_of (set places p (Some y))
 ids_added places ids y p long lt h same e absent =
     ap (with_entry listed_key (listed y)) same
     ∙ with_mapped sub_key listed_key listed (λ x. refl) y (members places)
     ∙ ap (λ (xs : List Sub). map listed xs) (sym (added places y p long lt h e absent))
 
-pub removed : (places : List (Option Sub)) (id p : ℕ) → InPlace sub_key 0 places → p ≡ id → members (set places p None) ≡ without_entry sub_key id (members places)
+pub removed : (places : List (Option Sub)) (id p : ℕ) → InPlace sub_key 0 places → p ≡ id
+    → members (set places p None) ≡ without_entry sub_key id (members places)
 removed places id p h e = rw (e) (is_removed sub_key places id h)
 
-pub removed_in_place : (places : List (Option Sub)) (p : ℕ) → InPlace sub_key 0 places → InPlace sub_key 0 (set places p None)
+pub removed_in_place : (places : List (Option Sub)) (p : ℕ) → InPlace sub_key 0 places
+    → InPlace sub_key 0 (set places p None)
 removed_in_place places p h = in_place_none sub_key 0 places p h
 
-pub ids_removed : (places : List (Option Sub)) (ids : List ListedId) (id k p : ℕ) → InPlace sub_key 0 places → ids ≡ ids_of places → p ≡ id → k ≡ id
+pub ids_removed : (places : List (Option Sub)) (ids : List ListedId) (id k p : ℕ) → InPlace sub_key 0 places
+    → ids ≡ ids_of places → p ≡ id → k ≡ id
     → without_entry listed_key k ids ≡ ids_of (set places p None)
 ids_removed places ids id k p h same e f =
     ap (without_entry listed_key k) same
@@ -62,25 +76,33 @@ ids_removed places ids id k p h same e f =
 same_listed : (x y : Sub) → sub_key x ≡ sub_key y → listed x ≡ listed y
 same_listed x y e = ap (λ (n : ℕ). let l : ListedId = record { id = n } in l) e
 
-pub changed : (places : List (Option Sub)) (x y : Sub) (p : ℕ) → InPlace sub_key 0 places → p ≡ y.id → entry_at sub_key y.id (members places) ≡ Some x → members (set places p (Some y)) ≡ with_entry_changed sub_key y (members places)
+pub changed : (places : List (Option Sub)) (x y : Sub) (p : ℕ) → InPlace sub_key 0 places → p ≡ y.id
+    → entry_at sub_key y.id (members places) ≡ Some x → members (set places p (Some y))
+    ≡ with_entry_changed sub_key y (members places)
 changed places x y p h e there =
     rw (e) (is_changed sub_key places x y h (is_found sub_key places y.id h ∙ there))
 
-pub ids_changed : (places : List (Option Sub)) (ids : List ListedId) (x y : Sub) (p : ℕ) → InPlace sub_key 0 places → ids ≡ ids_of places → p ≡ y.id → entry_at sub_key y.id (members places) ≡ Some x → ids ≡ ids_of (set places p (Some y))
+pub ids_changed : (places : List (Option Sub)) (ids : List ListedId) (x y : Sub) (p : ℕ) → InPlace sub_key 0 places
+    → ids ≡ ids_of places → p ≡ y.id → entry_at sub_key y.id (members places) ≡ Some x
+    → ids ≡ ids_of (set places p (Some y))
 ids_changed places ids x y p h same e there =
     same ∙ sym (changed_mapped sub_key listed_key listed (λ x. refl) y (λ x f. same_listed x y f) (members places))
     ∙ ap (λ (xs : List Sub). map listed xs) (sym (changed places x y p h e there))
 
 -- the identifier at an index of the list is that of the sub-channel at the index
-listed_at : (xs : List Sub) (i : ℕ) (l : ListedId) → slice_get (map listed xs) i ≡ Some l → (s : Sub) × (slice_get xs i ≡ Some s) × (s.id ≡ l.id)
+listed_at : (xs : List Sub) (i : ℕ) (l : ListedId) → slice_get (map listed xs) i ≡ Some l → (s : Sub)
+    × (slice_get xs i ≡ Some s) × (s.id ≡ l.id)
 listed_at [] i l e = absurd (cc)
 listed_at (x ∷ xs) zero l e = let is : listed x ≡ l = cc in (x, refl, ap (λ (k : ListedId). k.id) is)
 listed_at (x ∷ xs) (suc i) l e = listed_at xs i l e
 
-pub item_at : (places : List (Option Sub)) (ids : List ListedId) (i : ℕ) (l : ListedId) → InPlace sub_key 0 places → ids ≡ ids_of places → Some l ≡ slice_get ids i → slice_get (members places) i ≡ entry_at sub_key l.id (members places)
+pub item_at : (places : List (Option Sub)) (ids : List ListedId) (i : ℕ) (l : ListedId) → InPlace sub_key 0 places
+    → ids ≡ ids_of places → Some l ≡ slice_get ids i → slice_get (members places) i
+    ≡ entry_at sub_key l.id (members places)
 item_at places ids i l h same e =
     let found = listed_at (members places) i l (sym (e ∙ ap (λ (ls : List ListedId). slice_get ls i) same)) in
-    found.1 ∙ sym (stands sub_key places i found.0 h found.1) ∙ is_found sub_key places found.0.id h ∙ ap (λ (n : ℕ). entry_at sub_key n (members places)) found.2
+    found.1 ∙ sym (stands sub_key places i found.0 h found.1) ∙ is_found sub_key places found.0.id h
+    ∙ ap (λ (n : ℕ). entry_at sub_key n (members places)) found.2
 
 pub item_there : {T : Type 0} (xs : List T) (i : ℕ) → i < length xs → slice_get xs i ≡ None → ⊥
 item_there [] i lt e = omega arith
@@ -88,10 +110,13 @@ item_there (x ∷ xs) zero lt e = absurd (cc)
 item_there (x ∷ xs) (suc i) lt e = item_there xs i (omega arith) e
 
 -- equal tables
-pub same_place : (xs ys : List (Option Sub)) (i : ℕ) → InPlace sub_key 0 xs → InPlace sub_key 0 ys → members xs ≡ members ys → get_or xs i None ≡ get_or ys i None
-same_place xs ys i h k e = is_found sub_key xs i h ∙ ap (λ (ms : List Sub). entry_at sub_key i ms) e ∙ sym (is_found sub_key ys i k)
+pub same_place : (xs ys : List (Option Sub)) (i : ℕ) → InPlace sub_key 0 xs → InPlace sub_key 0 ys
+    → members xs ≡ members ys → get_or xs i None ≡ get_or ys i None
+same_place xs ys i h k e = is_found sub_key xs i h ∙ ap (λ (ms : List Sub). entry_at sub_key i ms) e
+    ∙ sym (is_found sub_key ys i k)
 
-pub all_same : (xs ys : List (Option Sub)) → length xs ≡ length ys → ((i : ℕ) → i < length xs → get_or xs i None ≡ get_or ys i None) → xs ≡ ys
+pub all_same : (xs ys : List (Option Sub)) → length xs ≡ length ys
+    → ((i : ℕ) → i < length xs → get_or xs i None ≡ get_or ys i None) → xs ≡ ys
 all_same [] [] long h = refl
 all_same [] (y ∷ ys) long h = absurd (omega (arith, long))
 all_same (x ∷ xs) [] long h = absurd (omega (arith, long))

@@ -1,5 +1,6 @@
 -- The number of sub-channels that cover a unit: how edits change it, and that two share the unit if it is above 1.
-use Rattle.std.proofs.Common.{◌≡◌, ◌≢◌, ℕ, ◌+◌, ◌*◌, ◌<◌, ◌≤◌, ◌==◌, Bool, true, false, not, cond, ltb, List, [], ◌∷◌, length, filter, Contains, Option, Some, refl, sym, ap, ◌∙◌, subst, inl, inr, arith}
+use Rattle.std.proofs.Common.{◌≡◌, ◌≢◌, ℕ, ◌+◌, ◌*◌, ◌<◌, ◌≤◌, ◌==◌, Bool, true, false, not, cond, ltb, List, [], ◌∷◌}
+use Rattle.std.proofs.Common.{length, filter, Contains, Option, Some, refl, sym, ap, ◌∙◌, subst, inl, inr, arith}
 use Rattle.std.proofs.lemmas.Bool.{cases_lt, eqb-true}
 use Rattle.std.proofs.lemmas.Bool.Decides.{nat_tests}
 use Rattle.mux_types.specs.declared.parts.Sub.{Sub}
@@ -26,7 +27,8 @@ share_small s u = grind (arith, nat_tests)
 
 pub users_within : (xs : List Sub) (u : ℕ) → users xs u ≤ length xs
 users_within [] u = omega arith
-users_within (x ∷ xs) u = let rest = users_within xs u in let one = share_small (span_of x) u in let e = users_cons x xs u in omega (arith, rest, one, e)
+users_within (x ∷ xs) u = let rest = users_within xs u in let one = share_small (span_of x) u in let e =
+    users_cons x xs u in omega (arith, rest, one, e)
 
 -- ---- edits
 
@@ -34,14 +36,16 @@ users_cond : (t : Bool) (xs ys : List Sub) (u n : ℕ) → users xs u ≡ n → 
 users_cond true xs ys u n e f = e
 users_cond false xs ys u n e f = f
 
-pub users_with : (y : Sub) (xs : List Sub) (u : ℕ) → users (with_entry sub_key y xs) u ≡ users xs u + share (span_of y) u
+pub users_with : (y : Sub) (xs : List Sub) (u : ℕ) → users (with_entry sub_key y xs) u ≡ users xs u
+    + share (span_of y) u
 users_with y [] u = let e = users_cons y [] u in omega (arith, e)
 users_with y (x ∷ xs) u =
     let e = users_cons y (x ∷ xs) u in
     let f = users_cons x (with_entry sub_key y xs) u in
     let g = users_cons x xs u in
     let rest = users_with y xs u in
-    users_cond (ltb (sub_key y) (sub_key x)) (y ∷ x ∷ xs) (x ∷ with_entry sub_key y xs) u (users (x ∷ xs) u + share (span_of y) u) (omega (arith, e)) (omega (arith, f, g, rest))
+    users_cond (ltb (sub_key y) (sub_key x)) (y ∷ x ∷ xs) (x ∷ with_entry sub_key y xs) u
+    (users (x ∷ xs) u + share (span_of y) u) (omega (arith, e)) (omega (arith, f, g, rest))
 
 found_here : (t : Bool) (x s : Sub) (rest : Option Sub) → t ≡ true → cond t (Some x) rest ≡ Some s → x ≡ s
 found_here true x s rest is e = cc
@@ -51,13 +55,16 @@ found_later : (t : Bool) (x s : Sub) (rest : Option Sub) → t ≡ false → con
 found_later true x s rest is e = absurd (cc)
 found_later false x s rest is e = e
 
-without_by : (t : Bool) (x s : Sub) (k u : ℕ) (xs : List Sub) → (sub_key x == k) ≡ t → IsAscending sub_key (x ∷ xs) → cond t (Some x) (entry_at sub_key k xs) ≡ Some s
+without_by : (t : Bool) (x s : Sub) (k u : ℕ) (xs : List Sub) → (sub_key x == k) ≡ t → IsAscending sub_key (x ∷ xs)
+    → cond t (Some x) (entry_at sub_key k xs) ≡ Some s
     → (entry_at sub_key k xs ≡ Some s → users xs u ≡ users (without_entry sub_key k xs) u + share (span_of s) u)
-    → users (x ∷ xs) u ≡ users (cond (not t) (x ∷ without_entry sub_key k xs) (without_entry sub_key k xs)) u + share (span_of s) u
+    → users (x ∷ xs) u ≡ users (cond (not t) (x ∷ without_entry sub_key k xs) (without_entry sub_key k xs)) u
+    + share (span_of s) u
 without_by true x s k u xs is h e rest =
     let same : x ≡ s = cc in
     let at : sub_key x ≡ k = eqb-true (sub_key x) k is in
-    let none : without_entry sub_key k xs ≡ xs = without_below sub_key k xs (subst (λ (n : ℕ). AllByRecursion (λ y. n < sub_key y) xs) at h.0) in
+    let none : without_entry sub_key k xs ≡ xs =
+    without_below sub_key k xs (subst (λ (n : ℕ). AllByRecursion (λ y. n < sub_key y) xs) at h.0) in
     let f = users_cons x xs u in
     let g : users (without_entry sub_key k xs) u ≡ users xs u = ap (λ (ys : List Sub). users ys u) none in
     let i : share (span_of x) u ≡ share (span_of s) u = ap (λ (y : Sub). share (span_of y) u) same in
@@ -68,17 +75,22 @@ without_by false x s k u xs is h e rest =
     let i = rest e in
     omega (arith, f, g, i)
 
-pub users_without : (k : ℕ) (xs : List Sub) (s : Sub) (u : ℕ) → IsAscending sub_key xs → entry_at sub_key k xs ≡ Some s → users xs u ≡ users (without_entry sub_key k xs) u + share (span_of s) u
+pub users_without : (k : ℕ) (xs : List Sub) (s : Sub) (u : ℕ) → IsAscending sub_key xs → entry_at sub_key k xs ≡ Some s
+    → users xs u ≡ users (without_entry sub_key k xs) u + share (span_of s) u
 users_without k [] s u h e = absurd (cc)
 users_without k (x ∷ xs) s u h e = without_by (sub_key x == k) x s k u xs refl h e (λ f. users_without k xs s u h.1 f)
 
-changed_by : (t : Bool) (x y s : Sub) (u : ℕ) (xs : List Sub) → (sub_key x == sub_key y) ≡ t → IsAscending sub_key (x ∷ xs) → cond t (Some x) (entry_at sub_key (sub_key y) xs) ≡ Some s
-    → (entry_at sub_key (sub_key y) xs ≡ Some s → users (with_entry_changed sub_key y xs) u + share (span_of s) u ≡ users xs u + share (span_of y) u)
-    → users (cond t y x ∷ with_entry_changed sub_key y xs) u + share (span_of s) u ≡ users (x ∷ xs) u + share (span_of y) u
+changed_by : (t : Bool) (x y s : Sub) (u : ℕ) (xs : List Sub) → (sub_key x == sub_key y) ≡ t
+    → IsAscending sub_key (x ∷ xs) → cond t (Some x) (entry_at sub_key (sub_key y) xs) ≡ Some s
+    → (entry_at sub_key (sub_key y) xs ≡ Some s → users (with_entry_changed sub_key y xs) u + share (span_of s) u
+    ≡ users xs u + share (span_of y) u)
+    → users (cond t y x ∷ with_entry_changed sub_key y xs) u + share (span_of s) u ≡ users (x ∷ xs) u
+    + share (span_of y) u
 changed_by true x y s u xs is h e rest =
     let same : x ≡ s = cc in
     let at : sub_key x ≡ sub_key y = eqb-true (sub_key x) (sub_key y) is in
-    let none : with_entry_changed sub_key y xs ≡ xs = unchanged sub_key y xs (subst (λ (n : ℕ). AllByRecursion (λ z. n < sub_key z) xs) at h.0) in
+    let none : with_entry_changed sub_key y xs ≡ xs =
+    unchanged sub_key y xs (subst (λ (n : ℕ). AllByRecursion (λ z. n < sub_key z) xs) at h.0) in
     let f = users_cons x xs u in
     let j = users_cons y (with_entry_changed sub_key y xs) u in
     let g : users (with_entry_changed sub_key y xs) u ≡ users xs u = ap (λ (ys : List Sub). users ys u) none in
@@ -90,35 +102,51 @@ changed_by false x y s u xs is h e rest =
     let i = rest e in
     omega (arith, f, g, i)
 
-pub users_changed : (y : Sub) (xs : List Sub) (s : Sub) (u : ℕ) → IsAscending sub_key xs → entry_at sub_key (sub_key y) xs ≡ Some s → users (with_entry_changed sub_key y xs) u + share (span_of s) u ≡ users xs u + share (span_of y) u
+pub users_changed : (y : Sub) (xs : List Sub) (s : Sub) (u : ℕ) → IsAscending sub_key xs
+    → entry_at sub_key (sub_key y) xs ≡ Some s → users (with_entry_changed sub_key y xs) u + share (span_of s) u
+    ≡ users xs u + share (span_of y) u
 users_changed y [] s u h e = absurd (cc)
-users_changed y (x ∷ xs) s u h e = changed_by (sub_key x == sub_key y) x y s u xs refl h e (λ f. users_changed y xs s u h.1 f)
+users_changed y (x ∷ xs) s u h e =
+    changed_by (sub_key x == sub_key y) x y s u xs refl h e (λ f. users_changed y xs s u h.1 f)
 
 -- ---- the map of the units
 
 pub same_counts : (blocks : List Block) (f g : ℕ → ℕ) → ((u : ℕ) → f u ≡ g u) → Counts blocks f → Counts blocks g
-same_counts blocks f g h counts = record { each = λ b lt. counts.each b lt ∙ block_agree f g b (λ j less. h (32 * b + j)) }
+same_counts blocks f g h counts =
+    record { each = λ b lt. counts.each b lt ∙ block_agree f g b (λ j less. h (32 * b + j)) }
 
 few_users : (xs : List Sub) (u : ℕ) → length xs ≤ 64 → users xs u < 255
 few_users xs u few = let n = users_within xs u in omega (arith, few, n)
 
-pub counts_with : (before after : List Block) (y : Sub) (xs : List Sub) → length xs ≤ 64 → CountsIn before after (span_of y) → Counts before (users xs) → Counts after (users (with_entry sub_key y xs))
+pub counts_with : (before after : List Block) (y : Sub) (xs : List Sub) → length xs ≤ 64
+    → CountsIn before after (span_of y) → Counts before (users xs) → Counts after (users (with_entry sub_key y xs))
 counts_with before after y xs few in_map counts =
-    same_counts after (λ u. users xs u + share (span_of y) u) (users (with_entry sub_key y xs)) (λ u. sym (users_with y xs u))
+    same_counts after (λ u. users xs u + share (span_of y) u) (users (with_entry sub_key y xs))
+    (λ u. sym (users_with y xs u))
     (in_map (users xs) (λ u. few_users xs u few) counts)
 
-pub counts_without : (before after : List Block) (k : ℕ) (s : Sub) (xs : List Sub) → length xs ≤ 64 → IsAscending sub_key xs → entry_at sub_key k xs ≡ Some s → CountsOut before after (span_of s) → Counts before (users xs) → Counts after (users (without_entry sub_key k xs))
+pub counts_without : (before after : List Block) (k : ℕ) (s : Sub) (xs : List Sub) → length xs ≤ 64
+    → IsAscending sub_key xs → entry_at sub_key k xs ≡ Some s → CountsOut before after (span_of s)
+    → Counts before (users xs) → Counts after (users (without_entry sub_key k xs))
 counts_without before after k s xs few order there out_map counts =
-    out_map (users (without_entry sub_key k xs)) (λ u. let n = few_users xs u few in let e = users_without k xs s u order there in omega (arith, n, e))
-    (same_counts before (users xs) (λ u. users (without_entry sub_key k xs) u + share (span_of s) u) (λ u. users_without k xs s u order there) counts)
+    out_map (users (without_entry sub_key k xs)) (λ u. let n = few_users xs u few in let e =
+    users_without k xs s u order there in omega (arith, n, e))
+    (same_counts before (users xs) (λ u. users (without_entry sub_key k xs) u + share (span_of s) u)
+    (λ u. users_without k xs s u order there) counts)
 
-pub counts_changed : (before between after : List Block) (y s : Sub) (xs : List Sub) → length xs ≤ 64 → IsAscending sub_key xs → entry_at sub_key (sub_key y) xs ≡ Some s
-    → CountsOut before between (span_of s) → CountsIn between after (span_of y) → Counts before (users xs) → Counts after (users (with_entry_changed sub_key y xs))
+pub counts_changed : (before between after : List Block) (y s : Sub) (xs : List Sub) → length xs ≤ 64
+    → IsAscending sub_key xs → entry_at sub_key (sub_key y) xs ≡ Some s
+    → CountsOut before between (span_of s) → CountsIn between after (span_of y) → Counts before (users xs)
+    → Counts after (users (with_entry_changed sub_key y xs))
 counts_changed before between after y s xs few order there out_map in_map counts =
     let rest = counts_without before between (sub_key y) s xs few order there out_map counts in
-    same_counts after (λ u. users (without_entry sub_key (sub_key y) xs) u + share (span_of y) u) (users (with_entry_changed sub_key y xs))
-    (λ u. let e = users_without (sub_key y) xs s u order there in let f = users_changed y xs s u order there in omega (arith, e, f))
-    (in_map (users (without_entry sub_key (sub_key y) xs)) (λ u. let n = few_users xs u few in let e = users_without (sub_key y) xs s u order there in omega (arith, n, e)) rest)
+    same_counts after (λ u. users (without_entry sub_key (sub_key y) xs) u + share (span_of y) u)
+    (users (with_entry_changed sub_key y xs))
+    (λ u. let e = users_without (sub_key y) xs s u order there in let f = users_changed y xs s u order there in
+    omega (arith, e, f))
+    (in_map (users (without_entry sub_key (sub_key y) xs))
+    (λ u. let n = few_users xs u few in let e = users_without (sub_key y) xs s u order there in omega (arith, n, e))
+    rest)
 
 -- ---- two that share a unit
 
@@ -133,7 +161,8 @@ user_told [] u h = absurd (omega arith)
 user_told (x ∷ xs) u h =
     elim (cases_lt 0 (share (span_of x) u)) [
       | inl lt ↦ (x, contains_first x xs, shared x u lt)
-      | inr ge ↦ let e = users_cons x xs u in let rest = user_told xs u (omega (arith, ge, e, h)) in (rest.0, contains_later x xs rest.0 rest.1, rest.2)
+      | inr ge ↦ let e = users_cons x xs u in let rest = user_told xs u (omega (arith, ge, e, h)) in
+          (rest.0, contains_later x xs rest.0 rest.1, rest.2)
     ]
 
 pub record Sharing (xs : List Sub) (u : ℕ) : Type 0 where
@@ -181,22 +210,28 @@ user_found [] u s there h = absurd (contains_none s there)
 user_found (x ∷ xs) u s there h =
     let e = users_cons x xs u in
     elim (contains_cases x xs s there) [
-      | inl same ↦ let one = shares s u h in let f : share (span_of x) u ≡ share (span_of s) u = ap (λ (y : Sub). share (span_of y) u) same in omega (arith, e, f, one)
+      | inl same ↦ let one = shares s u h in let f : share (span_of x) u ≡ share (span_of s) u =
+          ap (λ (y : Sub). share (span_of y) u) same in omega (arith, e, f, one)
       | inr later ↦ let rest = user_found xs u s later h in omega (arith, e, rest)
     ]
 
-both_first : (x a b : Sub) (xs : List Sub) (u : ℕ) → x ≡ a → IsUnitOf a u → Contains xs b → IsUnitOf b u → 1 < users (x ∷ xs) u
+both_first : (x a b : Sub) (xs : List Sub) (u : ℕ) → x ≡ a → IsUnitOf a u → Contains xs b → IsUnitOf b u
+    → 1 < users (x ∷ xs) u
 both_first x a b xs u same h later k =
     let e = users_cons x xs u in
     let one = shares a u h in
     let f : share (span_of x) u ≡ share (span_of a) u = ap (λ (y : Sub). share (span_of y) u) same in
     let rest = user_found xs u b later k in omega (arith, e, f, one, rest)
 
-pub two_found : (xs : List Sub) (u : ℕ) (a b : Sub) → Contains xs a → Contains xs b → a.id ≢ b.id → IsUnitOf a u → IsUnitOf b u → 1 < users xs u
+pub two_found : (xs : List Sub) (u : ℕ) (a b : Sub) → Contains xs a → Contains xs b → a.id ≢ b.id → IsUnitOf a u
+    → IsUnitOf b u → 1 < users xs u
 two_found [] u a b has_a has_b differ h k = absurd (contains_none a has_a)
 two_found (x ∷ xs) u a b has_a has_b differ h k =
     elim (contains_cases x xs a has_a) [
-      | inl p ↦ elim (contains_cases x xs b has_b) [ inl q ↦ absurd (differ (ap (λ (y : Sub). y.id) (sym p ∙ q))) | inr q ↦ both_first x a b xs u p h q k ]
+      | inl p ↦ elim (contains_cases x xs b has_b) [
+        | inl q ↦ absurd (differ (ap (λ (y : Sub). y.id) (sym p ∙ q)))
+        | inr q ↦ both_first x a b xs u p h q k
+      ]
       | inr p ↦ elim (contains_cases x xs b has_b) [
         | inl q ↦ both_first x b a xs u q k p h
         | inr q ↦ let e = users_cons x xs u in let rest = two_found xs u a b p q differ h k in omega (arith, e, rest)

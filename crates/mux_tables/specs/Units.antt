@@ -1,5 +1,6 @@
 -- The number of sub-channels that cover each capacity unit, and the lanes that hold these numbers.
-use Rattle.std.specs.Prelude.{◌≡◌, ℕ, ◌+◌, ◌-◌, ◌*◌, ◌<◌, ◌≤◌, ◌&&◌, Bool, if◌then◌else◌, nat_lt, nat_le, List, [], map, length, filter, slice_index_or}
+use Rattle.std.specs.Prelude.{◌≡◌, ℕ, ◌+◌, ◌-◌, ◌*◌, ◌<◌, ◌≤◌, ◌&&◌, Bool, if◌then◌else◌, nat_lt, nat_le, List, [], map}
+use Rattle.std.specs.Prelude.{length, filter, slice_index_or}
 use Rattle.std.specs.List.{range_with_len}
 use Rattle.mux_eep.specs.declared.limits.TheConstants.{CAPACITY_UNITS}
 use Rattle.mux_types.specs.declared.parts.Sub.{Sub}

@@ -9,7 +9,7 @@ use mux_config::Sub;
 use mux_eep::size_of;
 
 /// A range of capacity units.
-#[derive(Clone, Copy, Debug, PartialEq, Eq)]
+#[derive(Clone, Copy)]
 pub(crate) struct Span {
     /// The first unit, numbered from 0.
     pub(crate) start: u16,

@@ -1,6 +1,7 @@
 //! Sub-channels, indexed by their identifiers.
 
-ghost use Rattle.std.specs.Prelude.{◌≡◌, ◌<◌, ◌↔◌, [], length, None, Some, IsTrue, replicate, slice_get};
+ghost use Rattle.std.specs.Prelude.{◌≡◌, ◌<◌, ◌↔◌, [], length, None, Some, IsTrue, replicate};
+ghost use Rattle.std.specs.Prelude.{slice_get};
 ghost use Rattle.mux_config.specs.Configuration.{IsAscending, sub_key};
 ghost use Rattle.mux_config.specs.Tables.{entry_at, with_entry, without_entry, with_entry_changed};
 ghost use Rattle.mux_tables.specs.Members.{members, InPlace};
@@ -9,7 +10,7 @@ use mux_config::{Keyed, SortedTable, Sub, SubId};
 use std::marker::Model;
 
 /// The identifier of a sub-channel in the table.
-#[derive(Clone, Copy, Debug, PartialEq, Eq)]
+#[derive(Clone, Copy)]
 struct ListedId {
     id: SubId,
 }
@@ -35,8 +36,8 @@ impl Keyed for ListedId {
     }
 }
 
-/// At most 64 sub-channels, each at the index of its SubChId, with their identifiers in ascending order. Contracts see
-/// it as the list of the sub-channels in ascending order of SubChId.
+/// At most 64 sub-channels, each at the index of its SubChId, with their identifiers in ascending
+/// order. Contracts see it as the list of the sub-channels in ascending order of SubChId.
 #[derive(Drop)]
 pub(crate) struct SubTable {
     by_id: [Option<Sub>; 64],

@@ -1,7 +1,8 @@
 //! A configuration that counts the sub-channels of each capacity unit.
 
 ghost use Rattle.std.specs.Prelude.{◌≡◌, ◌↔◌, None, Some, IfSome, IsTrue, []};
-ghost use Rattle.mux_config.specs.Configuration.{Configuration, IsConfiguration, IsPlaced, sub_key, nothing};
+ghost use Rattle.mux_config.specs.Configuration.{Configuration, IsConfiguration, IsPlaced, sub_key};
+ghost use Rattle.mux_config.specs.Configuration.{nothing};
 ghost use Rattle.mux_config.specs.Tables.{entry_at, with_entry_changed};
 ghost use Rattle.mux_config.specs.Sound.{IsCrowded};
 ghost use Rattle.mux_config.specs.Edits.{sub_at, add_sub_fault, sub_added, sub_dropped};
@@ -12,11 +13,12 @@ use crate::unit_map::{Block, count_in, count_out, empty_map, has_shared_unit};
 use mux_config::{Config, Store, Sub, SubId};
 use std::marker::Model;
 
-/// A configuration of the multiplex (EN 300 401 clauses 6.1 to 6.3) that counts, for each capacity unit, the
-/// sub-channels whose span covers it. Contracts see it as the configuration that it represents.
+/// A configuration of the multiplex (EN 300 401 clauses 6.1 to 6.3) that counts, for each capacity
+/// unit, the sub-channels whose span covers it. Contracts see it as the configuration that it
+/// represents.
 ///
-/// It does not allocate. Its edits cost as much as those of [`Config`], plus a few steps for the blocks of 32 capacity
-/// units that the span of a sub-channel touches.
+/// It does not allocate. Its edits cost as much as those of [`Config`], plus a few steps for the
+/// blocks of 32 capacity units that the span of a sub-channel touches.
 #[derive(Drop)]
 pub struct Tables {
     pub(crate) subs: SubTable,

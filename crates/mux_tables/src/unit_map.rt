@@ -2,7 +2,8 @@
 
 ghost use Rattle.std.specs.Prelude.{◌≡◌, ℕ, slice_index, true, false, ◌+◌, ◌-◌, ◌<◌, ◌≤◌, length};
 ghost use Rattle.mux_eep.specs.declared.limits.TheConstants.{CAPACITY_UNITS};
-ghost use Rattle.mux_tables.specs.Units.{share, lane_in, counts_of_block, units_at, Counts, CountsIn, CountsOut, SomeShared, NoneShared};
+ghost use Rattle.mux_tables.specs.Units.{share, lane_in, counts_of_block, units_at, Counts};
+ghost use Rattle.mux_tables.specs.Units.{CountsIn, CountsOut, SomeShared, NoneShared};
 
 use crate::span::Span;
 use std::simd::prelude::*;
@@ -27,8 +28,8 @@ pub(crate) fn empty_map() -> [Block; 27]
     }; 27]
 }
 
-/// The lane of a unit in the block whose first unit is `base`; 0 for a unit before the block, and 32 for one
-/// past it.
+/// The lane of a unit in the block whose first unit is `base`; 0 for a unit before the block, and
+/// 32 for one past it.
 fn lane_in(base: u16, unit: u16) -> u8
     ensures { result ≡ lane_in base unit }
 {

@@ -10,7 +10,8 @@ use Rattle.mux_types.specs.declared.parts.Packet.{Packet}
 use Rattle.mux_types.specs.declared.entry.Entry.{Entry}
 use Rattle.mux_types.specs.declared.entry.Entry.TheVariants.{Sub as SubOf, Service as ServiceOf, Packet as PacketOf}
 use Rattle.mux_types.specs.declared.entry.ComponentEntry.{ComponentEntry}
-use Rattle.mux_types.specs.declared.entry.ComponentEntry.TheVariants.{Sound as SoundOf, Stream as StreamOf, Packet as PacketsOf}
+use Rattle.mux_types.specs.declared.entry.ComponentEntry.TheVariants.{Sound as SoundOf, Stream as StreamOf}
+use Rattle.mux_types.specs.declared.entry.ComponentEntry.TheVariants.{Packet as PacketsOf}
 use Rattle.mux_types.specs.Configuration.{Configuration, IsConfiguration, size_of_sub}
 
 -- an entry with its C/N flag, which is true if it describes the next configuration (clause 5.2.2.1)
@@ -45,7 +46,12 @@ component_entries [] = []
 component_entries (c ∷ cs) = component_entry true c ∷ map (component_entry false) cs
 
 abbrev pub service_entry : Service → Entry
-service_entry s = ServiceOf (record { sid = s.sid; rfa = false; ca_id = 0; components = component_entries s.components })
+service_entry s = ServiceOf (record {
+  sid = s.sid;
+  rfa = false;
+  ca_id = 0;
+  components = component_entries s.components;
+})
 
 abbrev pub packet_entry : Packet → Entry
 packet_entry p =

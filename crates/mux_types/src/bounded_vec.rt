@@ -1,6 +1,7 @@
 //! A list of a few values, stored inline, without allocation.
 
-ghost use Rattle.std.specs.Prelude.{◌≡◌, ◌+◌, ◌<◌, ◌≤◌, List, ◌++◌, ◌∷◌, [], ◌↔◌, length, take, IsTrue, option_copied, slice_get, slice_index_or, set};
+ghost use Rattle.std.specs.Prelude.{◌≡◌, ◌+◌, ◌<◌, ◌≤◌, List, ◌++◌, ◌∷◌, [], ◌↔◌, length, take};
+ghost use Rattle.std.specs.Prelude.{IsTrue, option_copied, slice_get, slice_index_or, set};
 ghost use Rattle.std.specs.List.{insert, remove};
 
 use crate::sorted_table::Keyed;
@@ -85,8 +86,8 @@ impl<T: Drop, const CAP: usize> BoundedVec<T, CAP> {
         self.len = 0;
     }
 
-    /// Inserts a value at an index, before the one that is there; the later ones move up. The list must have room for
-    /// it.
+    /// Inserts a value at an index, before the one that is there; the later ones move up. The list
+    /// must have room for it.
     pub fn insert(&mut self, place: usize, value: T)
         requires in_bounds { place ≤ length self.old }
         requires room { length self.old < CAP }

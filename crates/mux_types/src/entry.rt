@@ -1,5 +1,5 @@
-//! The entries of FIG 0/0 to 0/3, with every field of the standard within its bits. An entry is a value; the crate
-//! `fib_codec` encodes it as bytes.
+//! The entries of FIG 0/0 to 0/3, with every field of the standard within its bits. An entry is a
+//! value; the crate `fib_codec` encodes it as bytes.
 
 ghost use Rattle.std.specs.Prelude.{◌≡◌, ◌<◌, ◌↔◌, IsSome, IfSome};
 
@@ -34,9 +34,9 @@ impl Default for Entry {
     }
 }
 
-/// Ensemble information, FIG 0/0 (EN 300 401 clause 6.4): the EId, the change flags 0 to 3 (1 for the sub-channel
-/// organization, 2 for the service organization), the Al flag, the CIF count 0 to 4999, and the occurrence change,
-/// which is present exactly if a flag is set.
+/// Ensemble information, FIG 0/0 (EN 300 401 clause 6.4): the EId, the change flags 0 to 3 (1 for
+/// the sub-channel organization, 2 for the service organization), the Al flag, the CIF count 0 to
+/// 4999, and the occurrence change, which is present exactly if a flag is set.
 #[derive(Clone, Copy, Debug, PartialEq, Eq)]
 pub struct Ensemble {
     eid: u16,
@@ -76,8 +76,8 @@ impl Model for Ensemble {
 impl Ensemble {
     ghost use Rattle.mux_types.specs.Entries.{EnsembleInformation};
 
-    /// The ensemble information with these fields; None if `change` is above 3, `count` is above 4999, or `occurrence`
-    /// is present without a change flag or missing with one.
+    /// The ensemble information with these fields; None if `change` is above 3, `count` is above
+    /// 4999, or `occurrence` is present without a change flag or missing with one.
     pub fn new(
         eid: u16,
         change: u8,
@@ -143,7 +143,8 @@ impl Ensemble {
         self.count
     }
 
-    /// The occurrence change: the low part of the CIF count of the swap. Present exactly if a change flag is set.
+    /// The occurrence change: the low part of the CIF count of the swap. Present exactly if a
+    /// change flag is set.
     pub fn occurrence(&self) -> Option<u8>
         ensures value { result ≡ self.now.occurrence }
         ensures flagged { IsSome result ↔ (0 < self.now.change) }
@@ -180,8 +181,8 @@ pub struct ShortEntry {
     pub table: Bits<6>,
 }
 
-/// The description of one component of a service in FIG 0/2, by its TMId (EN 300 401 clause 6.3.1). `primary` is the
-/// P/S flag, and `ca` the CA flag.
+/// The description of one component of a service in FIG 0/2, by its TMId (EN 300 401 clause 6.3.1).
+/// `primary` is the P/S flag, and `ca` the CA flag.
 #[derive(Clone, Copy, Debug, PartialEq, Eq)]
 pub enum ComponentEntry {
     /// TMId 00, audio in stream mode: ASCTy, SubChId.
@@ -219,8 +220,8 @@ impl Default for ComponentEntry {
     }
 }
 
-/// The basic service and service component definition, FIG 0/2 (EN 300 401 clause 6.3.1). A short SId is sent with P/D
-/// 0, a long one with P/D 1.
+/// The basic service and service component definition, FIG 0/2 (EN 300 401 clause 6.3.1). A short
+/// SId is sent with P/D 0, a long one with P/D 1.
 #[derive(Drop)]
 pub struct ServiceEntry {
     /// SId.

@@ -144,8 +144,8 @@ impl ScTy {
     }
 }
 
-/// The identifier of a service, SId: 16 bits for a programme service or 32 bits for a data service (EN 300 401 clause
-/// 6.3.1). Short ones come before long ones.
+/// The identifier of a service, SId: 16 bits for a programme service or 32 bits for a data service
+/// (EN 300 401 clause 6.3.1). Short ones come before long ones.
 #[derive(Clone, Copy, Debug, PartialEq, Eq, PartialOrd, Ord)]
 pub enum Sid {
     /// 16 bits.

@@ -1,4 +1,5 @@
-//! What a configuration consists of: sub-channels, services with their components, packet components.
+//! What a configuration consists of: sub-channels, services with their components, packet
+//! components.
 
 ghost use Rattle.std.specs.Prelude.{◌≡◌, []};
 ghost use Rattle.mux_types.specs.Configuration.{component_limit, carrier_of};
@@ -10,7 +11,8 @@ use crate::bounded_vec::BoundedVec;
 use crate::numbers::{ScId, ScTy, Sid, SubId};
 use mux_eep::Protection;
 
-/// A sub-channel: a part of the multiplex that is protected as one (EN 300 401 clauses 5.1 and 6.2.1).
+/// A sub-channel: a part of the multiplex that is protected as one (EN 300 401 clauses 5.1 and
+/// 6.2.1).
 #[derive(Clone, Copy, Debug, PartialEq, Eq)]
 pub struct Sub {
     /// Its identifier.
@@ -133,7 +135,8 @@ impl Service {
         }
     }
 
-    /// The most components that a service can have with its kind of SId: 12 with 16 bits, 11 with 32.
+    /// The most components that a service can have with its kind of SId: 12 with 16 bits, 11 with
+    /// 32.
     pub fn limit(&self) -> usize
         ensures { result ≡ component_limit self.now.sid }
     {

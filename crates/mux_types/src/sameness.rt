@@ -1,7 +1,8 @@
 //! Whether parts of two configurations are the same.
 
 ghost use Rattle.std.specs.Prelude.{◌≡◌};
-ghost use Rattle.mux_types.specs.Sameness.{is_same_list, is_same_sub, is_same_sid, is_same_component, is_same_service, is_same_packet};
+ghost use Rattle.mux_types.specs.Sameness.{is_same_list, is_same_sub, is_same_sid};
+ghost use Rattle.mux_types.specs.Sameness.{is_same_component, is_same_service, is_same_packet};
 
 use crate::numbers::Sid;
 use crate::parts::{Component, Packet, Service, Sub};

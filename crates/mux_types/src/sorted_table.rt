@@ -1,6 +1,7 @@
 //! A finite set whose members have keys, stored inline in ascending order, without allocation.
 
-ghost use Rattle.std.specs.Prelude.{◌≡◌, ◌<◌, ◌≤◌, ◌++◌, ◌∷◌, [], ◌↔◌, length, Some, None, IfSome, IfNone, IfOk, IfErr, IsTrue, option_copied, slice_get, set};
+ghost use Rattle.std.specs.Prelude.{◌≡◌, ◌<◌, ◌≤◌, ◌++◌, ◌∷◌, [], ◌↔◌, length, Some, None, IfSome};
+ghost use Rattle.std.specs.Prelude.{IfNone, IfOk, IfErr, IsTrue, option_copied, slice_get, set};
 ghost use Rattle.std.specs.List.{insert, remove, AllByRecursion};
 ghost use Rattle.mux_types.specs.Configuration.{IsAscending};
 ghost use Rattle.mux_types.specs.Tables.{entry_at, with_entry, without_entry, with_entry_changed};
@@ -23,7 +24,8 @@ pub trait Keyed: Default + Drop {
         ensures { result ≡ self.now };
 }
 
-/// A set of at most `CAP` members. Contracts see it as the list of its members in ascending order of their keys.
+/// A set of at most `CAP` members. Contracts see it as the list of its members in ascending order
+/// of their keys.
 #[derive(Drop)]
 pub struct SortedTable<T: Keyed, const CAP: usize> {
     entries: BoundedVec<T, CAP>,
@@ -51,7 +53,8 @@ impl<T: Keyed, const CAP: usize> SortedTable<T, CAP> {
     }
 }
 
-/// The index of the entry with a key, by binary search; or, if there is none, the index at which it would be inserted.
+/// The index of the entry with a key, by binary search; or, if there is none, the index at which it
+/// would be inserted.
 fn search<T: Keyed>(entries: &[T], key: u64) -> Result<usize, usize>
     requires { IsAscending T.key entries.now }
     ensures found { IfOk result (λ place.

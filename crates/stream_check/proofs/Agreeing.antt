@@ -27,7 +27,8 @@ same_bool false = refl
 pub agree_self : (a : Raw) → agree a a ≡ true
 agree_self a =
     and_true (a.ext == a.ext) (bool_eq a.long a.long && bytes_eq a.bytes a.bytes) (eq-eqb a.ext a.ext refl)
-    (and_true (bool_eq a.long a.long) (bytes_eq a.bytes a.bytes) (same_bool a.long) ((bytes_eq-Decides a.bytes a.bytes).1 refl))
+    (and_true (bool_eq a.long a.long) (bytes_eq a.bytes a.bytes) (same_bool a.long)
+    ((bytes_eq-Decides a.bytes a.bytes).1 refl))
 
 abbrev raw_with : ℕ → Bool → List ℕ → Raw
 raw_with n l bs = record { ext = n; long = l; bytes = bs }
@@ -39,7 +40,8 @@ agree_same a b h =
     let ext : a.ext ≡ b.ext = eqb-true a.ext b.ext one.0 in
     let long : a.long ≡ b.long = bools a.long b.long two.0 in
     let bytes : a.bytes ≡ b.bytes = (bytes_eq-Decides a.bytes b.bytes).0 two.1 in
-    ap (λ n. raw_with n a.long a.bytes) ext ∙ ap (λ l. raw_with b.ext l a.bytes) long ∙ ap (λ bs. raw_with b.ext b.long bs) bytes
+    ap (λ n. raw_with n a.long a.bytes) ext ∙ ap (λ l. raw_with b.ext l a.bytes) long
+    ∙ ap (λ bs. raw_with b.ext b.long bs) bytes
 
 -- a test of equality decides whether entries agree
 pub agree_where : (b : Bool) (x y : Raw) → (IsTrue b ↔ (x ≡ y)) → b ≡ agree x y

@@ -1,28 +1,34 @@
 -- A FIG agrees with a configuration exactly if it has no contradictions to it.
-use Rattle.std.proofs.Common.{◌≡◌, ℕ, Bool, true, false, cond, List, [], ◌∷◌, ◌++◌, length, nat_lt, lt-ltb, ◌<◌, arith, Option, Some, None, refl, sym, ap, ◌∙◌, ◌&&◌}
+use Rattle.std.proofs.Common.{◌≡◌, ℕ, Bool, true, false, cond, List, [], ◌∷◌, ◌++◌, length, nat_lt, lt-ltb, ◌<◌, arith}
+use Rattle.std.proofs.Common.{Option, Some, None, refl, sym, ap, ◌∙◌, ◌&&◌}
 use Rattle.std.specs.Prelude.{get_or, drop, flat_map, ◌/◌, ◌%◌, ◌==◌}
 use Rattle.std.specs.List.{list_all}
 use Rattle.std.proofs.lemmas.Bool.{false≢true}
 use Rattle.fib_reader.specs.Listening.{Pictured}
 use Rattle.fig_mentions.specs.declared.mention.Mention.{Mention}
-use Rattle.fig_mentions.specs.Agreeing.{are_there, entries_agree, fig_agrees, is_judged, is_there}
+use Rattle.fig_mentions.specs.Agreeing.{are_there, entries_agree, fig_agrees, is_judged, is_present}
 use Rattle.fig_mentions.specs.Mentions.{mentions_of}
 use Rattle.stream_check.specs.declared.contradiction.Contradiction.TheVariants.{NotThere}
-use Rattle.stream_check.specs.Contradictions.{absent, absent_among, contradictions_among, contradictions_in, AgreeingHasNone}
+use Rattle.stream_check.specs.Contradictions.{absent, absent_among, contradictions_among, contradictions_in}
+use Rattle.stream_check.specs.Contradictions.{AgreeingHasNone}
 
-none_of : (k : Pictured) (ext : ℕ) (ms : List Mention) → list_all (is_there k) ms ≡ true → flat_map (absent k ext) ms ≡ []
+none_of : (k : Pictured) (ext : ℕ) (ms : List Mention) → list_all (is_present k) ms ≡ true
+    → flat_map (absent k ext) ms ≡ []
 none_of k ext [] all = refl
-none_of k ext (m ∷ ms) all = elim (is_there k m) as (λ b. (b && list_all (is_there k) ms) ≡ true → cond b [] (NotThere ext m ∷ []) ++ flat_map (absent k ext) ms ≡ []) [
-  | true ↦ λ more. none_of k ext ms more
-  | false ↦ λ more. absurd (false≢true more)
-] all
+none_of k ext (m ∷ ms) all = elim (is_present k m) as (λ b. (b && list_all (is_present k) ms) ≡ true
+    → cond b [] (NotThere ext m ∷ []) ++ flat_map (absent k ext) ms ≡ []) [
+      | true ↦ λ more. none_of k ext ms more
+      | false ↦ λ more. absurd (false≢true more)
+    ] all
 
-all_of : (k : Pictured) (ext : ℕ) (ms : List Mention) → flat_map (absent k ext) ms ≡ [] → list_all (is_there k) ms ≡ true
+all_of : (k : Pictured) (ext : ℕ) (ms : List Mention) → flat_map (absent k ext) ms ≡ []
+    → list_all (is_present k) ms ≡ true
 all_of k ext [] none = refl
-all_of k ext (m ∷ ms) none = elim (is_there k m) as (λ b. cond b [] (NotThere ext m ∷ []) ++ flat_map (absent k ext) ms ≡ [] → (b && list_all (is_there k) ms) ≡ true) [
-  | true ↦ λ more. all_of k ext ms more
-  | false ↦ λ more. absurd cc
-] none
+all_of k ext (m ∷ ms) none = elim (is_present k m) as (λ b. cond b [] (NotThere ext m ∷ [])
+    ++ flat_map (absent k ext) ms ≡ [] → (b && list_all (is_present k) ms) ≡ true) [
+      | true ↦ λ more. all_of k ext ms more
+      | false ↦ λ more. absurd cc
+    ] none
 
 none_among : (k : Pictured) (ext : ℕ) (ms : Option (List Mention)) → are_there k ms ≡ true → absent_among k ext ms ≡ []
 none_among k ext None there = absurd (false≢true there)
@@ -35,13 +41,15 @@ all_among k ext (Some ms) none = all_of k ext ms none
 some_entries : (b : ℕ) (bs : List ℕ) → nat_lt 0 (length (b ∷ bs)) ≡ true
 some_entries b bs = let some : 0 < length (b ∷ bs) = omega arith in lt-ltb 0 (length (b ∷ bs)) some
 
-entries_none : (k : Pictured) (second : ℕ) (entries : List ℕ) → entries_agree k second entries ≡ true → contradictions_among k second entries ≡ []
+entries_none : (k : Pictured) (second : ℕ) (entries : List ℕ) → entries_agree k second entries ≡ true
+    → contradictions_among k second entries ≡ []
 entries_none k second [] agree = absurd (false≢true agree)
 entries_none k second (b ∷ bs) agree =
     let ms = mentions_of (second % 32) (second / 32 % 2 == 1) (b ∷ bs) in
     none_among k (second % 32) ms (sym (ap (λ t. t && are_there k ms) (some_entries b bs)) ∙ agree)
 
-entries_all : (k : Pictured) (second : ℕ) (entries : List ℕ) → contradictions_among k second entries ≡ [] → entries_agree k second entries ≡ true
+entries_all : (k : Pictured) (second : ℕ) (entries : List ℕ) → contradictions_among k second entries ≡ []
+    → entries_agree k second entries ≡ true
 entries_all k second [] none = absurd cc
 entries_all k second (b ∷ bs) none =
     let ms = mentions_of (second % 32) (second / 32 % 2 == 1) (b ∷ bs) in
@@ -50,14 +58,16 @@ entries_all k second (b ∷ bs) none =
 pub agreeing_none : (k : Pictured) (fig : List ℕ) → fig_agrees k fig ≡ true → contradictions_in k fig ≡ []
 agreeing_none k fig = by (is_judged fig)
   where
-    by : (b : Bool) → cond b (entries_agree k (get_or fig 1 0) (drop 2 fig)) true ≡ true → cond b (contradictions_among k (get_or fig 1 0) (drop 2 fig)) [] ≡ []
+    by : (b : Bool) → cond b (entries_agree k (get_or fig 1 0) (drop 2 fig)) true ≡ true
+        → cond b (contradictions_among k (get_or fig 1 0) (drop 2 fig)) [] ≡ []
     by true agree = entries_none k (get_or fig 1 0) (drop 2 fig) agree
     by false agree = refl
 
 none_agreeing : (k : Pictured) (fig : List ℕ) → contradictions_in k fig ≡ [] → fig_agrees k fig ≡ true
 none_agreeing k fig = by (is_judged fig)
   where
-    by : (b : Bool) → cond b (contradictions_among k (get_or fig 1 0) (drop 2 fig)) [] ≡ [] → cond b (entries_agree k (get_or fig 1 0) (drop 2 fig)) true ≡ true
+    by : (b : Bool) → cond b (contradictions_among k (get_or fig 1 0) (drop 2 fig)) [] ≡ []
+        → cond b (entries_agree k (get_or fig 1 0) (drop 2 fig)) true ≡ true
     by true none = entries_all k (get_or fig 1 0) (drop 2 fig) none
     by false none = refl
 

@@ -1,5 +1,6 @@
 -- A cut with one part more or less at its end.
-use Rattle.std.proofs.Common.{◌≡◌, ℕ, suc, ◌+◌, List, [], ◌∷◌, ◌++◌, length, Contains, flat_map, refl, sym, ap, ◌∙◌, arith}
+use Rattle.std.proofs.Common.{◌≡◌, ℕ, suc, ◌+◌, List, [], ◌∷◌, ◌++◌, length, Contains, flat_map, refl, sym, ap, ◌∙◌}
+use Rattle.std.proofs.Common.{arith}
 use Rattle.std.specs.List.{AllByRecursion}
 use Rattle.std.proofs.lemmas.List.{append_assoc, append-nil, length-append}
 use Rattle.std.proofs.lemmas.List.Concat.{flat_map-append}
@@ -37,7 +38,8 @@ last_of wanted p (q ∷ qs) each =
     }
 
 last_by : (wanted : List ℕ) (n : ℕ) (frames : List (List ℕ)) (parts : List (List (List ℕ)))
-    → length parts ≡ suc n → flat_map (λ q. q) parts ≡ frames → AllByRecursion (IsPart wanted) parts → Last wanted n frames
+    → length parts ≡ suc n → flat_map (λ q. q) parts ≡ frames → AllByRecursion (IsPart wanted) parts
+    → Last wanted n frames
 last_by wanted n frames [] count whole each = absurd (omega arith)
 last_by wanted n frames (p ∷ ps) count whole each =
     let last = last_of wanted p ps each in
@@ -59,11 +61,13 @@ each_more : (wanted : List ℕ) (parts : List (List (List ℕ))) (part : List (L
 each_more wanted [] part each whole = (whole, tt)
 each_more wanted (p ∷ ps) part each whole = (each.0, each_more wanted ps part each.1 whole)
 
-pub more : (wanted : List ℕ) (n : ℕ) (front part : List (List ℕ)) → IsCutInto wanted n front → IsPart wanted part → IsCutInto wanted (n + 1) (front ++ part)
+pub more : (wanted : List ℕ) (n : ℕ) (front part : List (List ℕ)) → IsCutInto wanted n front → IsPart wanted part
+    → IsCutInto wanted (n + 1) (front ++ part)
 more wanted n front part c whole = record {
   parts = c.parts ++ part ∷ [];
   count = length-append c.parts (part ∷ []) ∙ ap (λ k. k + 1) c.count;
-  whole = flat_map-append (λ p. p) c.parts (part ∷ []) ∙ ap (λ row. row ++ (part ++ [])) c.whole ∙ ap (λ row. front ++ row) (append-nil part);
+  whole = flat_map-append (λ p. p) c.parts (part ∷ []) ∙ ap (λ row. row ++ (part ++ [])) c.whole
+      ∙ ap (λ row. front ++ row) (append-nil part);
   each = each_more wanted c.parts part c.each whole;
 }
 
@@ -71,7 +75,8 @@ more wanted n front part c whole = record {
 pub none : (wanted : List ℕ) → IsCutInto wanted 0 []
 none wanted = record { parts = []; count = refl; whole = refl; each = tt }
 
-none_by : (wanted : List ℕ) (frames : List (List ℕ)) (parts : List (List (List ℕ))) → length parts ≡ 0 → flat_map (λ q. q) parts ≡ frames → frames ≡ []
+none_by : (wanted : List ℕ) (frames : List (List ℕ)) (parts : List (List (List ℕ))) → length parts ≡ 0
+    → flat_map (λ q. q) parts ≡ frames → frames ≡ []
 none_by wanted frames [] count whole = sym whole
 none_by wanted frames (p ∷ ps) count whole = absurd (omega arith)
 
@@ -79,7 +84,8 @@ none_by wanted frames (p ∷ ps) count whole = absurd (omega arith)
 each_of : (wanted other : List ℕ) → ((x : ℕ) → Contains other x → Contains wanted x) → (parts : List (List (List ℕ)))
     → AllByRecursion (IsPart wanted) parts → AllByRecursion (IsPart other) parts
 each_of wanted other less [] each = tt
-each_of wanted other less (p ∷ ps) each = ((each.0.0, λ x h. each.0.1 x (less x h)), each_of wanted other less ps each.1)
+each_of wanted other less (p ∷ ps) each =
+    ((each.0.0, λ x h. each.0.1 x (less x h)), each_of wanted other less ps each.1)
 
 -- with more frames
 pub has_left : (wanted : List ℕ) (xs ys : List (List ℕ)) → HasAll wanted xs → HasAll wanted (xs ++ ys)

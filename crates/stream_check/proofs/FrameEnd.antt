@@ -1,5 +1,6 @@
 -- After the end of a frame the state still agrees with the past of the stream.
-use Rattle.std.proofs.Common.{◌≡◌, ℕ, ◌+◌, ◌%◌, ◌≤◌, ◌==◌, Bool, true, false, cond, List, [], ◌∷◌, ◌++◌, length, map, Option, Some, refl, sym, ap, ◌∙◌, arith, subst}
+use Rattle.std.proofs.Common.{◌≡◌, ℕ, ◌+◌, ◌%◌, ◌≤◌, ◌==◌, Bool, true, false, cond, List, [], ◌∷◌, ◌++◌, length, map}
+use Rattle.std.proofs.Common.{Option, Some, refl, sym, ap, ◌∙◌, arith, subst}
 use Rattle.std.specs.List.{AllByRecursion, filter}
 use Rattle.std.proofs.lemmas.Bool.{false≢true}
 use Rattle.std.proofs.lemmas.List.{append_assoc, append-nil, length-append, map-append}
@@ -12,11 +13,14 @@ use Rattle.stream_check.specs.declared.checker_state.CheckerState.{CheckerState}
 use Rattle.stream_check.specs.Reporting.{in_frame, when}
 use Rattle.stream_check.specs.Pictures.{Heard, heard_since, raws, key_of}
 use Rattle.stream_check.specs.Frames.{Fib}
-use Rattle.stream_check.specs.History.{Item, Moment, Ended, said, frame_items, frames_ended, due, has_begun, row_at_hand, rows, last_heard}
+use Rattle.stream_check.specs.History.{Item, Moment, Ended, said, frame_items, frames_ended, due, has_begun}
+use Rattle.stream_check.specs.History.{row_at_hand, rows, last_heard}
 use Rattle.stream_check.specs.Sent.{frame_sent}
 use Rattle.stream_check.specs.Rules.{name_of, is_silent, silence, silent_findings}
-use Rattle.stream_check.specs.Stream.{frame_findings, findings_at_sent, runs_full, frame_at, last_findings, count_of_frame}
-use Rattle.stream_check.specs.CheckerState.{listener_in, with_row, with_frame, IsLastHeard, HasNotice, Knows, is_quiet, quiet_findings, silent_in}
+use Rattle.stream_check.specs.Stream.{frame_findings, findings_at_sent, runs_full, frame_at, last_findings}
+use Rattle.stream_check.specs.Stream.{count_of_frame}
+use Rattle.stream_check.specs.CheckerState.{listener_in, with_row, with_frame, IsLastHeard, HasNotice, Knows, is_quiet}
+use Rattle.stream_check.specs.CheckerState.{quiet_findings, silent_in}
 use Rattle.stream_check.specs.Hearing.{IsLater, Hears, HearsFrame}
 use Rattle.stream_check.proofs.Notice.{notice_closed, notice_open}
 use Rattle.stream_check.proofs.Members.{after_is}
@@ -26,41 +30,59 @@ use Rattle.stream_check.specs.Reported.{Reported, with_more}
 
 -- ---- the frames of the notice
 
-rows_are : (past : List Moment) (count : ℕ) (b : Bool) → has_begun past ≡ b → rows (Ended count ∷ past) ≡ cond b (rows past ++ row_at_hand past ∷ []) []
+rows_are : (past : List Moment) (count : ℕ) (b : Bool) → has_begun past ≡ b
+    → rows (Ended count ∷ past) ≡ cond b (rows past ++ row_at_hand past ∷ []) []
 rows_are past count b e = ap (λ t. cond t (rows past ++ row_at_hand past ∷ []) []) e
 
-few_more : (past : List Moment) (count : ℕ) (b : Bool) → has_begun past ≡ b → length (rows past) ≤ frames_ended past → length (rows (Ended count ∷ past)) ≤ frames_ended past + 1
+few_more : (past : List Moment) (count : ℕ) (b : Bool) → has_begun past ≡ b → length (rows past) ≤ frames_ended past
+    → length (rows (Ended count ∷ past)) ≤ frames_ended past + 1
 few_more past count true e few =
     let longer = length-append (rows past) (row_at_hand past ∷ []) in
     let one : length (row_at_hand past ∷ []) ≡ 1 = refl in
-    subst (λ (rs : List (List ℕ)). length rs ≤ frames_ended past + 1) (sym (rows_are past count true e)) (omega (arith, longer, one, few))
-few_more past count false e few = subst (λ (rs : List (List ℕ)). length rs ≤ frames_ended past + 1) (sym (rows_are past count false e)) (omega arith)
+    subst (λ (rs : List (List ℕ)). length rs ≤ frames_ended past + 1) (sym (rows_are past count true e))
+    (omega (arith, longer, one, few))
+few_more past count false e few =
+    subst (λ (rs : List (List ℕ)). length rs ≤ frames_ended past + 1) (sym (rows_are past count false e)) (omega arith)
 
 -- the parts after a frame
 abbrev row_state : Bool → Bool → CheckerState → CheckerState
-row_state begun whole m = cond begun (cond whole (record m { rows = m.rows + 1; parts = m.parts + 1; since = m.rows + 1 }) (record m { rows = m.rows + 1 })) m
+row_state begun whole m = cond begun (cond whole (record m {
+  rows = m.rows + 1;
+  parts = m.parts + 1;
+  since = m.rows + 1;
+}) (record m { rows = m.rows + 1 })) m
 
 abbrev framed : ℕ → CheckerState → CheckerState → CheckerState
 framed count m n = record n { has_ensemble = false; frames = m.frames + 1; due = Some ((count + 1) % 5000) }
 
-noticed : (step period : ℕ) (past : List Moment) (m : CheckerState) (count : ℕ) (begun whole : Bool) → m.has_begun ≡ begun → heard_since m.since m.next ≡ whole → Knows step period past m
-    → HasNotice (rows (Ended count ∷ past)) [] (row_state begun whole m).rows (row_state begun whole m).since (row_state begun whole m).parts m.next m.has_begun
+noticed : (step period : ℕ) (past : List Moment) (m : CheckerState) (count : ℕ) (begun whole : Bool)
+    → m.has_begun ≡ begun → heard_since m.since m.next ≡ whole → Knows step period past m
+    → HasNotice (rows (Ended count ∷ past)) [] (row_state begun whole m).rows (row_state begun whole m).since
+    (row_state begun whole m).parts m.next m.has_begun
 noticed step period past m count true true b w k =
-    subst (λ (t : Bool). HasNotice (rows (Ended count ∷ past)) [] (m.rows + 1) (m.rows + 1) (m.parts + 1) m.next t) (sym b)
-    (subst (λ (rs : List (List ℕ)). HasNotice rs [] (m.rows + 1) (m.rows + 1) (m.parts + 1) m.next true) (sym (rows_are past count true (sym k.has_begun ∙ b)))
-    (notice_closed (rows past) (row_at_hand past) m.rows m.since m.parts m.next w (subst (λ (t : Bool). HasNotice (rows past) (row_at_hand past) m.rows m.since m.parts m.next t) b k.notice)))
+    subst (λ (t : Bool). HasNotice (rows (Ended count ∷ past)) [] (m.rows + 1) (m.rows + 1) (m.parts + 1) m.next t)
+    (sym b)
+    (subst (λ (rs : List (List ℕ)). HasNotice rs [] (m.rows + 1) (m.rows + 1) (m.parts + 1) m.next true)
+    (sym (rows_are past count true (sym k.has_begun ∙ b)))
+    (notice_closed (rows past) (row_at_hand past) m.rows m.since m.parts m.next w
+    (subst (λ (t : Bool). HasNotice (rows past) (row_at_hand past) m.rows m.since m.parts m.next t) b k.notice)))
 noticed step period past m count true false b w k =
     subst (λ (t : Bool). HasNotice (rows (Ended count ∷ past)) [] (m.rows + 1) m.since m.parts m.next t) (sym b)
-    (subst (λ (rs : List (List ℕ)). HasNotice rs [] (m.rows + 1) m.since m.parts m.next true) (sym (rows_are past count true (sym k.has_begun ∙ b)))
-    (notice_open (rows past) (row_at_hand past) m.rows m.since m.parts m.next w (subst (λ (t : Bool). HasNotice (rows past) (row_at_hand past) m.rows m.since m.parts m.next t) b k.notice)))
+    (subst (λ (rs : List (List ℕ)). HasNotice rs [] (m.rows + 1) m.since m.parts m.next true)
+    (sym (rows_are past count true (sym k.has_begun ∙ b)))
+    (notice_open (rows past) (row_at_hand past) m.rows m.since m.parts m.next w
+    (subst (λ (t : Bool). HasNotice (rows past) (row_at_hand past) m.rows m.since m.parts m.next t) b k.notice)))
 noticed step period past m count false whole b w k =
     let idle = k.notice.idle b in
-    subst (λ (rs : List (List ℕ)). HasNotice rs [] m.rows m.since m.parts m.next m.has_begun) (idle.0 ∙ sym (rows_are past count false (sym k.has_begun ∙ b)))
+    subst (λ (rs : List (List ℕ)). HasNotice rs [] m.rows m.since m.parts m.next m.has_begun)
+    (idle.0 ∙ sym (rows_are past count false (sym k.has_begun ∙ b)))
     (subst (λ (r : List ℕ). HasNotice (rows past) r m.rows m.since m.parts m.next m.has_begun) idle.1 k.notice)
 
 -- whatever the rows and parts become, if the notice agrees with them
-knows_rows : (step period : ℕ) (past : List Moment) (m : CheckerState) (count r s q : ℕ) → Knows step period past m → length (rows (Ended count ∷ past)) ≤ frames_ended past + 1
-    → HasNotice (rows (Ended count ∷ past)) [] r s q m.next m.has_begun → Knows step period (Ended count ∷ past) (framed count m (record m { rows = r; parts = q; since = s }))
+knows_rows : (step period : ℕ) (past : List Moment) (m : CheckerState) (count r s q : ℕ) → Knows step period past m
+    → length (rows (Ended count ∷ past)) ≤ frames_ended past + 1
+    → HasNotice (rows (Ended count ∷ past)) [] r s q m.next m.has_begun
+    → Knows step period (Ended count ∷ past) (framed count m (record m { rows = r; parts = q; since = s }))
 knows_rows step period past m count r s q k few notice = record {
   mode = k.mode;
   page_index = k.page_index;
@@ -83,22 +105,30 @@ knows_rows step period past m count r s q k few notice = record {
   notice = notice;
 }
 
-case_frame : (begun whole : Bool) (step period : ℕ) (past : List Moment) (m : CheckerState) (count : ℕ) → m.has_begun ≡ begun → heard_since m.since m.next ≡ whole → Knows step period past m
+case_frame : (begun whole : Bool) (step period : ℕ) (past : List Moment) (m : CheckerState) (count : ℕ)
+    → m.has_begun ≡ begun → heard_since m.since m.next ≡ whole → Knows step period past m
     → Knows step period (Ended count ∷ past) (framed count m (row_state begun whole m))
 case_frame true true step period past m count b w k =
-    knows_rows step period past m count (m.rows + 1) (m.rows + 1) (m.parts + 1) k (few_more past count true (sym k.has_begun ∙ b) k.few) (noticed step period past m count true true b w k)
+    knows_rows step period past m count (m.rows + 1) (m.rows + 1) (m.parts + 1) k
+    (few_more past count true (sym k.has_begun ∙ b) k.few) (noticed step period past m count true true b w k)
 case_frame true false step period past m count b w k =
-    knows_rows step period past m count (m.rows + 1) m.since m.parts k (few_more past count true (sym k.has_begun ∙ b) k.few) (noticed step period past m count true false b w k)
+    knows_rows step period past m count (m.rows + 1) m.since m.parts k
+    (few_more past count true (sym k.has_begun ∙ b) k.few) (noticed step period past m count true false b w k)
 case_frame false whole step period past m count b w k =
-    knows_rows step period past m count m.rows m.since m.parts k (few_more past count false (sym k.has_begun ∙ b) k.few) (noticed step period past m count false whole b w k)
+    knows_rows step period past m count m.rows m.since m.parts k (few_more past count false (sym k.has_begun ∙ b) k.few)
+    (noticed step period past m count false whole b w k)
 
-pub knows_frame : (step period : ℕ) (past : List Moment) (m : CheckerState) (count : ℕ) → Knows step period past m → Knows step period (Ended count ∷ past) (with_frame count m)
+pub knows_frame : (step period : ℕ) (past : List Moment) (m : CheckerState) (count : ℕ) → Knows step period past m
+    → Knows step period (Ended count ∷ past) (with_frame count m)
 knows_frame step period past m count k = cases m.has_begun (heard_since m.since m.next) refl refl
   where
-    cases : (b w : Bool) → m.has_begun ≡ b → heard_since m.since m.next ≡ w → Knows step period (Ended count ∷ past) (with_frame count m)
+    cases : (b w : Bool) → m.has_begun ≡ b → heard_since m.since m.next ≡ w
+        → Knows step period (Ended count ∷ past) (with_frame count m)
     cases b w e f =
         subst (λ (t : Bool). Knows step period (Ended count ∷ past) (framed count m (cond t (with_row m) m))) (sym e)
-        (subst (λ (t : Bool). Knows step period (Ended count ∷ past) (framed count m (cond b (cond t (record m { rows = m.rows + 1; parts = m.parts + 1; since = m.rows + 1 }) (record m { rows = m.rows + 1 })) m))) (sym f)
+        (subst (λ (t : Bool). Knows step period (Ended count ∷ past)
+        (framed count m (cond b (cond t (record m { rows = m.rows + 1; parts = m.parts + 1; since = m.rows + 1 })
+        (record m { rows = m.rows + 1 })) m))) (sym f)
         (case_frame b w step period past m count e f k))
 
 pub frame_noted : (m : CheckerState) (count : ℕ) → (with_frame count m).noted ≡ m.noted
@@ -111,93 +141,144 @@ frame_noted m count = by m.has_begun (heard_since m.since m.next)
 
 -- ---- silent entries
 
-quiet_raws : (period : ℕ) (past : List Moment) (swapped frames : ℕ) (hs : List Heard) → frames ≡ frames_ended past → AllByRecursion (IsLastHeard past swapped) hs
+quiet_raws : (period : ℕ) (past : List Moment) (swapped frames : ℕ) (hs : List Heard) → frames ≡ frames_ended past
+    → AllByRecursion (IsLastHeard past swapped) hs
     → quiet_findings swapped period frames hs ≡ map silence (filter (is_silent period past) (raws hs))
 quiet_raws period past swapped frames [] e all = refl
 quiet_raws period past swapped frames (h ∷ hs) e all =
     let same : is_quiet swapped period frames h ≡ is_silent period past h.raw =
     ap (λ n. n + period == frames + 1) all.0 ∙ ap (λ n. last_heard (key_of h.raw) past + period == n + 1) e in
     ap (λ t. when t (faults.Silent (name_of h.raw)) ++ quiet_findings swapped period frames hs) same
-    ∙ ap (λ fs. when (is_silent period past h.raw) (faults.Silent (name_of h.raw)) ++ fs) (quiet_raws period past swapped frames hs e all.1)
+    ∙ ap (λ fs. when (is_silent period past h.raw) (faults.Silent (name_of h.raw)) ++ fs)
+    (quiet_raws period past swapped frames hs e all.1)
     ∙ chosen (is_silent period past h.raw) h.raw (filter (is_silent period past) (raws hs))
   where
-    chosen : (t : Bool) (raw : Raw) (rest : List Raw) → when t (faults.Silent (name_of raw)) ++ map silence rest ≡ map silence (cond t (raw ∷ rest) rest)
+    chosen : (t : Bool) (raw : Raw) (rest : List Raw) → when t (faults.Silent (name_of raw))
+        ++ map silence rest ≡ map silence (cond t (raw ∷ rest) rest)
     chosen true raw rest = refl
     chosen false raw rest = refl
 
 filter_append : {X : Type 0} (p : X → Bool) (xs ys : List X) → filter p (xs ++ ys) ≡ filter p xs ++ filter p ys
 filter_append p [] ys = refl
-filter_append p (x ∷ xs) ys = elim (p x) as (λ t. cond t (x ∷ filter p (xs ++ ys)) (filter p (xs ++ ys)) ≡ cond t (x ∷ filter p xs) (filter p xs) ++ filter p ys) [
-  | true ↦ ap (λ l. x ∷ l) (filter_append p xs ys)
-  | false ↦ filter_append p xs ys
-]
+filter_append p (x ∷ xs) ys = elim (p x) as (λ t. cond t (x ∷ filter p (xs ++ ys)) (filter p (xs ++ ys))
+    ≡ cond t (x ∷ filter p xs) (filter p xs) ++ filter p ys) [
+      | true ↦ ap (λ l. x ∷ l) (filter_append p xs ys)
+      | false ↦ filter_append p xs ys
+    ]
 
-spread : (period : ℕ) (past : List Moment) (xs ys : List Raw) → map silence (filter (is_silent period past) (xs ++ ys)) ≡ map silence (filter (is_silent period past) xs) ++ map silence (filter (is_silent period past) ys)
-spread period past xs ys = ap (map silence) (filter_append (is_silent period past) xs ys) ∙ map-append silence (filter (is_silent period past) xs) (filter (is_silent period past) ys)
+spread : (period : ℕ) (past : List Moment) (xs ys : List Raw)
+    → map silence (filter (is_silent period past) (xs ++ ys)) ≡ map silence (filter (is_silent period past) xs)
+    ++ map silence (filter (is_silent period past) ys)
+spread period past xs ys = ap (map silence) (filter_append (is_silent period past) xs ys)
+    ∙ map-append silence (filter (is_silent period past) xs) (filter (is_silent period past) ys)
 
-pub silent_is : (step period : ℕ) (past : List Moment) (m : CheckerState) → Knows step period past m → silent_in m ≡ silent_findings period past
+pub silent_is : (step period : ℕ) (past : List Moment) (m : CheckerState) → Knows step period past m
+    → silent_in m ≡ silent_findings period past
 silent_is step period past m k =
-    ap (λ p. quiet_findings m.swapped p m.frames m.current.subs ++ (quiet_findings m.swapped p m.frames m.current.services ++ quiet_findings m.swapped p m.frames m.current.packets)) k.page_index
-    ∙ ap (λ fs. fs ++ (quiet_findings m.swapped period m.frames m.current.services ++ quiet_findings m.swapped period m.frames m.current.packets)) (quiet_raws period past m.swapped m.frames m.current.subs k.frames k.last.0)
-    ∙ ap (λ fs. map silence (filter (is_silent period past) (raws m.current.subs)) ++ (fs ++ quiet_findings m.swapped period m.frames m.current.packets)) (quiet_raws period past m.swapped m.frames m.current.services k.frames k.last.1.0)
-    ∙ ap (λ fs. map silence (filter (is_silent period past) (raws m.current.subs)) ++ (map silence (filter (is_silent period past) (raws m.current.services)) ++ fs)) (quiet_raws period past m.swapped m.frames m.current.packets k.frames k.last.1.1)
+    ap (λ p. quiet_findings m.swapped p m.frames m.current.subs
+    ++ (quiet_findings m.swapped p m.frames m.current.services
+    ++ quiet_findings m.swapped p m.frames m.current.packets)) k.page_index
+    ∙ ap (λ fs. fs ++ (quiet_findings m.swapped period m.frames m.current.services
+    ++ quiet_findings m.swapped period m.frames m.current.packets))
+    (quiet_raws period past m.swapped m.frames m.current.subs k.frames k.last.0)
+    ∙ ap (λ fs. map silence (filter (is_silent period past) (raws m.current.subs))
+    ++ (fs ++ quiet_findings m.swapped period m.frames m.current.packets))
+    (quiet_raws period past m.swapped m.frames m.current.services k.frames k.last.1.0)
+    ∙ ap (λ fs. map silence (filter (is_silent period past) (raws m.current.subs))
+    ++ (map silence (filter (is_silent period past) (raws m.current.services)) ++ fs))
+    (quiet_raws period past m.swapped m.frames m.current.packets k.frames k.last.1.1)
     ∙ sym (spread period past (raws m.current.subs ++ raws m.current.services) (raws m.current.packets)
-    ∙ ap (λ fs. fs ++ map silence (filter (is_silent period past) (raws m.current.packets))) (spread period past (raws m.current.subs) (raws m.current.services))
-    ∙ append_assoc (map silence (filter (is_silent period past) (raws m.current.subs))) (map silence (filter (is_silent period past) (raws m.current.services))) (map silence (filter (is_silent period past) (raws m.current.packets))))
-    ∙ ap (λ (l : Listening). map silence (filter (is_silent period past) (all_entries l.current))) (sym (after_is past (listener_in m) k.heard))
+    ∙ ap (λ fs. fs ++ map silence (filter (is_silent period past) (raws m.current.packets)))
+    (spread period past (raws m.current.subs) (raws m.current.services))
+    ∙ append_assoc (map silence (filter (is_silent period past) (raws m.current.subs)))
+    (map silence (filter (is_silent period past) (raws m.current.services)))
+    (map silence (filter (is_silent period past) (raws m.current.packets))))
+    ∙ ap (λ (l : Listening). map silence (filter (is_silent period past) (all_entries l.current)))
+    (sym (after_is past (listener_in m) k.heard))
 
 -- ---- a whole frame
 
 -- all entries of the frame were heard, and the silent ones were reported
-pub frame_done : (size : ℕ) (frame : List Fib) (at : FrameAt) (old mid : CheckerState) (before reported one two : Reported)
+pub frame_done : (size : ℕ) (frame : List Fib) (at : FrameAt) (old mid : CheckerState)
+    (before reported one two : Reported)
     → at ≡ record { frame = old.frames; count = count_of_frame old.step old.due frame }
-    → one ≡ with_more before (map (in_frame at) (frame_findings size old.step old.due frame)) → Hears at (frame_sent frame) old one mid two false → IsLater old mid
-    → reported ≡ with_more two (map (in_frame at) (silent_in mid)) → HearsFrame size frame old before (with_frame (count_of_frame old.step old.due frame) mid) reported false
+    → one ≡ with_more before (map (in_frame at) (frame_findings size old.step old.due frame))
+    → Hears at (frame_sent frame) old one mid two false → IsLater old mid
+    → reported ≡ with_more two (map (in_frame at) (silent_in mid))
+    → HearsFrame size frame old before (with_frame (count_of_frame old.step old.due frame) mid) reported false
 frame_done size frame at old mid before reported one two place first h l last past k =
     let all = h past k in
     let room = ap (runs_full old.step old.period past) (sym (frame_has_items frame)) ∙ all.room in
-    let known = subst (λ (is : List Item). Knows old.step old.period (said is past) mid) (frame_has_items frame) (all.knows refl) in
-    let same : at ≡ frame_at old.step past frame = place ∙ ap (λ n. at_of n (count_of_frame old.step old.due frame)) k.frames ∙ ap (λ d. at_of (frames_ended past) (count_of_frame old.step d frame)) k.due in
+    let known = subst (λ (is : List Item). Knows old.step old.period (said is past) mid) (frame_has_items frame)
+    (all.knows refl) in
+    let same : at ≡ frame_at old.step past frame = place
+    ∙ ap (λ n. at_of n (count_of_frame old.step old.due frame)) k.frames
+    ∙ ap (λ d. at_of (frames_ended past) (count_of_frame old.step d frame)) k.due in
     let silent = silent_is old.step old.period (said (frame_items frame) past) mid known in
     let items = findings_at_sent old.step old.period past old.noted (frame_sent frame) in
     let rest = silent_findings old.period (said (frame_items frame) past) in
     record {
-      findings = last ∙ ap (λ t. with_more t (map (in_frame at) (silent_in mid))) (all.findings ∙ ap (λ t. with_more t (map (in_frame at) items)) first)
-          ∙ ap (λ fs. with_more (with_more (with_more before (map (in_frame at) (frame_findings size old.step old.due frame))) (map (in_frame at) items)) (map (in_frame at) fs)) silent
+      findings = last ∙ ap (λ t. with_more t (map (in_frame at) (silent_in mid)))
+          (all.findings ∙ ap (λ t. with_more t (map (in_frame at) items)) first)
+          ∙ ap (λ fs. with_more (with_more
+          (with_more before (map (in_frame at) (frame_findings size old.step old.due frame)))
+          (map (in_frame at) items)) (map (in_frame at) fs)) silent
           ∙ three at before (frame_findings size old.step old.due frame) items rest
-          ∙ ap (λ a. with_more before (map (in_frame a) (frame_findings size old.step old.due frame ++ (items ++ rest)))) same
-          ∙ ap (λ d. with_more before (map (in_frame (frame_at old.step past frame)) (frame_findings size old.step d frame ++ (items ++ rest)))) k.due
-          ∙ ap (λ b. with_more before (map (in_frame (frame_at old.step past frame)) (frame_findings size old.step (due past) frame ++ (items ++ last_findings b old.period (said (frame_items frame) past))))) (sym room);
+          ∙ ap (λ a. with_more before
+          (map (in_frame a) (frame_findings size old.step old.due frame ++ (items ++ rest)))) same
+          ∙ ap (λ d. with_more before
+          (map (in_frame (frame_at old.step past frame)) (frame_findings size old.step d frame ++ (items ++ rest))))
+          k.due
+          ∙ ap (λ b. with_more before
+          (map (in_frame (frame_at old.step past frame))
+          (frame_findings size old.step (due past) frame
+          ++ (items ++ last_findings b old.period (said (frame_items frame) past))))) (sym room);
       room = room;
-      knows = λ e. subst (λ (d : Option ℕ). Knows old.step old.period (Ended (count_of_frame old.step d frame) ∷ said (frame_items frame) past) (with_frame (count_of_frame old.step old.due frame) mid)) k.due
-          (knows_frame old.step old.period (said (frame_items frame) past) mid (count_of_frame old.step old.due frame) known);
+      knows = λ e. subst (λ (d : Option ℕ). Knows old.step old.period
+          (Ended (count_of_frame old.step d frame) ∷ said (frame_items frame) past)
+          (with_frame (count_of_frame old.step old.due frame) mid)) k.due
+          (knows_frame old.step old.period (said (frame_items frame) past) mid (count_of_frame old.step old.due frame)
+          known);
       noted = λ e. frame_noted mid (count_of_frame old.step old.due frame) ∙ all.noted refl;
     }
   where
     at_of : ℕ → ℕ → FrameAt
     at_of n c = record { frame = n; count = c }
 
-    three : (at : FrameAt) (reported : Reported) (xs ys zs : List What) → with_more (with_more (with_more reported (map (in_frame at) xs)) (map (in_frame at) ys)) (map (in_frame at) zs) ≡ with_more reported (map (in_frame at) (xs ++ (ys ++ zs)))
+    three : (at : FrameAt) (reported : Reported) (xs ys zs : List What)
+        → with_more (with_more (with_more reported (map (in_frame at) xs)) (map (in_frame at) ys))
+        (map (in_frame at) zs) ≡ with_more reported (map (in_frame at) (xs ++ (ys ++ zs)))
     three at reported xs ys zs =
         more_twice (with_more reported (map (in_frame at) xs)) (map (in_frame at) ys) (map (in_frame at) zs)
         ∙ more_twice reported (map (in_frame at) xs) (map (in_frame at) ys ++ map (in_frame at) zs)
-        ∙ ap (with_more reported) (sym (map-append (in_frame at) xs (ys ++ zs) ∙ ap (λ fs. map (in_frame at) xs ++ fs) (map-append (in_frame at) ys zs)))
+        ∙ ap (with_more reported)
+        (sym (map-append (in_frame at) xs (ys ++ zs)
+        ∙ ap (λ fs. map (in_frame at) xs ++ fs) (map-append (in_frame at) ys zs)))
 
 -- there was no room for one of its entries
 pub frame_full : (size : ℕ) (frame : List Fib) (at : FrameAt) (old mid : CheckerState) (before reported one : Reported)
     → at ≡ record { frame = old.frames; count = count_of_frame old.step old.due frame }
-    → one ≡ with_more before (map (in_frame at) (frame_findings size old.step old.due frame)) → Hears at (frame_sent frame) old one mid reported true → HearsFrame size frame old before mid reported true
+    → one ≡ with_more before (map (in_frame at) (frame_findings size old.step old.due frame))
+    → Hears at (frame_sent frame) old one mid reported true → HearsFrame size frame old before mid reported true
 frame_full size frame at old mid before reported one place first h past k =
     let all = h past k in
     let room = ap (runs_full old.step old.period past) (sym (frame_has_items frame)) ∙ all.room in
-    let same : at ≡ frame_at old.step past frame = place ∙ ap (λ n. at_of n (count_of_frame old.step old.due frame)) k.frames ∙ ap (λ d. at_of (frames_ended past) (count_of_frame old.step d frame)) k.due in
+    let same : at ≡ frame_at old.step past frame = place
+    ∙ ap (λ n. at_of n (count_of_frame old.step old.due frame)) k.frames
+    ∙ ap (λ d. at_of (frames_ended past) (count_of_frame old.step d frame)) k.due in
     let items = findings_at_sent old.step old.period past old.noted (frame_sent frame) in
     record {
       findings = all.findings ∙ ap (λ t. with_more t (map (in_frame at) items)) first
           ∙ two at before (frame_findings size old.step old.due frame) items
-          ∙ ap (λ a. with_more before (map (in_frame a) (frame_findings size old.step old.due frame ++ (items ++ [])))) same
-          ∙ ap (λ d. with_more before (map (in_frame (frame_at old.step past frame)) (frame_findings size old.step d frame ++ (items ++ [])))) k.due
-          ∙ ap (λ b. with_more before (map (in_frame (frame_at old.step past frame)) (frame_findings size old.step (due past) frame ++ (items ++ last_findings b old.period (said (frame_items frame) past))))) (sym room);
+          ∙ ap (λ a. with_more before (map (in_frame a) (frame_findings size old.step old.due frame ++ (items ++ []))))
+          same
+          ∙ ap (λ d. with_more before
+          (map (in_frame (frame_at old.step past frame)) (frame_findings size old.step d frame ++ (items ++ []))))
+          k.due
+          ∙ ap (λ b. with_more before
+          (map (in_frame (frame_at old.step past frame))
+          (frame_findings size old.step (due past) frame
+          ++ (items ++ last_findings b old.period (said (frame_items frame) past))))) (sym room);
       room = room;
       knows = λ e. absurd (false≢true (sym e));
       noted = λ e. absurd (false≢true (sym e));
@@ -206,7 +287,11 @@ frame_full size frame at old mid before reported one place first h past k =
     at_of : ℕ → ℕ → FrameAt
     at_of n c = record { frame = n; count = c }
 
-    two : (at : FrameAt) (reported : Reported) (xs ys : List What) → with_more (with_more reported (map (in_frame at) xs)) (map (in_frame at) ys) ≡ with_more reported (map (in_frame at) (xs ++ (ys ++ [])))
+    two : (at : FrameAt) (reported : Reported) (xs ys : List What)
+        → with_more (with_more reported (map (in_frame at) xs)) (map (in_frame at) ys)
+        ≡ with_more reported (map (in_frame at) (xs ++ (ys ++ [])))
     two at reported xs ys =
         more_twice reported (map (in_frame at) xs) (map (in_frame at) ys)
-        ∙ ap (with_more reported) (sym (map-append (in_frame at) xs (ys ++ []) ∙ ap (λ fs. map (in_frame at) xs ++ map (in_frame at) fs) (append-nil ys)))
+        ∙ ap (with_more reported)
+        (sym (map-append (in_frame at) xs (ys ++ [])
+        ∙ ap (λ fs. map (in_frame at) xs ++ map (in_frame at) fs) (append-nil ys)))

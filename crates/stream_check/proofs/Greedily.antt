@@ -1,9 +1,11 @@
 -- A greedy cut gives the maximum number of parts; a new identifier restarts it.
-use Rattle.std.proofs.Common.{◌≡◌, ◌≢◌, ℕ, zero, suc, ◌+◌, ◌<◌, ◌≤◌, List, [], ◌∷◌, ◌++◌, length, Contains, refl, sym, ap, ◌∙◌, arith, inl, inr, subst}
+use Rattle.std.proofs.Common.{◌≡◌, ◌≢◌, ℕ, zero, suc, ◌+◌, ◌<◌, ◌≤◌, List, [], ◌∷◌, ◌++◌, length, Contains, refl, sym}
+use Rattle.std.proofs.Common.{ap, ◌∙◌, arith, inl, inr, subst}
 use Rattle.std.proofs.lemmas.Bool.{cases_lt}
 use Rattle.std.specs.List.{concat}
 use Rattle.std.proofs.lemmas.List.{append_assoc, append-nil, length-append}
-use Rattle.stream_check.specs.Cutting.{HasAll, IsPart, IsCutInto, IsMostParts, IsGreedy, GreedyCloses, GreedyStays, GreedyIsMost, MostIsOne, ThreeOrMore, IsCutInThree, NewBeginsAnew}
+use Rattle.stream_check.specs.Cutting.{HasAll, IsPart, IsCutInto, IsMostParts, IsGreedy, GreedyCloses, GreedyStays}
+use Rattle.stream_check.specs.Cutting.{GreedyIsMost, MostIsOne, ThreeOrMore, IsCutInThree, NewBeginsAnew}
 use Rattle.stream_check.proofs.Rows.{shorter, behind, front}
 use Rattle.stream_check.proofs.Cuts.{last, more, none, has_left, has_right}
 
@@ -26,13 +28,24 @@ record Before (wanted : List ℕ) (k : ℕ) (front back done open_frames : List 
   whole : IsPart wanted part
 
 before : (wanted : List ℕ) (k : ℕ) (front back done open_frames : List (List ℕ)) (frame : List ℕ)
-    → front ++ back ≡ done ++ (open_frames ++ frame ∷ []) → IsCutInto wanted (suc k) front → Before wanted k front back done open_frames frame
+    → front ++ back ≡ done ++ (open_frames ++ frame ∷ []) → IsCutInto wanted (suc k) front
+    → Before wanted k front back done open_frames frame
 before wanted k front back done open_frames frame e c =
     let l = last wanted k front c in
-    let is : l.front ++ (l.part ++ back) ≡ done ++ (open_frames ++ frame ∷ []) = sym (append_assoc l.front l.part back) ∙ ap (λ row. row ++ back) (sym l.is) ∙ e in
+    let is : l.front ++ (l.part ++ back) ≡ done ++ (open_frames ++ frame ∷ []) =
+    sym (append_assoc l.front l.part back) ∙ ap (λ row. row ++ back) (sym l.is) ∙ e in
     let some : l.part ++ back ≢ [] = some_left l.part back l.whole.0 in
-    let s = shorter l.front (l.part ++ back) (done ++ open_frames) frame (is ∙ sym (append_assoc done open_frames (frame ∷ []))) some in
-    record { start = l.front; back_before = s.back; part = l.part; is_before = s.is; is = is; cut = l.cut; whole = l.whole }
+    let s = shorter l.front (l.part ++ back) (done ++ open_frames) frame
+    (is ∙ sym (append_assoc done open_frames (frame ∷ []))) some in
+    record {
+      start = l.front;
+      back_before = s.back;
+      part = l.part;
+      is_before = s.is;
+      is = is;
+      cut = l.cut;
+      whole = l.whole;
+    }
 
 -- a front of the frames ends with the new frame, or earlier
 sooner : (n : ℕ) (wanted : List ℕ) (front back done open_frames : List (List ℕ)) (frame : List ℕ) (P : Type 0)
@@ -42,30 +55,37 @@ sooner : (n : ℕ) (wanted : List ℕ) (front back done open_frames : List (List
 sooner n wanted front [] done open_frames frame P e at less = at (sym (append-nil front) ∙ e)
 sooner n wanted front (b ∷ bs) done open_frames frame P e at less =
     let some : b ∷ bs ≢ [] = λ q. absurd cc in
-    let s = shorter front (b ∷ bs) (done ++ open_frames) frame (e ∙ sym (append_assoc done open_frames (frame ∷ []))) some in
+    let s = shorter front (b ∷ bs) (done ++ open_frames) frame (e ∙ sym (append_assoc done open_frames (frame ∷ [])))
+    some in
     less s.back s.is
 
 -- ---- the part is complete
 
-closes_most : (wanted : List ℕ) (n : ℕ) (done open_frames : List (List ℕ)) (frame : List ℕ) → IsGreedy wanted n done open_frames
-    → (m : ℕ) (front back : List (List ℕ)) → front ++ back ≡ done ++ (open_frames ++ frame ∷ []) → IsCutInto wanted m front → m ≤ n + 1
+closes_most : (wanted : List ℕ) (n : ℕ) (done open_frames : List (List ℕ)) (frame : List ℕ)
+    → IsGreedy wanted n done open_frames
+    → (m : ℕ) (front back : List (List ℕ)) → front ++ back ≡ done ++ (open_frames ++ frame ∷ [])
+    → IsCutInto wanted m front → m ≤ n + 1
 closes_most wanted n done open_frames frame g zero front back e c = omega arith
 closes_most wanted n done open_frames frame g (suc k) front back e c =
     let b = before wanted k front back done open_frames frame e c in
     let le : k ≤ n = g.most k b.start b.back_before b.is_before b.cut in
     omega (arith, le)
 
-closes_soonest : (wanted : List ℕ) (n : ℕ) (done open_frames : List (List ℕ)) (frame : List ℕ) → IsGreedy wanted n done open_frames
-    → (front back : List (List ℕ)) → front ++ back ≡ done ++ (open_frames ++ frame ∷ []) → IsCutInto wanted (n + 1) front
+closes_soonest : (wanted : List ℕ) (n : ℕ) (done open_frames : List (List ℕ)) (frame : List ℕ)
+    → IsGreedy wanted n done open_frames
+    → (front back : List (List ℕ)) → front ++ back ≡ done ++ (open_frames ++ frame ∷ [])
+    → IsCutInto wanted (n + 1) front
     → length (done ++ (open_frames ++ frame ∷ [])) ≤ length front
 closes_soonest wanted n done open_frames frame g front back e c =
     sooner n wanted front back done open_frames frame (length (done ++ (open_frames ++ frame ∷ [])) ≤ length front) e
     (λ (is : front ≡ done ++ (open_frames ++ frame ∷ [])). let same = ap length is in omega (arith, same))
-    (λ (b : List (List ℕ)) (is : front ++ b ≡ done ++ open_frames). let le : n + 1 ≤ n = g.most (n + 1) front b is c in absurd (omega (arith, le)))
+    (λ (b : List (List ℕ)) (is : front ++ b ≡ done ++ open_frames). let le : n + 1 ≤ n = g.most (n + 1) front b is c in
+    absurd (omega (arith, le)))
 
 pub greedy_closes : GreedyCloses
 greedy_closes wanted n done open_frames frame g all =
-    let nil : (done ++ (open_frames ++ frame ∷ [])) ++ [] ≡ done ++ (open_frames ++ frame ∷ []) = append-nil (done ++ (open_frames ++ frame ∷ [])) in
+    let nil : (done ++ (open_frames ++ frame ∷ [])) ++ [] ≡ done ++ (open_frames ++ frame ∷ []) =
+    append-nil (done ++ (open_frames ++ frame ∷ [])) in
     record {
       cut = more wanted n done (open_frames ++ frame ∷ []) g.cut (is_some open_frames [] frame, all);
       most = λ m front back e c. closes_most wanted n done open_frames frame g m front back (e ∙ nil) c;
@@ -74,9 +94,11 @@ greedy_closes wanted n done open_frames frame g all =
 
 -- ---- the part is incomplete
 
-stays_most : (wanted : List ℕ) (n : ℕ) (done open_frames : List (List ℕ)) (frame : List ℕ) → IsGreedy wanted n done open_frames
+stays_most : (wanted : List ℕ) (n : ℕ) (done open_frames : List (List ℕ)) (frame : List ℕ)
+    → IsGreedy wanted n done open_frames
     → (HasAll wanted (open_frames ++ frame ∷ []) → ⊥)
-    → (m : ℕ) (front back : List (List ℕ)) → front ++ back ≡ done ++ (open_frames ++ frame ∷ []) → IsCutInto wanted m front → m ≤ n
+    → (m : ℕ) (front back : List (List ℕ)) → front ++ back ≡ done ++ (open_frames ++ frame ∷ [])
+    → IsCutInto wanted m front → m ≤ n
 stays_most wanted n done open_frames frame g short zero front back e c = omega arith
 stays_most wanted n done open_frames frame g short (suc k) front back e c =
     let b = before wanted k front back done open_frames frame e c in
@@ -88,15 +110,19 @@ stays_most wanted n done open_frames frame g short (suc k) front back e c =
           let cut : IsCutInto wanted n b.start = subst (λ (i : ℕ). IsCutInto wanted i b.start) same b.cut in
           let far : length done ≤ length b.start = g.soonest b.start b.back_before b.is_before cut in
           let at = behind done b.start (b.part ++ back) (open_frames ++ frame ∷ []) b.is far in
-          let all : HasAll wanted (at.mid ++ (b.part ++ back)) = has_right wanted at.mid (b.part ++ back) (has_left wanted b.part back b.whole.1) in
+          let all : HasAll wanted (at.mid ++ (b.part ++ back)) =
+          has_right wanted at.mid (b.part ++ back) (has_left wanted b.part back b.whole.1) in
           absurd (short (subst (λ (row : List (List ℕ)). HasAll wanted row) (sym at.is) all))
     ]
 
-stays_soonest : (wanted : List ℕ) (n : ℕ) (done open_frames : List (List ℕ)) (frame : List ℕ) → IsGreedy wanted n done open_frames
-    → (front back : List (List ℕ)) → front ++ back ≡ done ++ (open_frames ++ frame ∷ []) → IsCutInto wanted n front → length done ≤ length front
+stays_soonest : (wanted : List ℕ) (n : ℕ) (done open_frames : List (List ℕ)) (frame : List ℕ)
+    → IsGreedy wanted n done open_frames
+    → (front back : List (List ℕ)) → front ++ back ≡ done ++ (open_frames ++ frame ∷ []) → IsCutInto wanted n front
+    → length done ≤ length front
 stays_soonest wanted n done open_frames frame g front back e c =
     sooner n wanted front back done open_frames frame (length done ≤ length front) e
-    (λ (is : front ≡ done ++ (open_frames ++ frame ∷ [])). let same = ap length is in omega (arith, same, length-append done (open_frames ++ frame ∷ [])))
+    (λ (is : front ≡ done ++ (open_frames ++ frame ∷ [])). let same = ap length is in
+    omega (arith, same, length-append done (open_frames ++ frame ∷ [])))
     (λ (b : List (List ℕ)) (is : front ++ b ≡ done ++ open_frames). g.soonest front b is c)
 
 pub greedy_stays : GreedyStays
@@ -108,15 +134,19 @@ greedy_stays wanted n done open_frames frame g short = record {
 
 -- ---- the maximum number of parts
 
-cut_all : (wanted : List ℕ) (n : ℕ) (done open_frames : List (List ℕ)) → IsGreedy wanted n done open_frames → 0 < n → IsCutInto wanted n (done ++ open_frames)
+cut_all : (wanted : List ℕ) (n : ℕ) (done open_frames : List (List ℕ)) → IsGreedy wanted n done open_frames → 0 < n
+    → IsCutInto wanted n (done ++ open_frames)
 cut_all wanted zero done open_frames g some = absurd (omega arith)
 cut_all wanted (suc k) done open_frames g some =
     let l = last wanted k done g.cut in
-    let whole : IsPart wanted (l.part ++ open_frames) = (some_left l.part open_frames l.whole.0, has_left wanted l.part open_frames l.whole.1) in
-    let is : l.front ++ (l.part ++ open_frames) ≡ done ++ open_frames = sym (append_assoc l.front l.part open_frames) ∙ ap (λ row. row ++ open_frames) (sym l.is) in
+    let whole : IsPart wanted (l.part ++ open_frames) =
+    (some_left l.part open_frames l.whole.0, has_left wanted l.part open_frames l.whole.1) in
+    let is : l.front ++ (l.part ++ open_frames) ≡ done ++ open_frames =
+    sym (append_assoc l.front l.part open_frames) ∙ ap (λ row. row ++ open_frames) (sym l.is) in
     let one : k + 1 ≡ suc k = omega arith in
     subst (λ (i : ℕ). IsCutInto wanted i (done ++ open_frames)) one
-    (subst (λ (row : List (List ℕ)). IsCutInto wanted (k + 1) row) is (more wanted k l.front (l.part ++ open_frames) l.cut whole))
+    (subst (λ (row : List (List ℕ)). IsCutInto wanted (k + 1) row) is
+    (more wanted k l.front (l.part ++ open_frames) l.cut whole))
 
 pub greedy_is_most : GreedyIsMost
 greedy_is_most wanted n done open_frames g = record {
@@ -124,7 +154,8 @@ greedy_is_most wanted n done open_frames g = record {
   most = λ m c. g.most m (done ++ open_frames) [] (append-nil (done ++ open_frames)) c;
 }
 
-at_most : (wanted : List ℕ) (n m : ℕ) (frames : List (List ℕ)) → IsMostParts wanted n frames → IsMostParts wanted m frames → n ≤ m
+at_most : (wanted : List ℕ) (n m : ℕ) (frames : List (List ℕ)) → IsMostParts wanted n frames
+    → IsMostParts wanted m frames → n ≤ m
 at_most wanted zero m frames one other = omega arith
 at_most wanted (suc k) m frames one other = let some : 0 < suc k = omega arith in other.most (suc k) (one.cut some)
 
@@ -141,7 +172,8 @@ itself wanted f fs all = let some : f ∷ fs ≢ [] = λ q. absurd cc in more wa
 cut_of : (n : ℕ) (frames : List (List ℕ)) → IsMostParts (concat frames) n frames → IsCutInto (concat frames) n frames
 cut_of (suc k) frames h = h.cut (omega arith)
 cut_of zero [] h = none []
-cut_of zero (f ∷ fs) h = let one = h.most 1 (itself (concat (f ∷ fs)) f fs (λ x want. want)) in absurd (omega (arith, one))
+cut_of zero (f ∷ fs) h = let one = h.most 1 (itself (concat (f ∷ fs)) f fs (λ x want. want)) in
+    absurd (omega (arith, one))
 
 -- ---- three parts
 
@@ -153,10 +185,12 @@ some_right (x ∷ xs) ys some e = absurd cc
 one_part : (wanted : List ℕ) (n : ℕ) (frames : List (List ℕ)) → IsCutInto wanted (suc n) frames → IsPart wanted frames
 one_part wanted n frames c =
     let l = last wanted n frames c in
-    let whole : IsPart wanted (l.front ++ l.part) = (some_right l.front l.part l.whole.0, has_right wanted l.front l.part l.whole.1) in
+    let whole : IsPart wanted (l.front ++ l.part) =
+    (some_right l.front l.part l.whole.0, has_right wanted l.front l.part l.whole.1) in
     subst (λ (row : List (List ℕ)). IsPart wanted row) (sym l.is) whole
 
-three_of : (wanted : List ℕ) (n : ℕ) (frames : List (List ℕ)) → IsCutInto wanted n frames → 3 ≤ n → IsCutInThree wanted frames
+three_of : (wanted : List ℕ) (n : ℕ) (frames : List (List ℕ)) → IsCutInto wanted n frames → 3 ≤ n
+    → IsCutInThree wanted frames
 three_of wanted zero frames c three = absurd (omega arith)
 three_of wanted (suc zero) frames c three = absurd (omega arith)
 three_of wanted (suc (suc zero)) frames c three = absurd (omega arith)
@@ -175,8 +209,10 @@ three_of wanted (suc (suc (suc k))) frames c three =
 
 of_three : (wanted : List ℕ) (frames : List (List ℕ)) → IsCutInThree wanted frames → IsCutInto wanted 3 frames
 of_three wanted frames t =
-    let two = more wanted 1 t.first t.second (more wanted 0 [] t.first (none wanted) t.whole_in_first) t.whole_in_second in
-    subst (λ (r : List (List ℕ)). IsCutInto wanted 3 r) (sym t.cut) (more wanted 2 (t.first ++ t.second) t.third two t.whole_in_third)
+    let two = more wanted 1 t.first t.second (more wanted 0 [] t.first (none wanted) t.whole_in_first)
+    t.whole_in_second in
+    subst (λ (r : List (List ℕ)). IsCutInto wanted 3 r) (sym t.cut)
+    (more wanted 2 (t.first ++ t.second) t.third two t.whole_in_third)
 
 pub three_or_more : ThreeOrMore
 three_or_more wanted n frames h = (
@@ -192,7 +228,8 @@ missing : (wanted : List ℕ) (x : ℕ) (frames : List (List ℕ)) → Contains 
 missing wanted x frames want new zero front back e c = omega arith
 missing wanted x frames want new (suc k) front back e c =
     let l = last wanted k front c in
-    let all : HasAll wanted ((l.front ++ l.part) ++ back) = has_left wanted (l.front ++ l.part) back (has_right wanted l.front l.part l.whole.1) in
+    let all : HasAll wanted ((l.front ++ l.part) ++ back) =
+    has_left wanted (l.front ++ l.part) back (has_right wanted l.front l.part l.whole.1) in
     let is : (l.front ++ l.part) ++ back ≡ frames = ap (λ row. row ++ back) (sym l.is) ∙ e in
     absurd (new (subst (λ (row : List (List ℕ)). Contains (concat row) x) is (all x want)))
 

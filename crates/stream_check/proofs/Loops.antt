@@ -11,16 +11,21 @@ use Rattle.stream_check.proofs.Steps.{later_itself, later_twice}
 use Rattle.stream_check.specs.Reported.{Reported}
 
 -- of all that is sent, this remains
-pub record IsOnItsWay (at : FrameAt) (all left : List Sent) (old : CheckerState) (before : Reported) (now : CheckerState) (reported : Reported) : Type 0 where
+pub record IsOnItsWay (at : FrameAt) (all left : List Sent) (old : CheckerState) (before : Reported)
+    (now : CheckerState) (reported : Reported) : Type 0 where
   pub done : List Sent
   pub whole : done ++ left ≡ all
   pub later : IsLater old now
   pub heard : Hears at done old before now reported false
 
-pub sets_out : (at : FrameAt) (all : List Sent) (old : CheckerState) (before : Reported) → IsSane old → IsOnItsWay at all all old before old before
-sets_out at all old before s = record { done = []; whole = refl; later = later_itself old s; heard = hears_nothing at old before }
+pub sets_out : (at : FrameAt) (all : List Sent) (old : CheckerState) (before : Reported) → IsSane old
+    → IsOnItsWay at all all old before old before
+sets_out at all old before s =
+    record { done = []; whole = refl; later = later_itself old s; heard = hears_nothing at old before }
 
-pub goes_on : (at : FrameAt) (all left some rest : List Sent) (old now new : CheckerState) (before reported after : Reported) → left ≡ some ++ rest → IsLater now new → Hears at some now reported new after false
+pub goes_on : (at : FrameAt) (all left some rest : List Sent) (old now new : CheckerState)
+    (before reported after : Reported) → left ≡ some ++ rest → IsLater now new
+    → Hears at some now reported new after false
     → IsOnItsWay at all left old before now reported → IsOnItsWay at all rest old before new after
 goes_on at all left some rest old now new before reported after e l h w = record {
   done = w.done ++ some;
@@ -29,12 +34,17 @@ goes_on at all left some rest old now new before reported after e l h w = record
   heard = hears_more at w.done some old now new before reported after false w.later.step w.later.period w.heard h;
 }
 
-pub breaks_off : (at : FrameAt) (all left some rest : List Sent) (old now new : CheckerState) (before reported after : Reported) → left ≡ some ++ rest → Hears at some now reported new after true
+pub breaks_off : (at : FrameAt) (all left some rest : List Sent) (old now new : CheckerState)
+    (before reported after : Reported) → left ≡ some ++ rest → Hears at some now reported new after true
     → IsOnItsWay at all left old before now reported → Hears at all old before new after true
 breaks_off at all left some rest old now new before reported after e h w =
-    subst (λ (is : List Sent). Hears at is old before new after true) (append_assoc w.done some rest ∙ ap (λ r. w.done ++ r) (sym e) ∙ w.whole)
-    (hears_full at (w.done ++ some) rest old new before after (hears_more at w.done some old now new before reported after true w.later.step w.later.period w.heard h))
+    subst (λ (is : List Sent). Hears at is old before new after true)
+    (append_assoc w.done some rest ∙ ap (λ r. w.done ++ r) (sym e) ∙ w.whole)
+    (hears_full at (w.done ++ some) rest old new before after
+    (hears_more at w.done some old now new before reported after true w.later.step w.later.period w.heard h))
 
-pub arrives : (at : FrameAt) (all left : List Sent) (old now : CheckerState) (before reported : Reported) → left ≡ [] → IsOnItsWay at all left old before now reported → Hears at all old before now reported false
+pub arrives : (at : FrameAt) (all left : List Sent) (old now : CheckerState) (before reported : Reported) → left ≡ []
+    → IsOnItsWay at all left old before now reported → Hears at all old before now reported false
 arrives at all left old now before reported e w =
-    subst (λ (is : List Sent). Hears at is old before now reported false) (sym (append-nil w.done) ∙ ap (λ r. w.done ++ r) (sym e) ∙ w.whole) w.heard
+    subst (λ (is : List Sent). Hears at is old before now reported false)
+    (sym (append-nil w.done) ∙ ap (λ r. w.done ++ r) (sym e) ∙ w.whole) w.heard

@@ -1,9 +1,15 @@
 -- How an entry of FIG 0/1 to 0/3 affects the past of a stream.
-use Rattle.std.proofs.Common.{◌≡◌, ℕ, ◌+◌, ◌%◌, ◌==◌, ◌&&◌, ◌||◌, Bool, true, false, cond, not, List, [], ◌∷◌, ◌++◌, Option, Some, None, refl, sym, ap, ◌∙◌, arith}
+use Rattle.std.proofs.Common.{◌≡◌, ℕ, ◌+◌, ◌%◌, ◌==◌, ◌&&◌, ◌||◌, Bool, true, false, cond, not, List, [], ◌∷◌, ◌++◌}
+use Rattle.std.proofs.Common.{Option, Some, None, refl, sym, ap, ◌∙◌, arith}
 use Rattle.fib_reader.specs.Raw.{Raw, ensemble_in}
-use Rattle.fib_reader.specs.Listening.{Listening, hear_entry, is_made, where_heard, at_ensemble, into, pictured, picture_of}
+use Rattle.fib_reader.specs.Listening.{Listening, hear_entry, is_made, where_heard, at_ensemble, into, pictured}
+use Rattle.fib_reader.specs.Listening.{picture_of}
 use Rattle.stream_check.specs.Pictures.{key_of}
-use Rattle.stream_check.specs.History.{Item, Moment, Said, is_ensemble, ensemble_of, is_flagged, is_in_place, frames_ended, listening, listener, listener_after, is_swap, is_member, eid_of, last_eid, has_ensemble, begins_notice, has_begun, began_early, flag_count, times_announced, last_flags, is_cut_off, next_key, row_at_hand, rows, settles_at, last_heard}
+use Rattle.stream_check.specs.History.{Item, Moment, Said, is_ensemble, ensemble_of_item, is_flagged, is_in_place}
+use Rattle.stream_check.specs.History.{frames_ended, listening, listener, listener_after, is_swap, is_member, eid_of}
+use Rattle.stream_check.specs.History.{last_eid, has_ensemble, begins_notice, has_begun, began_early, flag_count}
+use Rattle.stream_check.specs.History.{times_announced, last_flags, is_cut_off, next_key, row_at_hand, rows, settles_at}
+use Rattle.stream_check.specs.History.{last_heard}
 
 pub and_false : (a : Bool) → (a && false) ≡ false
 and_false true = refl
@@ -20,25 +26,28 @@ or_true false = refl
 -- ---- an entry other than FIG 0/0
 
 pub no_swap : (past : List Moment) (i : Item) → is_ensemble i ≡ false → is_swap past i ≡ false
-no_swap past i e = ap (λ t. t && is_made (listener_after past).awaited (ensemble_of i)) e
+no_swap past i e = ap (λ t. t && is_made (listener_after past).awaited (ensemble_of_item i)) e
 
 pub no_flags : (i : Item) → is_ensemble i ≡ false → is_flagged i ≡ false
-no_flags i e = ap (λ t. t && not ((ensemble_of i).change == 0)) e
+no_flags i e = ap (λ t. t && not ((ensemble_of_item i).change == 0)) e
 
 pub not_placed : (step : ℕ) (i : Item) → is_ensemble i ≡ false → is_in_place step i ≡ false
-not_placed step i e = ap (λ t. i.first && (t && ((ensemble_of i).count % step == 0))) e ∙ and_false i.first
+not_placed step i e = ap (λ t. i.first && (t && ((ensemble_of_item i).count % step == 0))) e ∙ and_false i.first
 
 eid_same : (step : ℕ) (i : Item) (o : Option ℕ) → is_ensemble i ≡ false → eid_of step i o ≡ o
-eid_same step i None e = ap (λ t. cond t (Some (ensemble_of i).eid) None) e
-eid_same step i (Some eid) e = ap (λ t. cond t (Some (ensemble_of i).eid) (Some eid)) (not_placed step i e)
+eid_same step i None e = ap (λ t. cond t (Some (ensemble_of_item i).eid) None) e
+eid_same step i (Some eid) e = ap (λ t. cond t (Some (ensemble_of_item i).eid) (Some eid)) (not_placed step i e)
 
-pub member_eid : (step : ℕ) (past : List Moment) (i : Item) → is_ensemble i ≡ false → last_eid step past ≡ last_eid step (Said i ∷ past)
+pub member_eid : (step : ℕ) (past : List Moment) (i : Item) → is_ensemble i ≡ false
+    → last_eid step past ≡ last_eid step (Said i ∷ past)
 member_eid step past i e = sym (eid_same step i (last_eid step past) e)
 
-pub member_has_ensemble : (past : List Moment) (i : Item) → is_ensemble i ≡ false → has_ensemble past ≡ has_ensemble (Said i ∷ past)
+pub member_has_ensemble : (past : List Moment) (i : Item) → is_ensemble i ≡ false
+    → has_ensemble past ≡ has_ensemble (Said i ∷ past)
 member_has_ensemble past i e = sym (ap (λ t. t || has_ensemble past) e)
 
-pub member_begins : (past : List Moment) (i : Item) → is_ensemble i ≡ false → begins_notice past i ≡ ((listener_after past).tuned && i.next)
+pub member_begins : (past : List Moment) (i : Item) → is_ensemble i ≡ false
+    → begins_notice past i ≡ ((listener_after past).tuned && i.next)
 member_begins past i e =
     ap (λ t. t || ((not (is_ensemble i) && (listener_after past).tuned) && i.next)) (no_flags i e)
     ∙ ap (λ t. (not t && (listener_after past).tuned) && i.next) e
@@ -46,49 +55,65 @@ member_begins past i e =
 pub member_is : (past : List Moment) (i : Item) → is_ensemble i ≡ false → is_member past i ≡ (listener_after past).tuned
 member_is past i e = ap (λ t. not t && (listener_after past).tuned) e
 
-pub member_has_begun : (past : List Moment) (i : Item) → is_ensemble i ≡ false → has_begun (Said i ∷ past) ≡ (has_begun past || ((listener_after past).tuned && i.next))
+pub member_has_begun : (past : List Moment) (i : Item) → is_ensemble i ≡ false
+    → has_begun (Said i ∷ past) ≡ (has_begun past || ((listener_after past).tuned && i.next))
 member_has_begun past i e =
     ap (λ t. cond t (is_flagged i) (has_begun past || begins_notice past i)) (no_swap past i e)
     ∙ ap (λ t. has_begun past || t) (member_begins past i e)
 
 pub member_began_early : (past : List Moment) (i : Item) → is_ensemble i ≡ false
-    → began_early (Said i ∷ past) ≡ cond (((listener_after past).tuned && i.next) && not (has_begun past)) (not (has_ensemble past)) (began_early past)
+    → began_early (Said i ∷ past) ≡ cond (((listener_after past).tuned && i.next) && not (has_begun past))
+    (not (has_ensemble past)) (began_early past)
 member_began_early past i e =
-    ap (λ t. cond t false (cond (begins_notice past i && not (has_begun past)) (not (has_ensemble past)) (began_early past))) e
+    ap (λ t. cond t false (cond (begins_notice past i && not (has_begun past)) (not (has_ensemble past))
+    (began_early past))) e
     ∙ ap (λ t. cond (t && not (has_begun past)) (not (has_ensemble past)) (began_early past)) (member_begins past i e)
 
-pub member_flags : (past : List Moment) (i : Item) → is_ensemble i ≡ false → last_flags past ≡ last_flags (Said i ∷ past)
-member_flags past i e = sym (ap (λ t. cond t (ensemble_of i).change (last_flags past)) (no_flags i e))
+pub member_flags : (past : List Moment) (i : Item) → is_ensemble i ≡ false
+    → last_flags past ≡ last_flags (Said i ∷ past)
+member_flags past i e = sym (ap (λ t. cond t (ensemble_of_item i).change (last_flags past)) (no_flags i e))
 
-pub member_times : (past : List Moment) (i : Item) → is_ensemble i ≡ false → times_announced past ≡ times_announced (Said i ∷ past)
+pub member_times : (past : List Moment) (i : Item) → is_ensemble i ≡ false
+    → times_announced past ≡ times_announced (Said i ∷ past)
 member_times past i e =
     let none : flag_count i ≡ 0 = ap (λ t. cond t 1 0) (no_flags i e) in
     let same : times_announced past ≡ times_announced past + flag_count i = omega (arith, none) in
     same ∙ sym (ap (λ t. cond t (flag_count i) (times_announced past + flag_count i)) (no_swap past i e))
 
-pub member_cut_off : (past : List Moment) (i : Item) → is_ensemble i ≡ false → is_cut_off past ≡ is_cut_off (Said i ∷ past)
+pub member_cut_off : (past : List Moment) (i : Item) → is_ensemble i ≡ false
+    → is_cut_off past ≡ is_cut_off (Said i ∷ past)
 member_cut_off past i e =
-    sym (ap (λ t. cond t false (cond (is_ensemble i && not (listener_after past).tuned) (is_flagged i) (is_cut_off past))) (no_swap past i e)
+    sym (ap (λ t. cond t false
+    (cond (is_ensemble i && not (listener_after past).tuned) (is_flagged i) (is_cut_off past))) (no_swap past i e)
     ∙ ap (λ t. cond (t && not (listener_after past).tuned) (is_flagged i) (is_cut_off past)) e)
 
-pub member_settles : (period : ℕ) (past : List Moment) (i : Item) → is_ensemble i ≡ false → settles_at period past ≡ settles_at period (Said i ∷ past)
-member_settles period past i e = sym (ap (λ t. cond t (cond (is_cut_off past) (frames_ended past + period) 0) (settles_at period past)) (no_swap past i e))
+pub member_settles : (period : ℕ) (past : List Moment) (i : Item) → is_ensemble i ≡ false
+    → settles_at period past ≡ settles_at period (Said i ∷ past)
+member_settles period past i e =
+    sym (ap (λ t. cond t (cond (is_cut_off past) (frames_ended past + period) 0) (settles_at period past))
+    (no_swap past i e))
 
 pub member_rows : (past : List Moment) (i : Item) → is_ensemble i ≡ false → rows (Said i ∷ past) ≡ rows past
 member_rows past i e = ap (λ t. cond t [] (rows past)) (no_swap past i e)
 
-pub member_row : (past : List Moment) (i : Item) → is_ensemble i ≡ false → row_at_hand (Said i ∷ past) ≡ row_at_hand past ++ cond ((listener_after past).tuned && i.next) (key_of i.raw ∷ []) []
+pub member_row : (past : List Moment) (i : Item) → is_ensemble i ≡ false
+    → row_at_hand (Said i ∷ past) ≡ row_at_hand past ++ cond ((listener_after past).tuned && i.next) (key_of i.raw ∷ [])
+    []
 member_row past i e =
     ap (λ t. cond t [] (row_at_hand past ++ next_key past i)) (no_swap past i e)
     ∙ ap (λ t. row_at_hand past ++ cond (t && i.next) (key_of i.raw ∷ []) []) (member_is past i e)
 
 pub member_last : (key : ℕ) (past : List Moment) (i : Item) → is_ensemble i ≡ false
-    → last_heard key (Said i ∷ past) ≡ cond ((listener_after past).tuned && (not i.next && (key_of i.raw == key))) (frames_ended past + 1) (last_heard key past)
+    → last_heard key (Said i ∷ past) ≡ cond ((listener_after past).tuned && (not i.next && (key_of i.raw == key)))
+    (frames_ended past + 1) (last_heard key past)
 member_last key past i e =
-    ap (λ t. cond (t || (is_member past i && (not i.next && (key_of i.raw == key)))) (frames_ended past + 1) (last_heard key past)) (no_swap past i e)
-    ∙ ap (λ t. cond (t && (not i.next && (key_of i.raw == key))) (frames_ended past + 1) (last_heard key past)) (member_is past i e)
+    ap (λ t. cond (t || (is_member past i && (not i.next && (key_of i.raw == key)))) (frames_ended past + 1)
+    (last_heard key past)) (no_swap past i e)
+    ∙ ap (λ t. cond (t && (not i.next && (key_of i.raw == key))) (frames_ended past + 1) (last_heard key past))
+    (member_is past i e)
 
-pub member_heard : (past : List Moment) (i : Item) (l : Listening) → listening past ≡ Some l → listening (Said i ∷ past) ≡ hear_entry i.next i.raw l
+pub member_heard : (past : List Moment) (i : Item) (l : Listening) → listening past ≡ Some l
+    → listening (Said i ∷ past) ≡ hear_entry i.next i.raw l
 member_heard past i l h = ap (λ o. where_heard o (hear_entry i.next i.raw)) h
 
 pub after_is : (past : List Moment) (l : Listening) → listening past ≡ Some l → listener_after past ≡ l
@@ -96,24 +121,30 @@ after_is past l h = ap listener h
 
 -- ---- a FIG 0/0
 
-pub ensemble_swap : (past : List Moment) (i : Item) (l : Listening) → is_ensemble i ≡ true → listening past ≡ Some l → is_swap past i ≡ is_made l.awaited (ensemble_of i)
+pub ensemble_swap : (past : List Moment) (i : Item) (l : Listening) → is_ensemble i ≡ true → listening past ≡ Some l
+    → is_swap past i ≡ is_made l.awaited (ensemble_of_item i)
 ensemble_swap past i l e h =
-    ap (λ t. t && is_made (listener_after past).awaited (ensemble_of i)) e
-    ∙ ap (λ (o : Listening). is_made o.awaited (ensemble_of i)) (after_is past l h)
+    ap (λ t. t && is_made (listener_after past).awaited (ensemble_of_item i)) e
+    ∙ ap (λ (o : Listening). is_made o.awaited (ensemble_of_item i)) (after_is past l h)
 
-pub ensemble_flagged : (i : Item) → is_ensemble i ≡ true → is_flagged i ≡ not ((ensemble_of i).change == 0)
-ensemble_flagged i e = ap (λ t. t && not ((ensemble_of i).change == 0)) e
+pub ensemble_flagged : (i : Item) → is_ensemble i ≡ true → is_flagged i ≡ not ((ensemble_of_item i).change == 0)
+ensemble_flagged i e = ap (λ t. t && not ((ensemble_of_item i).change == 0)) e
 
-pub ensemble_placed : (step : ℕ) (i : Item) → is_ensemble i ≡ true → is_in_place step i ≡ (i.first && ((ensemble_of i).count % step == 0))
-ensemble_placed step i e = ap (λ t. i.first && (t && ((ensemble_of i).count % step == 0))) e
+pub ensemble_placed : (step : ℕ) (i : Item) → is_ensemble i ≡ true
+    → is_in_place step i ≡ (i.first && ((ensemble_of_item i).count % step == 0))
+ensemble_placed step i e = ap (λ t. i.first && (t && ((ensemble_of_item i).count % step == 0))) e
 
 pub ensemble_no_member : (past : List Moment) (i : Item) → is_ensemble i ≡ true → is_member past i ≡ false
 ensemble_no_member past i e = ap (λ t. not t && (listener_after past).tuned) e
 
-pub ensemble_heard : (past : List Moment) (i : Item) (l : Listening) → is_ensemble i ≡ true → listening past ≡ Some l → listening (Said i ∷ past) ≡ Some (at_ensemble (ensemble_of i) l)
+pub ensemble_heard : (past : List Moment) (i : Item) (l : Listening) → is_ensemble i ≡ true → listening past ≡ Some l
+    → listening (Said i ∷ past) ≡ Some (at_ensemble (ensemble_of_item i) l)
 ensemble_heard past i l e h =
     member_heard past i l h
-    ∙ ap (λ t. cond t (Some (at_ensemble (ensemble_of i) l)) (cond l.tuned (into i.next l (pictured i.raw (picture_of i.next l))) (Some l))) e
+    ∙ ap (λ t. cond t (Some (at_ensemble (ensemble_of_item i) l))
+    (cond l.tuned (into i.next l (pictured i.raw (picture_of i.next l))) (Some l))) e
 
-pub member_entry : (next : Bool) (raw : Raw) (l : Listening) → (raw.ext == 0) ≡ false → hear_entry next raw l ≡ cond l.tuned (into next l (pictured raw (picture_of next l))) (Some l)
-member_entry next raw l e = ap (λ t. cond t (Some (at_ensemble (ensemble_in raw) l)) (cond l.tuned (into next l (pictured raw (picture_of next l))) (Some l))) e
+pub member_entry : (next : Bool) (raw : Raw) (l : Listening) → (raw.ext == 0) ≡ false
+    → hear_entry next raw l ≡ cond l.tuned (into next l (pictured raw (picture_of next l))) (Some l)
+member_entry next raw l e = ap (λ t. cond t (Some (at_ensemble (ensemble_in raw) l))
+    (cond l.tuned (into next l (pictured raw (picture_of next l))) (Some l))) e

@@ -1,5 +1,6 @@
 -- Each contradiction is reported once between two swaps, as long as fewer than 64 are.
-use Rattle.std.proofs.Common.{◌≡◌, ◌⊎◌, ℕ, ◌+◌, ◌<◌, ◌≤◌, ◌==◌, ◌&&◌, ◌||◌, nat_lt, not, Bool, true, false, cond, List, [], ◌∷◌, ◌++◌, length, inl, inr, refl, sym, ap, ap₂, ◌∙◌, subst, arith}
+use Rattle.std.proofs.Common.{◌≡◌, ◌⊎◌, ℕ, ◌+◌, ◌<◌, ◌≤◌, ◌==◌, ◌&&◌, ◌||◌, nat_lt, not, Bool, true, false, cond, List}
+use Rattle.std.proofs.Common.{[], ◌∷◌, ◌++◌, length, inl, inr, refl, sym, ap, ap₂, ◌∙◌, subst, arith}
 use Rattle.std.specs.List.{list_any}
 use Rattle.std.proofs.lemmas.Bool.{false≢true, eq-eqb, ltb-true, ltb-false}
 use Rattle.std.proofs.lemmas.List.{append-nil, append_assoc, length-append}
@@ -8,7 +9,8 @@ use Rattle.fig_mentions.specs.declared.mention.Mention.{Mention}
 use Rattle.fig_mentions.specs.declared.mention.Mention.TheVariants.{Nothing, Sub, Packet, OnSub, ByPacket}
 use Rattle.stream_check.specs.declared.contradiction.Contradiction.{Contradiction}
 use Rattle.stream_check.specs.declared.contradiction.Contradiction.TheVariants.{NotThere, NotWhole}
-use Rattle.stream_check.specs.Contradictions.{is_same_mention, is_same, most_noted, is_noted, is_new, new_among, noted_with, AreNew, AreReportedOnce, NoneIsLeftOut}
+use Rattle.stream_check.specs.Contradictions.{is_same_mention, is_same, most_noted, is_noted, is_new, new_among}
+use Rattle.stream_check.specs.Contradictions.{noted_with, AreNew, AreReportedOnce, NoneIsLeftOut}
 
 -- ---- the same
 
@@ -31,7 +33,8 @@ itself_same (NotWhole ext) = number_same ext
 
 -- ---- lists
 
-any_append : (p : Contradiction → Bool) (xs ys : List Contradiction) → list_any p (xs ++ ys) ≡ (list_any p xs || list_any p ys)
+any_append : (p : Contradiction → Bool) (xs ys : List Contradiction)
+    → list_any p (xs ++ ys) ≡ (list_any p xs || list_any p ys)
 any_append p [] ys = refl
 any_append p (x ∷ xs) ys = ap (λ b. p x || b) (any_append p xs ys) ∙ joined (p x) (list_any p xs) (list_any p ys)
   where
@@ -48,12 +51,16 @@ noted_still xs ys c e = any_append (is_same c) xs ys ∙ ap (λ b. b || list_any
 
 noted_here : (xs ys : List Contradiction) (c : Contradiction) → is_noted (xs ++ c ∷ ys) c ≡ true
 noted_here xs ys c =
-    any_append (is_same c) xs (c ∷ ys) ∙ first_or_second (list_any (is_same c) xs) (is_same c c || list_any (is_same c) ys) (ap (λ b. b || list_any (is_same c) ys) (itself_same c))
+    any_append (is_same c) xs (c ∷ ys) ∙ first_or_second (list_any (is_same c) xs)
+    (is_same c c || list_any (is_same c) ys) (ap (λ b. b || list_any (is_same c) ys) (itself_same c))
 
 new_more : (before xs ys : List Contradiction) → AreNew before xs → AreNew (before ++ xs) ys → AreNew before (xs ++ ys)
 new_more before [] ys one other = subst (λ (l : List Contradiction). AreNew l ys) (append-nil before) other
-new_more before (x ∷ xs) ys one other =
-    (one.0, new_more (before ++ x ∷ []) xs ys one.1 (subst (λ (l : List Contradiction). AreNew l ys) (sym (append_assoc before (x ∷ []) xs)) other))
+new_more before (x ∷ xs) ys one other = (
+  one.0,
+  new_more (before ++ x ∷ []) xs ys one.1
+      (subst (λ (l : List Contradiction). AreNew l ys) (sym (append_assoc before (x ∷ []) xs)) other),
+)
 
 -- ---- those that are reported
 
@@ -65,42 +72,49 @@ record IsFresh (noted : List Contradiction) (c : Contradiction) : Type 0 where
 fresh_where : (noted : List Contradiction) (c : Contradiction) → is_new noted c ≡ true → IsFresh noted c
 fresh_where noted c new = by (nat_lt (length noted) most_noted) (is_noted noted c) refl refl new
   where
-    by : (few there : Bool) → nat_lt (length noted) most_noted ≡ few → is_noted noted c ≡ there → (few && not there) ≡ true → IsFresh noted c
+    by : (few there : Bool) → nat_lt (length noted) most_noted ≡ few → is_noted noted c ≡ there
+        → (few && not there) ≡ true → IsFresh noted c
     by true true is found e = absurd (false≢true e)
     by true false is found e = record { few = ltb-true (length noted) most_noted is; apart = found }
     by false there is found e = absurd (false≢true e)
 
-old_where : (noted : List Contradiction) (c : Contradiction) → is_new noted c ≡ false → (is_noted noted c ≡ true) ⊎ (most_noted ≤ length noted)
+old_where : (noted : List Contradiction) (c : Contradiction) → is_new noted c ≡ false → (is_noted noted c ≡ true)
+    ⊎ (most_noted ≤ length noted)
 old_where noted c old = by (nat_lt (length noted) most_noted) (is_noted noted c) refl refl old
   where
-    by : (few there : Bool) → nat_lt (length noted) most_noted ≡ few → is_noted noted c ≡ there → (few && not there) ≡ false → (is_noted noted c ≡ true) ⊎ (most_noted ≤ length noted)
+    by : (few there : Bool) → nat_lt (length noted) most_noted ≡ few → is_noted noted c ≡ there
+        → (few && not there) ≡ false → (is_noted noted c ≡ true) ⊎ (most_noted ≤ length noted)
     by true true is found e = inl found
     by true false is found e = absurd (false≢true (sym e))
     by false there is found e = inr (ltb-false (length noted) most_noted is)
 
 new_ones : (noted some : List Contradiction) → AreNew noted (new_among noted some)
 new_ones noted [] = tt
-new_ones noted (c ∷ cs) = elim (is_new noted c) as (λ t. is_new noted c ≡ t → AreNew noted (cond t (c ∷ new_among (noted ++ c ∷ []) cs) (new_among noted cs))) [
-  | true ↦ λ new. ((fresh_where noted c new).apart, new_ones (noted ++ c ∷ []) cs)
-  | false ↦ λ old. new_ones noted cs
-] refl
+new_ones noted (c ∷ cs) = elim (is_new noted c) as (λ t. is_new noted c ≡ t
+    → AreNew noted (cond t (c ∷ new_among (noted ++ c ∷ []) cs) (new_among noted cs))) [
+      | true ↦ λ new. ((fresh_where noted c new).apart, new_ones (noted ++ c ∷ []) cs)
+      | false ↦ λ old. new_ones noted cs
+    ] refl
 
-few_ones : (noted some : List Contradiction) → length noted ≤ most_noted → length noted + length (new_among noted some) ≤ most_noted
+few_ones : (noted some : List Contradiction) → length noted ≤ most_noted
+    → length noted + length (new_among noted some) ≤ most_noted
 few_ones noted [] few = omega (arith, few)
-few_ones noted (c ∷ cs) few = elim (is_new noted c) as (λ t. is_new noted c ≡ t → length noted + length (cond t (c ∷ new_among (noted ++ c ∷ []) cs) (new_among noted cs)) ≤ most_noted) [
-  | true ↦ λ new.
-      let fresh = (fresh_where noted c new).few in
-      let longer = length-append noted (c ∷ []) in
-      let one : length (c ∷ []) ≡ 1 = refl in
-      let rest = few_ones (noted ++ c ∷ []) cs (omega (arith, fresh, longer, one)) in
-      omega (arith, rest, longer, one)
-  | false ↦ λ old. few_ones noted cs few
-] refl
+few_ones noted (c ∷ cs) few = elim (is_new noted c) as (λ t. is_new noted c ≡ t
+    → length noted + length (cond t (c ∷ new_among (noted ++ c ∷ []) cs) (new_among noted cs)) ≤ most_noted) [
+      | true ↦ λ new.
+          let fresh = (fresh_where noted c new).few in
+          let longer = length-append noted (c ∷ []) in
+          let one : length (c ∷ []) ≡ 1 = refl in
+          let rest = few_ones (noted ++ c ∷ []) cs (omega (arith, fresh, longer, one)) in
+          omega (arith, rest, longer, one)
+      | false ↦ λ old. few_ones noted cs few
+    ] refl
 
 pub are_reported_once : AreReportedOnce
 are_reported_once noted some new few = (
   new_more [] noted (new_among noted some) new (new_ones noted some),
-  (let long = length-append noted (new_among noted some) in let fits = few_ones noted some few in omega (arith, long, fits)),
+  (let long = length-append noted (new_among noted some) in let fits = few_ones noted some few in
+      omega (arith, long, fits)),
 )
 
 abbrev IsNotedOrMany : List Contradiction → Contradiction → Type 0
@@ -110,17 +124,23 @@ still : (xs ys : List Contradiction) (c : Contradiction) → IsNotedOrMany xs c 
 still xs ys c (inl there) = inl (noted_still xs ys c there)
 still xs ys c (inr many) = inr (let long = length-append xs ys in omega (arith, long, many))
 
-first_noted : (noted : List Contradiction) (c : Contradiction) (cs : List Contradiction) → IsNotedOrMany (noted_with noted (c ∷ cs)) c
-first_noted noted c cs = elim (is_new noted c) as (λ t. is_new noted c ≡ t → IsNotedOrMany (noted ++ cond t (c ∷ new_among (noted ++ c ∷ []) cs) (new_among noted cs)) c) [
-  | true ↦ λ new. inl (noted_here noted (new_among (noted ++ c ∷ []) cs) c)
-  | false ↦ λ old. still noted (new_among noted cs) c (old_where noted c old)
-] refl
+first_noted : (noted : List Contradiction) (c : Contradiction) (cs : List Contradiction)
+    → IsNotedOrMany (noted_with noted (c ∷ cs)) c
+first_noted noted c cs = elim (is_new noted c) as (λ t. is_new noted c ≡ t
+    → IsNotedOrMany (noted ++ cond t (c ∷ new_among (noted ++ c ∷ []) cs) (new_among noted cs)) c) [
+      | true ↦ λ new. inl (noted_here noted (new_among (noted ++ c ∷ []) cs) c)
+      | false ↦ λ old. still noted (new_among noted cs) c (old_where noted c old)
+    ] refl
 
-later_noted : (noted : List Contradiction) (d : Contradiction) (cs : List Contradiction) (c : Contradiction) → ((l : List Contradiction) → IsNotedOrMany (noted_with l cs) c) → IsNotedOrMany (noted_with noted (d ∷ cs)) c
-later_noted noted d cs c rest = elim (is_new noted d) as (λ t. IsNotedOrMany (noted ++ cond t (d ∷ new_among (noted ++ d ∷ []) cs) (new_among noted cs)) c) [
-  | true ↦ subst (λ (l : List Contradiction). IsNotedOrMany l c) (append_assoc noted (d ∷ []) (new_among (noted ++ d ∷ []) cs)) (rest (noted ++ d ∷ []))
-  | false ↦ rest noted
-]
+later_noted : (noted : List Contradiction) (d : Contradiction) (cs : List Contradiction) (c : Contradiction)
+    → ((l : List Contradiction) → IsNotedOrMany (noted_with l cs) c) → IsNotedOrMany (noted_with noted (d ∷ cs)) c
+later_noted noted d cs c rest =
+    elim (is_new noted d) as (λ t. IsNotedOrMany (noted
+    ++ cond t (d ∷ new_among (noted ++ d ∷ []) cs) (new_among noted cs)) c) [
+      | true ↦ subst (λ (l : List Contradiction). IsNotedOrMany l c)
+          (append_assoc noted (d ∷ []) (new_among (noted ++ d ∷ []) cs)) (rest (noted ++ d ∷ []))
+      | false ↦ rest noted
+    ]
 
 pub none_is_left_out : NoneIsLeftOut
 none_is_left_out noted [] c inside = absurd (contains_none c inside)

@@ -1,5 +1,6 @@
 -- Ending each part as early as possible gives the maximum number of parts, counted frame by frame.
-use Rattle.std.proofs.Common.{◌≡◌, ℕ, zero, suc, ◌+◌, ◌≤◌, ◌==◌, ◌&&◌, ◌||◌, Bool, true, false, cond, List, [], ◌∷◌, ◌++◌, Contains, refl, sym, ap, ◌∙◌, arith, inl, inr, subst}
+use Rattle.std.proofs.Common.{◌≡◌, ℕ, zero, suc, ◌+◌, ◌≤◌, ◌==◌, ◌&&◌, ◌||◌, Bool, true, false, cond, List, [], ◌∷◌}
+use Rattle.std.proofs.Common.{◌++◌, Contains, refl, sym, ap, ◌∙◌, arith, inl, inr, subst}
 use Rattle.std.specs.List.{concat, list_all}
 use Rattle.std.proofs.lemmas.Bool.{eq-eqb, eqb-true, false≢true}
 use Rattle.std.proofs.lemmas.List.{append_assoc, append-nil}
@@ -55,16 +56,20 @@ both_true : (a b : Bool) → a ≡ true → b ≡ true → (a && b) ≡ true
 both_true true b h k = k
 both_true false b h k = absurd (false≢true h)
 
-all_in : (heard wanted : List ℕ) → list_all (contains heard) wanted ≡ true → (x : ℕ) → Contains wanted x → Contains heard x
+all_in : (heard wanted : List ℕ) → list_all (contains heard) wanted ≡ true → (x : ℕ) → Contains wanted x
+    → Contains heard x
 all_in heard [] h x c = absurd (in_none x c)
 all_in heard (y ∷ ys) h x c = elim (Contains-append_cases (y ∷ []) ys x c) [
-  | inl first ↦ subst (λ (z : ℕ). Contains heard z) (sym (one_of y x first)) (from_any heard y (first_true (contains heard y) _ h))
+  | inl first ↦ subst (λ (z : ℕ). Contains heard z) (sym (one_of y x first))
+      (from_any heard y (first_true (contains heard y) _ h))
   | inr rest ↦ all_in heard ys (second_true (contains heard y) _ h) x rest
 ]
 
-in_all : (heard wanted : List ℕ) → ((x : ℕ) → Contains wanted x → Contains heard x) → list_all (contains heard) wanted ≡ true
+in_all : (heard wanted : List ℕ) → ((x : ℕ) → Contains wanted x → Contains heard x)
+    → list_all (contains heard) wanted ≡ true
 in_all heard [] h = refl
-in_all heard (y ∷ ys) h = both_true (contains heard y) (list_all (contains heard) ys) (to_any heard y (h y (here y ys))) (in_all heard ys (λ x c. h x (there y x ys c)))
+in_all heard (y ∷ ys) h = both_true (contains heard y) (list_all (contains heard) ys) (to_any heard y (h y (here y ys)))
+    (in_all heard ys (λ x c. h x (there y x ys c)))
 
 pub has_all_told : (wanted : List ℕ) (frames : List (List ℕ)) → has_all wanted frames ≡ true → HasAll wanted frames
 has_all_told wanted frames h = all_in (concat frames) wanted h
@@ -82,11 +87,13 @@ empty_right : {X : Type 0} (xs ys : List X) → xs ++ ys ≡ [] → ys ≡ []
 empty_right [] ys e = e
 empty_right (x ∷ xs) ys e = absurd cc
 
-no_frames : (wanted : List ℕ) (m : ℕ) (front back : List (List ℕ)) → front ++ back ≡ [] → IsCutInto wanted m front → m ≤ 0
+no_frames : (wanted : List ℕ) (m : ℕ) (front back : List (List ℕ)) → front ++ back ≡ [] → IsCutInto wanted m front
+    → m ≤ 0
 no_frames wanted zero front back e c = omega arith
 no_frames wanted (suc k) front back e c =
     let l = last wanted k front c in
-    let is : l.front ++ (l.part ++ back) ≡ [] = sym (append_assoc l.front l.part back) ∙ ap (λ row. row ++ back) (sym l.is) ∙ e in
+    let is : l.front ++ (l.part ++ back) ≡ [] = sym (append_assoc l.front l.part back)
+    ∙ ap (λ row. row ++ back) (sym l.is) ∙ e in
     let nothing : l.part ++ back ≡ [] = empty_right l.front (l.part ++ back) is in
     absurd (l.whole.0 (empty_left l.part back nothing))
 
@@ -99,24 +106,31 @@ greedy_at_first wanted = record {
 
 -- ---- frame by frame
 
-along : (wanted : List ℕ) (n : ℕ) (done part frames : List (List ℕ)) → IsGreedy wanted n done part → IsMostParts wanted (n + parts_from wanted part frames) (done ++ (part ++ frames))
+along : (wanted : List ℕ) (n : ℕ) (done part frames : List (List ℕ)) → IsGreedy wanted n done part
+    → IsMostParts wanted (n + parts_from wanted part frames) (done ++ (part ++ frames))
 along wanted n done part [] g =
     let zero_more : n ≡ n + 0 = omega arith in
     subst (λ (row : List (List ℕ)). IsMostParts wanted (n + 0) (done ++ row)) (sym (append-nil part))
     (subst (λ (k : ℕ). IsMostParts wanted k (done ++ part)) zero_more (greedy_is_most wanted n done part g))
-along wanted n done part (f ∷ fs) g = elim (has_all wanted (part ++ f ∷ [])) as (λ t. has_all wanted (part ++ f ∷ []) ≡ t → IsMostParts wanted (n + cond t (parts_from wanted [] fs + 1) (parts_from wanted (part ++ f ∷ []) fs)) (done ++ (part ++ f ∷ fs))) [
-  | true ↦ λ e.
-      let closed = greedy_closes wanted n done part f g (has_all_told wanted (part ++ f ∷ []) e) in
-      let rest = along wanted (n + 1) (done ++ (part ++ f ∷ [])) [] fs closed in
-      let rows : (done ++ (part ++ f ∷ [])) ++ fs ≡ done ++ (part ++ f ∷ fs) = append_assoc done (part ++ f ∷ []) fs ∙ ap (λ row. done ++ row) (append_assoc part (f ∷ []) fs) in
-      let count : n + 1 + parts_from wanted [] fs ≡ n + (parts_from wanted [] fs + 1) = omega arith in
-      subst (λ (row : List (List ℕ)). IsMostParts wanted (n + (parts_from wanted [] fs + 1)) row) rows
-      (subst (λ (k : ℕ). IsMostParts wanted k ((done ++ (part ++ f ∷ [])) ++ fs)) count rest)
-  | false ↦ λ e.
-      let stays = greedy_stays wanted n done part f g (λ all. false≢true (sym e ∙ told_has_all wanted (part ++ f ∷ []) all)) in
-      let rest = along wanted n done (part ++ f ∷ []) fs stays in
-      subst (λ (row : List (List ℕ)). IsMostParts wanted (n + parts_from wanted (part ++ f ∷ []) fs) (done ++ row)) (append_assoc part (f ∷ []) fs) rest
-] refl
+along wanted n done part (f ∷ fs) g =
+    elim (has_all wanted (part ++ f ∷ [])) as (λ t. has_all wanted (part ++ f ∷ []) ≡ t
+    → IsMostParts wanted (n + cond t (parts_from wanted [] fs + 1) (parts_from wanted (part ++ f ∷ []) fs))
+    (done ++ (part ++ f ∷ fs))) [
+      | true ↦ λ e.
+          let closed = greedy_closes wanted n done part f g (has_all_told wanted (part ++ f ∷ []) e) in
+          let rest = along wanted (n + 1) (done ++ (part ++ f ∷ [])) [] fs closed in
+          let rows : (done ++ (part ++ f ∷ [])) ++ fs ≡ done ++ (part ++ f ∷ fs) =
+          append_assoc done (part ++ f ∷ []) fs ∙ ap (λ row. done ++ row) (append_assoc part (f ∷ []) fs) in
+          let count : n + 1 + parts_from wanted [] fs ≡ n + (parts_from wanted [] fs + 1) = omega arith in
+          subst (λ (row : List (List ℕ)). IsMostParts wanted (n + (parts_from wanted [] fs + 1)) row) rows
+          (subst (λ (k : ℕ). IsMostParts wanted k ((done ++ (part ++ f ∷ [])) ++ fs)) count rest)
+      | false ↦ λ e.
+          let stays = greedy_stays wanted n done part f g (λ all.
+          false≢true (sym e ∙ told_has_all wanted (part ++ f ∷ []) all)) in
+          let rest = along wanted n done (part ++ f ∷ []) fs stays in
+          subst (λ (row : List (List ℕ)). IsMostParts wanted (n + parts_from wanted (part ++ f ∷ []) fs) (done ++ row))
+          (append_assoc part (f ∷ []) fs) rest
+    ] refl
 
 pub is_the_most : IsTheMost
 is_the_most wanted frames =
@@ -124,6 +138,8 @@ is_the_most wanted frames =
     subst (λ (n : ℕ). IsMostParts wanted n frames) count (along wanted 0 [] [] frames (greedy_at_first wanted))
 
 -- so a greedy cut has this number of parts
-pub parts_counted : (wanted : List ℕ) (n : ℕ) (done open_frames : List (List ℕ)) → IsGreedy wanted n done open_frames → n ≡ most_parts wanted (done ++ open_frames)
+pub parts_counted : (wanted : List ℕ) (n : ℕ) (done open_frames : List (List ℕ)) → IsGreedy wanted n done open_frames
+    → n ≡ most_parts wanted (done ++ open_frames)
 parts_counted wanted n done open_frames g =
-    most_is_one wanted n (most_parts wanted (done ++ open_frames)) (done ++ open_frames) (greedy_is_most wanted n done open_frames g) (is_the_most wanted (done ++ open_frames))
+    most_is_one wanted n (most_parts wanted (done ++ open_frames)) (done ++ open_frames)
+    (greedy_is_most wanted n done open_frames g) (is_the_most wanted (done ++ open_frames))

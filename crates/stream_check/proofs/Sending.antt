@@ -6,9 +6,11 @@ use Rattle.fib_codec.specs.Grammar.{Fig, Open, Other, is_next}
 use Rattle.fib_reader.specs.Raw.{Raw, entries_in}
 use Rattle.stream_check.specs.declared.contradiction.Contradiction.{Contradiction}
 use Rattle.stream_check.specs.Frames.{Fib}
-use Rattle.stream_check.specs.History.{Moment, Said, said, items_of, fig_items, figs_items, fib_items, fibs_items, frame_items}
+use Rattle.stream_check.specs.History.{Moment, Said, said, items_of, fig_items, figs_items, fib_items, fibs_items}
+use Rattle.stream_check.specs.History.{frame_items}
 use Rattle.stream_check.specs.Contradictions.{contradicts, is_new, new_among, new_findings, noted_with}
-use Rattle.stream_check.specs.Sent.{Sent, EntrySent, FigSent, entries_sent, fig_sent, figs_sent, fib_sent, fibs_sent, frame_sent, items_in, contradictions_at, noted_at, noted_after}
+use Rattle.stream_check.specs.Sent.{Sent, EntrySent, FigSent, entries_sent, fig_sent, figs_sent, fib_sent, fibs_sent}
+use Rattle.stream_check.specs.Sent.{frame_sent, items_in, contradictions_at, noted_at, noted_after}
 use Rattle.stream_check.specs.Rules.{known_of, findings_at, has_no_room}
 use Rattle.stream_check.specs.Stream.{findings_at_sent, runs_full}
 use Rattle.stream_check.proofs.Saying.{said_append, full_append, full_stays}
@@ -20,9 +22,11 @@ items_append [] ys = refl
 items_append (EntrySent i ∷ ss) ys = ap (λ is. i ∷ is) (items_append ss ys)
 items_append (FigSent fig ∷ ss) ys = items_append ss ys
 
-pub entries_items : (first next : Bool) (raws : List Raw) → items_in (entries_sent first next raws) ≡ items_of first next raws
+pub entries_items : (first next : Bool) (raws : List Raw)
+    → items_in (entries_sent first next raws) ≡ items_of first next raws
 entries_items first next [] = refl
-entries_items first next (raw ∷ raws) = ap (λ is. record { first = first; next = next; raw = raw } ∷ is) (entries_items first next raws)
+entries_items first next (raw ∷ raws) =
+    ap (λ is. record { first = first; next = next; raw = raw } ∷ is) (entries_items first next raws)
 
 pub fig_has_items : (first : Bool) (f : Fig) → items_in (fig_sent first f) ≡ fig_items first f
 fig_has_items first (Open second es) = entries_items first (is_next second) (entries_in (Open second es))
@@ -52,24 +56,33 @@ frame_has_items frame = fibs_have_items true frame
 -- ---- some, and then others
 
 pub noted_append : (period : ℕ) (xs ys : List Sent) (past : List Moment) (noted : List Contradiction)
-    → noted_after period past noted (xs ++ ys) ≡ noted_after period (said (items_in xs) past) (noted_after period past noted xs) ys
+    → noted_after period past noted (xs ++ ys) ≡ noted_after period (said (items_in xs) past)
+    (noted_after period past noted xs) ys
 noted_append period [] ys past noted = refl
 noted_append period (EntrySent i ∷ ss) ys past noted = noted_append period ss ys (Said i ∷ past) (noted_at past i noted)
-noted_append period (FigSent fig ∷ ss) ys past noted = noted_append period ss ys past (noted_with noted (contradictions_at period past fig))
+noted_append period (FigSent fig ∷ ss) ys past noted =
+    noted_append period ss ys past (noted_with noted (contradictions_at period past fig))
 
-pub said_sent : (xs ys : List Sent) (past : List Moment) → said (items_in (xs ++ ys)) past ≡ said (items_in ys) (said (items_in xs) past)
+pub said_sent : (xs ys : List Sent) (past : List Moment)
+    → said (items_in (xs ++ ys)) past ≡ said (items_in ys) (said (items_in xs) past)
 said_sent xs ys past = ap (λ is. said is past) (items_append xs ys) ∙ said_append (items_in xs) (items_in ys) past
 
-pub full_sent : (step period : ℕ) (xs ys : List Sent) (past : List Moment) → runs_full step period past (items_in xs) ≡ false
+pub full_sent : (step period : ℕ) (xs ys : List Sent) (past : List Moment)
+    → runs_full step period past (items_in xs) ≡ false
     → runs_full step period past (items_in (xs ++ ys)) ≡ runs_full step period (said (items_in xs) past) (items_in ys)
-full_sent step period xs ys past e = ap (runs_full step period past) (items_append xs ys) ∙ full_append step period (items_in xs) (items_in ys) past e
+full_sent step period xs ys past e = ap (runs_full step period past) (items_append xs ys)
+    ∙ full_append step period (items_in xs) (items_in ys) past e
 
-pub full_sent_stays : (step period : ℕ) (xs ys : List Sent) (past : List Moment) → runs_full step period past (items_in xs) ≡ true → runs_full step period past (items_in (xs ++ ys)) ≡ true
-full_sent_stays step period xs ys past e = ap (runs_full step period past) (items_append xs ys) ∙ full_stays step period (items_in xs) (items_in ys) past e
+pub full_sent_stays : (step period : ℕ) (xs ys : List Sent) (past : List Moment)
+    → runs_full step period past (items_in xs) ≡ true → runs_full step period past (items_in (xs ++ ys)) ≡ true
+full_sent_stays step period xs ys past e = ap (runs_full step period past) (items_append xs ys)
+    ∙ full_stays step period (items_in xs) (items_in ys) past e
 
-pub findings_append : (step period : ℕ) (xs ys : List Sent) (past : List Moment) (noted : List Contradiction) → runs_full step period past (items_in xs) ≡ false
+pub findings_append : (step period : ℕ) (xs ys : List Sent) (past : List Moment) (noted : List Contradiction)
+    → runs_full step period past (items_in xs) ≡ false
     → findings_at_sent step period past noted (xs ++ ys)
-    ≡ findings_at_sent step period past noted xs ++ findings_at_sent step period (said (items_in xs) past) (noted_after period past noted xs) ys
+    ≡ findings_at_sent step period past noted xs ++ findings_at_sent step period (said (items_in xs) past)
+    (noted_after period past noted xs) ys
 findings_append step period [] ys past noted e = refl
 findings_append step period (FigSent fig ∷ xs) ys past noted e =
     let cs = contradictions_at period past fig in
@@ -78,16 +91,23 @@ findings_append step period (FigSent fig ∷ xs) ys past noted e =
     (findings_at_sent step period (said (items_in xs) past) (noted_after period past (noted_with noted cs) xs) ys))
 findings_append step period (EntrySent x ∷ xs) ys past noted e =
     let now = noted_at past x noted in
-    let rest = findings_at_sent step period (said (items_in xs) (Said x ∷ past)) (noted_after period (Said x ∷ past) now xs) ys in
-    elim (has_no_room (known_of step period past) x) as (λ t. cond t true (runs_full step period (Said x ∷ past) (items_in xs)) ≡ false
-    → cond t [] (findings_at (known_of step period past) x ++ findings_at_sent step period (Said x ∷ past) now (xs ++ ys))
-    ≡ cond t [] (findings_at (known_of step period past) x ++ findings_at_sent step period (Said x ∷ past) now xs) ++ rest) [
+    let rest = findings_at_sent step period (said (items_in xs) (Said x ∷ past))
+    (noted_after period (Said x ∷ past) now xs) ys in
+    elim (has_no_room (known_of step period past) x) as (λ t.
+    cond t true (runs_full step period (Said x ∷ past) (items_in xs)) ≡ false
+    → cond t [] (findings_at (known_of step period past) x
+    ++ findings_at_sent step period (Said x ∷ past) now (xs ++ ys))
+    ≡ cond t [] (findings_at (known_of step period past) x ++ findings_at_sent step period (Said x ∷ past) now xs)
+    ++ rest) [
       | true ↦ λ h. absurd (false≢true (sym h))
-      | false ↦ λ h. ap (λ fs. findings_at (known_of step period past) x ++ fs) (findings_append step period xs ys (Said x ∷ past) now h)
-          ∙ sym (append_assoc (findings_at (known_of step period past) x) (findings_at_sent step period (Said x ∷ past) now xs) rest)
+      | false ↦ λ h. ap (λ fs. findings_at (known_of step period past) x ++ fs)
+          (findings_append step period xs ys (Said x ∷ past) now h)
+          ∙ sym (append_assoc (findings_at (known_of step period past) x)
+          (findings_at_sent step period (Said x ∷ past) now xs) rest)
     ] e
 
-pub findings_stay : (step period : ℕ) (xs ys : List Sent) (past : List Moment) (noted : List Contradiction) → runs_full step period past (items_in xs) ≡ true
+pub findings_stay : (step period : ℕ) (xs ys : List Sent) (past : List Moment) (noted : List Contradiction)
+    → runs_full step period past (items_in xs) ≡ true
     → findings_at_sent step period past noted (xs ++ ys) ≡ findings_at_sent step period past noted xs
 findings_stay step period [] ys past noted e = absurd (false≢true e)
 findings_stay step period (FigSent fig ∷ xs) ys past noted e =
@@ -95,27 +115,38 @@ findings_stay step period (FigSent fig ∷ xs) ys past noted e =
     ap (λ fs. new_findings noted cs ++ fs) (findings_stay step period xs ys past (noted_with noted cs) e)
 findings_stay step period (EntrySent x ∷ xs) ys past noted e =
     let now = noted_at past x noted in
-    elim (has_no_room (known_of step period past) x) as (λ t. cond t true (runs_full step period (Said x ∷ past) (items_in xs)) ≡ true
-    → cond t [] (findings_at (known_of step period past) x ++ findings_at_sent step period (Said x ∷ past) now (xs ++ ys)) ≡ cond t [] (findings_at (known_of step period past) x ++ findings_at_sent step period (Said x ∷ past) now xs)) [
+    elim (has_no_room (known_of step period past) x) as (λ t.
+    cond t true (runs_full step period (Said x ∷ past) (items_in xs)) ≡ true
+    → cond t [] (findings_at (known_of step period past) x
+    ++ findings_at_sent step period (Said x ∷ past) now (xs ++ ys))
+    ≡ cond t [] (findings_at (known_of step period past) x ++ findings_at_sent step period (Said x ∷ past) now xs)) [
       | true ↦ λ h. refl
-      | false ↦ λ h. ap (λ fs. findings_at (known_of step period past) x ++ fs) (findings_stay step period xs ys (Said x ∷ past) now h)
+      | false ↦ λ h. ap (λ fs. findings_at (known_of step period past) x ++ fs)
+          (findings_stay step period xs ys (Said x ∷ past) now h)
     ] e
 
 -- ---- contradictions, and then others
 
-pub new_append : (xs ys noted : List Contradiction) → new_among noted (xs ++ ys) ≡ new_among noted xs ++ new_among (noted_with noted xs) ys
+pub new_append : (xs ys noted : List Contradiction) → new_among noted (xs ++ ys) ≡ new_among noted xs
+    ++ new_among (noted_with noted xs) ys
 new_append [] ys noted = ap (λ n. new_among n ys) (sym (append-nil noted))
-new_append (c ∷ cs) ys noted = elim (is_new noted c) as (λ t. cond t (c ∷ new_among (noted ++ c ∷ []) (cs ++ ys)) (new_among noted (cs ++ ys))
-    ≡ cond t (c ∷ new_among (noted ++ c ∷ []) cs) (new_among noted cs) ++ new_among (noted ++ cond t (c ∷ new_among (noted ++ c ∷ []) cs) (new_among noted cs)) ys) [
+new_append (c ∷ cs) ys noted =
+    elim (is_new noted c) as (λ t. cond t (c ∷ new_among (noted ++ c ∷ []) (cs ++ ys)) (new_among noted (cs ++ ys))
+    ≡ cond t (c ∷ new_among (noted ++ c ∷ []) cs) (new_among noted cs)
+    ++ new_among (noted ++ cond t (c ∷ new_among (noted ++ c ∷ []) cs) (new_among noted cs)) ys) [
       | true ↦ ap (λ l. c ∷ l) (new_append cs ys (noted ++ c ∷ [])
-          ∙ ap (λ n. new_among (noted ++ c ∷ []) cs ++ new_among n ys) (append_assoc noted (c ∷ []) (new_among (noted ++ c ∷ []) cs)))
+          ∙ ap (λ n. new_among (noted ++ c ∷ []) cs ++ new_among n ys)
+          (append_assoc noted (c ∷ []) (new_among (noted ++ c ∷ []) cs)))
       | false ↦ new_append cs ys noted
     ]
 
 pub noted_twice : (xs ys noted : List Contradiction) → noted_with (noted_with noted xs) ys ≡ noted_with noted (xs ++ ys)
 noted_twice xs ys noted =
-    append_assoc noted (new_among noted xs) (new_among (noted_with noted xs) ys) ∙ ap (λ l. noted ++ l) (sym (new_append xs ys noted))
+    append_assoc noted (new_among noted xs) (new_among (noted_with noted xs) ys)
+    ∙ ap (λ l. noted ++ l) (sym (new_append xs ys noted))
 
-pub found_twice : (xs ys noted : List Contradiction) → new_findings noted xs ++ new_findings (noted_with noted xs) ys ≡ new_findings noted (xs ++ ys)
+pub found_twice : (xs ys noted : List Contradiction) → new_findings noted xs
+    ++ new_findings (noted_with noted xs) ys ≡ new_findings noted (xs ++ ys)
 found_twice xs ys noted =
-    sym (map-append contradicts (new_among noted xs) (new_among (noted_with noted xs) ys)) ∙ ap (map contradicts) (sym (new_append xs ys noted))
+    sym (map-append contradicts (new_among noted xs) (new_among (noted_with noted xs) ys))
+    ∙ ap (map contradicts) (sym (new_append xs ys noted))

@@ -1,5 +1,6 @@
 -- Hearing one entry: what is reported, and what is known afterwards.
-use Rattle.std.proofs.Common.{◌≡◌, ◌≢◌, ℕ, ◌+◌, ◌<◌, ◌≤◌, ◌==◌, ◌&&◌, ◌||◌, Bool, true, false, cond, not, List, [], ◌∷◌, ◌++◌, map, take, drop, Option, refl, sym, ap, ◌∙◌, arith, inl, inr, subst, lt-ltb, le-ltb}
+use Rattle.std.proofs.Common.{◌≡◌, ◌≢◌, ℕ, ◌+◌, ◌<◌, ◌≤◌, ◌==◌, ◌&&◌, ◌||◌, Bool, true, false, cond, not, List, [], ◌∷◌}
+use Rattle.std.proofs.Common.{◌++◌, map, take, drop, Option, refl, sym, ap, ◌∙◌, arith, inl, inr, subst, lt-ltb, le-ltb}
 use Rattle.std.proofs.lemmas.Bool.{cases_lt, false≢true, ne_eqb}
 use Rattle.std.proofs.lemmas.List.{append-nil, append_assoc, map-append, take-append-drop}
 use Rattle.mux_types.specs.Entries.{EnsembleInformation}
@@ -9,12 +10,17 @@ use Rattle.stream_check.specs.declared.finding.What.{What}
 use Rattle.stream_check.specs.declared.reporting.FrameAt.{FrameAt}
 use Rattle.stream_check.specs.declared.checker_state.CheckerState.{CheckerState}
 use Rattle.stream_check.specs.Reporting.{in_frame}
-use Rattle.stream_check.specs.Pictures.{Heard, HeardPicture, key_of, keys, keys_of, raws, shown}
+use Rattle.stream_check.specs.Pictures.{Heard, HeardPicture, key_of, keys, keys_of, raws, picture_of_heard}
 use Rattle.stream_check.specs.Lookup.{lookup_in}
 use Rattle.stream_check.specs.Parts.{most_parts}
-use Rattle.stream_check.specs.History.{Item, Moment, Said, items_of, frames_ended, listener_after, due, last_eid, has_ensemble, has_begun, began_early, times_announced, last_flags, is_cut_off, rows}
-use Rattle.stream_check.specs.Rules.{Known, known_of, times_heard, at_most, has_flags, makes_swap, findings_at, ensemble_findings, member_findings, current_findings, next_findings, has_no_room, finds_no_room}
-use Rattle.stream_check.specs.CheckerState.{listener_in, known_in, with_swap, with_flags, with_ensemble, with_current, with_next, Knows, IsSane}
+use Rattle.stream_check.specs.History.{Item, Moment, Said, items_of, frames_ended, listener_after, due, last_eid}
+use Rattle.stream_check.specs.History.{has_ensemble, has_begun, began_early, times_announced, last_flags, is_cut_off}
+use Rattle.stream_check.specs.History.{rows}
+use Rattle.stream_check.specs.Rules.{KnownBefore, known_of, times_heard, at_most, has_flags, makes_swap, findings_at}
+use Rattle.stream_check.specs.Rules.{ensemble_findings, member_findings, current_findings, next_findings, has_no_room}
+use Rattle.stream_check.specs.Rules.{finds_no_room}
+use Rattle.stream_check.specs.CheckerState.{listener_in, known_in, with_swap, with_flags, with_ensemble, with_current}
+use Rattle.stream_check.specs.CheckerState.{with_next, Knows, IsSane}
 use Rattle.stream_check.specs.Hearing.{IsLater, HearsItems}
 use Rattle.stream_check.proofs.PartCount.{parts_counted}
 use Rattle.stream_check.proofs.Members.{after_is}
@@ -29,7 +35,7 @@ raw_keys : (hs : List Heard) → map key_of (raws hs) ≡ keys hs
 raw_keys [] = refl
 raw_keys (h ∷ hs) = ap (λ ks. key_of h.raw ∷ ks) (raw_keys hs)
 
-entry_keys : (p : HeardPicture) → map key_of (all_entries (shown p)) ≡ keys_of p
+entry_keys : (p : HeardPicture) → map key_of (all_entries (picture_of_heard p)) ≡ keys_of p
 entry_keys p =
     map-append key_of (raws p.subs ++ raws p.services) (raws p.packets)
     ∙ ap (λ ks. ks ++ map key_of (raws p.packets)) (map-append key_of (raws p.subs) (raws p.services))
@@ -38,13 +44,16 @@ entry_keys p =
     ∙ ap (λ ks. (keys p.subs ++ keys p.services) ++ ks) (raw_keys p.packets)
     ∙ append_assoc (keys p.subs) (keys p.services) (keys p.packets)
 
-pub parts_are : (step period : ℕ) (past : List Moment) (m : CheckerState) → Knows step period past m → m.parts ≡ times_heard past
+pub parts_are : (step period : ℕ) (past : List Moment) (m : CheckerState) → Knows step period past m
+    → m.parts ≡ times_heard past
 parts_are step period past m k =
     parts_counted (keys_of m.next) m.parts (take m.since (rows past)) (drop m.since (rows past)) k.notice.greedy
     ∙ ap (most_parts (keys_of m.next)) (take-append-drop m.since (rows past))
-    ∙ ap (λ ks. most_parts ks (rows past)) (sym (ap (λ (l : Listening). map key_of (all_entries l.next)) (after_is past (listener_in m) k.heard) ∙ entry_keys m.next))
+    ∙ ap (λ ks. most_parts ks (rows past))
+    (sym (ap (λ (l : Listening). map key_of (all_entries l.next)) (after_is past (listener_in m) k.heard)
+    ∙ entry_keys m.next))
 
-abbrev known_with : ℕ → Listening → ℕ → Option ℕ → Option ℕ → Bool → Bool → Bool → Bool → ℕ → ℕ → ℕ → ℕ → Known
+abbrev known_with : ℕ → Listening → ℕ → Option ℕ → Option ℕ → Bool → Bool → Bool → Bool → ℕ → ℕ → ℕ → ℕ → KnownBefore
 known_with step listener frames due eid has begun early cut flags times heard settles = record {
   step = step;
   listener = listener;
@@ -61,61 +70,94 @@ known_with step listener frames due eid has begun early cut flags times heard se
   settles_at = settles;
 }
 
-pub known_same : (step period : ℕ) (past : List Moment) (m : CheckerState) → Knows step period past m → known_in m ≡ known_of step period past
+pub known_same : (step period : ℕ) (past : List Moment) (m : CheckerState) → Knows step period past m
+    → known_in m ≡ known_of step period past
 known_same step period past m k =
-    ap (λ x. known_with x (listener_in m) m.frames m.due m.eid m.has_ensemble m.has_begun m.began_early m.is_cut_off m.flags m.times m.parts m.settles_at) k.mode
-    ∙ ap (λ x. known_with step x m.frames m.due m.eid m.has_ensemble m.has_begun m.began_early m.is_cut_off m.flags m.times m.parts m.settles_at) (sym (after_is past (listener_in m) k.heard))
-    ∙ ap (λ x. known_with step (listener_after past) x m.due m.eid m.has_ensemble m.has_begun m.began_early m.is_cut_off m.flags m.times m.parts m.settles_at) k.frames
-    ∙ ap (λ x. known_with step (listener_after past) (frames_ended past) x m.eid m.has_ensemble m.has_begun m.began_early m.is_cut_off m.flags m.times m.parts m.settles_at) k.due
-    ∙ ap (λ x. known_with step (listener_after past) (frames_ended past) (due past) x m.has_ensemble m.has_begun m.began_early m.is_cut_off m.flags m.times m.parts m.settles_at) k.eid
-    ∙ ap (λ x. known_with step (listener_after past) (frames_ended past) (due past) (last_eid step past) x m.has_begun m.began_early m.is_cut_off m.flags m.times m.parts m.settles_at) k.has_ensemble
-    ∙ ap (λ x. known_with step (listener_after past) (frames_ended past) (due past) (last_eid step past) (has_ensemble past) x m.began_early m.is_cut_off m.flags m.times m.parts m.settles_at) k.has_begun
-    ∙ ap (λ x. known_with step (listener_after past) (frames_ended past) (due past) (last_eid step past) (has_ensemble past) (has_begun past) x m.is_cut_off m.flags m.times m.parts m.settles_at) k.began_early
-    ∙ ap (λ x. known_with step (listener_after past) (frames_ended past) (due past) (last_eid step past) (has_ensemble past) (has_begun past) (began_early past) x m.flags m.times m.parts m.settles_at) k.is_cut_off
-    ∙ ap (λ x. known_with step (listener_after past) (frames_ended past) (due past) (last_eid step past) (has_ensemble past) (has_begun past) (began_early past) (is_cut_off past) x m.times m.parts m.settles_at) k.flags
-    ∙ ap (λ x. known_with step (listener_after past) (frames_ended past) (due past) (last_eid step past) (has_ensemble past) (has_begun past) (began_early past) (is_cut_off past) (last_flags past) x m.parts m.settles_at) k.times
-    ∙ ap (λ x. known_with step (listener_after past) (frames_ended past) (due past) (last_eid step past) (has_ensemble past) (has_begun past) (began_early past) (is_cut_off past) (last_flags past) (at_most 3 (times_announced past)) x m.settles_at) (parts_are step period past m k)
-    ∙ ap (λ x. known_with step (listener_after past) (frames_ended past) (due past) (last_eid step past) (has_ensemble past) (has_begun past) (began_early past) (is_cut_off past) (last_flags past) (at_most 3 (times_announced past)) (times_heard past) x) k.settles_at
+    ap (λ x. known_with x (listener_in m) m.frames m.due m.eid m.has_ensemble m.has_begun m.began_early m.is_cut_off
+    m.flags m.times m.parts m.settles_at) k.mode
+    ∙ ap (λ x. known_with step x m.frames m.due m.eid m.has_ensemble m.has_begun m.began_early m.is_cut_off m.flags
+    m.times m.parts m.settles_at) (sym (after_is past (listener_in m) k.heard))
+    ∙ ap (λ x. known_with step (listener_after past) x m.due m.eid m.has_ensemble m.has_begun m.began_early m.is_cut_off
+    m.flags m.times m.parts m.settles_at) k.frames
+    ∙ ap (λ x. known_with step (listener_after past) (frames_ended past) x m.eid m.has_ensemble m.has_begun
+    m.began_early m.is_cut_off m.flags m.times m.parts m.settles_at) k.due
+    ∙ ap (λ x. known_with step (listener_after past) (frames_ended past) (due past) x m.has_ensemble m.has_begun
+    m.began_early m.is_cut_off m.flags m.times m.parts m.settles_at) k.eid
+    ∙ ap (λ x. known_with step (listener_after past) (frames_ended past) (due past) (last_eid step past) x m.has_begun
+    m.began_early m.is_cut_off m.flags m.times m.parts m.settles_at) k.has_ensemble
+    ∙ ap (λ x. known_with step (listener_after past) (frames_ended past) (due past) (last_eid step past)
+    (has_ensemble past) x m.began_early m.is_cut_off m.flags m.times m.parts m.settles_at) k.has_begun
+    ∙ ap (λ x. known_with step (listener_after past) (frames_ended past) (due past) (last_eid step past)
+    (has_ensemble past) (has_begun past) x m.is_cut_off m.flags m.times m.parts m.settles_at) k.began_early
+    ∙ ap (λ x. known_with step (listener_after past) (frames_ended past) (due past) (last_eid step past)
+    (has_ensemble past) (has_begun past) (began_early past) x m.flags m.times m.parts m.settles_at) k.is_cut_off
+    ∙ ap (λ x. known_with step (listener_after past) (frames_ended past) (due past) (last_eid step past)
+    (has_ensemble past) (has_begun past) (began_early past) (is_cut_off past) x m.times m.parts m.settles_at)
+    k.flags
+    ∙ ap (λ x. known_with step (listener_after past) (frames_ended past) (due past) (last_eid step past)
+    (has_ensemble past) (has_begun past) (began_early past) (is_cut_off past) (last_flags past) x m.parts
+    m.settles_at) k.times
+    ∙ ap (λ x. known_with step (listener_after past) (frames_ended past) (due past) (last_eid step past)
+    (has_ensemble past) (has_begun past) (began_early past) (is_cut_off past) (last_flags past)
+    (at_most 3 (times_announced past)) x m.settles_at) (parts_are step period past m k)
+    ∙ ap (λ x. known_with step (listener_after past) (frames_ended past) (due past) (last_eid step past)
+    (has_ensemble past) (has_begun past) (began_early past) (is_cut_off past) (last_flags past)
+    (at_most 3 (times_announced past)) (times_heard past) x) k.settles_at
 
 -- ---- one entry
 
-one_found : (k : Known) (i : Item) (found : List What) → has_no_room k i ≡ false → findings_at k i ≡ found → cond (has_no_room k i) [] (findings_at k i ++ []) ≡ found
+one_found : (k : KnownBefore) (i : Item) (found : List What) → has_no_room k i ≡ false → findings_at k i ≡ found
+    → cond (has_no_room k i) [] (findings_at k i ++ []) ≡ found
 one_found k i found room is = ap (λ t. cond t [] (findings_at k i ++ [])) room ∙ append-nil (findings_at k i) ∙ is
 
 -- an entry for which there is room
-pub heard_one : (at : FrameAt) (i : Item) (old new : CheckerState) (before after : Reported) → has_no_room (known_in old) i ≡ false → after ≡ with_more before (map (in_frame at) (findings_at (known_in old) i))
-    → ((past : List Moment) → Knows old.step old.period past old → Knows old.step old.period (Said i ∷ past) new) → HearsItems at (i ∷ []) old before new after false
+pub heard_one : (at : FrameAt) (i : Item) (old new : CheckerState) (before after : Reported)
+    → has_no_room (known_in old) i ≡ false → after ≡ with_more before (map (in_frame at) (findings_at (known_in old) i))
+    → ((past : List Moment) → Knows old.step old.period past old → Knows old.step old.period (Said i ∷ past) new)
+    → HearsItems at (i ∷ []) old before new after false
 heard_one at i old new before after room reported next past k =
     let same = known_same old.step old.period past old k in
-    let free : has_no_room (known_of old.step old.period past) i ≡ false = ap (λ t. has_no_room t i) (sym same) ∙ room in
+    let free : has_no_room (known_of old.step old.period past) i ≡ false =
+    ap (λ t. has_no_room t i) (sym same) ∙ room in
     record {
-      findings = reported ∙ ap (λ fs. with_more before (map (in_frame at) fs)) (ap (λ t. findings_at t i) same ∙ sym (one_found (known_of old.step old.period past) i (findings_at (known_of old.step old.period past) i) free refl));
+      findings = reported ∙ ap (λ fs. with_more before (map (in_frame at) fs))
+          (ap (λ t. findings_at t i) same
+          ∙ sym (one_found (known_of old.step old.period past) i (findings_at (known_of old.step old.period past) i)
+          free refl));
       room = ap (λ t. cond t true false) free;
       knows = λ e. next past k;
     }
 
 -- an entry for which there is no room
-pub heard_none : (at : FrameAt) (i : Item) (old new : CheckerState) (before after : Reported) → has_no_room (known_in old) i ≡ true → after ≡ before → HearsItems at (i ∷ []) old before new after true
+pub heard_none : (at : FrameAt) (i : Item) (old new : CheckerState) (before after : Reported)
+    → has_no_room (known_in old) i ≡ true → after ≡ before → HearsItems at (i ∷ []) old before new after true
 heard_none at i old new before after room reported past k =
     let same = known_same old.step old.period past old k in
     let full : has_no_room (known_of old.step old.period past) i ≡ true = ap (λ t. has_no_room t i) (sym same) ∙ room in
     record {
-      findings = reported ∙ more_none before ∙ ap (λ fs. with_more before (map (in_frame at) fs)) (sym (ap (λ t. cond t [] (findings_at (known_of old.step old.period past) i ++ [])) full));
+      findings = reported ∙ more_none before ∙ ap (λ fs. with_more before (map (in_frame at) fs))
+          (sym (ap (λ t. cond t [] (findings_at (known_of old.step old.period past) i ++ [])) full));
       room = ap (λ t. cond t true false) full;
       knows = λ e. absurd (false≢true (sym e));
     }
 
 -- a FIG 0/0
-pub hears_ensemble : (at : FrameAt) (first next : Bool) (raw : Raw) (old new : CheckerState) (before after : Reported) → raw.ext ≡ 0
+pub hears_ensemble : (at : FrameAt) (first next : Bool) (raw : Raw) (old new : CheckerState) (before after : Reported)
+    → raw.ext ≡ 0
     → after ≡ with_more before (map (in_frame at) (ensemble_findings (known_in old) first (ensemble_in raw)))
-    → new ≡ with_ensemble first (ensemble_in raw) (cond (makes_swap (known_in old) (ensemble_in raw)) (with_swap old) old)
+    → new ≡ with_ensemble first (ensemble_in raw)
+    (cond (makes_swap (known_in old) (ensemble_in raw)) (with_swap old) old)
     → HearsItems at (items_of first next (raw ∷ [])) old before new after false
 hears_ensemble at first next raw old new before after zero reported is =
     let e : (raw.ext == 0) ≡ true = ap (λ n. n == 0) zero in
     heard_one at (record { first = first; next = next; raw = raw }) old new before after
-    (ap (λ t. cond t false (old.tuned && finds_no_room (lookup_in raw (cond next (shown old.next) (shown old.current))))) e)
-    (reported ∙ ap (λ fs. with_more before (map (in_frame at) fs)) (sym (ap (λ t. cond t (ensemble_findings (known_in old) first (ensemble_in raw)) (member_findings (known_in old) next raw)) e)))
-    (λ past k. subst (λ (m : CheckerState). Knows old.step old.period (Said (record { first = first; next = next; raw = raw }) ∷ past) m) (sym is)
+    (ap (λ t. cond t false (old.tuned && finds_no_room
+    (lookup_in raw (cond next (picture_of_heard old.next) (picture_of_heard old.current))))) e)
+    (reported ∙ ap (λ fs. with_more before (map (in_frame at) fs))
+    (sym (ap (λ t. cond t (ensemble_findings (known_in old) first (ensemble_in raw))
+    (member_findings (known_in old) next raw)) e)))
+    (λ past k. subst (λ (m : CheckerState). Knows old.step old.period
+    (Said (record { first = first; next = next; raw = raw }) ∷ past) m) (sym is)
     (knows_ensemble old.step old.period past old (record { first = first; next = next; raw = raw }) e k))
 
 not_zero : (n : ℕ) → n ≢ 0 → (n == 0) ≡ false
@@ -124,57 +166,90 @@ not_zero n other = ne_eqb n 0 other
 some_more : (n : ℕ) → n ≢ 0 → 0 < n
 some_more n other = elim (cases_lt 0 n) [ inl lt ↦ lt | inr le ↦ absurd (other (omega (arith, le))) ]
 
-room_of : (old : CheckerState) (first next : Bool) (raw : Raw) (b : Bool) → (raw.ext == 0) ≡ false → (old.tuned && finds_no_room (lookup_in raw (cond next (shown old.next) (shown old.current)))) ≡ b
+room_of : (old : CheckerState) (first next : Bool) (raw : Raw) (b : Bool) → (raw.ext == 0) ≡ false
+    → (old.tuned && finds_no_room
+    (lookup_in raw (cond next (picture_of_heard old.next) (picture_of_heard old.current)))) ≡ b
     → has_no_room (known_in old) (record { first = first; next = next; raw = raw }) ≡ b
-room_of old first next raw b e is = ap (λ t. cond t false (old.tuned && finds_no_room (lookup_in raw (cond next (shown old.next) (shown old.current))))) e ∙ is
+room_of old first next raw b e is =
+    ap (λ t. cond t false (old.tuned
+    && finds_no_room (lookup_in raw (cond next (picture_of_heard old.next) (picture_of_heard old.current))))) e ∙ is
 
-found_of : (old : CheckerState) (first next : Bool) (raw : Raw) → (raw.ext == 0) ≡ false → findings_at (known_in old) (record { first = first; next = next; raw = raw }) ≡ member_findings (known_in old) next raw
-found_of old first next raw e = ap (λ t. cond t (ensemble_findings (known_in old) first (ensemble_in raw)) (member_findings (known_in old) next raw)) e
+found_of : (old : CheckerState) (first next : Bool) (raw : Raw) → (raw.ext == 0) ≡ false
+    → findings_at (known_in old) (record { first = first; next = next; raw = raw })
+    ≡ member_findings (known_in old) next raw
+found_of old first next raw e =
+    ap (λ t. cond t (ensemble_findings (known_in old) first (ensemble_in raw))
+    (member_findings (known_in old) next raw)) e
 
 -- an entry before the first FIG 0/0
-pub hears_passed : (at : FrameAt) (first next : Bool) (raw : Raw) (old : CheckerState) (before : Reported) → raw.ext ≢ 0 → old.tuned ≡ false → HearsItems at (items_of first next (raw ∷ [])) old before old before false
+pub hears_passed : (at : FrameAt) (first next : Bool) (raw : Raw) (old : CheckerState) (before : Reported) → raw.ext ≢ 0
+    → old.tuned ≡ false → HearsItems at (items_of first next (raw ∷ [])) old before old before false
 hears_passed at first next raw old before other untuned =
     let e = not_zero raw.ext other in
     heard_one at (record { first = first; next = next; raw = raw }) old old before before
-    (room_of old first next raw false e (ap (λ t. t && finds_no_room (lookup_in raw (cond next (shown old.next) (shown old.current)))) untuned))
-    (more_none before ∙ ap (λ fs. with_more before (map (in_frame at) fs)) (sym (found_of old first next raw e ∙ ap (λ t. cond t (cond next (next_findings (known_in old) raw) (current_findings (known_in old) raw)) []) untuned)))
+    (room_of old first next raw false e
+    (ap (λ t. t && finds_no_room
+    (lookup_in raw (cond next (picture_of_heard old.next) (picture_of_heard old.current)))) untuned))
+    (more_none before ∙ ap (λ fs. with_more before (map (in_frame at) fs))
+    (sym (found_of old first next raw e
+    ∙ ap (λ t. cond t (cond next (next_findings (known_in old) raw) (current_findings (known_in old) raw)) [])
+    untuned)))
     (λ past k. knows_passed old.step old.period past old (record { first = first; next = next; raw = raw }) e untuned k)
 
 -- an entry of the current configuration; below, of the next one
-pub hears_current : (at : FrameAt) (first : Bool) (raw : Raw) (old new : CheckerState) (before after : Reported) → raw.ext ≢ 0 → raw.ext < 4 → old.tuned ≡ true
-    → finds_no_room (lookup_in raw (shown old.current)) ≡ false → after ≡ with_more before (map (in_frame at) (current_findings (known_in old) raw)) → new ≡ with_current raw old
+pub hears_current : (at : FrameAt) (first : Bool) (raw : Raw) (old new : CheckerState) (before after : Reported)
+    → raw.ext ≢ 0 → raw.ext < 4 → old.tuned ≡ true
+    → finds_no_room (lookup_in raw (picture_of_heard old.current)) ≡ false
+    → after ≡ with_more before (map (in_frame at) (current_findings (known_in old) raw))
+    → new ≡ with_current raw old
     → HearsItems at (items_of first false (raw ∷ [])) old before new after false
 hears_current at first raw old new before after other few tuned room reported is =
     let e = not_zero raw.ext other in
     heard_one at (record { first = first; next = false; raw = raw }) old new before after
-    (room_of old first false raw false e (ap (λ t. t && finds_no_room (lookup_in raw (shown old.current))) tuned ∙ room))
-    (reported ∙ ap (λ fs. with_more before (map (in_frame at) fs)) (sym (found_of old first false raw e ∙ ap (λ t. cond t (current_findings (known_in old) raw) []) tuned)))
-    (λ past k. subst (λ (m : CheckerState). Knows old.step old.period (Said (record { first = first; next = false; raw = raw }) ∷ past) m) (sym is)
-    (knows_current old.step old.period past old (record { first = first; next = false; raw = raw }) e few (some_more raw.ext other) tuned refl room k))
+    (room_of old first false raw false e
+    (ap (λ t. t && finds_no_room (lookup_in raw (picture_of_heard old.current))) tuned ∙ room))
+    (reported ∙ ap (λ fs. with_more before (map (in_frame at) fs))
+    (sym (found_of old first false raw e ∙ ap (λ t. cond t (current_findings (known_in old) raw) []) tuned)))
+    (λ past k. subst (λ (m : CheckerState). Knows old.step old.period
+    (Said (record { first = first; next = false; raw = raw }) ∷ past) m) (sym is)
+    (knows_current old.step old.period past old (record { first = first; next = false; raw = raw }) e few
+    (some_more raw.ext other) tuned refl room k))
 
-pub hears_next : (at : FrameAt) (first : Bool) (raw : Raw) (old new : CheckerState) (before after : Reported) → raw.ext ≢ 0 → raw.ext < 4 → old.tuned ≡ true
-    → finds_no_room (lookup_in raw (shown old.next)) ≡ false → after ≡ with_more before (map (in_frame at) (next_findings (known_in old) raw)) → new ≡ with_next raw old
+pub hears_next : (at : FrameAt) (first : Bool) (raw : Raw) (old new : CheckerState) (before after : Reported)
+    → raw.ext ≢ 0 → raw.ext < 4 → old.tuned ≡ true
+    → finds_no_room (lookup_in raw (picture_of_heard old.next)) ≡ false
+    → after ≡ with_more before (map (in_frame at) (next_findings (known_in old) raw)) → new ≡ with_next raw old
     → HearsItems at (items_of first true (raw ∷ [])) old before new after false
 hears_next at first raw old new before after other few tuned room reported is =
     let e = not_zero raw.ext other in
     heard_one at (record { first = first; next = true; raw = raw }) old new before after
-    (room_of old first true raw false e (ap (λ t. t && finds_no_room (lookup_in raw (shown old.next))) tuned ∙ room))
-    (reported ∙ ap (λ fs. with_more before (map (in_frame at) fs)) (sym (found_of old first true raw e ∙ ap (λ t. cond t (next_findings (known_in old) raw) []) tuned)))
-    (λ past k. subst (λ (m : CheckerState). Knows old.step old.period (Said (record { first = first; next = true; raw = raw }) ∷ past) m) (sym is)
-    (knows_next old.step old.period past old (record { first = first; next = true; raw = raw }) e few (some_more raw.ext other) tuned refl room k))
+    (room_of old first true raw false e (ap (λ t. t && finds_no_room (lookup_in raw (picture_of_heard old.next))) tuned
+    ∙ room))
+    (reported ∙ ap (λ fs. with_more before (map (in_frame at) fs))
+    (sym (found_of old first true raw e ∙ ap (λ t. cond t (next_findings (known_in old) raw) []) tuned)))
+    (λ past k. subst (λ (m : CheckerState). Knows old.step old.period
+    (Said (record { first = first; next = true; raw = raw }) ∷ past) m) (sym is)
+    (knows_next old.step old.period past old (record { first = first; next = true; raw = raw }) e few
+    (some_more raw.ext other) tuned refl room k))
 
 -- the same without room
-pub full_current : (at : FrameAt) (first : Bool) (raw : Raw) (old new : CheckerState) (before after : Reported) → raw.ext ≢ 0 → old.tuned ≡ true
-    → finds_no_room (lookup_in raw (shown old.current)) ≡ true → after ≡ before → HearsItems at (items_of first false (raw ∷ [])) old before new after true
+pub full_current : (at : FrameAt) (first : Bool) (raw : Raw) (old new : CheckerState) (before after : Reported)
+    → raw.ext ≢ 0 → old.tuned ≡ true
+    → finds_no_room (lookup_in raw (picture_of_heard old.current)) ≡ true → after ≡ before
+    → HearsItems at (items_of first false (raw ∷ [])) old before new after true
 full_current at first raw old new before after other tuned room reported =
     heard_none at (record { first = first; next = false; raw = raw }) old new before after
-    (room_of old first false raw true (not_zero raw.ext other) (ap (λ t. t && finds_no_room (lookup_in raw (shown old.current))) tuned ∙ room)) reported
+    (room_of old first false raw true (not_zero raw.ext other)
+    (ap (λ t. t && finds_no_room (lookup_in raw (picture_of_heard old.current))) tuned ∙ room)) reported
 
-pub full_next : (at : FrameAt) (first : Bool) (raw : Raw) (old new : CheckerState) (before after : Reported) → raw.ext ≢ 0 → old.tuned ≡ true
-    → finds_no_room (lookup_in raw (shown old.next)) ≡ true → after ≡ before → HearsItems at (items_of first true (raw ∷ [])) old before new after true
+pub full_next : (at : FrameAt) (first : Bool) (raw : Raw) (old new : CheckerState) (before after : Reported)
+    → raw.ext ≢ 0 → old.tuned ≡ true
+    → finds_no_room (lookup_in raw (picture_of_heard old.next)) ≡ true → after ≡ before
+    → HearsItems at (items_of first true (raw ∷ [])) old before new after true
 full_next at first raw old new before after other tuned room reported =
     heard_none at (record { first = first; next = true; raw = raw }) old new before after
-    (room_of old first true raw true (not_zero raw.ext other) (ap (λ t. t && finds_no_room (lookup_in raw (shown old.next))) tuned ∙ room)) reported
+    (room_of old first true raw true (not_zero raw.ext other)
+    (ap (λ t. t && finds_no_room (lookup_in raw (picture_of_heard old.next))) tuned ∙ room)) reported
 
 -- ---- what does not change within a frame
 
@@ -188,39 +263,79 @@ pub later_itself : (m : CheckerState) → IsSane m → IsLater m m
 later_itself m s = record { step = refl; period = refl; frames = refl; sane = s }
 
 pub later_twice : (a b c : CheckerState) → IsLater a b → IsLater b c → IsLater a c
-later_twice a b c x y = record { step = y.step ∙ x.step; period = y.period ∙ x.period; frames = y.frames ∙ x.frames; sane = y.sane }
+later_twice a b c x y = record {
+  step = y.step ∙ x.step;
+  period = y.period ∙ x.period;
+  frames = y.frames ∙ x.frames;
+  sane = y.sane;
+}
 
 later_flags : (e : EnsembleInformation) (m : CheckerState) → IsSane m → IsLater m (with_flags e m)
-later_flags e m s = elim (has_flags e) as (λ t. IsLater m (cond t (record m { is_cut_off = m.is_cut_off || not m.tuned; awaited = e.occurrence; flags = e.change; times = at_most 3 (m.times + 1); has_begun = true }) m)) [
-  | true ↦ record {
-    step = refl;
-    period = refl;
-    frames = refl;
-    sane = record { mode = s.mode; page_index = s.page_index; due = s.due; times = below_three (m.times + 1); rows = s.rows; parts = s.parts };
-  }
-  | false ↦ later_itself m s
-]
+later_flags e m s = elim (has_flags e)
+    as (λ t. IsLater m (cond t
+    (record m {
+      is_cut_off = m.is_cut_off || not m.tuned;
+      awaited = e.occurrence;
+      flags = e.change;
+      times = at_most 3 (m.times + 1);
+      has_begun = true;
+    }) m)) [
+      | true ↦ record {
+        step = refl;
+        period = refl;
+        frames = refl;
+        sane = record {
+          mode = s.mode;
+          page_index = s.page_index;
+          due = s.due;
+          times = below_three (m.times + 1);
+          rows = s.rows;
+          parts = s.parts;
+        };
+      }
+      | false ↦ later_itself m s
+    ]
 
-later_noted : (first : Bool) (e : EnsembleInformation) (m : CheckerState) → IsSane m → IsLater m (with_ensemble first e m)
+later_noted : (first : Bool) (e : EnsembleInformation) (m : CheckerState) → IsSane m
+    → IsLater m (with_ensemble first e m)
 later_noted first e m s =
     let f = later_flags e m s in
     record {
       step = f.step;
       period = f.period;
       frames = f.frames;
-      sane = record { mode = f.sane.mode; page_index = f.sane.page_index; due = f.sane.due; times = f.sane.times; rows = f.sane.rows; parts = f.sane.parts };
+      sane = record {
+        mode = f.sane.mode;
+        page_index = f.sane.page_index;
+        due = f.sane.due;
+        times = f.sane.times;
+        rows = f.sane.rows;
+        parts = f.sane.parts;
+      };
     }
 
 -- ---- by the result of a call
 
-pub answered_current : (b : Bool) (at : FrameAt) (first : Bool) (raw : Raw) (old new : CheckerState) (before after : Reported) → raw.ext ≢ 0 → raw.ext < 4 → old.tuned ≡ true
-    → (b ≡ true → finds_no_room (lookup_in raw (shown old.current)) ≡ false) → (b ≡ true → after ≡ with_more before (map (in_frame at) (current_findings (known_in old) raw))) → (b ≡ true → new ≡ with_current raw old)
-    → (b ≡ false → finds_no_room (lookup_in raw (shown old.current)) ≡ true) → (b ≡ false → after ≡ before) → HearsItems at (items_of first false (raw ∷ [])) old before new after (not b)
-answered_current true at first raw old new before after other few tuned room reported is full same = hears_current at first raw old new before after other few tuned (room refl) (reported refl) (is refl)
-answered_current false at first raw old new before after other few tuned room reported is full same = full_current at first raw old new before after other tuned (full refl) (same refl)
+pub answered_current : (b : Bool) (at : FrameAt) (first : Bool) (raw : Raw) (old new : CheckerState)
+    (before after : Reported) → raw.ext ≢ 0 → raw.ext < 4 → old.tuned ≡ true
+    → (b ≡ true → finds_no_room (lookup_in raw (picture_of_heard old.current)) ≡ false)
+    → (b ≡ true → after ≡ with_more before (map (in_frame at) (current_findings (known_in old) raw)))
+    → (b ≡ true → new ≡ with_current raw old)
+    → (b ≡ false → finds_no_room (lookup_in raw (picture_of_heard old.current)) ≡ true) → (b ≡ false → after ≡ before)
+    → HearsItems at (items_of first false (raw ∷ [])) old before new after (not b)
+answered_current true at first raw old new before after other few tuned room reported is full same =
+    hears_current at first raw old new before after other few tuned (room refl) (reported refl) (is refl)
+answered_current false at first raw old new before after other few tuned room reported is full same =
+    full_current at first raw old new before after other tuned (full refl) (same refl)
 
-pub answered_next : (b : Bool) (at : FrameAt) (first : Bool) (raw : Raw) (old new : CheckerState) (before after : Reported) → raw.ext ≢ 0 → raw.ext < 4 → old.tuned ≡ true
-    → (b ≡ true → finds_no_room (lookup_in raw (shown old.next)) ≡ false) → (b ≡ true → after ≡ with_more before (map (in_frame at) (next_findings (known_in old) raw))) → (b ≡ true → new ≡ with_next raw old)
-    → (b ≡ false → finds_no_room (lookup_in raw (shown old.next)) ≡ true) → (b ≡ false → after ≡ before) → HearsItems at (items_of first true (raw ∷ [])) old before new after (not b)
-answered_next true at first raw old new before after other few tuned room reported is full same = hears_next at first raw old new before after other few tuned (room refl) (reported refl) (is refl)
-answered_next false at first raw old new before after other few tuned room reported is full same = full_next at first raw old new before after other tuned (full refl) (same refl)
+pub answered_next : (b : Bool) (at : FrameAt) (first : Bool) (raw : Raw) (old new : CheckerState)
+    (before after : Reported) → raw.ext ≢ 0 → raw.ext < 4 → old.tuned ≡ true
+    → (b ≡ true → finds_no_room (lookup_in raw (picture_of_heard old.next)) ≡ false)
+    → (b ≡ true → after ≡ with_more before (map (in_frame at) (next_findings (known_in old) raw)))
+    → (b ≡ true → new ≡ with_next raw old)
+    → (b ≡ false → finds_no_room (lookup_in raw (picture_of_heard old.next)) ≡ true) → (b ≡ false → after ≡ before)
+    → HearsItems at (items_of first true (raw ∷ [])) old before new after (not b)
+answered_next true at first raw old new before after other few tuned room reported is full same =
+    hears_next at first raw old new before after other few tuned (room refl) (reported refl) (is refl)
+answered_next false at first raw old new before after other few tuned room reported is full same =
+    full_next at first raw old new before after other tuned (full refl) (same refl)

@@ -72,7 +72,11 @@ abbrev heard_next : Raw → Item
 heard_next raw = record { first = false; next = true; raw = raw }
 
 abbrev flagged : ℕ → Item
-flagged count = record { first = true; next = false; raw = record { ext = 0; long = false; bytes = 225 ∷ 197 ∷ 64 ∷ count ∷ 28 ∷ [] } }
+flagged count = record {
+  first = true;
+  next = false;
+  raw = record { ext = 0; long = false; bytes = 225 ∷ 197 ∷ 64 ∷ count ∷ 28 ∷ [] };
+}
 
 abbrev first_frame : List Moment
 first_frame = Ended 0 ∷ Said (heard one) ∷ Said tuned_in ∷ []
@@ -84,7 +88,8 @@ counted = refl
 same_again : findings_at (known_of 4 250 first_frame) (heard one) ≡ []
 same_again = refl
 
-changed_now : findings_at (known_of 4 250 first_frame) (heard (sub (4 ∷ 0 ∷ 136 ∷ 72 ∷ []))) ≡ whats.Fault (faults.Changed (names.Sub 1)) ∷ []
+changed_now : findings_at (known_of 4 250 first_frame) (heard (sub (4 ∷ 0 ∷ 136 ∷ 72 ∷ [])))
+    ≡ whats.Fault (faults.Changed (names.Sub 1)) ∷ []
 changed_now = refl
 
 -- a new entry is no fault before the period is over, and is one afterwards
@@ -102,10 +107,13 @@ silent_later : silent_findings 2 first_frame ≡ []
 silent_later = refl
 
 -- FIG 0/0 at the count that is due; below, at another
-in_time : findings_at (known_of 1 250 first_frame) (record { first = true; next = false; raw = record { ext = 0; long = false; bytes = 225 ∷ 197 ∷ 0 ∷ 1 ∷ [] } }) ≡ []
+in_time : findings_at (known_of 1 250 first_frame)
+    (record { first = true; next = false; raw = record { ext = 0; long = false; bytes = 225 ∷ 197 ∷ 0 ∷ 1 ∷ [] } }) ≡ []
 in_time = refl
 
-jumped : findings_at (known_of 1 250 first_frame) (record { first = true; next = false; raw = record { ext = 0; long = false; bytes = 225 ∷ 197 ∷ 0 ∷ 2 ∷ [] } }) ≡ whats.Fault (faults.Count 1) ∷ []
+jumped : findings_at (known_of 1 250 first_frame)
+    (record { first = true; next = false; raw = record { ext = 0; long = false; bytes = 225 ∷ 197 ∷ 0 ∷ 2 ∷ [] } })
+    ≡ whats.Fault (faults.Count 1) ∷ []
 jumped = refl
 
 -- an announcement, and a swap immediately after it
@@ -121,6 +129,8 @@ begun = refl
 not_cut_off : is_cut_off announced_once ≡ false
 not_cut_off = refl
 
-swapped_early : findings_at (known_of 1 250 announced_once) (record { first = true; next = false; raw = record { ext = 0; long = false; bytes = 225 ∷ 197 ∷ 0 ∷ 2 ∷ [] } })
-    ≡ whats.Event events.Swap ∷ whats.Fault (faults.AnnouncedFor 28) ∷ whats.Fault (faults.AnnouncedTimes 1) ∷ whats.Fault (faults.NextHeard 1) ∷ []
+swapped_early : findings_at (known_of 1 250 announced_once)
+    (record { first = true; next = false; raw = record { ext = 0; long = false; bytes = 225 ∷ 197 ∷ 0 ∷ 2 ∷ [] } })
+    ≡ whats.Event events.Swap ∷ whats.Fault (faults.AnnouncedFor 28) ∷ whats.Fault (faults.AnnouncedTimes 1)
+    ∷ whats.Fault (faults.NextHeard 1) ∷ []
 swapped_early = refl

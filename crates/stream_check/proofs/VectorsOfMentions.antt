@@ -1,5 +1,5 @@
--- Contradictions in small cases, computed by the checker from the definitions: for each definition one that holds and one
--- that fails.
+-- Contradictions in small cases, computed by the checker from the definitions: for each definition one that holds and
+-- one that fails.
 use Rattle.std.proofs.Common.{◌≡◌, ℕ, true, false, List, [], ◌∷◌, replicate, Some, None, refl}
 use Rattle.fib_codec.specs.Grammar.{Open, Other}
 use Rattle.fib_reader.specs.Raw.{Raw}
@@ -11,8 +11,10 @@ use Rattle.stream_check.specs.declared.contradiction.Contradiction.TheVariants.{
 use Rattle.stream_check.specs.declared.finding.Fault.TheVariants as faults
 use Rattle.stream_check.specs.declared.finding.What.TheVariants as whats
 use Rattle.stream_check.specs.History.{Item, Moment, Said, Ended}
-use Rattle.stream_check.specs.Contradictions.{absent, absent_among, are_whole, contradictions_in, is_same_mention, is_same, is_noted, is_new, new_among, noted_with, AreNew}
-use Rattle.stream_check.specs.Sent.{EntrySent, FigSent, fig_sent, fib_sent, items_in, contradictions_at, noted_at, noted_after}
+use Rattle.stream_check.specs.Contradictions.{absent, absent_among, are_whole, contradictions_in, is_same_mention}
+use Rattle.stream_check.specs.Contradictions.{is_same, is_noted, is_new, new_among, noted_with, AreNew}
+use Rattle.stream_check.specs.Sent.{EntrySent, FigSent, fig_sent, fib_sent, items_in, contradictions_at, noted_at}
+use Rattle.stream_check.specs.Sent.{noted_after}
 use Rattle.stream_check.specs.Stream.{findings_at_sent, noted_in_frames}
 
 -- sub-channel 1, and service C221 on it
@@ -121,7 +123,11 @@ abbrev of_current : Raw → Item
 of_current raw = record { first = false; next = false; raw = raw }
 
 abbrev header : (flags count : ℕ) → List ℕ → Item
-header flags count low = record { first = true; next = false; raw = record { ext = 0; long = false; bytes = 225 ∷ 197 ∷ flags ∷ count ∷ low } }
+header flags count low = record {
+  first = true;
+  next = false;
+  raw = record { ext = 0; long = false; bytes = 225 ∷ 197 ∷ flags ∷ count ∷ low };
+}
 
 abbrev first_frame : List Moment
 first_frame = Ended 0 ∷ Said (of_current service) ∷ Said (of_current sub) ∷ Said (header 0 0 []) ∷ []
@@ -133,7 +139,8 @@ in_the_second = refl
 not_with_a_longer_period : contradictions_at 2 first_frame stale ≡ []
 not_with_a_longer_period = refl
 
-reported_once : findings_at_sent 1 1 first_frame [] (FigSent stale ∷ FigSent own ∷ FigSent stale ∷ []) ≡ whats.Fault (faults.Contradicts (NotThere 8 (OnSub 49697 2))) ∷ []
+reported_once : findings_at_sent 1 1 first_frame [] (FigSent stale ∷ FigSent own ∷ FigSent stale ∷ [])
+    ≡ whats.Fault (faults.Contradicts (NotThere 8 (OnSub 49697 2))) ∷ []
 unfolding mentions_in
 reported_once = refl
 
@@ -168,6 +175,7 @@ its_entries = refl
 nothing_before : noted_in_frames 1 1 [] [] [] ≡ []
 nothing_before = refl
 
-in_the_frame_after : noted_in_frames 1 0 [] [] ((Some (Other schemes ∷ []) ∷ []) ∷ []) ≡ NotThere 14 (Sub 1) ∷ two ∷ three ∷ []
+in_the_frame_after : noted_in_frames 1 0 [] [] ((Some (Other schemes ∷ []) ∷ []) ∷ []) ≡ NotThere 14 (Sub 1) ∷ two
+    ∷ three ∷ []
 unfolding mentions_in
 in_the_frame_after = refl

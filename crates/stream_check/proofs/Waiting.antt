@@ -28,17 +28,21 @@ later_grows a b swapped le = elim (cases_lt a swapped) [
       omega (arith, one, other, le)
 ]
 
-pub none_quiet : (swapped period frames oldest : ℕ) (hs : List Heard) → AllByRecursion (λ (h : Heard). oldest ≤ h.at) hs → frames + 1 < later oldest swapped + period → quiet_findings swapped period frames hs ≡ []
+pub none_quiet : (swapped period frames oldest : ℕ) (hs : List Heard) → AllByRecursion (λ (h : Heard). oldest ≤ h.at) hs
+    → frames + 1 < later oldest swapped + period → quiet_findings swapped period frames hs ≡ []
 none_quiet swapped period frames oldest [] all soon = refl
 none_quiet swapped period frames oldest (h ∷ hs) all soon =
     let grown = later_grows oldest h.at swapped all.0 in
-    let loud : is_quiet swapped period frames h ≡ false = ne_eqb (later h.at swapped + period) (frames + 1) (λ is. omega (arith, is, grown, soon)) in
+    let loud : is_quiet swapped period frames h ≡ false =
+    ne_eqb (later h.at swapped + period) (frames + 1) (λ is. omega (arith, is, grown, soon)) in
     ap (λ t. when t (faults.Silent (name_of h.raw)) ++ quiet_findings swapped period frames hs) loud
     ∙ none_quiet swapped period frames oldest hs all.1 soon
 
 -- a time before which none was last heard, with one more entry
-pub kept_since : (n m : ℕ) (h : Heard) (hs : List Heard) → n ≤ m → n ≤ h.at → AllByRecursion (λ (x : Heard). m ≤ x.at) hs → AllByRecursion (λ (x : Heard). n ≤ x.at) (heard_kept h hs)
-kept_since n m h hs le now all = each_kept (λ x. m ≤ x.at) (λ x. n ≤ x.at) h hs now (λ x other late. omega (arith, le, late)) all
+pub kept_since : (n m : ℕ) (h : Heard) (hs : List Heard) → n ≤ m → n ≤ h.at
+    → AllByRecursion (λ (x : Heard). m ≤ x.at) hs → AllByRecursion (λ (x : Heard). n ≤ x.at) (heard_kept h hs)
+kept_since n m h hs le now all =
+    each_kept (λ x. m ≤ x.at) (λ x. n ≤ x.at) h hs now (λ x other late. omega (arith, le, late)) all
 
 pub each_of_none : (P : Heard → Type 0) (hs : List Heard) → length hs ≡ 0 → AllByRecursion P hs
 each_of_none P [] none = tt

@@ -1,5 +1,7 @@
 -- The checker's state, and how it agrees with the past of the stream.
-use Rattle.std.specs.Prelude.{◌≡◌, ◌↔◌, ℕ, ◌+◌, ◌%◌, ◌<◌, ◌≤◌, ◌^◌, ◌==◌, ◌&&◌, ◌||◌, Bool, true, false, not, if◌then◌else◌, nat_lt, List, [], ◌∷◌, ◌++◌, length, take, drop, Contains, Option, Some, None, IfSome}
+use Rattle.std.specs.Prelude.{◌≡◌, ◌↔◌, ℕ, ◌+◌, ◌%◌, ◌<◌, ◌≤◌, ◌^◌, ◌==◌, ◌&&◌, ◌||◌, Bool, true, false, not}
+use Rattle.std.specs.Prelude.{if◌then◌else◌, nat_lt, List, [], ◌∷◌, ◌++◌, length, take, drop, Contains, Option, Some}
+use Rattle.std.specs.Prelude.{None, IfSome}
 use Rattle.std.specs.List.{concat}
 use Rattle.mux_types.specs.Entries.{EnsembleInformation}
 use Rattle.fib_reader.specs.Raw.{Raw}
@@ -9,18 +11,26 @@ use Rattle.stream_check.specs.declared.contradiction.Contradiction.{Contradictio
 use Rattle.stream_check.specs.declared.finding.Fault.TheVariants as faults
 use Rattle.stream_check.specs.declared.finding.What.{What}
 use Rattle.stream_check.specs.Reporting.{when}
-use Rattle.stream_check.specs.Pictures.{Heard, HeardPicture, empty_picture, shown, picture_kept, heard_since, Each, HasKinds, keys_of}
+use Rattle.stream_check.specs.Pictures.{Heard, HeardPicture, empty_picture, picture_of_heard, picture_kept, heard_since}
+use Rattle.stream_check.specs.Pictures.{Each, HasKinds, keys_of}
 use Rattle.stream_check.specs.Lookup.{lookup_in}
 use Rattle.stream_check.specs.Cutting.{IsGreedy}
 use Rattle.stream_check.specs.Pictures.{key_of}
-use Rattle.stream_check.specs.History.{Moment, frames_ended, listening, due, last_eid, has_ensemble, has_begun, began_early, times_announced, last_flags, is_cut_off, rows, row_at_hand, settles_at, last_heard}
-use Rattle.stream_check.specs.Rules.{Known, at_most, is_absent, has_flags, name_of}
+use Rattle.stream_check.specs.History.{Moment, frames_ended, listening, due, last_eid, has_ensemble, has_begun}
+use Rattle.stream_check.specs.History.{began_early, times_announced, last_flags, is_cut_off, rows, row_at_hand}
+use Rattle.stream_check.specs.History.{settles_at, last_heard}
+use Rattle.stream_check.specs.Rules.{KnownBefore, at_most, is_absent, has_flags, name_of}
 
 abbrev pub listener_in : CheckerState → Listening
-listener_in m = record { tuned = m.tuned; current = shown m.current; next = shown m.next; awaited = m.awaited }
+listener_in m = record {
+  tuned = m.tuned;
+  current = picture_of_heard m.current;
+  next = picture_of_heard m.next;
+  awaited = m.awaited;
+}
 
 -- what the state knows
-abbrev pub known_in : CheckerState → Known
+abbrev pub known_in : CheckerState → KnownBefore
 known_in m = record {
   step = m.step;
   listener = listener_in m;
@@ -75,7 +85,13 @@ eid_after is_placed e (Some eid) = if is_placed then Some e.eid else Some eid
 abbrev pub with_flags : EnsembleInformation → CheckerState → CheckerState
 with_flags e m =
     if has_flags e
-    then record m { is_cut_off = m.is_cut_off || not m.tuned; awaited = e.occurrence; flags = e.change; times = at_most 3 (m.times + 1); has_begun = true }
+    then record m {
+      is_cut_off = m.is_cut_off || not m.tuned;
+      awaited = e.occurrence;
+      flags = e.change;
+      times = at_most 3 (m.times + 1);
+      has_begun = true;
+    }
     else m
 
 abbrev pub with_ensemble : Bool → EnsembleInformation → CheckerState → CheckerState
@@ -102,7 +118,7 @@ with_begun is_absent m = record m {
 
 abbrev pub with_next : Raw → CheckerState → CheckerState
 with_next raw m =
-    record (with_begun (is_absent (lookup_in raw (shown m.next))) m) {
+    record (with_begun (is_absent (lookup_in raw (picture_of_heard m.next))) m) {
       next = picture_kept (record { raw = raw; at = m.rows + 1 }) m.next;
     }
 
@@ -154,7 +170,8 @@ IsStamped frames frame h =
 
 -- the frames of a notice that have ended, and the current one: they contain exactly the entries of the next
 -- configuration; `parts` complete parts of them are a greedy cut
-pub record HasNotice (frames : List (List ℕ)) (frame : List ℕ) (count since parts : ℕ) (next : HeardPicture) (begun : Bool) : Type 0 where
+pub record HasNotice (frames : List (List ℕ)) (frame : List ℕ) (count since parts : ℕ) (next : HeardPicture)
+    (begun : Bool) : Type 0 where
   pub count_is : count ≡ length frames
   pub part : since ≤ length frames
   pub stamps : Each (IsStamped frames frame) next

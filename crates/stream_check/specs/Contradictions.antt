@@ -1,11 +1,13 @@
 -- FIGs that contradict a configuration, and which contradictions are reported: FIG 0/4, 0/5, 0/8, 0/14 and 0/19 of this
 -- ensemble (EN 300 401 clauses 6.2.2, 6.3.3, 6.3.5, 8.1.2 and 8.1.6.2).
-use Rattle.std.specs.Prelude.{◌≡◌, ◌↔◌, ◌⊎◌, ◌≤◌, ℕ, ◌/◌, ◌%◌, ◌==◌, ◌&&◌, nat_lt, not, Bool, true, false, if◌then◌else◌, List, [], ◌∷◌, ◌++◌, length, map, flat_map, drop, get_or, Contains, Option, Some, None}
+use Rattle.std.specs.Prelude.{◌≡◌, ◌↔◌, ◌⊎◌, ◌≤◌, ℕ, ◌/◌, ◌%◌, ◌==◌, ◌&&◌, nat_lt, not, Bool, true, false}
+use Rattle.std.specs.Prelude.{if◌then◌else◌, List, [], ◌∷◌, ◌++◌, length, map, flat_map, drop, get_or, Contains, Option}
+use Rattle.std.specs.Prelude.{Some, None}
 use Rattle.std.specs.List.{list_any}
 use Rattle.fib_reader.specs.Listening.{Pictured}
 use Rattle.fig_mentions.specs.declared.mention.Mention.{Mention}
 use Rattle.fig_mentions.specs.declared.mention.Mention.TheVariants.{Nothing, Sub, Packet, OnSub, ByPacket}
-use Rattle.fig_mentions.specs.Agreeing.{fig_agrees, is_judged, is_there}
+use Rattle.fig_mentions.specs.Agreeing.{fig_agrees, is_judged, is_present}
 use Rattle.fig_mentions.specs.Mentions.{mentions_of}
 use Rattle.stream_check.specs.declared.contradiction.Contradiction.{Contradiction}
 use Rattle.stream_check.specs.declared.contradiction.Contradiction.TheVariants.{NotThere, NotWhole}
@@ -17,7 +19,7 @@ use Rattle.stream_check.specs.declared.finding.What.TheVariants as whats
 
 -- an entry that names what is not in the configuration
 abbrev pub absent : Pictured → (ext : ℕ) → Mention → List Contradiction
-absent k ext m = if is_there k m then [] else NotThere ext m ∷ []
+absent k ext m = if is_present k m then [] else NotThere ext m ∷ []
 
 -- those of whole entries, one after the other; where they are not whole, that alone
 abbrev pub absent_among : Pictured → (ext : ℕ) → Option (List Mention) → List Contradiction

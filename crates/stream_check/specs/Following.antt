@@ -1,5 +1,6 @@
 -- What the checker knows and has reported after some FIBs.
-use Rattle.std.specs.Prelude.{◌≡◌, ℕ, ◌+◌, ◌<◌, ◌≤◌, ◌⊎◌, ◌||◌, Bool, true, false, not, nat_lt, List, [], ◌∷◌, ◌++◌, length, map, flat_map}
+use Rattle.std.specs.Prelude.{◌≡◌, ℕ, ◌+◌, ◌<◌, ◌≤◌, ◌⊎◌, ◌||◌, Bool, true, false, not, nat_lt, List, [], ◌∷◌, ◌++◌}
+use Rattle.std.specs.Prelude.{length, map, flat_map}
 use Rattle.fib_codec.specs.Modes.{fib_count, count_step}
 use Rattle.fib_codec.specs.declared.modes.Mode.{Mode}
 use Rattle.stream_check.specs.declared.checker_state.CheckerState.{CheckerState}
@@ -45,7 +46,8 @@ abbrev pub with_fib : List ℕ → Checking → Checking
 with_fib fib c = record c { held = c.held ++ fib ∷ [] }
 
 -- after these FIBs: they are cut into frames, all of which were heard and whose findings were all reported
-pub record Follows (r : Reading) (mode : Mode) (period : ℕ) (stream : List Fib) (start reported : Reported) (c : Checking) : Type 0 where
+pub record Follows (r : Reading) (mode : Mode) (period : ℕ) (stream : List Fib) (start reported : Reported)
+    (c : Checking) : Type 0 where
   pub skipped : List Fib
   pub frames : List (List Fib)
   pub framed : IsFramed (fib_count mode) stream skipped frames (map r.read c.held)
@@ -58,7 +60,8 @@ pub record Follows (r : Reading) (mode : Mode) (period : ℕ) (stream : List Fib
   pub findings : reported ≡ with_more start (findings_of (fib_count mode) (count_step mode) period [] frames)
 
 -- or up to an entry for which there was no room: all findings before it were reported
-pub record EndsFull (r : Reading) (mode : Mode) (period : ℕ) (stream : List Fib) (start reported : Reported) : Type 0 where
+pub record EndsFull (r : Reading) (mode : Mode) (period : ℕ) (stream : List Fib) (start reported : Reported) : Type
+    0 where
   pub skipped : List Fib
   pub frames : List (List Fib)
   pub rest : List Fib
@@ -68,7 +71,8 @@ pub record EndsFull (r : Reading) (mode : Mode) (period : ℕ) (stream : List Fi
 
 -- what one more FIB adds: no frame, where a FIB that is skipped comes before all frames; or one frame, whose findings
 -- were reported
-abbrev pub Adds : (size step period : ℕ) (ends : Bool) (skipped later : List Fib) (frames more : List (List Fib)) (reported after : Reported) → Type 0
+abbrev pub Adds : (size step period : ℕ) (ends : Bool) (skipped later : List Fib) (frames more : List (List Fib))
+    (reported after : Reported) → Type 0
 Adds size step period false skipped later frames more reported after =
     (more ≡ frames) × ((later ≡ skipped) ⊎ (frames ≡ [])) × (after ≡ reported)
 Adds size step period true skipped later frames more reported after =
@@ -76,14 +80,16 @@ Adds size step period true skipped later frames more reported after =
     × (after ≡ with_more reported (findings_next size step period frames frame))
 
 -- after one more FIB, from a state that follows a stream: the state follows the stream with it
-abbrev pub FollowsFib : (r : Reading) (mode : Mode) (period : ℕ) (stream : List Fib) (fib : Fib) (ends : Bool) (reported after : Reported) (old new : Checking) → Type 0
+abbrev pub FollowsFib : (r : Reading) (mode : Mode) (period : ℕ) (stream : List Fib) (fib : Fib) (ends : Bool)
+    (reported after : Reported) (old new : Checking) → Type 0
 FollowsFib r mode period stream fib ends reported after old new =
     (f : Follows r mode period stream Unknown Unknown old)
     → (g : Follows r mode period (stream ++ fib ∷ []) Unknown Unknown new)
     × Adds (fib_count mode) (count_step mode) period ends f.skipped g.skipped f.frames g.frames reported after
 
 -- or the stream with it ends at an entry for which there was no room, in the frame that the FIB ends
-abbrev pub EndsAtFib : (r : Reading) (mode : Mode) (period : ℕ) (stream : List Fib) (fib : Fib) (reported after : Reported) (old : Checking) → Type 0
+abbrev pub EndsAtFib : (r : Reading) (mode : Mode) (period : ℕ) (stream : List Fib) (fib : Fib)
+    (reported after : Reported) (old : Checking) → Type 0
 EndsAtFib r mode period stream fib reported after old =
     (f : Follows r mode period stream Unknown Unknown old)
     → (g : EndsFull r mode period (stream ++ fib ∷ []) Unknown Unknown)

@@ -1,10 +1,11 @@
 -- FIBs as they are read, and what is known of them before they are heard.
-use Rattle.std.specs.Prelude.{◌≡◌, ℕ, ◌+◌, ◌<◌, ◌≤◌, ◌==◌, ◌&&◌, Bool, true, false, not, if◌then◌else◌, List, [], ◌∷◌, ◌++◌, length, flat_map, Option, Some, None}
+use Rattle.std.specs.Prelude.{◌≡◌, ℕ, ◌+◌, ◌<◌, ◌≤◌, ◌==◌, ◌&&◌, Bool, true, false, not, if◌then◌else◌, List, [], ◌∷◌}
+use Rattle.std.specs.Prelude.{◌++◌, length, flat_map, Option, Some, None}
 use Rattle.std.specs.List.{AllByRecursion}
 use Rattle.mux_types.specs.Entries.{EnsembleInformation}
 use Rattle.fib_codec.specs.Grammar.{Fig, IsFib}
 use Rattle.fib_reader.specs.Raw.{Raw, entries_in, ensemble_in}
-use Rattle.stream_check.specs.declared.frame.Sight.{Sight}
+use Rattle.stream_check.specs.declared.frame.FibSummary.{FibSummary}
 
 -- ---- FIBs
 
@@ -61,9 +62,9 @@ begins_with_ensemble fib = is_there (opening fib)
 abbrev pub holds_ensemble : Fib → Bool
 holds_ensemble fib = is_there (first_in fib)
 
-pub record IsSeen (sight : Sight) (fib : Fib) : Type 0 where
-  pub damaged : sight.is_damaged ≡ is_damaged fib
-  pub begins : sight.opening ≡ opening fib
+pub record IsSeen (summary : FibSummary) (fib : Fib) : Type 0 where
+  pub damaged : summary.is_damaged ≡ is_damaged fib
+  pub begins : summary.opening ≡ opening fib
 
 -- ---- frames
 

@@ -8,7 +8,8 @@ use Rattle.stream_check.specs.Frames.{Fib}
 use Rattle.stream_check.specs.Contradictions.{new_findings, noted_with}
 use Rattle.stream_check.specs.History.{Item, Moment, said, frame_items}
 use Rattle.stream_check.specs.Sent.{Sent, items_in, noted_after}
-use Rattle.stream_check.specs.Stream.{findings_at_items, findings_at_sent, runs_full, findings_in, noted_in, after_frame}
+use Rattle.stream_check.specs.Stream.{findings_at_items, findings_at_sent, runs_full, findings_in, noted_in}
+use Rattle.stream_check.specs.Stream.{past_after_frame}
 use Rattle.stream_check.specs.CheckerState.{IsSane, Knows}
 use Rattle.stream_check.specs.Reported.{Reported, with_more}
 
@@ -20,14 +21,16 @@ pub record IsLater (old new : CheckerState) : Type 0 where
   pub sane : IsSane new
 
 -- after these entries, or up to one for which there is no room
-pub record AreItemsHeard (at : FrameAt) (step period : ℕ) (past : List Moment) (items : List Item) (reported after : Reported) (new : CheckerState) (full : Bool) : Type 0 where
+pub record AreItemsHeard (at : FrameAt) (step period : ℕ) (past : List Moment) (items : List Item)
+    (reported after : Reported) (new : CheckerState) (full : Bool) : Type 0 where
   pub findings : after ≡ with_more reported (map (in_frame at) (findings_at_items step period past items))
   pub room : runs_full step period past items ≡ full
   pub knows : full ≡ false → Knows step period (said items past) new
 
 abbrev pub HearsItems : FrameAt → List Item → CheckerState → Reported → CheckerState → Reported → Bool → Type 0
 HearsItems at items old reported new after full =
-    (past : List Moment) → Knows old.step old.period past old → AreItemsHeard at old.step old.period past items reported after new full
+    (past : List Moment) → Knows old.step old.period past old
+    → AreItemsHeard at old.step old.period past items reported after new full
 
 -- some contradictions are reported, as far as they are new
 pub record AreNoted (at : FrameAt) (some : List Contradiction)
@@ -53,7 +56,7 @@ pub record IsFrameHeard (size step period : ℕ) (past : List Moment) (old : Lis
     (reported after : Reported) (new : CheckerState) (full : Bool) : Type 0 where
   pub findings : after ≡ with_more reported (findings_in size step period past old frame)
   pub room : runs_full step period past (frame_items frame) ≡ full
-  pub knows : full ≡ false → Knows step period (after_frame step past frame) new
+  pub knows : full ≡ false → Knows step period (past_after_frame step past frame) new
   pub noted : full ≡ false → new.noted ≡ noted_in period past old frame
 
 abbrev pub HearsFrame : ℕ → List Fib → CheckerState → Reported → CheckerState → Reported → Bool → Type 0

@@ -1,5 +1,6 @@
 -- The past of a stream: the entries of each frame, and what follows from all entries so far.
-use Rattle.std.specs.Prelude.{ℕ, ◌+◌, ◌%◌, ◌==◌, ◌&&◌, ◌||◌, Bool, true, false, not, if◌then◌else◌, List, [], ◌∷◌, ◌++◌, map, Option, Some, None}
+use Rattle.std.specs.Prelude.{ℕ, ◌+◌, ◌%◌, ◌==◌, ◌&&◌, ◌||◌, Bool, true, false, not, if◌then◌else◌, List, [], ◌∷◌, ◌++◌}
+use Rattle.std.specs.Prelude.{map, Option, Some, None}
 use Rattle.mux_types.specs.Entries.{EnsembleInformation}
 use Rattle.fib_codec.specs.Grammar.{Fig, Open, Other, is_next}
 use Rattle.stream_check.specs.Frames.{Fib}
@@ -54,16 +55,16 @@ said (i ∷ is) past = said is (Said i ∷ past)
 abbrev pub is_ensemble : Item → Bool
 is_ensemble i = i.raw.ext == 0
 
-abbrev pub ensemble_of : Item → EnsembleInformation
-ensemble_of i = ensemble_in i.raw
+abbrev pub ensemble_of_item : Item → EnsembleInformation
+ensemble_of_item i = ensemble_in i.raw
 
 -- a FIG 0/0 with change flags
 abbrev pub is_flagged : Item → Bool
-is_flagged i = is_ensemble i && not ((ensemble_of i).change == 0)
+is_flagged i = is_ensemble i && not ((ensemble_of_item i).change == 0)
 
 -- a FIG 0/0 that is the first FIG of its frame, at a count that is a multiple of the mode's step
 abbrev pub is_in_place : ℕ → Item → Bool
-is_in_place step i = i.first && (is_ensemble i && ((ensemble_of i).count % step == 0))
+is_in_place step i = i.first && (is_ensemble i && ((ensemble_of_item i).count % step == 0))
 
 -- the number of frames that have ended
 abbrev pub frames_ended : List Moment → ℕ
@@ -86,7 +87,7 @@ listener_after past = listener (listening past)
 
 -- a listener makes a swap at this entry
 abbrev pub is_swap : List Moment → Item → Bool
-is_swap past i = is_ensemble i && is_made (listener_after past).awaited (ensemble_of i)
+is_swap past i = is_ensemble i && is_made (listener_after past).awaited (ensemble_of_item i)
 
 -- an entry of FIG 0/1 to 0/3 that a listener keeps: not before the first FIG 0/0
 abbrev pub is_member : List Moment → Item → Bool
@@ -102,8 +103,8 @@ due (Ended count ∷ past) = Some ((count + 1) % 5000)
 
 -- the EId of the last FIG 0/0 in place, initially of the first FIG 0/0 of all
 abbrev pub eid_of : ℕ → Item → Option ℕ → Option ℕ
-eid_of step i None = if is_ensemble i then Some (ensemble_of i).eid else None
-eid_of step i (Some eid) = if is_in_place step i then Some (ensemble_of i).eid else Some eid
+eid_of step i None = if is_ensemble i then Some (ensemble_of_item i).eid else None
+eid_of step i (Some eid) = if is_in_place step i then Some (ensemble_of_item i).eid else Some eid
 
 abbrev pub last_eid : ℕ → List Moment → Option ℕ
 last_eid step [] = None
@@ -149,7 +150,7 @@ times_announced (Ended count ∷ past) = times_announced past
 -- the flags of the last flagged FIG 0/0
 abbrev pub last_flags : List Moment → ℕ
 last_flags [] = 0
-last_flags (Said i ∷ past) = if is_flagged i then (ensemble_of i).change else last_flags past
+last_flags (Said i ∷ past) = if is_flagged i then (ensemble_of_item i).change else last_flags past
 last_flags (Ended count ∷ past) = last_flags past
 
 -- whether its beginning was not heard: the first FIG 0/0 of all is flagged, and no swap has been made since

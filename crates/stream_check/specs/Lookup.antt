@@ -1,5 +1,6 @@
 -- How an entry compares with those of a picture that were heard before.
-use Rattle.std.specs.Prelude.{ℕ, Bool, true, false, ◌==◌, ◌&&◌, not, if◌then◌else◌, nat_lt, List, length, Option, Some, None, bytes_eq}
+use Rattle.std.specs.Prelude.{ℕ, Bool, true, false, ◌==◌, ◌&&◌, not, if◌then◌else◌, nat_lt, List, length, Option, Some}
+use Rattle.std.specs.Prelude.{None, bytes_eq}
 use Rattle.mux_config.specs.Tables.{entry_at}
 use Rattle.fib_reader.specs.Raw.{Raw}
 use Rattle.fib_reader.specs.Listening.{Pictured, identifier_of}

@@ -13,7 +13,8 @@ has_all wanted frames = list_all (contains (concat frames)) wanted
 abbrev pub parts_from : List ℕ → List (List ℕ) → List (List ℕ) → ℕ
 parts_from wanted part [] = 0
 parts_from wanted part (frame ∷ frames) =
-    if has_all wanted (part ++ frame ∷ []) then parts_from wanted [] frames + 1 else parts_from wanted (part ++ frame ∷ []) frames
+    if has_all wanted (part ++ frame ∷ []) then parts_from wanted [] frames
+    + 1 else parts_from wanted (part ++ frame ∷ []) frames
 
 abbrev pub most_parts : List ℕ → List (List ℕ) → ℕ
 most_parts wanted frames = parts_from wanted [] frames

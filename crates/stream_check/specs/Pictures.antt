@@ -18,7 +18,8 @@ raws hs = map (λ h. h.raw) hs
 
 -- replaces the entry with the same identifier, or inserts a new one
 abbrev pub heard_kept : Heard → List Heard → List Heard
-heard_kept h hs = if has_entry heard_key (heard_key h) hs then with_entry_changed heard_key h hs else with_entry heard_key h hs
+heard_kept h hs = if has_entry heard_key (heard_key h) hs then with_entry_changed heard_key h hs else with_entry
+    heard_key h hs
 
 -- the entries heard of one configuration
 pub record HeardPicture : Type 0 where
@@ -30,8 +31,8 @@ abbrev pub empty_picture : HeardPicture
 empty_picture = record { subs = []; services = []; packets = [] }
 
 -- the picture of a listener
-abbrev pub shown : HeardPicture → Pictured
-shown p = record { subs = raws p.subs; services = raws p.services; packets = raws p.packets }
+abbrev pub picture_of_heard : HeardPicture → Pictured
+picture_of_heard p = record { subs = raws p.subs; services = raws p.services; packets = raws p.packets }
 
 abbrev pub all_heard : HeardPicture → List Heard
 all_heard p = p.subs ++ p.services ++ p.packets
@@ -44,7 +45,8 @@ picture_kept h p =
 
 -- each entry was last heard after this time
 abbrev pub heard_since : ℕ → HeardPicture → Bool
-heard_since since p = list_all (λ h. nat_lt since h.at) p.subs && (list_all (λ h. nat_lt since h.at) p.services && list_all (λ h. nat_lt since h.at) p.packets)
+heard_since since p = list_all (λ h. nat_lt since h.at) p.subs
+    && (list_all (λ h. nat_lt since h.at) p.services && list_all (λ h. nat_lt since h.at) p.packets)
 
 -- a property of each entry
 abbrev pub Each : (Heard → Type 0) → HeardPicture → Type 0

@@ -10,12 +10,12 @@ pub data Reported : Type 0 where
   AtMost : ℕ → List Finding → Reported
 
 -- so many are kept, and no more
-abbrev pub kept : ℕ → List Finding → Reported
-kept most findings = if nat_le (length findings) most then AtMost most findings else Unknown
+abbrev pub kept_findings : ℕ → List Finding → Reported
+kept_findings most findings = if nat_le (length findings) most then AtMost most findings else Unknown
 
 -- with more findings
 abbrev pub with_more : Reported → List Finding → Reported
 with_more Unknown more = Unknown
 with_more (All reported) more = All (reported ++ more)
 with_more (AtMost most reported) [] = AtMost most reported
-with_more (AtMost most reported) (finding ∷ more) = kept most (reported ++ finding ∷ more)
+with_more (AtMost most reported) (finding ∷ more) = kept_findings most (reported ++ finding ∷ more)

@@ -1,5 +1,6 @@
 -- The findings at an entry, given what was known before it.
-use Rattle.std.specs.Prelude.{ℕ, ◌+◌, ◌/◌, ◌%◌, ◌-◌, ◌==◌, ◌&&◌, ◌||◌, Bool, true, false, not, if◌then◌else◌, nat_lt, nat_le, List, [], ◌∷◌, ◌++◌, map, get_or, Option, Some, None, unwrap_or}
+use Rattle.std.specs.Prelude.{ℕ, ◌+◌, ◌/◌, ◌%◌, ◌-◌, ◌==◌, ◌&&◌, ◌||◌, Bool, true, false, not, if◌then◌else◌, nat_lt}
+use Rattle.std.specs.Prelude.{nat_le, List, [], ◌∷◌, ◌++◌, map, get_or, Option, Some, None, unwrap_or}
 use Rattle.std.specs.List.{filter}
 use Rattle.mux_types.specs.Entries.{EnsembleInformation}
 use Rattle.fib_reader.specs.Raw.{Raw, u16_at_offset}
@@ -17,10 +18,12 @@ use Rattle.stream_check.specs.Reporting.{when, as_list}
 use Rattle.stream_check.specs.Lookup.{lookup_in, agree}
 use Rattle.stream_check.specs.Parts.{most_parts}
 use Rattle.stream_check.specs.Pictures.{key_of}
-use Rattle.stream_check.specs.History.{Item, Moment, is_ensemble, ensemble_of, frames_ended, listener_after, due, last_eid, has_ensemble, has_begun, began_early, times_announced, last_flags, is_cut_off, rows, settles_at, last_heard}
+use Rattle.stream_check.specs.History.{Item, Moment, is_ensemble, ensemble_of_item, frames_ended, listener_after, due}
+use Rattle.stream_check.specs.History.{last_eid, has_ensemble, has_begun, began_early, times_announced, last_flags}
+use Rattle.stream_check.specs.History.{is_cut_off, rows, settles_at, last_heard}
 
 -- what is known before an entry
-pub record Known : Type 0 where
+pub record KnownBefore : Type 0 where
   pub step : ℕ
   -- the listener that heard everything before it
   pub listener : Listening
@@ -52,7 +55,7 @@ abbrev pub at_most : ℕ → ℕ → ℕ
 at_most limit n = if nat_lt n limit then n else limit
 
 -- what is known, from the past of the stream
-abbrev pub known_of : (step period : ℕ) → List Moment → Known
+abbrev pub known_of : (step period : ℕ) → List Moment → KnownBefore
 known_of step period past = record {
   step = step;
   listener = listener_after past;
@@ -80,18 +83,18 @@ name_of raw =
 abbrev pub occurrence_of : EnsembleInformation → ℕ
 occurrence_of e = unwrap_or e.occurrence 0
 
-abbrev pub awaited_low : Known → ℕ
+abbrev pub awaited_low : KnownBefore → ℕ
 awaited_low k = unwrap_or k.listener.awaited 0
 
 abbrev pub has_low : Option ℕ → Bool
 has_low None = false
 has_low (Some low) = true
 
-abbrev pub is_awaited : Known → Bool
+abbrev pub is_awaited : KnownBefore → Bool
 is_awaited k = has_low k.listener.awaited
 
 -- the listener makes a swap at this FIG 0/0
-abbrev pub makes_swap : Known → EnsembleInformation → Bool
+abbrev pub makes_swap : KnownBefore → EnsembleInformation → Bool
 makes_swap k e = is_made k.listener.awaited e
 
 abbrev pub has_flags : EnsembleInformation → Bool
@@ -104,18 +107,18 @@ is_other n None = false
 is_other n (Some m) = not (n == m)
 
 -- the first FIG of its frame, at a count that is a multiple of the mode's step
-abbrev pub is_placed : Known → Bool → EnsembleInformation → Bool
+abbrev pub is_placed : KnownBefore → Bool → EnsembleInformation → Bool
 is_placed k first e = first && (e.count % k.step == 0)
 
 -- in place, and of an ensemble other than the last one in place
-abbrev pub is_of_other_ensemble : Known → Bool → EnsembleInformation → Bool
+abbrev pub is_of_other_ensemble : KnownBefore → Bool → EnsembleInformation → Bool
 is_of_other_ensemble k first e = is_placed k first e && is_other e.eid k.eid
 
 -- in place, at a count other than the one that was due
-abbrev pub has_other_count : Known → Bool → EnsembleInformation → Bool
+abbrev pub has_other_count : KnownBefore → Bool → EnsembleInformation → Bool
 has_other_count k first e = is_placed k first e && is_other e.count k.due
 
-abbrev pub place_faults : Known → Bool → EnsembleInformation → List What
+abbrev pub place_faults : KnownBefore → Bool → EnsembleInformation → List What
 place_faults k first e =
     when (is_of_other_ensemble k first e) (faults.OtherEnsemble e.eid)
     ++ (when (has_other_count k first e) (faults.Count (unwrap_or k.due 0))
@@ -124,12 +127,12 @@ place_faults k first e =
 -- ---- announcements
 
 -- a swap is awaited, and this announces another one
-abbrev pub announces_another : Known → EnsembleInformation → Bool
+abbrev pub announces_another : KnownBefore → EnsembleInformation → Bool
 announces_another k e =
     is_awaited k && (not (e.change == k.flags) || not (occurrence_of e == awaited_low k))
 
 -- flags where no swap was awaited, or where the swap has just been made
-abbrev pub announces_first : Known → EnsembleInformation → Bool
+abbrev pub announces_first : KnownBefore → EnsembleInformation → Bool
 announces_first k e = has_flags e && (makes_swap k e || not (is_awaited k))
 
 -- the counts on which a swap can fall are multiples of the mode's step: their low part is below 250, and even if
@@ -137,7 +140,7 @@ announces_first k e = has_flags e && (makes_swap k e || not (is_awaited k))
 abbrev pub can_fall_at : ℕ → ℕ → Bool
 can_fall_at step low = nat_lt low 250 && (low % 2 == 0 || not (step % 2 == 0))
 
-abbrev pub announcement : Known → EnsembleInformation → List What
+abbrev pub announcement : KnownBefore → EnsembleInformation → List What
 announcement k e =
     if announces_first k e
     then whats.Event (events.Announced e.change (occurrence_of e))
@@ -198,31 +201,32 @@ abbrev pub past_end : List Raw → Option Fault
 past_end [] = None
 past_end (a ∷ rest) = if ends_past a then Some (faults.PastEnd (identifier_of a)) else past_end rest
 
-abbrev pub changes : Known → ℕ
+abbrev pub changes : KnownBefore → ℕ
 changes k = change_between k.listener.current k.listener.next
 
 -- faults of the notice, unless its beginning was not heard
-abbrev pub times_faults : Known → List What
+abbrev pub times_faults : KnownBefore → List What
 times_faults k = when (not k.is_cut_off && nat_lt k.times 3) (faults.AnnouncedTimes k.times)
 
-abbrev pub heard_faults : Known → List What
+abbrev pub heard_faults : KnownBefore → List What
 heard_faults k = when (not k.is_cut_off && nat_lt k.heard 3) (faults.NextHeard k.heard)
 
-abbrev pub flags_faults : Known → List What
+abbrev pub flags_faults : KnownBefore → List What
 flags_faults k = when (not k.is_cut_off && not (k.flags == changes k)) (faults.Flags k.flags (changes k))
 
-abbrev pub notice_faults : Known → List What
+abbrev pub notice_faults : KnownBefore → List What
 notice_faults k = times_faults k ++ (heard_faults k ++ flags_faults k)
 
 -- faults in the capacity units of the next configuration
-abbrev pub unit_faults : Known → List What
+abbrev pub unit_faults : KnownBefore → List What
 unit_faults k = as_list (overlap k.listener.next.subs) ++ as_list (past_end k.listener.next.subs)
 
 -- a swap, and whether it was awaited at another count
-abbrev pub count_findings : Known → EnsembleInformation → List What
-count_findings k e = whats.Event events.Swap ∷ when (not (e.count % 250 == awaited_low k)) (faults.AnnouncedFor (awaited_low k))
+abbrev pub count_findings : KnownBefore → EnsembleInformation → List What
+count_findings k e = whats.Event events.Swap ∷ when (not (e.count % 250 == awaited_low k))
+    (faults.AnnouncedFor (awaited_low k))
 
-abbrev pub swap_findings : Known → EnsembleInformation → List What
+abbrev pub swap_findings : KnownBefore → EnsembleInformation → List What
 swap_findings k e =
     whats.Event events.Swap
     ∷ (when (not (e.count % 250 == awaited_low k)) (faults.AnnouncedFor (awaited_low k))
@@ -230,16 +234,16 @@ swap_findings k e =
 
 -- ---- a FIG 0/0
 
-abbrev pub swap_or_another : Known → EnsembleInformation → List What
+abbrev pub swap_or_another : KnownBefore → EnsembleInformation → List What
 swap_or_another k e =
     if makes_swap k e then swap_findings k e
     else when (announces_another k e) (faults.AnnouncedAgain e.change (occurrence_of e))
 
 -- no change flags, where entries of the next configuration came before
-abbrev pub unannounced_findings : Known → EnsembleInformation → List What
+abbrev pub unannounced_findings : KnownBefore → EnsembleInformation → List What
 unannounced_findings k e = when (not (has_flags e) && k.began_early) faults.NextUnannounced
 
-abbrev pub ensemble_findings : Known → Bool → EnsembleInformation → List What
+abbrev pub ensemble_findings : KnownBefore → Bool → EnsembleInformation → List What
 ensemble_findings k first e =
     place_faults k first e
     ++ (swap_or_another k e
@@ -266,34 +270,34 @@ finds_no_room standings.Other = false
 finds_no_room standings.Absent = false
 finds_no_room standings.Full = true
 
-abbrev pub is_settled : Known → Bool
+abbrev pub is_settled : KnownBefore → Bool
 is_settled k = nat_le k.settles_at k.frames
 
-abbrev pub current_findings : Known → Raw → List What
+abbrev pub current_findings : KnownBefore → Raw → List What
 current_findings k raw =
     when (is_other_one (lookup_in raw k.listener.current)) (faults.Changed (name_of raw))
     ++ when (is_absent (lookup_in raw k.listener.current) && is_settled k) (faults.Appeared (name_of raw))
 
-abbrev pub next_findings : Known → Raw → List What
+abbrev pub next_findings : KnownBefore → Raw → List What
 next_findings k raw =
     when (not k.has_begun && k.has_ensemble) faults.NextUnannounced
     ++ when (is_other_one (lookup_in raw k.listener.next)) (faults.NextChanged (name_of raw))
 
-abbrev pub member_findings : Known → Bool → Raw → List What
+abbrev pub member_findings : KnownBefore → Bool → Raw → List What
 member_findings k next raw =
     if k.listener.tuned then (if next then next_findings k raw else current_findings k raw) else []
 
 -- the picture for this entry has 64 others of its kind, and none with its identifier
-abbrev pub has_no_room : Known → Item → Bool
+abbrev pub has_no_room : KnownBefore → Item → Bool
 has_no_room k i =
     if is_ensemble i then false
     else k.listener.tuned && finds_no_room (lookup_in i.raw (if i.next then k.listener.next else k.listener.current))
 
 -- ---- all findings at an entry
 
-abbrev pub findings_at : Known → Item → List What
+abbrev pub findings_at : KnownBefore → Item → List What
 findings_at k i =
-    if is_ensemble i then ensemble_findings k i.first (ensemble_of i) else member_findings k i.next i.raw
+    if is_ensemble i then ensemble_findings k i.first (ensemble_of_item i) else member_findings k i.next i.raw
 
 -- ---- the end of a frame
 

@@ -1,5 +1,6 @@
 -- The findings in a frame, and in successive frames.
-use Rattle.std.specs.Prelude.{ℕ, ◌%◌, ◌==◌, ◌&&◌, Bool, true, false, if◌then◌else◌, nat_lt, List, [], ◌∷◌, ◌++◌, length, map, Option, Some, None}
+use Rattle.std.specs.Prelude.{ℕ, ◌%◌, ◌==◌, ◌&&◌, Bool, true, false, if◌then◌else◌, nat_lt, List, [], ◌∷◌, ◌++◌, length}
+use Rattle.std.specs.Prelude.{map, Option, Some, None}
 use Rattle.mux_types.specs.Entries.{EnsembleInformation}
 use Rattle.stream_check.specs.declared.contradiction.Contradiction.{Contradiction}
 use Rattle.stream_check.specs.declared.finding.Finding.{Finding}
@@ -100,8 +101,8 @@ findings_in size step period past noted frame =
     ++ last_findings (runs_full step period past (frame_items frame)) period (said (frame_items frame) past)))
 
 -- the past with one more frame
-abbrev pub after_frame : ℕ → List Moment → List Fib → List Moment
-after_frame step past frame = Ended (count_of_frame step (due past) frame) ∷ said (frame_items frame) past
+abbrev pub past_after_frame : ℕ → List Moment → List Fib → List Moment
+past_after_frame step past frame = Ended (count_of_frame step (due past) frame) ∷ said (frame_items frame) past
 
 -- the contradictions that were reported since the last swap, after one more frame
 abbrev pub noted_in : (period : ℕ) → List Moment → (noted : List Contradiction) → List Fib → List Contradiction
@@ -114,7 +115,7 @@ findings_from size step period past noted [] = []
 findings_from size step period past noted (frame ∷ frames) =
     findings_in size step period past noted frame
     ++ (if runs_full step period past (frame_items frame) then []
-    else findings_from size step period (after_frame step past frame) (noted_in period past noted frame) frames)
+    else findings_from size step period (past_after_frame step past frame) (noted_in period past noted frame) frames)
 
 -- where no contradiction was reported before
 abbrev pub findings_of : (size step period : ℕ) → List Moment → List (List Fib) → List Finding
@@ -123,14 +124,14 @@ findings_of size step period past frames = findings_from size step period past [
 -- the past after frames
 abbrev pub after_frames : ℕ → List Moment → List (List Fib) → List Moment
 after_frames step past [] = past
-after_frames step past (frame ∷ frames) = after_frames step (after_frame step past frame) frames
+after_frames step past (frame ∷ frames) = after_frames step (past_after_frame step past frame) frames
 
 -- and the contradictions that were reported since the last swap
 abbrev pub noted_in_frames :
     (step period : ℕ) → List Moment → (noted : List Contradiction) → List (List Fib) → List Contradiction
 noted_in_frames step period past noted [] = noted
 noted_in_frames step period past noted (frame ∷ frames) =
-    noted_in_frames step period (after_frame step past frame) (noted_in period past noted frame) frames
+    noted_in_frames step period (past_after_frame step past frame) (noted_in period past noted frame) frames
 
 -- the findings in the frame after some
 abbrev pub findings_next : (size step period : ℕ) → (before : List (List Fib)) → (frame : List Fib) → List Finding
@@ -140,4 +141,5 @@ findings_next size step period before frame =
 abbrev pub frames_full : (step period : ℕ) → List Moment → List (List Fib) → Bool
 frames_full step period past [] = false
 frames_full step period past (frame ∷ frames) =
-    if runs_full step period past (frame_items frame) then true else frames_full step period (after_frame step past frame) frames
+    if runs_full step period past (frame_items frame) then true else frames_full step period
+    (past_after_frame step past frame) frames

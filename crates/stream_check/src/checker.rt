@@ -3,7 +3,7 @@
 ghost use Rattle.fib_codec.specs.Modes.{fib_count};
 
 use crate::checker_state::CheckerState;
-use crate::frame::{FrameFibs, Sight, first_of, sight_of};
+use crate::frame::{FibSummary, FrameFibs, first_of, summary_of};
 use crate::reporting::Report;
 use fib_codec::Mode;
 use std::marker::Model;
@@ -69,18 +69,23 @@ impl Model for Checker {
 }
 
 impl Checker {
-    ghost use Rattle.std.specs.Prelude.{◌≡◌, ◌&&◌, ℕ, ◌<◌, ◌+◌, ◌++◌, ◌∷◌, [], List, Option, length, map, not, true, false, OnOk, IfOk, IfErr, IfSome, IfNone};
+    ghost use Rattle.std.specs.Prelude.{◌≡◌, ◌&&◌, ℕ, ◌<◌, ◌+◌, ◌++◌, ◌∷◌, [], List, Option};
+    ghost use Rattle.std.specs.Prelude.{length, map, not, true, false, OnOk, IfOk, IfErr, IfSome};
+    ghost use Rattle.std.specs.Prelude.{IfNone};
     ghost use Rattle.fib_codec.specs.Modes.{count_step};
     ghost use Rattle.fib_codec.specs.declared.modes.Mode as modes;
     ghost use Rattle.stream_check.specs.Reported.{Reported};
     ghost use Rattle.stream_check.specs.declared.checker.CheckFault.TheVariants as faults;
-    ghost use Rattle.stream_check.specs.Frames.{Fib, Reading, IsSeen, damaged_in, holds_ensemble, is_there};
+    ghost use Rattle.stream_check.specs.Frames.{Fib, Reading, IsSeen, damaged_in, holds_ensemble};
+    ghost use Rattle.stream_check.specs.Frames.{is_there};
     ghost use Rattle.stream_check.specs.CheckerState.{most};
     ghost use Rattle.stream_check.specs.Hearing.{HearsFrame};
-    ghost use Rattle.stream_check.specs.Following.{Follows, EndsFull, FollowsFib, EndsAtFib, IsAtLimit, IsSummary, is_begun, is_empty, with_skip, with_fib};
+    ghost use Rattle.stream_check.specs.Following.{Follows, EndsFull, FollowsFib, EndsAtFib};
+    ghost use Rattle.stream_check.specs.Following.{IsAtLimit, IsSummary, is_begun, is_empty};
+    ghost use Rattle.stream_check.specs.Following.{with_skip, with_fib};
 
-    /// A checker of a stream in this mode, before its first FIB. Any `period` successive frames have to carry each
-    /// entry of the current configuration.
+    /// A checker of a stream in this mode, before its first FIB. Any `period` successive frames
+    /// have to carry each entry of the current configuration.
     pub fn new(mode: Mode, period: u16) -> Checker
         ensures { (r : Reading) (start : Reported)
             → Follows r mode period [] start start result }
@@ -110,11 +115,11 @@ impl Checker {
     }
 
     /// Whether this FIB ends a buffered frame by beginning with a FIG 0/0.
-    fn is_cut(&self, sight: &Sight) -> bool
-        ensures value { result ≡ (is_there sight.now.opening && not (is_empty self.now.held)) }
+    fn is_cut(&self, summary: &FibSummary) -> bool
+        ensures value { result ≡ (is_there summary.now.opening && not (is_empty self.now.held)) }
         ensures room { length self.now.held < self.now.size }
     {
-        sight.opening.is_some() && !self.held.is_empty()
+        summary.opening.is_some() && !self.held.is_empty()
     }
 
     /// Whether one of the counters is at its limit.
@@ -143,18 +148,18 @@ impl Checker {
     }
 
     /// Buffers a FIB of the current frame, which is incomplete with it.
-    fn hold(&mut self, fib: &[u8; 32], sight: &Sight)
+    fn hold(&mut self, fib: &[u8; 32], summary: &FibSummary)
         requires space { length self.old.held + 1 < self.old.size }
-        requires seen { (r : Reading) → IsSeen sight.now (r.read fib.now) }
+        requires seen { (r : Reading) → IsSeen summary.now (r.read fib.now) }
         ensures { self.new ≡ with_fib fib.now self.old }
     {
-        self.held.push(fib, sight);
+        self.held.push(fib, summary);
     }
 
-    /// Hears the buffered FIBs, which are a frame, and buffers this one, which begins the next. False if a picture had
-    /// no room for an entry.
-    fn hear_cut<R: Report>(&mut self, fib: &[u8; 32], sight: &Sight, report: &mut R) -> bool
-        requires seen { (r : Reading) → IsSeen sight.now (r.read fib.now) }
+    /// Hears the buffered FIBs, which are a frame, and buffers this one, which begins the next.
+    /// False if a picture had no room for an entry.
+    fn hear_cut<R: Report>(&mut self, fib: &[u8; 32], summary: &FibSummary, report: &mut R) -> bool
+        requires seen { (r : Reading) → IsSeen summary.now (r.read fib.now) }
         requires frames { self.old.state.frames < most }
         requires damaged { self.old.damaged < most }
         ensures heard { (r : Reading) → HearsFrame self.old.size (map r.read self.old.held)
@@ -169,14 +174,14 @@ impl Checker {
         let is_heard = self.state.hear_frame(self.size, &self.held, report);
         self.damaged += self.held.damaged();
         self.held = FrameFibs::new();
-        self.held.push(fib, sight);
+        self.held.push(fib, summary);
         is_heard
     }
 
-    /// Hears the buffered FIBs and this one, which are a frame, and empties the buffer. False if a picture had no
-    /// room for an entry.
-    fn hear_last<R: Report>(&mut self, fib: &[u8; 32], sight: &Sight, report: &mut R) -> bool
-        requires seen { (r : Reading) → IsSeen sight.now (r.read fib.now) }
+    /// Hears the buffered FIBs and this one, which are a frame, and empties the buffer. False if a
+    /// picture had no room for an entry.
+    fn hear_last<R: Report>(&mut self, fib: &[u8; 32], summary: &FibSummary, report: &mut R) -> bool
+        requires seen { (r : Reading) → IsSeen summary.now (r.read fib.now) }
         requires frames { self.old.state.frames < most }
         requires damaged { self.old.damaged < most }
         ensures heard { (r : Reading)
@@ -189,20 +194,22 @@ impl Checker {
         ensures size { self.new.size ≡ self.old.size }
         ensures skipped { self.new.skipped ≡ self.old.skipped }
     {
-        self.held.push(fib, sight);
+        self.held.push(fib, summary);
         let is_heard = self.state.hear_frame(self.size, &self.held, report);
         self.damaged += self.held.damaged();
         self.held = FrameFibs::new();
         is_heard
     }
 
-    /// Hears one FIB and, if it ends a frame, reports the findings in that frame; returns whether it does. A frame ends
-    /// with the last of its FIBs, or where the next one begins with a FIG 0/0. FIBs before the first that contains a
-    /// FIG 0/0 are skipped.
+    /// Hears one FIB and, if it ends a frame, reports the findings in that frame; returns whether
+    /// it does. A frame ends with the last of its FIBs, or where the next one begins with a FIG
+    /// 0/0. FIBs before the first that contains a FIG 0/0 are skipped.
     ///
-    /// - `Full`: a picture had no room for an entry; the findings before it were reported, and nothing after it may be
+    /// - `Full`: a picture had no room for an entry; the findings before it were reported, and
+    /// nothing after it may be
     ///   heard;
-    /// - `TooLong`: there were already 2^62 frames, skipped FIBs or damaged FIBs; the FIB was not heard, and nothing
+    /// - `TooLong`: there were already 2^62 frames, skipped FIBs or damaged FIBs; the FIB was not
+    /// heard, and nothing
     ///   changed.
     pub fn hear<R: Report>(&mut self, fib: &[u8; 32], report: &mut R) -> Result<bool, CheckFault>
         ensures heard { OnOk result ((r : Reading) (mode : modes.Mode) (period : ℕ)
@@ -234,18 +241,18 @@ impl Checker {
             self.skip();
             return Ok(false);
         }
-        let sight = sight_of(fib);
-        if self.is_cut(&sight) {
-            if !self.hear_cut(fib, &sight, report) {
+        let summary = summary_of(fib);
+        if self.is_cut(&summary) {
+            if !self.hear_cut(fib, &summary, report) {
                 return Err(CheckFault::Full);
             }
             return Ok(true);
         }
         if self.has_space() {
-            self.hold(fib, &sight);
+            self.hold(fib, &summary);
             return Ok(false);
         }
-        if !self.hear_last(fib, &sight, report) {
+        if !self.hear_last(fib, &summary, report) {
             return Err(CheckFault::Full);
         }
         Ok(true)

@@ -12,7 +12,8 @@ use std::mem;
 pub struct CheckerState {
     /// The mode's step of counts.
     pub(crate) step: u16,
-    /// The number of successive frames within which each entry of the current configuration has to be sent.
+    /// The number of successive frames within which each entry of the current configuration has to
+    /// be sent.
     pub(crate) period: u64,
     /// The number of frames that have ended.
     pub(crate) frames: u64,
@@ -24,9 +25,11 @@ pub struct CheckerState {
     pub(crate) has_ensemble: bool,
     /// Whether a FIG 0/0 has been heard, so that entries are kept.
     pub(crate) tuned: bool,
-    /// The current configuration. Each entry has the number of the frame, from 1, in which it was last heard.
+    /// The current configuration. Each entry has the number of the frame, from 1, in which it was
+    /// last heard.
     pub(crate) current: TimedPicture,
-    /// The next configuration. Each entry has the number of the notice's frame, from 1, in which it was last heard.
+    /// The next configuration. Each entry has the number of the notice's frame, from 1, in which it
+    /// was last heard.
     pub(crate) next: TimedPicture,
     /// The low part of the count at which a swap is awaited.
     pub(crate) awaited: Option<u8>,
@@ -57,7 +60,8 @@ pub struct CheckerState {
 impl CheckerState {
     ghost use Rattle.std.specs.Prelude.{◌≡◌, ◌<◌, ◌≤◌, [], false, true};
     ghost use Rattle.fib_codec.specs.Modes.{count_step};
-    ghost use Rattle.stream_check.specs.CheckerState.{IsSane, Knows, most, with_swap, with_row, with_frame};
+    ghost use Rattle.stream_check.specs.CheckerState.{IsSane, Knows, most, with_swap, with_row};
+    ghost use Rattle.stream_check.specs.CheckerState.{with_frame};
 
     /// The state before the first FIB.
     pub(crate) fn new(mode: Mode, period: u16) -> Self

@@ -8,8 +8,8 @@ ghost use Rattle.stream_check.specs.Contradictions.{is_same, is_same_mention};
 use fig_mentions::Mention;
 
 /// A contradiction of a FIG that names sub-channels, packet components or components of services:
-/// FIG 0/4, 0/5, 0/8, 0/14 or 0/19 of this ensemble, each by its number, 4 to 19 (EN 300 401 clauses
-/// 6.2.2, 6.3.3, 6.3.5, 8.1.2 and 8.1.6.2).
+/// FIG 0/4, 0/5, 0/8, 0/14 or 0/19 of this ensemble, each by its number, 4 to 19 (EN 300 401
+/// clauses 6.2.2, 6.3.3, 6.3.5, 8.1.2 and 8.1.6.2).
 #[derive(Clone, Copy, Debug, PartialEq, Eq)]
 pub enum Contradiction {
     /// An entry of a FIG of this extension names what is not in the current configuration.

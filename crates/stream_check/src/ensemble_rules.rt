@@ -19,10 +19,15 @@ impl CheckerState {
     ghost use Rattle.std.specs.Prelude.{◌≡◌, ◌<◌, ◌≤◌, map, if◌then◌else◌};
     ghost use Rattle.stream_check.specs.Reported.{with_more};
     ghost use Rattle.stream_check.specs.Reporting.{in_frame};
-    ghost use Rattle.stream_check.specs.Rules.{is_placed, makes_swap, announces_another, is_other, place_faults, swap_or_another, announcement, announces_first, ensemble_findings, unannounced_findings};
-    ghost use Rattle.stream_check.specs.CheckerState.{IsSane, known_in, most, with_swap, with_flags, with_ensemble};
+    ghost use Rattle.stream_check.specs.Rules.{is_placed, makes_swap, announces_another, is_other};
+    ghost use Rattle.stream_check.specs.Rules.{place_faults, swap_or_another, announcement};
+    ghost use Rattle.stream_check.specs.Rules.{announces_first, ensemble_findings};
+    ghost use Rattle.stream_check.specs.Rules.{unannounced_findings};
+    ghost use Rattle.stream_check.specs.CheckerState.{IsSane, known_in, most, with_swap};
+    ghost use Rattle.stream_check.specs.CheckerState.{with_flags, with_ensemble};
 
-    /// Whether a FIG 0/0 is in place: the first FIG of its frame, at a count that is a multiple of the mode's step.
+    /// Whether a FIG 0/0 is in place: the first FIG of its frame, at a count that is a multiple of
+    /// the mode's step.
     pub(crate) fn is_in_place(&self, first: bool, ensemble: &Ensemble) -> bool
         requires step { 0 < self.now.step }
         ensures { result ≡ is_placed (known_in self.now) first ensemble.now }
@@ -109,7 +114,8 @@ impl CheckerState {
         note_if(self.announces_another(ensemble), at, another, report);
     }
 
-    /// Whether this is a first announcement: flags where no swap was awaited, or where the swap has just been made.
+    /// Whether this is a first announcement: flags where no swap was awaited, or where the swap has
+    /// just been made.
     fn announces_first(&self, ensemble: &Ensemble) -> bool
         ensures { result ≡ announces_first (known_in self.now) ensemble.now }
     {
@@ -155,7 +161,8 @@ impl CheckerState {
         self.report_unannounced(at, ensemble, report);
     }
 
-    /// Reports a FIG 0/0 without change flags, if its frame has entries of the next configuration before it.
+    /// Reports a FIG 0/0 without change flags, if its frame has entries of the next configuration
+    /// before it.
     fn report_unannounced<R: Report>(&self, at: FrameAt, ensemble: &Ensemble, report: &mut R)
         ensures { R.reported report.new ≡ with_more (R.reported report.old)
             (map (in_frame at) (unannounced_findings (known_in self.now) ensemble.now)) }

@@ -20,7 +20,8 @@ pub enum EntryName {
 pub enum StreamEvent {
     /// The ensemble of the stream, by its EId.
     Ensemble(u16),
-    /// A reconfiguration is announced: its change flags, 1 to 3, and the low part of the CIF count of its swap.
+    /// A reconfiguration is announced: its change flags, 1 to 3, and the low part of the CIF count
+    /// of its swap.
     Announced(u8, u8),
     /// The next configuration becomes the current one.
     Swap,
@@ -39,9 +40,11 @@ pub enum Fault {
     OtherEnsemble(u16),
     /// The CIF count differs from the one that was due, which is given.
     Count(u16),
-    /// A FIG 0/0 is not the first FIG of its frame, or its count is not a multiple of the mode's step.
+    /// A FIG 0/0 is not the first FIG of its frame, or its count is not a multiple of the mode's
+    /// step.
     OutOfPlace,
-    /// A swap is awaited, and other change flags or another occurrence change, which are given, are sent.
+    /// A swap is awaited, and other change flags or another occurrence change, which are given, are
+    /// sent.
     AnnouncedAgain(u8, u8),
     /// An occurrence change at which no swap can fall.
     NoSwapAt(u8),

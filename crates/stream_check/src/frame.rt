@@ -1,7 +1,8 @@
 //! Inspecting FIBs before they are heard.
 
 ghost use Rattle.std.specs.Prelude.{◌≡◌, if◌then◌else◌, map};
-ghost use Rattle.stream_check.specs.Frames.{Reading, IsSeen, first_raw, first_in, first_in_figs, opening_in_figs, first_of_frame};
+ghost use Rattle.stream_check.specs.Frames.{Reading, IsSeen, first_raw, first_in, first_in_figs};
+ghost use Rattle.stream_check.specs.Frames.{opening_in_figs, first_of_frame};
 
 use arrayvec::ArrayVec;
 use fib_reader::{Entries, Figs, check};
@@ -54,14 +55,14 @@ fn opening_of_figs(mut figs: Figs<'_>) -> Option<Ensemble>
 
 /// What is known of one FIB before it is heard.
 #[derive(Clone, Copy)]
-pub(crate) struct Sight {
+pub(crate) struct FibSummary {
     /// Whether it is damaged.
     pub(crate) is_damaged: bool,
     /// The FIG 0/0 that it begins with.
     pub(crate) opening: Option<Ensemble>,
 }
 
-impl Sight {
+impl FibSummary {
     ghost use Rattle.std.specs.Prelude.{◌≡◌, ◌&&◌, not};
     ghost use Rattle.stream_check.specs.Frames.{is_there};
 
@@ -74,15 +75,15 @@ impl Sight {
 }
 
 /// Inspects a FIB.
-pub(crate) fn sight_of(fib: &[u8; 32]) -> Sight
+pub(crate) fn summary_of(fib: &[u8; 32]) -> FibSummary
     ensures { (r : Reading) → IsSeen result (r.read fib.now) }
 {
     match read(fib) {
-        Some(figs) => Sight {
+        Some(figs) => FibSummary {
             is_damaged: false,
             opening: opening_of_figs(figs),
         },
-        None => Sight {
+        None => FibSummary {
             is_damaged: true,
             opening: None,
         },
@@ -120,7 +121,8 @@ fn choose<T: Copy>(first: bool, one: T, other: T) -> T
     if first { one } else { other }
 }
 
-/// The FIBs of a frame, with what is known of them before they are heard. In contracts it is the list of FIBs.
+/// The FIBs of a frame, with what is known of them before they are heard. In contracts it is the
+/// list of FIBs.
 #[derive(Drop)]
 pub struct FrameFibs {
     fibs: ArrayVec<[u8; 32], 4>,
@@ -144,7 +146,8 @@ impl Model for FrameFibs {
 
 impl FrameFibs {
     ghost use Rattle.std.specs.Prelude.{◌≡◌, ◌≤◌, ◌<◌, ◌++◌, ◌∷◌, [], length, map};
-    ghost use Rattle.stream_check.specs.Frames.{Reading, IsSeen, damaged_in, first_of_frame, first_opening, lacks_opening};
+    ghost use Rattle.stream_check.specs.Frames.{Reading, IsSeen, damaged_in, first_of_frame};
+    ghost use Rattle.stream_check.specs.Frames.{first_opening, lacks_opening};
     ghost use Rattle.stream_check.specs.Following.{is_empty};
 
     /// An empty frame.
@@ -182,19 +185,19 @@ impl FrameFibs {
     }
 
     /// Appends a FIB, given what is known of it. There must be room for it.
-    pub(crate) fn push(&mut self, fib: &[u8; 32], sight: &Sight)
+    pub(crate) fn push(&mut self, fib: &[u8; 32], summary: &FibSummary)
         requires room { length self.old < 4 }
-        requires seen { (r : Reading) → IsSeen sight.now (r.read fib.now) }
+        requires seen { (r : Reading) → IsSeen summary.now (r.read fib.now) }
         ensures { self.new ≡ self.old ++ fib.now ∷ [] }
     {
         let is_first = self.is_empty();
-        self.opening = choose(is_first, sight.opening, self.opening);
+        self.opening = choose(is_first, summary.opening, self.opening);
         self.starts_without_ensemble = choose(
             is_first,
-            sight.starts_without_ensemble(),
+            summary.starts_without_ensemble(),
             self.starts_without_ensemble,
         );
-        self.damaged += choose(sight.is_damaged, 1, 0);
+        self.damaged += choose(summary.is_damaged, 1, 0);
         self.fibs.push(*fib);
     }
 

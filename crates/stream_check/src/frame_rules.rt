@@ -26,8 +26,11 @@ impl CheckerState {
     ghost use Rattle.stream_check.specs.Reporting.{in_frame};
     ghost use Rattle.stream_check.specs.Frames.{Reading};
     ghost use Rattle.stream_check.specs.History.{frame_items};
-    ghost use Rattle.stream_check.specs.Stream.{count_due, count_of_frame, first_line, size_findings, damaged_findings, missing_findings, frame_findings};
-    ghost use Rattle.stream_check.specs.CheckerState.{IsSane, most, later, is_quiet, quiet_findings, silent_in};
+    ghost use Rattle.stream_check.specs.Stream.{count_due, count_of_frame, first_line};
+    ghost use Rattle.stream_check.specs.Stream.{size_findings, damaged_findings, missing_findings};
+    ghost use Rattle.stream_check.specs.Stream.{frame_findings};
+    ghost use Rattle.stream_check.specs.CheckerState.{IsSane, most, later, is_quiet};
+    ghost use Rattle.stream_check.specs.CheckerState.{quiet_findings, silent_in};
     ghost use Rattle.stream_check.specs.Hearing.{IsLater, HearsFrame};
 
     /// The count that is due in a frame; in the first frame that of its first FIG 0/0.
@@ -122,8 +125,8 @@ impl CheckerState {
         self.report_missing(at, fibs, report);
     }
 
-    /// Whether an entry of the current configuration was last heard, or the last swap made, exactly `period` frames
-    /// before this one.
+    /// Whether an entry of the current configuration was last heard, or the last swap made, exactly
+    /// `period` frames before this one.
     fn is_quiet(&self, entry: &HeardEntry) -> bool
         requires frames { self.now.frames < most }
         ensures { result
@@ -193,8 +196,8 @@ impl CheckerState {
         }
     }
 
-    /// Hears the FIBs of a frame, and reports the findings in it. False if a picture had no room for an
-    /// entry; nothing is reported after it.
+    /// Hears the FIBs of a frame, and reports the findings in it. False if a picture had no room
+    /// for an entry; nothing is reported after it.
     pub(crate) fn hear_frame<R: Report>(
         &mut self,
         size: usize,

@@ -7,7 +7,8 @@ use fib_reader::{OwnedEntry, RawEntry, TableEntry};
 use mux_config::Keyed;
 use std::marker::Model;
 
-/// An entry, and the time when it was last heard. In contracts it is the entry as sent, and that number.
+/// An entry, and the time when it was last heard. In contracts it is the entry as sent, and that
+/// number.
 #[derive(Drop)]
 pub struct HeardEntry {
     entry: OwnedEntry,
@@ -47,7 +48,8 @@ impl HeardEntry {
 }
 
 impl Default for HeardEntry {
-    /// A sub-channel in the short form, all zeros, never heard. It fills the unused slots of a table.
+    /// A sub-channel in the short form, all zeros, never heard. It fills the unused slots of a
+    /// table.
     fn default() -> HeardEntry {
         HeardEntry {
             entry: OwnedEntry::default(),

@@ -1,4 +1,5 @@
-//! The entries of one extension heard of a configuration, each with the time when it was last heard.
+//! The entries of one extension heard of a configuration, each with the time when it was last
+//! heard.
 
 ghost use Rattle.std.specs.Prelude.{◌≡◌, ◌≤◌, ℕ, nat_lt};
 ghost use Rattle.std.specs.List.{list_all, list_any, AllByRecursion};
@@ -26,7 +27,8 @@ pub enum Lookup {
     Full,
 }
 
-/// At most 64 entries of one extension. In contracts they are a list in ascending order of identifiers.
+/// At most 64 entries of one extension. In contracts they are a list in ascending order of
+/// identifiers.
 #[derive(Drop)]
 pub struct HeardTable {
     table: EntryTable<HeardEntry>,
@@ -80,8 +82,8 @@ impl HeardTable {
         self.oldest
     }
 
-    /// Recomputes that time, if an entry may have been last heard at `before` or earlier. The entries
-    /// stay the same.
+    /// Recomputes that time, if an entry may have been last heard at `before` or earlier. The
+    /// entries stay the same.
     pub(crate) fn find_oldest(&mut self, before: u64)
         ensures { self.new ≡ self.old }
     {
@@ -90,8 +92,9 @@ impl HeardTable {
         }
     }
 
-    /// Replaces the entry with the same identifier, or inserts a new one, as heard at this time. Returns how
-    /// it compared with the entries before; where there is no room for it, nothing changes.
+    /// Replaces the entry with the same identifier, or inserts a new one, as heard at this time.
+    /// Returns how it compared with the entries before; where there is no room for it, nothing
+    /// changes.
     pub(crate) fn hear(&mut self, entry: &RawEntry<'_>, at: u64) -> Lookup
         ensures lookup { result ≡ lookup entry.now (raws self.old) }
         ensures kept { result ≢ standings.Full

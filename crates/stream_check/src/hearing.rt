@@ -9,12 +9,13 @@ impl CheckerState {
     ghost use Rattle.std.specs.Prelude.{◌≡◌, ◌≢◌, ◌<◌, [], ◌∷◌, map, not, Bool};
     ghost use Rattle.stream_check.specs.Frames.{Reading};
     ghost use Rattle.stream_check.specs.History.{items_of};
-    ghost use Rattle.stream_check.specs.Sent.{entries_sent, fig_sent, figs_sent, fib_sent, frame_sent};
+    ghost use Rattle.stream_check.specs.Sent.{entries_sent, fig_sent, figs_sent, fib_sent};
+    ghost use Rattle.stream_check.specs.Sent.{frame_sent};
     ghost use Rattle.stream_check.specs.CheckerState.{IsSane, most};
     ghost use Rattle.stream_check.specs.Hearing.{IsLater, HearsItems, Hears};
 
-    /// Applies an entry of FIG 0/1 to 0/3, and reports the findings at it. Before the first FIG 0/0 it is
-    /// ignored. False if there is no room for it.
+    /// Applies an entry of FIG 0/1 to 0/3, and reports the findings at it. Before the first FIG 0/0
+    /// it is ignored. False if there is no room for it.
     fn hear_member<R: Report>(
         &mut self,
         at: FrameAt,
@@ -62,7 +63,8 @@ impl CheckerState {
         self.hear_member(at, next, entry, report)
     }
 
-    /// The same for the entries of one FIG.
+    /// Applies the entries of one FIG in order, and reports the findings at each, as
+    /// [`Self::hear_entry`].
     fn hear_entries<R: Report>(
         &mut self,
         at: FrameAt,
@@ -85,7 +87,7 @@ impl CheckerState {
         true
     }
 
-    /// The same for one FIG.
+    /// Applies one FIG: its entries, or what it names if its extension has no entries here.
     fn hear_fig<R: Report>(
         &mut self,
         at: FrameAt,
@@ -108,7 +110,7 @@ impl CheckerState {
         }
     }
 
-    /// The same for the FIGs of one FIB.
+    /// Applies the FIGs of one FIB in order.
     fn hear_figs<R: Report>(
         &mut self,
         at: FrameAt,
@@ -132,7 +134,7 @@ impl CheckerState {
         true
     }
 
-    /// The same for one FIB. A damaged one has no entries.
+    /// Applies one FIB. A damaged one has no entries.
     fn hear_fib<R: Report>(
         &mut self,
         at: FrameAt,
@@ -152,7 +154,8 @@ impl CheckerState {
         }
     }
 
-    /// The same for the FIBs of a frame.
+    /// Applies the FIBs of a frame in order, and reports the findings at their entries. False if
+    /// there is no room for one; those before it are applied.
     pub(crate) fn hear_fibs<R: Report>(
         &mut self,
         at: FrameAt,

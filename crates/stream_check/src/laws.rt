@@ -1,12 +1,14 @@
 //! Laws of all streams. Each law is a function that does nothing; its contract is the law.
 
 ghost use Rattle.stream_check.specs.Parts.{IsTheMost};
-ghost use Rattle.stream_check.specs.Contradictions.{AgreeingHasNone, AreReportedOnce, NoneIsLeftOut};
+ghost use Rattle.stream_check.specs.Contradictions.{AgreeingHasNone, AreReportedOnce};
+ghost use Rattle.stream_check.specs.Contradictions.{NoneIsLeftOut};
 ghost use Rattle.stream_check.specs.Frames.{Reading};
 
-/// The law of parts: of all ways to cut the frames of a notice into successive parts that each contain all that is
-/// wanted, ending each part as early as possible gives the maximum number of parts. So the number that is reported for
-/// a notice is the number of times that the next configuration could be read.
+/// The law of parts: of all ways to cut the frames of a notice into successive parts that each
+/// contain all that is wanted, ending each part as early as possible gives the maximum number of
+/// parts. So the number that is reported for a notice is the number of times that the next
+/// configuration could be read.
 pub fn parts()
     ensures { IsTheMost }
 {}

@@ -1,5 +1,5 @@
-//! Checks frame by frame that a stream of FIBs announces each reconfiguration as EN 300 401 clause 6.5 requires.
-//! The checker is a fold over the FIBs, in a fixed amount of memory.
+//! Checks frame by frame that a stream of FIBs announces each reconfiguration as EN 300 401 clause
+//! 6.5 requires. The checker is a fold over the FIBs, in a fixed amount of memory.
 #![tactic(auto)]
 
 pub mod checker;

@@ -35,10 +35,11 @@ impl CheckerState {
     ghost use Rattle.stream_check.specs.declared.heard_table.Lookup.TheVariants as standings;
     ghost use Rattle.stream_check.specs.Reported.{with_more};
     ghost use Rattle.stream_check.specs.Reporting.{in_frame};
-    ghost use Rattle.stream_check.specs.Pictures.{shown};
+    ghost use Rattle.stream_check.specs.Pictures.{picture_of_heard};
     ghost use Rattle.stream_check.specs.Lookup.{lookup_in};
     ghost use Rattle.stream_check.specs.Rules.{finds_no_room, current_findings, next_findings};
-    ghost use Rattle.stream_check.specs.CheckerState.{known_in, most, with_current, with_begun, with_next};
+    ghost use Rattle.stream_check.specs.CheckerState.{known_in, most, with_current, with_begun};
+    ghost use Rattle.stream_check.specs.CheckerState.{with_next};
 
     /// Hears an entry of the current configuration, and reports the findings at it. False if there
     /// was no room for it; then nothing changes.
@@ -51,12 +52,12 @@ impl CheckerState {
         requires member { entry.now.ext ≢ 0 }
         requires frames { self.old.frames < most }
         ensures room { result ≡ true →
-            finds_no_room (lookup_in entry.now (shown self.old.current)) ≡ false }
+            finds_no_room (lookup_in entry.now (picture_of_heard self.old.current)) ≡ false }
         ensures reported { result ≡ true → R.reported report.new ≡ with_more (R.reported report.old)
             (map (in_frame at) (current_findings (known_in self.old) entry.now)) }
         ensures state { result ≡ true → self.new ≡ with_current entry.now self.old }
         ensures full { result ≡ false →
-            finds_no_room (lookup_in entry.now (shown self.old.current)) ≡ true }
+            finds_no_room (lookup_in entry.now (picture_of_heard self.old.current)) ≡ true }
         ensures nothing { result ≡ false → R.reported report.new ≡ R.reported report.old }
         ensures unchanged { result ≡ false → self.new ≡ self.old }
     {
@@ -74,8 +75,8 @@ impl CheckerState {
         true
     }
 
-    /// Notes that an entry of the next configuration was heard, which may begin the notice, and whether its identifier
-    /// is new.
+    /// Notes that an entry of the next configuration was heard, which may begin the notice, and
+    /// whether its identifier is new.
     fn note_next(&mut self, is_absent: bool)
         ensures { self.new ≡ with_begun is_absent self.old }
     {
@@ -100,12 +101,12 @@ impl CheckerState {
         requires member { entry.now.ext ≢ 0 }
         requires rows { self.old.rows < most }
         ensures room { result ≡ true →
-            finds_no_room (lookup_in entry.now (shown self.old.next)) ≡ false }
+            finds_no_room (lookup_in entry.now (picture_of_heard self.old.next)) ≡ false }
         ensures reported { result ≡ true → R.reported report.new ≡ with_more (R.reported report.old)
             (map (in_frame at) (next_findings (known_in self.old) entry.now)) }
         ensures state { result ≡ true → self.new ≡ with_next entry.now self.old }
         ensures full { result ≡ false →
-            finds_no_room (lookup_in entry.now (shown self.old.next)) ≡ true }
+            finds_no_room (lookup_in entry.now (picture_of_heard self.old.next)) ≡ true }
         ensures nothing { result ≡ false → R.reported report.new ≡ R.reported report.old }
         ensures unchanged { result ≡ false → self.new ≡ self.old }
     {

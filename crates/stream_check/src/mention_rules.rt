@@ -3,7 +3,7 @@
 
 ghost use Rattle.std.specs.Prelude.{◌≡◌, ◌<◌, [], ◌∷◌, true, false, length};
 ghost use Rattle.fig_mentions.specs.Mentions.{entry_mention, mentions_of};
-ghost use Rattle.stream_check.specs.Pictures.{shown};
+ghost use Rattle.stream_check.specs.Pictures.{picture_of_heard};
 ghost use Rattle.stream_check.specs.Contradictions.{absent, absent_among, are_whole};
 ghost use Rattle.stream_check.specs.Contradictions.{contradictions_among, contradictions_in};
 ghost use Rattle.stream_check.specs.Hearing.{AreNoted};
@@ -52,7 +52,8 @@ fn note_entry<R: Report>(
     noted: &mut Noted,
     report: &mut R,
 )
-    ensures { AreNoted at (absent (shown current.now) ext (entry_mention ext long entries.now))
+    ensures { AreNoted at
+        (absent (picture_of_heard current.now) ext (entry_mention ext long entries.now))
         noted.old (R.reported report.old) noted.new (R.reported report.new) }
 {
     let mention = entry_mention(ext, long, entries);
@@ -72,7 +73,8 @@ fn note_entries<R: Report>(
     report: &mut R,
 )
     requires whole { are_whole (mentions_of ext long entries.now) ≡ true }
-    ensures { AreNoted at (absent_among (shown current.now) ext (mentions_of ext long entries.now))
+    ensures { AreNoted at
+        (absent_among (picture_of_heard current.now) ext (mentions_of ext long entries.now))
         noted.old (R.reported report.old) noted.new (R.reported report.new) }
 {
     let mut rest = entries;
@@ -91,7 +93,7 @@ fn note_among<R: Report>(
     noted: &mut Noted,
     report: &mut R,
 )
-    ensures { AreNoted at (contradictions_among (shown current.now) second entries.now)
+    ensures { AreNoted at (contradictions_among (picture_of_heard current.now) second entries.now)
         noted.old (R.reported report.old) noted.new (R.reported report.new) }
 {
     let ext = second % 32;
@@ -115,7 +117,7 @@ fn note_fig<R: Report>(
     noted: &mut Noted,
     report: &mut R,
 )
-    ensures { AreNoted at (contradictions_in (shown current.now) fig.now)
+    ensures { AreNoted at (contradictions_in (picture_of_heard current.now) fig.now)
         noted.old (R.reported report.old) noted.new (R.reported report.new) }
 {
     if is_judged(fig) {
@@ -126,7 +128,7 @@ fn note_fig<R: Report>(
 
 impl CheckerState {
     ghost use Rattle.std.specs.Prelude.{◌≡◌, nat_le, [], if◌then◌else◌};
-    ghost use Rattle.stream_check.specs.Pictures.{shown};
+    ghost use Rattle.stream_check.specs.Pictures.{picture_of_heard};
     ghost use Rattle.stream_check.specs.CheckerState.{with_noted};
     ghost use Rattle.stream_check.specs.Contradictions.{contradictions_in};
     ghost use Rattle.stream_check.specs.Hearing.{AreNoted};
@@ -137,7 +139,7 @@ impl CheckerState {
         ensures state { self.new ≡ with_noted self.new.noted self.old }
         ensures noted { AreNoted at
             (if nat_le self.old.period self.old.frames
-            then contradictions_in (shown self.old.current) fig.now else [])
+            then contradictions_in (picture_of_heard self.old.current) fig.now else [])
             self.old.noted (R.reported report.old) self.new.noted (R.reported report.new) }
     {
         if self.frames >= self.period {

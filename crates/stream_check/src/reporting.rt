@@ -10,7 +10,8 @@ use crate::finding::{Fault, Finding, What};
 pub trait Report {
     ghost use Rattle.stream_check.specs.Reported.{Reported};
 
-    /// What was reported to it: all findings, if it keeps them, or if it keeps a limited number and these are no more.
+    /// What was reported to it: all findings, if it keeps them, or if it keeps a limited number and
+    /// these are no more.
     ghost reported: { Self → Reported };
 
     /// Receives one more finding.

@@ -3,7 +3,8 @@
 ghost use Rattle.std.specs.Prelude.{◌≡◌, ◌<◌, ◌%◌};
 ghost use Rattle.fib_reader.specs.Raw.{u16_at_offset};
 ghost use Rattle.stream_check.specs.Pictures.{raws};
-ghost use Rattle.stream_check.specs.Rules.{is_long_form, first_unit, end_unit, share_unit, partner, overlap, ends_past, past_end};
+ghost use Rattle.stream_check.specs.Rules.{is_long_form, first_unit, end_unit, share_unit, partner};
+ghost use Rattle.stream_check.specs.Rules.{overlap, ends_past, past_end};
 
 use crate::finding::Fault;
 use crate::heard_entry::HeardEntry;

@@ -10,7 +10,9 @@ impl CheckerState {
     ghost use Rattle.std.specs.Prelude.{◌≡◌, ◌&&◌, not, map};
     ghost use Rattle.stream_check.specs.Reported.{with_more};
     ghost use Rattle.stream_check.specs.Reporting.{in_frame};
-    ghost use Rattle.stream_check.specs.Rules.{times_faults, heard_faults, flags_faults, notice_faults, unit_faults, count_findings, swap_findings};
+    ghost use Rattle.stream_check.specs.Rules.{times_faults, heard_faults, flags_faults};
+    ghost use Rattle.stream_check.specs.Rules.{notice_faults, unit_faults, count_findings};
+    ghost use Rattle.stream_check.specs.Rules.{swap_findings};
     ghost use Rattle.stream_check.specs.CheckerState.{known_in};
 
     /// Whether a fault of the notice is reported: only if the beginning of the notice was heard.

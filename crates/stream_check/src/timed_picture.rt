@@ -8,8 +8,8 @@ use fib_reader::RawEntry;
 use fig_mentions::{Mention, is_nothing};
 use std::marker::Model;
 
-/// The entries of FIG 0/1 to 0/3 heard of one configuration, each with the time when it was last heard. There is no
-/// FIG 0/0 among them.
+/// The entries of FIG 0/1 to 0/3 heard of one configuration, each with the time when it was last
+/// heard. There is no FIG 0/0 among them.
 #[derive(Drop)]
 pub struct TimedPicture {
     subs: HeardTable,
@@ -32,8 +32,9 @@ impl Model for TimedPicture {
 impl TimedPicture {
     ghost use Rattle.std.specs.Prelude.{◌≡◌, ◌≢◌};
     ghost use Rattle.std.specs.List.{AllByRecursion};
-    ghost use Rattle.fig_mentions.specs.Agreeing.{is_there};
-    ghost use Rattle.stream_check.specs.Pictures.{Heard, empty_picture, shown, picture_kept, heard_since};
+    ghost use Rattle.fig_mentions.specs.Agreeing.{is_present};
+    ghost use Rattle.stream_check.specs.Pictures.{Heard, empty_picture, picture_of_heard};
+    ghost use Rattle.stream_check.specs.Pictures.{picture_kept, heard_since};
     ghost use Rattle.stream_check.specs.Rules.{change_between};
     ghost use Rattle.stream_check.specs.Lookup.{lookup_in};
     ghost use Rattle.stream_check.specs.declared.heard_table.Lookup.TheVariants as standings;
@@ -73,11 +74,12 @@ impl TimedPicture {
         &self.packets
     }
 
-    /// Replaces the entry of FIG 0/1 to 0/3 with the same identifier, or inserts a new one, as heard at this time.
-    /// Returns how it compared with the entries before; where there is no room for it, nothing changes.
+    /// Replaces the entry of FIG 0/1 to 0/3 with the same identifier, or inserts a new one, as
+    /// heard at this time. Returns how it compared with the entries before; where there is no room
+    /// for it, nothing changes.
     pub(crate) fn hear(&mut self, entry: &RawEntry<'_>, at: u64) -> Lookup
         requires { entry.now.ext ≢ 0 }
-        ensures lookup { result ≡ lookup_in entry.now (shown self.old) }
+        ensures lookup { result ≡ lookup_in entry.now (picture_of_heard self.old) }
         ensures kept { result ≢ standings.Full
             → self.new ≡ picture_kept (record { raw = entry.now; at = at }) self.old }
         ensures full { result ≡ standings.Full → self.new ≡ self.old }
@@ -92,7 +94,7 @@ impl TimedPicture {
 
     /// Whether what an entry of a FIG names is among the entries.
     pub(crate) fn has(&self, mention: Mention) -> bool
-        ensures { result ≡ is_there (shown self.now) mention }
+        ensures { result ≡ is_present (picture_of_heard self.now) mention }
     {
         if is_nothing(mention) {
             return true;
@@ -103,8 +105,8 @@ impl TimedPicture {
         self.services.has(mention) || self.packets.has(mention)
     }
 
-    /// Updates the times of the oldest entries, if one may have been last heard at `before` or earlier. The entries
-    /// stay the same.
+    /// Updates the times of the oldest entries, if one may have been last heard at `before` or
+    /// earlier. The entries stay the same.
     pub(crate) fn find_oldest(&mut self, before: u64)
         ensures { self.new ≡ self.old }
     {
@@ -121,10 +123,10 @@ impl TimedPicture {
             && (self.services.is_heard_since(since) && self.packets.is_heard_since(since))
     }
 
-    /// The change flags from this picture to another: 1 where sub-channels differ, 2 where services or packet
-    /// components differ, 3 where both do.
+    /// The change flags from this picture to another: 1 where sub-channels differ, 2 where services
+    /// or packet components differ, 3 where both do.
     pub(crate) fn change_to(&self, other: &TimedPicture) -> u8
-        ensures { result ≡ change_between (shown self.now) (shown other.now) }
+        ensures { result ≡ change_between (picture_of_heard self.now) (picture_of_heard other.now) }
     {
         let subs = if self.subs.has_same_entries(&other.subs) {
             0

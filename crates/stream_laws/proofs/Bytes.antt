@@ -1,5 +1,7 @@
 -- FIG 0/0 and other entries, in the bytes of a frame and among its entries.
-use Rattle.std.proofs.Common.{◌≡◌, ℕ, zero, suc, ◌+◌, ◌*◌, ◌<◌, ◌≤◌, ◌%◌, Bool, true, false, List, [], ◌∷◌, ◌++◌, length, take, drop, get_or, Contains, Some, None, refl, sym, ap, ◌∙◌, subst, arith, inl, inr}
+use Rattle.std.proofs.Common.{◌≡◌, ℕ, zero, suc, ◌+◌, ◌*◌, ◌<◌, ◌≤◌, ◌%◌, Bool, true, false, List, [], ◌∷◌, ◌++◌}
+use Rattle.std.proofs.Common.{length, take, drop, get_or, Contains, Some, None, refl, sym, ap, ◌∙◌, subst, arith, inl}
+use Rattle.std.proofs.Common.{inr}
 use Rattle.std.specs.Prelude.{map}
 use Rattle.std.specs.List.{AllByRecursion}
 use Rattle.std.proofs.lemmas.Bool.{cases_lt, eqb-true, eq-eqb}
@@ -7,18 +9,21 @@ use Rattle.std.proofs.Math.Seq.{take-append_seam, drop-append-add}
 use Rattle.std.proofs.lemmas.List.{drop_all, length-append}
 use Rattle.std.proofs.lemmas.List.Elements.{Contains-append_left, Contains-append_right, Contains-append_cases}
 use Rattle.mux_types.proofs.Elements.{contains_cases, contains_first, contains_later, contains_none, each_contains}
-use Rattle.fib_codec.specs.Grammar.{Fig, Open, Other, IsFib, IsFig, AreFigs, AreEntries, IsEntry, IsCounted, OneList, is_next, is_long}
+use Rattle.fib_codec.specs.Grammar.{Fig, Open, Other, IsFib, IsFig, AreFigs, AreEntries, IsEntry, IsCounted, OneList}
+use Rattle.fib_codec.specs.Grammar.{is_next, is_long}
 use Rattle.fib_codec.specs.Heard.{fib_at, IsSaid, IsInFig, IsEnsembleHeardInRow}
 use Rattle.fib_codec.specs.Laws.{IsByte, FibHas32Bytes, EntryIsSpelled}
 use Rattle.fib_reader.specs.Raw.{Raw, raw_of, entries_in, ensemble_in}
 use Rattle.stream_check.specs.Frames.{Fib, Reads, Reading}
-use Rattle.stream_check.specs.History.{Item, items_of, fig_items, figs_items, fib_items, fibs_items, frame_items, is_ensemble, ensemble_of}
+use Rattle.stream_check.specs.History.{Item, items_of, fig_items, figs_items, fib_items, fibs_items, frame_items}
+use Rattle.stream_check.specs.History.{is_ensemble, ensemble_of_item}
 use Rattle.stream_laws.specs.Notices.{IsFibBytes, AreFibBytes, row_of}
 use Rattle.stream_laws.proofs.Clean.{all_left, all_right}
 use Rattle.mux_types.proofs.Members.{mapped_from, mapped_to}
 use Rattle.mux_types.specs.Entries.{EnsembleInformation}
 use Rattle.mux_types.specs.declared.entry.Entry.{Entry}
-use Rattle.mux_types.specs.declared.entry.Entry.TheVariants.{Ensemble as EnsembleOf, Sub as SubOf, Short as ShortOf, Service as ServiceOf, Packet as PacketOf}
+use Rattle.mux_types.specs.declared.entry.Entry.TheVariants.{Ensemble as EnsembleOf, Sub as SubOf, Short as ShortOf}
+use Rattle.mux_types.specs.declared.entry.Entry.TheVariants.{Service as ServiceOf, Packet as PacketOf}
 use Rattle.fib_codec.specs.declared.head.Head.{Head}
 use Rattle.fib_codec.specs.Spelling.{entry_bytes, ensemble_bytes, IsUnder}
 use Rattle.fib_codec.specs.Ranges.{IsWithin, IsEnsembleInformation}
@@ -26,7 +31,8 @@ use Rattle.fib_reader.specs.Laws.{EnsembleIsHeard}
 
 -- ---- the FIBs of a row
 
-pub at_place : (fibs : List (List ℕ)) (place : ℕ) (d : List ℕ) → AreFibBytes fibs → place < length fibs → fib_at (row_of fibs) place ≡ get_or fibs place d
+pub at_place : (fibs : List (List ℕ)) (place : ℕ) (d : List ℕ) → AreFibBytes fibs → place < length fibs
+    → fib_at (row_of fibs) place ≡ get_or fibs place d
 at_place [] place d all lt = absurd (omega (arith, lt))
 at_place (f ∷ fs) zero d all lt =
     let size : length f ≡ 32 = all.0.0 in
@@ -35,7 +41,8 @@ at_place (f ∷ fs) (suc p) d all lt =
     let size : length f ≡ 32 = all.0.0 in
     let far : 32 * suc p ≡ length f + 32 * p = omega (arith, size) in
     let less : p < length fs = omega (arith, lt) in
-    ap (take 32) (ap (λ n. drop n (f ++ row_of fs)) far ∙ drop-append-add f (row_of fs) (32 * p)) ∙ at_place fs p d all.1 less
+    ap (take 32) (ap (λ n. drop n (f ++ row_of fs)) far ∙ drop-append-add f (row_of fs) (32 * p))
+    ∙ at_place fs p d all.1 less
 
 row_length : (fibs : List (List ℕ)) → AreFibBytes fibs → length (row_of fibs) ≡ 32 * length fibs
 row_length [] all = refl
@@ -49,10 +56,12 @@ past_end fibs place all le =
     let far : length (row_of fibs) ≤ 32 * place = (let len = row_length fibs all in omega (arith, len, le)) in
     ap (take 32) (drop_all (32 * place) (row_of fibs) far)
 
-pub in_row : FibHas32Bytes → (fibs : List (List ℕ)) (place : ℕ) (figs : List Fig) → AreFibBytes fibs → IsFib (fib_at (row_of fibs) place) figs → Contains fibs (fib_at (row_of fibs) place)
+pub in_row : FibHas32Bytes → (fibs : List (List ℕ)) (place : ℕ) (figs : List Fig) → AreFibBytes fibs
+    → IsFib (fib_at (row_of fibs) place) figs → Contains fibs (fib_at (row_of fibs) place)
 in_row size fibs place figs all is = elim (cases_lt place (length fibs)) [
   | inl lt ↦ (place, lt, sym (at_place fibs place (fib_at (row_of fibs) place) all lt))
-  | inr ge ↦ (let none : 0 ≡ 32 = ap length (sym (past_end fibs place all ge)) ∙ size (fib_at (row_of fibs) place) figs is in absurd (omega (arith, none)))
+  | inr ge ↦ (let none : 0 ≡ 32 = ap length (sym (past_end fibs place all ge))
+      ∙ size (fib_at (row_of fibs) place) figs is in absurd (omega (arith, none)))
 ]
 
 -- ---- an entry, and the FIB that has it
@@ -80,7 +89,15 @@ record InFigs (figs : List Fig) (i : Item) : Type 0 where
   next_is : is_next second ≡ i.next
 
 figs_later : (f : Fig) (fs : List Fig) (i : Item) → InFigs fs i → InFigs (f ∷ fs) i
-figs_later f fs i h = record { second = h.second; es = h.es; bytes = h.bytes; fig_in = contains_later f fs (Open h.second h.es) h.fig_in; entry_in = h.entry_in; raw_is = h.raw_is; next_is = h.next_is }
+figs_later f fs i h = record {
+  second = h.second;
+  es = h.es;
+  bytes = h.bytes;
+  fig_in = contains_later f fs (Open h.second h.es) h.fig_in;
+  entry_in = h.entry_in;
+  raw_is = h.raw_is;
+  next_is = h.next_is;
+}
 
 abbrev pub item_of : Bool → Bool → Raw → Item
 item_of first next raw = record { first = first; next = next; raw = raw }
@@ -108,22 +125,50 @@ in_figs first (f ∷ fs) i h = elim (Contains-append_cases (fig_items first f) (
 ]
 
 from_later : (r : Reading) (fib : List ℕ) (fibs : List (List ℕ)) (i : Item) → IsFrom r fibs i → IsFrom r (fib ∷ fibs) i
-from_later r fib fibs i h = record { fib = h.fib; figs = h.figs; second = h.second; es = h.es; bytes = h.bytes; inside = contains_later fib fibs h.fib h.inside; read = h.read; fig_in = h.fig_in; entry_in = h.entry_in; raw_is = h.raw_is; next_is = h.next_is }
+from_later r fib fibs i h = record {
+  fib = h.fib;
+  figs = h.figs;
+  second = h.second;
+  es = h.es;
+  bytes = h.bytes;
+  inside = contains_later fib fibs h.fib h.inside;
+  read = h.read;
+  fig_in = h.fig_in;
+  entry_in = h.entry_in;
+  raw_is = h.raw_is;
+  next_is = h.next_is;
+}
 
-from_first : (r : Reading) (first : Bool) (fib : List ℕ) (fibs : List (List ℕ)) (i : Item) (read : Fib) → r.read fib ≡ read → Contains (fib_items first read) i → IsFrom r (fib ∷ fibs) i
+from_first : (r : Reading) (first : Bool) (fib : List ℕ) (fibs : List (List ℕ)) (i : Item) (read : Fib)
+    → r.read fib ≡ read → Contains (fib_items first read) i → IsFrom r (fib ∷ fibs) i
 from_first r first fib fibs i None e h = absurd (contains_none i h)
 from_first r first fib fibs i (Some figs) e h =
     let one = in_figs first figs i h in
-    record { fib = fib; figs = figs; second = one.second; es = one.es; bytes = one.bytes; inside = contains_first fib fibs; read = e; fig_in = one.fig_in; entry_in = one.entry_in; raw_is = one.raw_is; next_is = one.next_is }
+    record {
+      fib = fib;
+      figs = figs;
+      second = one.second;
+      es = one.es;
+      bytes = one.bytes;
+      inside = contains_first fib fibs;
+      read = e;
+      fig_in = one.fig_in;
+      entry_in = one.entry_in;
+      raw_is = one.raw_is;
+      next_is = one.next_is;
+    }
 
-from_fibs : (r : Reading) (first : Bool) (fibs : List (List ℕ)) (i : Item) → Contains (fibs_items first (map r.read fibs)) i → IsFrom r fibs i
+from_fibs : (r : Reading) (first : Bool) (fibs : List (List ℕ)) (i : Item)
+    → Contains (fibs_items first (map r.read fibs)) i → IsFrom r fibs i
 from_fibs r first [] i h = absurd (contains_none i h)
-from_fibs r first (fib ∷ fibs) i h = elim (Contains-append_cases (fib_items first (r.read fib)) (fibs_items false (map r.read fibs)) i h) [
-  | inl here ↦ from_first r first fib fibs i (r.read fib) refl here
-  | inr later ↦ from_later r fib fibs i (from_fibs r false fibs i later)
-]
+from_fibs r first (fib ∷ fibs) i h =
+    elim (Contains-append_cases (fib_items first (r.read fib)) (fibs_items false (map r.read fibs)) i h) [
+      | inl here ↦ from_first r first fib fibs i (r.read fib) refl here
+      | inr later ↦ from_later r fib fibs i (from_fibs r false fibs i later)
+    ]
 
-pub item_from : (r : Reading) (fibs : List (List ℕ)) (i : Item) → Contains (frame_items (map r.read fibs)) i → IsFrom r fibs i
+pub item_from : (r : Reading) (fibs : List (List ℕ)) (i : Item) → Contains (frame_items (map r.read fibs)) i
+    → IsFrom r fibs i
 item_from r fibs i h = from_fibs r true fibs i h
 
 pub read_fib : (r : Reading) (fib : List ℕ) (figs : List Fig) → r.read fib ≡ Some figs → IsFib fib figs
@@ -131,39 +176,56 @@ read_fib r fib figs e = subst (Reads fib) e (r.right fib)
 
 -- ---- an entry of a FIB is an entry of the frame
 
-fig_said : (first next : Bool) (raw : Raw) (raws : List Raw) → Contains raws raw → Contains (items_of first next raws) (item_of first next raw)
+fig_said : (first next : Bool) (raw : Raw) (raws : List Raw) → Contains raws raw
+    → Contains (items_of first next raws) (item_of first next raw)
 fig_said first next raw raws h = mapped_from (item_of first next) raws raw h
 
-figs_said : (first : Bool) (figs : List Fig) (second : ℕ) (es : List (List ℕ)) (bytes : List ℕ) → Contains figs (Open second es) → Contains es bytes
-    → (b : Bool) × Contains (figs_items first figs) (item_of b (is_next second) (raw_of (second % 32) (is_long second) bytes))
+figs_said : (first : Bool) (figs : List Fig) (second : ℕ) (es : List (List ℕ)) (bytes : List ℕ)
+    → Contains figs (Open second es) → Contains es bytes
+    → (b : Bool) × Contains (figs_items first figs)
+    (item_of b (is_next second) (raw_of (second % 32) (is_long second) bytes))
 figs_said first [] second es bytes h e = absurd (contains_none (Open second es) h)
 figs_said first (f ∷ fs) second es bytes h e = elim (contains_cases f fs (Open second es) h) [
   | inl same ↦ (
     first,
-    subst (λ (g : Fig). Contains (fig_items first g ++ figs_items false fs) (item_of first (is_next second) (raw_of (second % 32) (is_long second) bytes))) (sym same)
-        (Contains-append_left (fig_items first (Open second es)) (figs_items false fs) (item_of first (is_next second) (raw_of (second % 32) (is_long second) bytes))
-        (fig_said first (is_next second) (raw_of (second % 32) (is_long second) bytes) (entries_in (Open second es)) (mapped_from (raw_of (second % 32) (is_long second)) es bytes e))),
+    subst (λ (g : Fig). Contains (fig_items first g ++ figs_items false fs)
+        (item_of first (is_next second) (raw_of (second % 32) (is_long second) bytes))) (sym same)
+        (Contains-append_left (fig_items first (Open second es)) (figs_items false fs)
+        (item_of first (is_next second) (raw_of (second % 32) (is_long second) bytes))
+        (fig_said first (is_next second) (raw_of (second % 32) (is_long second) bytes) (entries_in (Open second es))
+        (mapped_from (raw_of (second % 32) (is_long second)) es bytes e))),
   )
-  | inr more ↦ (let there = figs_said false fs second es bytes more e in
-      (there.0, Contains-append_right (fig_items first f) (figs_items false fs) (item_of there.0 (is_next second) (raw_of (second % 32) (is_long second) bytes)) there.1))
+  | inr more ↦ (let there = figs_said false fs second es bytes more e in (
+    there.0,
+    Contains-append_right (fig_items first f) (figs_items false fs)
+        (item_of there.0 (is_next second) (raw_of (second % 32) (is_long second) bytes)) there.1,
+  ))
 ]
 
-pub fibs_said : (r : Reading) (first : Bool) (fibs : List (List ℕ)) (fib : List ℕ) (figs : List Fig) (second : ℕ) (es : List (List ℕ)) (bytes : List ℕ)
+pub fibs_said : (r : Reading) (first : Bool) (fibs : List (List ℕ)) (fib : List ℕ) (figs : List Fig) (second : ℕ)
+    (es : List (List ℕ)) (bytes : List ℕ)
     → Contains fibs fib → r.read fib ≡ Some figs → Contains figs (Open second es) → Contains es bytes
-    → (b : Bool) × Contains (fibs_items first (map r.read fibs)) (item_of b (is_next second) (raw_of (second % 32) (is_long second) bytes))
+    → (b : Bool) × Contains (fibs_items first (map r.read fibs))
+    (item_of b (is_next second) (raw_of (second % 32) (is_long second) bytes))
 fibs_said r first [] fib figs second es bytes inside read f e = absurd (contains_none fib inside)
 fibs_said r first (g ∷ gs) fib figs second es bytes inside read f e = elim (contains_cases g gs fib inside) [
   | inl same ↦ (let there = figs_said first figs second es bytes f e in
       let is : Some figs ≡ r.read g = sym read ∙ ap r.read (sym same) in (
         there.0,
-        Contains-append_left (fib_items first (r.read g)) (fibs_items false (map r.read gs)) (item_of there.0 (is_next second) (raw_of (second % 32) (is_long second) bytes))
-            (subst (λ (x : Fib). Contains (fib_items first x) (item_of there.0 (is_next second) (raw_of (second % 32) (is_long second) bytes))) is there.1),
+        Contains-append_left (fib_items first (r.read g)) (fibs_items false (map r.read gs))
+            (item_of there.0 (is_next second) (raw_of (second % 32) (is_long second) bytes))
+            (subst (λ (x : Fib). Contains (fib_items first x)
+            (item_of there.0 (is_next second) (raw_of (second % 32) (is_long second) bytes))) is there.1),
       ))
-  | inr more ↦ (let there = fibs_said r false gs fib figs second es bytes more read f e in
-      (there.0, Contains-append_right (fib_items first (r.read g)) (fibs_items false (map r.read gs)) (item_of there.0 (is_next second) (raw_of (second % 32) (is_long second) bytes)) there.1))
+  | inr more ↦ (let there = fibs_said r false gs fib figs second es bytes more read f e in (
+    there.0,
+    Contains-append_right (fib_items first (r.read g)) (fibs_items false (map r.read gs))
+        (item_of there.0 (is_next second) (raw_of (second % 32) (is_long second) bytes)) there.1,
+  ))
 ]
 
-read_as : OneList → (r : Reading) (bytes : List ℕ) (figs : List Fig) → IsFib bytes figs → (read : Fib) → r.read bytes ≡ read → Reads bytes read → r.read bytes ≡ Some figs
+read_as : OneList → (r : Reading) (bytes : List ℕ) (figs : List Fig) → IsFib bytes figs → (read : Fib)
+    → r.read bytes ≡ read → Reads bytes read → r.read bytes ≡ Some figs
 read_as one r bytes figs is None e h = absurd (h figs is)
 read_as one r bytes figs is (Some found) e h = e ∙ ap Some (one bytes found figs h is)
 
@@ -171,9 +233,11 @@ pub is_read : OneList → (r : Reading) (bytes : List ℕ) (figs : List Fig) →
 is_read one r bytes figs is = read_as one r bytes figs is (r.read bytes) refl (r.right bytes)
 
 -- an entry in a FIB of the row
-pub said_in : FibHas32Bytes → OneList → (r : Reading) (fibs : List (List ℕ)) (place : ℕ) (figs : List Fig) (second : ℕ) (es : List (List ℕ)) (bytes : List ℕ) → AreFibBytes fibs
+pub said_in : FibHas32Bytes → OneList → (r : Reading) (fibs : List (List ℕ)) (place : ℕ) (figs : List Fig) (second : ℕ)
+    (es : List (List ℕ)) (bytes : List ℕ) → AreFibBytes fibs
     → IsFib (fib_at (row_of fibs) place) figs → Contains figs (Open second es) → Contains es bytes
-    → (b : Bool) × Contains (frame_items (map r.read fibs)) (item_of b (is_next second) (raw_of (second % 32) (is_long second) bytes))
+    → (b : Bool) × Contains (frame_items (map r.read fibs))
+    (item_of b (is_next second) (raw_of (second % 32) (is_long second) bytes))
 said_in size one r fibs place figs second es bytes all is f e =
     let fib : List ℕ = fib_at (row_of fibs) place in
     fibs_said r true fibs fib figs second es bytes (in_row size fibs place figs all is) (is_read one r fib figs is) f e
@@ -190,25 +254,35 @@ pub record IsFigOf (f : Fig) : Type 0 where
   pub is : IsFig bytes f
   pub small : AllByRecursion IsByte bytes
 
-fig_among : (bytes : List ℕ) (figs : List Fig) (f : Fig) → AreFigs bytes figs → AllByRecursion IsByte bytes → Contains figs f → IsFigOf f
+fig_among : (bytes : List ℕ) (figs : List Fig) (f : Fig) → AreFigs bytes figs → AllByRecursion IsByte bytes
+    → Contains figs f → IsFigOf f
 fig_among bytes [] f are small h = absurd (contains_none f h)
 fig_among bytes (g ∷ gs) f are small h =
     let both : AllByRecursion IsByte (are.0 ++ are.1) = subst (AllByRecursion IsByte) are.2 small in
     elim (contains_cases g gs f h) [
-      | inl same ↦ record { bytes = are.0; is = subst (IsFig are.0) same are.3; small = all_left IsByte are.0 are.1 both }
+      | inl same ↦ record {
+        bytes = are.0;
+        is = subst (IsFig are.0) same are.3;
+        small = all_left IsByte are.0 are.1 both;
+      }
       | inr more ↦ fig_among are.1 gs f are.4 (all_right IsByte are.0 are.1 both) more
     ]
 
-pub fig_of_fib : (fib : List ℕ) (figs : List Fig) (f : Fig) → IsFib fib figs → IsFibBytes fib → Contains figs f → IsFigOf f
+pub fig_of_fib : (fib : List ℕ) (figs : List Fig) (f : Fig) → IsFib fib figs → IsFibBytes fib → Contains figs f
+    → IsFigOf f
 fig_of_fib fib figs f is bytes h = fig_among (take 30 fib) figs f is.1 (each_take IsByte 30 fib bytes.1) h
 
-entry_among : (ext : ℕ) (long : Bool) (bytes : List ℕ) (es : List (List ℕ)) (e : List ℕ) → AreEntries ext long bytes es → AllByRecursion IsByte bytes → Contains es e
+entry_among : (ext : ℕ) (long : Bool) (bytes : List ℕ) (es : List (List ℕ)) (e : List ℕ) → AreEntries ext long bytes es
+    → AllByRecursion IsByte bytes → Contains es e
     → IsEntry ext long e × AllByRecursion IsByte e
 entry_among ext long bytes [] e are small h = absurd (contains_none e h)
 entry_among ext long bytes (x ∷ xs) e are small h =
     let both : AllByRecursion IsByte (x ++ are.0) = subst (AllByRecursion IsByte) are.1 small in
     elim (contains_cases x xs e h) [
-      | inl same ↦ (subst (IsEntry ext long) same are.2, subst (AllByRecursion IsByte) same (all_left IsByte x are.0 both))
+      | inl same ↦ (
+        subst (IsEntry ext long) same are.2,
+        subst (AllByRecursion IsByte) same (all_left IsByte x are.0 both),
+      )
       | inr more ↦ entry_among ext long are.0 xs e are.3 (all_right IsByte x are.0 both) more
     ]
 
@@ -218,13 +292,17 @@ pub record IsEnsembleBytes (bytes : List ℕ) : Type 0 where
   pub counted : IsCounted bytes
   pub small : AllByRecursion IsByte bytes
 
-pub ensemble_among : (second : ℕ) (es : List (List ℕ)) (e : List ℕ) → IsFigOf (Open second es) → second % 32 ≡ 0 → Contains es e → IsEnsembleBytes e
+pub ensemble_among : (second : ℕ) (es : List (List ℕ)) (e : List ℕ) → IsFigOf (Open second es) → second % 32 ≡ 0
+    → Contains es e → IsEnsembleBytes e
 ensemble_among second es e f ext h =
     let header : (1 + length f.is.0) ∷ second ∷ f.is.0 ≡ f.bytes = sym f.is.1 in
-    let small : AllByRecursion IsByte ((1 + length f.is.0) ∷ second ∷ f.is.0) = subst (AllByRecursion IsByte) (sym header) f.small in
+    let small : AllByRecursion IsByte ((1 + length f.is.0) ∷ second ∷ f.is.0) =
+    subst (AllByRecursion IsByte) (sym header) f.small in
     let one = entry_among (second % 32) (is_long second) f.is.0 es e f.is.4.0 small.1.1 h in
     let alone = f.is.4.1 ext in
-    let same : alone.0 ≡ e = elim (contains_cases alone.0 [] e (subst (λ (xs : List (List ℕ)). Contains xs e) alone.1 h)) [ inl s ↦ s | inr none ↦ absurd (contains_none e none) ] in
+    let same : alone.0 ≡ e = elim (contains_cases alone.0 [] e
+    (subst (λ (xs : List (List ℕ)). Contains xs e) alone.1 h))
+    [ inl s ↦ s | inr none ↦ absurd (contains_none e none) ] in
     record {
       whole = subst (λ (n : ℕ). IsEntry n (is_long second) e) ext one.0;
       counted = subst IsCounted same alone.2;
@@ -253,7 +331,8 @@ record IsEnsembleSpelled (bytes : List ℕ) : Type 0 where
 abbrev plain_head : Head
 plain_head = record { next = false; oe = false; long = false; ext = 0 }
 
-of_spelled : (bytes : List ℕ) (e : Entry) → IsUnder plain_head e → IsWithin e → entry_bytes e ≡ bytes → IsEnsembleSpelled bytes
+of_spelled : (bytes : List ℕ) (e : Entry) → IsUnder plain_head e → IsWithin e → entry_bytes e ≡ bytes
+    → IsEnsembleSpelled bytes
 of_spelled bytes (EnsembleOf e) under within is = record { information = e; within = within; spelled = is }
 of_spelled bytes (SubOf s) under within is = absurd (omega (arith, under))
 of_spelled bytes (ShortOf s) under within is = absurd (omega (arith, under))
@@ -269,7 +348,8 @@ pub information : FibLaws → (bytes : List ℕ) → IsEnsembleBytes bytes → I
 information laws bytes h =
     let found = laws.spelled plain_head bytes (omega arith) h.small h.whole (λ e. h.counted) in
     let one = of_spelled bytes found.0 found.1 found.2 found.3 in
-    let heard : ensemble_in (bare bytes) ≡ one.information = ap (λ bs. ensemble_in (bare bs)) (sym one.spelled) ∙ laws.ensemble one.information one.within in
+    let heard : ensemble_in (bare bytes) ≡ one.information =
+    ap (λ bs. ensemble_in (bare bs)) (sym one.spelled) ∙ laws.ensemble one.information one.within in
     record {
       within = subst IsEnsembleInformation (sym heard) one.within;
       spelled = sym one.spelled ∙ ap ensemble_bytes (sym heard);
@@ -277,19 +357,23 @@ information laws bytes h =
 
 -- ---- from the entries to the bytes
 
-pub header_heard : FibLaws → (r : Reading) (fibs : List (List ℕ)) (i : Item) → AreFibBytes fibs → is_ensemble i ≡ true → Contains (frame_items (map r.read fibs)) i
-    → IsEnsembleHeardInRow (row_of fibs) i.next (ensemble_of i)
+pub header_heard : FibLaws → (r : Reading) (fibs : List (List ℕ)) (i : Item) → AreFibBytes fibs → is_ensemble i ≡ true
+    → Contains (frame_items (map r.read fibs)) i
+    → IsEnsembleHeardInRow (row_of fibs) i.next (ensemble_of_item i)
 header_heard laws r fibs i all e h =
     let from = item_from r fibs i h in
     let is_fib : IsFib from.fib from.figs = read_fib r from.fib from.figs from.read in
-    let here : fib_at (row_of fibs) from.inside.0 ≡ from.fib = at_place fibs from.inside.0 from.fib all from.inside.1 ∙ from.inside.2 in
+    let here : fib_at (row_of fibs) from.inside.0 ≡ from.fib =
+    at_place fibs from.inside.0 from.fib all from.inside.1 ∙ from.inside.2 in
     let none : i.raw.ext ≡ 0 = eqb-true i.raw.ext 0 e in
     let ext : from.second % 32 ≡ 0 = ap (λ (x : Raw). x.ext) from.raw_is ∙ none in
     let bytes_is : from.bytes ≡ i.raw.bytes = ap (λ (x : Raw). x.bytes) from.raw_is in
-    let fine = ensemble_among from.second from.es from.bytes (fig_of_fib from.fib from.figs (Open from.second from.es) is_fib (each_contains IsFibBytes fibs from.fib all from.inside) from.fig_in) ext from.entry_in in
+    let fine = ensemble_among from.second from.es from.bytes
+    (fig_of_fib from.fib from.figs (Open from.second from.es) is_fib
+    (each_contains IsFibBytes fibs from.fib all from.inside) from.fig_in) ext from.entry_in in
     let says = information laws from.bytes fine in
-    let same : ensemble_in (bare from.bytes) ≡ ensemble_of i = ap (λ bs. ensemble_in (bare bs)) bytes_is in
-    let said : IsSaid from.second from.bytes (record { next = i.next; entry = EnsembleOf (ensemble_of i) }) =
+    let same : ensemble_in (bare from.bytes) ≡ ensemble_of_item i = ap (λ bs. ensemble_in (bare bs)) bytes_is in
+    let said : IsSaid from.second from.bytes (record { next = i.next; entry = EnsembleOf (ensemble_of_item i) }) =
     record {
       ext = ext;
       next = from.next_is;
@@ -313,15 +397,18 @@ pub record IsHeaderSaid (r : Reading) (fibs : List (List ℕ)) (e : EnsembleInfo
   pub item : Item
   pub inside : Contains (frame_items (map r.read fibs)) item
   pub ensemble : is_ensemble item ≡ true
-  pub says : ensemble_of item ≡ e
+  pub says : ensemble_of_item item ≡ e
 
-header_in : FibLaws → (r : Reading) (fibs : List (List ℕ)) (place : ℕ) (figs : List Fig) (fig : Fig) (next : Bool) (e : EnsembleInformation) → AreFibBytes fibs
-    → IsFib (fib_at (row_of fibs) place) figs → Contains figs fig → IsInFig fig (record { next = next; entry = EnsembleOf e }) → IsHeaderSaid r fibs e
+header_in : FibLaws → (r : Reading) (fibs : List (List ℕ)) (place : ℕ) (figs : List Fig) (fig : Fig) (next : Bool)
+    (e : EnsembleInformation) → AreFibBytes fibs
+    → IsFib (fib_at (row_of fibs) place) figs → Contains figs fig
+    → IsInFig fig (record { next = next; entry = EnsembleOf e }) → IsHeaderSaid r fibs e
 header_in laws r fibs place figs (Other given) next e all is f h = absurd h
 header_in laws r fibs place figs (Open second es) next e all is f h =
     let said = said_in laws.size laws.one r fibs place figs second es h.0 all is f h.1 in
     let ext : second % 32 ≡ 0 = h.2.ext in
-    let heard : ensemble_in (raw_of (second % 32) (is_long second) h.0) ≡ e = ap (λ bs. ensemble_in (bare bs)) h.2.spelled ∙ laws.ensemble e h.2.within in
+    let heard : ensemble_in (raw_of (second % 32) (is_long second) h.0) ≡ e =
+    ap (λ bs. ensemble_in (bare bs)) h.2.spelled ∙ laws.ensemble e h.2.within in
     record {
       item = record { first = said.0; next = is_next second; raw = raw_of (second % 32) (is_long second) h.0 };
       inside = said.1;
@@ -329,5 +416,6 @@ header_in laws r fibs place figs (Open second es) next e all is f h =
       says = heard;
     }
 
-pub header_said : FibLaws → (r : Reading) (fibs : List (List ℕ)) (next : Bool) (e : EnsembleInformation) → AreFibBytes fibs → IsEnsembleHeardInRow (row_of fibs) next e → IsHeaderSaid r fibs e
+pub header_said : FibLaws → (r : Reading) (fibs : List (List ℕ)) (next : Bool) (e : EnsembleInformation)
+    → AreFibBytes fibs → IsEnsembleHeardInRow (row_of fibs) next e → IsHeaderSaid r fibs e
 header_said laws r fibs next e all h = header_in laws r fibs h.0 h.1.0 h.1.1 next e all h.1.2 h.1.3 h.1.4

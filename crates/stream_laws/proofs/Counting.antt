@@ -1,5 +1,6 @@
 -- The counts of a run run on, and FIG 0/0 is heard at each multiple of the step.
-use Rattle.std.proofs.Common.{◌≡◌, ℕ, ◌+◌, ◌%◌, ◌==◌, Bool, true, false, cond, List, [], ◌∷◌, Some, None, refl, sym, ap, ◌∙◌, subst}
+use Rattle.std.proofs.Common.{◌≡◌, ℕ, ◌+◌, ◌%◌, ◌==◌, Bool, true, false, cond, List, [], ◌∷◌, Some, None, refl, sym, ap}
+use Rattle.std.proofs.Common.{◌∙◌, subst}
 use Rattle.std.proofs.lemmas.Bool.{eq-eqb, eqb-true}
 use Rattle.mux_types.specs.Entries.{EnsembleInformation}
 use Rattle.mux_types.specs.declared.limits.TheConstants.{COUNTS}
@@ -11,13 +12,14 @@ use Rattle.plan_code.specs.Machine.{State}
 use Rattle.plan_verifier.specs.Typing.{Known}
 use Rattle.plan_runs.specs.declared.event.Event.{Event}
 use Rattle.plan_runs.specs.declared.event.Event.TheVariants.{Contact, Frame}
-use Rattle.plan_runs.specs.Frames.{is_noticed, ensemble_of, ensemble_sent, sent_entries, shown, frame_bytes, after_frame}
+use Rattle.plan_runs.specs.Frames.{is_noticed, ensemble_of, ensemble_sent, sent_entries, shown, frame_bytes}
+use Rattle.plan_runs.specs.Frames.{after_frame}
 use Rattle.plan_runs.specs.Runs.{happens, run_frames}
 use Rattle.plan_runs.specs.SentHeaders.{HasHeaderOf}
 use Rattle.plan_runs.proofs.Clock.{shown_count}
 use Rattle.plan_runs.proofs.Facts.{Holds, IsCode, airs, frame_holds, happens_holds, code_of, played_holds}
 use Rattle.plan_runs.proofs.Right.{PageLaws, pageable}
-use Rattle.stream_laws.specs.Counting.{IsCounted, AreCounted, RunsAreCounted}
+use Rattle.stream_laws.specs.Counting.{IsFrameOfCount, AreCounted, RunsAreCounted}
 use Rattle.stream_laws.proofs.InPlace.{shown_eid}
 
 -- what is sent, if anything is
@@ -34,52 +36,73 @@ either_count : (b : Bool) (x y : EnsembleInformation) (n : ℕ) → x.count ≡ 
 either_count true x y n here there = here
 either_count false x y n here there = there
 
-sent_of : (plan : Plan) (u : State) (e : EnsembleInformation) → ensemble_of plan u ≡ e → u.count % count_step (layout_mode plan.layout) ≡ 0 → IsSent plan u e
+sent_of : (plan : Plan) (u : State) (e : EnsembleInformation) → ensemble_of plan u ≡ e
+    → u.count % count_step (layout_mode plan.layout) ≡ 0 → IsSent plan u e
 sent_of plan u e is on = record {
   on = on;
-  eid = sym (ap (λ (x : EnsembleInformation). x.eid) is) ∙ either_eid (is_noticed plan.notice u.left) _ _ u.eid refl refl;
-  count = sym (ap (λ (x : EnsembleInformation). x.count) is) ∙ either_count (is_noticed plan.notice u.left) _ _ u.count refl refl;
+  eid = sym (ap (λ (x : EnsembleInformation). x.eid) is)
+      ∙ either_eid (is_noticed plan.notice u.left) _ _ u.eid refl refl;
+  count = sym (ap (λ (x : EnsembleInformation). x.count) is)
+      ∙ either_count (is_noticed plan.notice u.left) _ _ u.count refl refl;
 }
 
 is_sent : (plan : Plan) (u : State) (e : EnsembleInformation) → ensemble_sent plan u ≡ Some e → IsSent plan u e
-is_sent plan u e sent = elim (u.count % count_step (layout_mode plan.layout) == 0) as (λ t. (u.count % count_step (layout_mode plan.layout) == 0) ≡ t → cond t (Some (ensemble_of plan u)) None ≡ Some e → IsSent plan u e) [
-  | true ↦ λ on s. sent_of plan u e (inner s) (eqb-true (u.count % count_step (layout_mode plan.layout)) 0 on)
-  | false ↦ λ off s. absurd cc
-] refl sent
+is_sent plan u e sent = elim (u.count % count_step (layout_mode plan.layout) == 0)
+    as (λ t. (u.count % count_step (layout_mode plan.layout) == 0) ≡ t
+    → cond t (Some (ensemble_of plan u)) None ≡ Some e → IsSent plan u e) [
+      | true ↦ λ on s. sent_of plan u e (inner s) (eqb-true (u.count % count_step (layout_mode plan.layout)) 0 on)
+      | false ↦ λ off s. absurd cc
+    ] refl sent
   where
     inner : Some (ensemble_of plan u) ≡ Some e → ensemble_of plan u ≡ e
     inner s = cc
 
-counted : PageLaws → (p : Program) (ts : List Known) → IsCode p ts → (s : State) → Holds p ts s → IsCounted (count_step (layout_mode p.plan.layout)) s.eid s.count (frame_bytes p s)
+counted : PageLaws → (p : Program) (ts : List Known) → IsCode p ts → (s : State) → Holds p ts s
+    → IsFrameOfCount (count_step (layout_mode p.plan.layout)) s.eid s.count (frame_bytes p s)
 counted laws p ts c s holds =
     let plan : Plan = p.plan in
     let u : State = shown p s in
-    let heard : HasHeaderOf plan u (frame_bytes p s) = λ next e. laws.ensemble plan.layout (ensemble_sent plan u) u.page_index (sent_entries plan u) (pageable laws plan u (airs p ts c s holds)) next e in
+    let heard : HasHeaderOf plan u (frame_bytes p s) =
+    λ next e. laws.ensemble plan.layout (ensemble_sent plan u) u.page_index (sent_entries plan u)
+    (pageable laws plan u (airs p ts c s holds)) next e in
     let count : u.count ≡ s.count = shown_count p s in
     record {
       there = λ on.
-          let on_now : u.count % count_step (layout_mode plan.layout) ≡ 0 = ap (λ n. n % count_step (layout_mode plan.layout)) count ∙ on in (
+          let on_now : u.count % count_step (layout_mode plan.layout) ≡ 0 =
+          ap (λ n. n % count_step (layout_mode plan.layout)) count ∙ on in (
             ensemble_of plan u,
-            (heard false (ensemble_of plan u)).1 (refl, ap (λ t. cond t (Some (ensemble_of plan u)) None) (eq-eqb (u.count % count_step (layout_mode plan.layout)) 0 on_now)),
+            (heard false (ensemble_of plan u)).1 (
+              refl,
+              ap (λ t. cond t (Some (ensemble_of plan u)) None)
+                  (eq-eqb (u.count % count_step (layout_mode plan.layout)) 0 on_now),
+            ),
           );
       only = λ next e is.
           let both = (heard next e).0 is in
-          let sent = is_sent plan u e both.1 in
-          (ap (λ n. n % count_step (layout_mode plan.layout)) (sym count) ∙ sent.on, both.0, sent.eid ∙ shown_eid p s, sent.count ∙ count);
+          let sent = is_sent plan u e both.1 in (
+            ap (λ n. n % count_step (layout_mode plan.layout)) (sym count) ∙ sent.on,
+            both.0,
+            sent.eid
+                ∙ shown_eid p s,
+            sent.count ∙ count,
+          );
     }
 
 along : PageLaws → (p : Program) (ts : List Known) (c : IsCode p ts) (s : State) (events : List Event) → Holds p ts s
     → AreCounted (count_step (layout_mode p.plan.layout)) s.eid s.count (run_frames p s events)
 along laws p ts c s [] holds = tt
-along laws p ts c s (Contact d closed ∷ es) holds = along laws p ts c (happens p s (Contact d closed)) es (happens_holds p ts c s (Contact d closed) holds)
+along laws p ts c s (Contact d closed ∷ es) holds =
+    along laws p ts c (happens p s (Contact d closed)) es (happens_holds p ts c s (Contact d closed) holds)
 along laws p ts c s (Frame ∷ es) holds =
     let rest = along laws p ts c (after_frame p s) es (frame_holds p ts c s holds) in
     let eid : (after_frame p s).eid ≡ s.eid = shown_eid p s in
     let count : (after_frame p s).count ≡ (s.count + 1) % COUNTS = ap (λ n. (n + 1) % COUNTS) (shown_count p s) in (
       counted laws p ts c s holds,
       subst (λ n. AreCounted (count_step (layout_mode p.plan.layout)) s.eid n (run_frames p (after_frame p s) es)) count
-          (subst (λ n. AreCounted (count_step (layout_mode p.plan.layout)) n (after_frame p s).count (run_frames p (after_frame p s) es)) eid rest),
+          (subst (λ n. AreCounted (count_step (layout_mode p.plan.layout)) n (after_frame p s).count
+          (run_frames p (after_frame p s) es)) eid rest),
     )
 
 pub runs_are_counted : PageLaws → RunsAreCounted
-runs_are_counted laws p s events played = along laws p played.typed.0 (code_of p s played) s events (played_holds p s played)
+runs_are_counted laws p s events played =
+    along laws p played.typed.0 (code_of p s played) s events (played_holds p s played)

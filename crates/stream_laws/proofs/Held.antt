@@ -1,6 +1,8 @@
 -- Without a fault, each swap comes as announced; and the notice of each was heard from its beginning, except for the
 -- first one of a stream whose first FIG 0/0 is flagged.
-use Rattle.std.proofs.Common.{◌≡◌, ℕ, ◌+◌, ◌<◌, ◌%◌, ◌==◌, ◌&&◌, Bool, true, false, cond, not, List, [], ◌∷◌, ◌++◌, length, take, flat_map, Option, Some, None, refl, sym, ap, ◌∙◌, subst, arith, inl, inr, ◌⊎◌}
+use Rattle.std.proofs.Common.{◌≡◌, ℕ, ◌+◌, ◌<◌, ◌%◌, ◌==◌, ◌&&◌, Bool, true, false, cond, not, List, [], ◌∷◌, ◌++◌}
+use Rattle.std.proofs.Common.{length, take, flat_map, Option, Some, None, refl, sym, ap, ◌∙◌, subst, arith, inl, inr}
+use Rattle.std.proofs.Common.{◌⊎◌}
 use Rattle.std.specs.Prelude.{map}
 use Rattle.std.specs.List.{AllByRecursion}
 use Rattle.std.proofs.lemmas.Bool.{false≢true, eqb-true, eq-eqb, not-false, not-true}
@@ -11,9 +13,11 @@ use Rattle.fib_reader.specs.Listening.{Listening, is_made}
 use Rattle.stream_check.specs.declared.finding.Fault.TheVariants as faults
 use Rattle.stream_check.specs.Frames.{Fib, first_raw, first_or, first_in_figs, first_in, first_of_frame}
 use Rattle.stream_check.specs.Parts.{IsTheMost}
-use Rattle.stream_check.specs.History.{Item, Moment, Said, Ended, said, items_of, fig_items, figs_items, fib_items, fibs_items, frame_items, is_ensemble, ensemble_of, is_flagged, is_swap, listener_after, last_flags, is_cut_off, frames_ended, rows}
-use Rattle.stream_check.specs.Rules.{Known, known_of, awaited_low, notice_faults, unit_faults}
-use Rattle.stream_check.specs.Stream.{after_frame, after_frames}
+use Rattle.stream_check.specs.History.{Item, Moment, Said, Ended, said, items_of, fig_items, figs_items, fib_items}
+use Rattle.stream_check.specs.History.{fibs_items, frame_items, is_ensemble, ensemble_of_item, is_flagged, is_swap}
+use Rattle.stream_check.specs.History.{listener_after, last_flags, is_cut_off, frames_ended, rows}
+use Rattle.stream_check.specs.Rules.{KnownBefore, known_of, awaited_low, notice_faults, unit_faults}
+use Rattle.stream_check.specs.Stream.{past_after_frame, after_frames}
 use Rattle.stream_check.proofs.Ensembles.{heard_as}
 use Rattle.stream_check.proofs.Members.{no_swap}
 use Rattle.stream_laws.specs.Notices.{AreFibBytes, read_frames, last_of}
@@ -21,19 +25,21 @@ use Rattle.stream_laws.specs.Faultless.{IsSaidIn}
 use Rattle.stream_laws.specs.Staying.{last_swap}
 use Rattle.stream_laws.specs.Held.{BeginsUnflagged, WholeNoticesAreHeld, CountsAreHeld}
 use Rattle.stream_laws.proofs.Clean.{IsClean, entry_clean, after_entry, frames_twice}
-use Rattle.stream_laws.proofs.Kept.{first_holds, second_holds, first_fine, with_member, after_member, after_heard, ensemble_made, plain_ensemble}
+use Rattle.stream_laws.proofs.Kept.{first_holds, second_holds, first_fine, with_member, after_member, after_heard}
+use Rattle.stream_laws.proofs.Kept.{ensemble_made, plain_ensemble}
 use Rattle.stream_laws.proofs.Rows.{notice_rows}
 use Rattle.stream_laws.proofs.Tracking.{IsFormed, AllAnnounce, alone_first, all_tracked}
 use Rattle.stream_laws.proofs.Formed.{all_formed}
 use Rattle.stream_laws.proofs.Bytes.{FibLaws, each_take}
 use Rattle.stream_laws.proofs.Swapping.{awaited_is}
-use Rattle.stream_laws.proofs.Announced.{items_in, notice_is, each_drop, formed_handed, changes_are_announced, notice_header}
+use Rattle.stream_laws.proofs.Announced.{items_in, notice_is, each_drop, formed_handed, changes_are_announced}
+use Rattle.stream_laws.proofs.Announced.{notice_header}
 use Rattle.stream_check.proofs.Saying.{said_append}
 
 -- ---- the first FIG 0/0 of all that was sent
 
 abbrev said_by : Item → Option EnsembleInformation
-said_by i = cond (is_ensemble i) (Some (ensemble_of i)) None
+said_by i = cond (is_ensemble i) (Some (ensemble_of_item i)) None
 
 abbrev oldest : List Moment → Option EnsembleInformation
 oldest [] = None
@@ -48,22 +54,26 @@ or_none : (a : Option EnsembleInformation) → first_or a None ≡ a
 or_none None = refl
 or_none (Some e) = refl
 
-raws_oldest : (first next : Bool) (raws : List Raw) (past : List Moment) → oldest (said (items_of first next raws) past) ≡ first_or (oldest past) (first_raw raws)
+raws_oldest : (first next : Bool) (raws : List Raw) (past : List Moment)
+    → oldest (said (items_of first next raws) past) ≡ first_or (oldest past) (first_raw raws)
 raws_oldest first next [] past = sym (or_none (oldest past))
 raws_oldest first next (raw ∷ raws) past =
     let i : Item = record { first = first; next = next; raw = raw } in
     raws_oldest first next raws (Said i ∷ past) ∙ or_twice (oldest past) (said_by i) (first_raw raws)
     ∙ ap (first_or (oldest past)) (either (raw.ext == 0))
   where
-    either : (b : Bool) → first_or (cond b (Some (ensemble_in raw)) None) (first_raw raws) ≡ cond b (Some (ensemble_in raw)) (first_raw raws)
+    either : (b : Bool) → first_or (cond b (Some (ensemble_in raw)) None) (first_raw raws)
+        ≡ cond b (Some (ensemble_in raw)) (first_raw raws)
     either true = refl
     either false = refl
 
-fig_oldest : (first : Bool) (f : Fig) (past : List Moment) → oldest (said (fig_items first f) past) ≡ first_or (oldest past) (first_raw (entries_in f))
+fig_oldest : (first : Bool) (f : Fig) (past : List Moment)
+    → oldest (said (fig_items first f) past) ≡ first_or (oldest past) (first_raw (entries_in f))
 fig_oldest first (Open second es) past = raws_oldest first (is_next second) (entries_in (Open second es)) past
 fig_oldest first (Other given) past = sym (or_none (oldest past))
 
-figs_oldest : (first : Bool) (fs : List Fig) (past : List Moment) → oldest (said (figs_items first fs) past) ≡ first_or (oldest past) (first_in_figs fs)
+figs_oldest : (first : Bool) (fs : List Fig) (past : List Moment)
+    → oldest (said (figs_items first fs) past) ≡ first_or (oldest past) (first_in_figs fs)
 figs_oldest first [] past = sym (or_none (oldest past))
 figs_oldest first (f ∷ fs) past =
     ap oldest (said_append (fig_items first f) (figs_items false fs) past)
@@ -71,11 +81,13 @@ figs_oldest first (f ∷ fs) past =
     ∙ ap (λ o. first_or o (first_in_figs fs)) (fig_oldest first f past)
     ∙ or_twice (oldest past) (first_raw (entries_in f)) (first_in_figs fs)
 
-fib_oldest : (first : Bool) (fib : Fib) (past : List Moment) → oldest (said (fib_items first fib) past) ≡ first_or (oldest past) (first_in fib)
+fib_oldest : (first : Bool) (fib : Fib) (past : List Moment)
+    → oldest (said (fib_items first fib) past) ≡ first_or (oldest past) (first_in fib)
 fib_oldest first None past = sym (or_none (oldest past))
 fib_oldest first (Some figs) past = figs_oldest first figs past
 
-fibs_oldest : (first : Bool) (fibs : List Fib) (past : List Moment) → oldest (said (fibs_items first fibs) past) ≡ first_or (oldest past) (first_of_frame fibs)
+fibs_oldest : (first : Bool) (fibs : List Fib) (past : List Moment)
+    → oldest (said (fibs_items first fibs) past) ≡ first_or (oldest past) (first_of_frame fibs)
 fibs_oldest first [] past = sym (or_none (oldest past))
 fibs_oldest first (f ∷ fs) past =
     ap oldest (said_append (fib_items first f) (fibs_items false fs) past)
@@ -85,26 +97,33 @@ fibs_oldest first (f ∷ fs) past =
 
 first_more : (xs ys : List Fib) → first_of_frame (xs ++ ys) ≡ first_or (first_of_frame xs) (first_of_frame ys)
 first_more [] ys = refl
-first_more (x ∷ xs) ys = ap (first_or (first_in x)) (first_more xs ys) ∙ sym (or_twice (first_in x) (first_of_frame xs) (first_of_frame ys))
+first_more (x ∷ xs) ys = ap (first_or (first_in x)) (first_more xs ys)
+    ∙ sym (or_twice (first_in x) (first_of_frame xs) (first_of_frame ys))
 
-frames_oldest : (step : ℕ) (frames : List (List Fib)) (past : List Moment) → oldest (after_frames step past frames) ≡ first_or (oldest past) (first_of_frame (flat_map (λ frame. frame) frames))
+frames_oldest : (step : ℕ) (frames : List (List Fib)) (past : List Moment)
+    → oldest (after_frames step past frames) ≡ first_or (oldest past)
+    (first_of_frame (flat_map (λ frame. frame) frames))
 frames_oldest step [] past = sym (or_none (oldest past))
 frames_oldest step (frame ∷ frames) past =
-    frames_oldest step frames (after_frame step past frame)
+    frames_oldest step frames (past_after_frame step past frame)
     ∙ ap (λ o. first_or o (first_of_frame (flat_map (λ f. f) frames))) (fibs_oldest true frame past)
     ∙ or_twice (oldest past) (first_of_frame frame) (first_of_frame (flat_map (λ f. f) frames))
     ∙ ap (first_or (oldest past)) (sym (first_more frame (flat_map (λ f. f) frames)))
 
 -- it stays the first
-said_first : (e : EnsembleInformation) (items : List Item) (past : List Moment) → oldest past ≡ Some e → oldest (said items past) ≡ Some e
+said_first : (e : EnsembleInformation) (items : List Item) (past : List Moment) → oldest past ≡ Some e
+    → oldest (said items past) ≡ Some e
 said_first e [] past h = h
 said_first e (i ∷ is) past h = said_first e is (Said i ∷ past) (ap (λ o. first_or o (said_by i)) h)
 
-frames_first : (e : EnsembleInformation) (step : ℕ) (frames : List (List Fib)) (past : List Moment) → oldest past ≡ Some e → oldest (after_frames step past frames) ≡ Some e
+frames_first : (e : EnsembleInformation) (step : ℕ) (frames : List (List Fib)) (past : List Moment)
+    → oldest past ≡ Some e → oldest (after_frames step past frames) ≡ Some e
 frames_first e step [] past h = h
-frames_first e step (frame ∷ frames) past h = frames_first e step frames (after_frame step past frame) (said_first e (frame_items frame) past h)
+frames_first e step (frame ∷ frames) past h =
+    frames_first e step frames (past_after_frame step past frame) (said_first e (frame_items frame) past h)
 
-first_of_stream : (e : EnsembleInformation) (step : ℕ) (frames : List (List Fib)) (past : List Moment) (i : Item) (s : IsSaidIn step frames past i) → oldest past ≡ Some e
+first_of_stream : (e : EnsembleInformation) (step : ℕ) (frames : List (List Fib)) (past : List Moment) (i : Item)
+    (s : IsSaidIn step frames past i) → oldest past ≡ Some e
     → first_of_frame (flat_map (λ frame. frame) frames) ≡ Some e
 first_of_stream e step frames past i s h =
     let start : List Moment = after_frames step [] s.before in
@@ -112,7 +131,8 @@ first_of_stream e step frames past i s h =
     ap (λ is. oldest (said is start)) s.items_are ∙ ap oldest (said_append s.front (i ∷ s.back) start)
     ∙ said_first e (i ∷ s.back) (said s.front start) (ap oldest (sym s.past_is) ∙ h) in
     let whole : oldest (after_frames step [] (s.before ++ s.frame ∷ s.after)) ≡ Some e =
-    ap oldest (frames_twice step s.before (s.frame ∷ s.after) []) ∙ frames_first e step s.after (after_frame step start s.frame) items in
+    ap oldest (frames_twice step s.before (s.frame ∷ s.after) [])
+    ∙ frames_first e step s.after (past_after_frame step start s.frame) items in
     sym (frames_oldest step frames []) ∙ ap (λ fs. oldest (after_frames step [] fs)) s.frames_are ∙ whole
 
 -- ---- when the beginning of a notice was not heard
@@ -135,19 +155,25 @@ record HadNone (past : List Moment) : Type 0 where
 same_swap : (past : List Moment) (i : Item) → is_swap past i ≡ false → last_swap (Said i ∷ past) ≡ last_swap past
 same_swap past i sw = ap (λ t. cond t (frames_ended past + 1) (last_swap past)) sw
 
-had_none : (step period : ℕ) (past : List Moment) → IsClean step period past → (listener_after past).tuned ≡ false → HadNone past
+had_none : (step period : ℕ) (past : List Moment) → IsClean step period past → (listener_after past).tuned ≡ false
+    → HadNone past
 had_none step period [] c t = record { first = refl; swap = refl }
-had_none step period (Ended count ∷ past) c t = (let h = had_none step period past c t in record { first = h.first; swap = h.swap })
+had_none step period (Ended count ∷ past) c t =
+    (let h = had_none step period past c t in record { first = h.first; swap = h.swap })
 had_none step period (Said i ∷ past) c t = by (is_ensemble i) refl (had_none step period past c.2)
   where
     by : (b : Bool) → is_ensemble i ≡ b → ((listener_after past).tuned ≡ false → HadNone past) → HadNone (Said i ∷ past)
-    by true e before = absurd (false≢true (sym t ∙ ap (λ (l : Listening). l.tuned) (after_heard step period past i (is_swap past i) (is_flagged i) c e refl refl) ∙ tuned_ensemble (is_swap past i) (is_flagged i) (ensemble_of i) (listener_after past)))
+    by true e before = absurd (false≢true (sym t ∙ ap (λ (l : Listening). l.tuned)
+        (after_heard step period past i (is_swap past i) (is_flagged i) c e refl refl)
+        ∙ tuned_ensemble (is_swap past i) (is_flagged i) (ensemble_of_item i) (listener_after past)))
     by false e before =
         let same : (listener_after past).tuned ≡ false =
-        sym (tuned_member (listener_after past).tuned i.next i.raw (listener_after past)) ∙ sym (ap (λ (l : Listening). l.tuned) (after_member step period past i c e)) ∙ t in
+        sym (tuned_member (listener_after past).tuned i.next i.raw (listener_after past))
+        ∙ sym (ap (λ (l : Listening). l.tuned) (after_member step period past i c e)) ∙ t in
         let h = before same in
         record {
-          first = ap (λ t. first_or (oldest past) (cond t (Some (ensemble_of i)) None)) e ∙ ap (λ o. first_or o None) h.first;
+          first = ap (λ t. first_or (oldest past) (cond t (Some (ensemble_of_item i)) None)) e
+              ∙ ap (λ o. first_or o None) h.first;
           swap = same_swap past i (no_swap past i e) ∙ h.swap;
         }
 
@@ -160,31 +186,46 @@ record WasMissed (past : List Moment) : Type 0 where
 
 was_missed : (step period : ℕ) (past : List Moment) → IsClean step period past → is_cut_off past ≡ true → WasMissed past
 was_missed step period [] c cut = absurd (false≢true cut)
-was_missed step period (Ended count ∷ past) c cut = (let m = was_missed step period past c cut in record { information = m.information; first = m.first; flagged = m.flagged; swap = m.swap })
-was_missed step period (Said i ∷ past) c cut = by (is_swap past i) refl (is_ensemble i && not (listener_after past).tuned) refl cut (was_missed step period past c.2)
+was_missed step period (Ended count ∷ past) c cut =
+    (let m = was_missed step period past c cut in
+    record { information = m.information; first = m.first; flagged = m.flagged; swap = m.swap })
+was_missed step period (Said i ∷ past) c cut =
+    by (is_swap past i) refl (is_ensemble i && not (listener_after past).tuned) refl cut
+    (was_missed step period past c.2)
   where
-    by : (b : Bool) → is_swap past i ≡ b → (d : Bool) → (is_ensemble i && not (listener_after past).tuned) ≡ d → cond b false (cond d (is_flagged i) (is_cut_off past)) ≡ true
+    by : (b : Bool) → is_swap past i ≡ b → (d : Bool) → (is_ensemble i && not (listener_after past).tuned) ≡ d
+        → cond b false (cond d (is_flagged i) (is_cut_off past)) ≡ true
         → (is_cut_off past ≡ true → WasMissed past) → WasMissed (Said i ∷ past)
     by true sw d first h before = absurd (false≢true h)
     by false sw true first h before =
         let e = first_holds (is_ensemble i) (not (listener_after past).tuned) first in
-        let none = had_none step period past c.2 (not-true (listener_after past).tuned (second_holds (is_ensemble i) (not (listener_after past).tuned) first)) in
+        let none = had_none step period past c.2
+        (not-true (listener_after past).tuned
+        (second_holds (is_ensemble i) (not (listener_after past).tuned) first)) in
         record {
-          information = ensemble_of i;
-          first = ap (λ o. first_or o (said_by i)) none.first ∙ ap (λ t. cond t (Some (ensemble_of i)) None) e;
-          flagged = not-true ((ensemble_of i).change == 0) (second_holds (is_ensemble i) (not ((ensemble_of i).change == 0)) h);
+          information = ensemble_of_item i;
+          first = ap (λ o. first_or o (said_by i)) none.first ∙ ap (λ t. cond t (Some (ensemble_of_item i)) None) e;
+          flagged = not-true ((ensemble_of_item i).change == 0)
+              (second_holds (is_ensemble i) (not ((ensemble_of_item i).change == 0)) h);
           swap = same_swap past i sw ∙ none.swap;
         }
     by false sw false first h before =
         let m = before h in
-        record { information = m.information; first = ap (λ o. first_or o (said_by i)) m.first; flagged = m.flagged; swap = same_swap past i sw ∙ m.swap }
+        record {
+          information = m.information;
+          first = ap (λ o. first_or o (said_by i)) m.first;
+          flagged = m.flagged;
+          swap = same_swap past i sw ∙ m.swap;
+        }
 
-heard_whole : (step period : ℕ) (frames : List (List Fib)) (past : List Moment) (i : Item) → IsClean step period past → IsSaidIn step frames past i → BeginsUnflagged frames ⊎ (0 < last_swap past) → is_cut_off past ≡ false
+heard_whole : (step period : ℕ) (frames : List (List Fib)) (past : List Moment) (i : Item) → IsClean step period past
+    → IsSaidIn step frames past i → BeginsUnflagged frames ⊎ (0 < last_swap past) → is_cut_off past ≡ false
 heard_whole step period frames past i c s which = by (is_cut_off past) refl
   where
     missed : WasMissed past → ⊥
     missed m = elim which [
-      | inl bare ↦ false≢true (sym m.flagged ∙ eq-eqb m.information.change 0 (bare m.information (first_of_stream m.information step frames past i s m.first)))
+      | inl bare ↦ false≢true (sym m.flagged ∙ eq-eqb m.information.change 0
+          (bare m.information (first_of_stream m.information step frames past i s m.first)))
       | inr made ↦ (let none = m.swap in omega (arith, made, none))
     ]
 
@@ -195,30 +236,40 @@ heard_whole step period frames past i c s which = by (is_cut_off past) refl
 pub whole_notices_are_held : FibLaws → IsTheMost → WholeNoticesAreHeld
 whole_notices_are_held laws most r size step period frames past i bytes faultless s sw which =
     let clean = entry_clean size step period (read_frames r frames) past i faultless s in
-    changes_are_announced laws most r size step period frames past i bytes faultless s sw (heard_whole step period (read_frames r frames) past i clean.2 s which)
+    changes_are_announced laws most r size step period frames past i bytes faultless s sw
+    (heard_whole step period (read_frames r frames) past i clean.2 s which)
 
 -- ---- the count of a swap
 
-awaited_at : (step period : ℕ) (past : List Moment) (i : Item) → IsClean step period (Said i ∷ past) → is_swap past i ≡ true → (listener_after past).awaited ≡ Some ((ensemble_of i).count % 250)
+awaited_at : (step period : ℕ) (past : List Moment) (i : Item) → IsClean step period (Said i ∷ past)
+    → is_swap past i ≡ true → (listener_after past).awaited ≡ Some ((ensemble_of_item i).count % 250)
 awaited_at step period past i c sw =
-    let k : Known = known_of step period past in
+    let k : KnownBefore = known_of step period past in
     let e : is_ensemble i ≡ true = first_holds (is_ensemble i) _ sw in
-    let made : is_made (listener_after past).awaited (ensemble_of i) ≡ true = sym (ensemble_made past i e) ∙ sw in
+    let made : is_made (listener_after past).awaited (ensemble_of_item i) ≡ true = sym (ensemble_made past i e) ∙ sw in
     let all = (plain_ensemble step period past i c e).swap made in
-    let low = first_fine (not ((ensemble_of i).count % 250 == awaited_low k)) (faults.AnnouncedFor (awaited_low k)) (notice_faults k ++ unit_faults k) all.1 in
-    awaited_is (listener_after past).awaited (ensemble_of i) ((ensemble_of i).count % 250) made (eqb-true ((ensemble_of i).count % 250) (awaited_low k) (not-false ((ensemble_of i).count % 250 == awaited_low k) low.0))
+    let low = first_fine (not ((ensemble_of_item i).count % 250 == awaited_low k)) (faults.AnnouncedFor (awaited_low k))
+    (notice_faults k ++ unit_faults k) all.1 in
+    awaited_is (listener_after past).awaited (ensemble_of_item i) ((ensemble_of_item i).count % 250) made
+    (eqb-true ((ensemble_of_item i).count % 250) (awaited_low k)
+    (not-false ((ensemble_of_item i).count % 250 == awaited_low k) low.0))
 
 pub counts_are_held : FibLaws → CountsAreHeld
 counts_are_held laws r size step period frames past i bytes faultless s sw frame next e inside heard =
     let clean = entry_clean size step period (read_frames r frames) past i faultless s in
-    let formed : IsFormed (Said i ∷ past) = after_entry IsFormed formed_handed step (read_frames r frames) past i s (all_formed r step frames) in
+    let formed : IsFormed (Said i ∷ past) =
+    after_entry IsFormed formed_handed step (read_frames r frames) past i s (all_formed r step frames) in
     let is_one : is_ensemble i ≡ true = first_holds (is_ensemble i) _ sw in
-    let low : ℕ = (ensemble_of i).count % 250 in
+    let low : ℕ = (ensemble_of_item i).count % 250 in
     let a = (all_tracked step period past clean.2 formed.2).announcing low (awaited_at step period past i clean sw) in
     let notice : List (List (List ℕ)) = last_of (length (rows past)) (take (frames_ended past) frames) in
-    let all : AllByRecursion AreFibBytes notice = each_drop AreFibBytes _ (take (frames_ended past) frames) (each_take AreFibBytes (frames_ended past) frames bytes) in
-    let are : map (items_in r) notice ≡ notice_rows past = notice_is r step frames past i s (alone_first step period past i clean formed is_one) in
-    let says = notice_header laws r notice all (last_flags past) low (subst (AllByRecursion (AllAnnounce (last_flags past) low)) (sym are) a.rows) frame next e inside heard in
+    let all : AllByRecursion AreFibBytes notice =
+    each_drop AreFibBytes _ (take (frames_ended past) frames)
+    (each_take AreFibBytes (frames_ended past) frames bytes) in
+    let are : map (items_in r) notice ≡ notice_rows past =
+    notice_is r step frames past i s (alone_first step period past i clean formed is_one) in
+    let says = notice_header laws r notice all (last_flags past) low
+    (subst (AllByRecursion (AllAnnounce (last_flags past) low)) (sym are) a.rows) frame next e inside heard in
     let flags = says.0 in
     let some = a.flags in
     (omega (arith, flags, some), flags, says.1)

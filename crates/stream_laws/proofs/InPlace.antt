@@ -1,5 +1,6 @@
 -- The frames of a run and the FIG 0/0 in them are as the checker requires.
-use Rattle.std.proofs.Common.{◌≡◌, ◌≢◌, ℕ, zero, suc, ◌+◌, ◌%◌, ◌==◌, ◌&&◌, Bool, true, false, cond, not, List, [], ◌∷◌, length, Option, Some, None, refl, sym, ap, ◌∙◌, subst, arith, inl, inr, ◌⊎◌}
+use Rattle.std.proofs.Common.{◌≡◌, ◌≢◌, ℕ, zero, suc, ◌+◌, ◌%◌, ◌==◌, ◌&&◌, Bool, true, false, cond, not, List, [], ◌∷◌}
+use Rattle.std.proofs.Common.{length, Option, Some, None, refl, sym, ap, ◌∙◌, subst, arith, inl, inr, ◌⊎◌}
 use Rattle.std.specs.Prelude.{map}
 use Rattle.std.specs.List.{AllByRecursion}
 use Rattle.std.proofs.lemmas.Bool.{false≢true, eq-eqb, ne_eqb, le-ltb, and_right}
@@ -11,22 +12,26 @@ use Rattle.fib_codec.specs.Heard.{fib_at}
 use Rattle.fib_codec.specs.Modes.{count_step}
 use Rattle.fib_reader.specs.Raw.{raw_of}
 use Rattle.fib_reader.specs.Laws.{EnsembleIsHeard}
-use Rattle.stream_check.specs.Frames.{Fib, Reading, damaged_in, first_opening, is_there, begins_with_ensemble, lacks_opening}
-use Rattle.stream_check.specs.History.{Item, Moment, Said, said, fibs_items, frame_items, is_ensemble, ensemble_of, due, eid_of, last_eid, is_in_place}
-use Rattle.stream_check.specs.Rules.{Known, known_of, is_other, is_placed}
-use Rattle.stream_check.specs.Stream.{count_due, placed_count, count_of_frame, after_frame as after_read}
+use Rattle.stream_check.specs.Frames.{Fib, Reading, damaged_in, first_opening, is_there, begins_with_ensemble}
+use Rattle.stream_check.specs.Frames.{lacks_opening}
+use Rattle.stream_check.specs.History.{Item, Moment, Said, said, fibs_items, frame_items, is_ensemble, ensemble_of_item}
+use Rattle.stream_check.specs.History.{due, eid_of, last_eid, is_in_place}
+use Rattle.stream_check.specs.Rules.{KnownBefore, known_of, is_other, is_placed}
+use Rattle.stream_check.specs.Stream.{count_due, placed_count, count_of_frame, past_after_frame as after_read}
 use Rattle.stream_check.proofs.Members.{member_eid}
 use Rattle.plan_code.specs.declared.plan.Plan.{Plan}
 use Rattle.plan_code.specs.declared.instr.Instr.{Instr}
 use Rattle.plan_code.specs.declared.instr.Instr.TheVariants.{Settle}
 use Rattle.plan_code.specs.Program.{Program, instr_at}
 use Rattle.plan_code.specs.Machine.{State, step, settle, effect, effect_of}
-use Rattle.plan_runs.specs.Frames.{is_due, with_swap, with_due_swap, is_running, is_here, burst, ready, after_burst, is_first_noticed, shown, frame_bytes, after_frame}
+use Rattle.plan_runs.specs.Frames.{is_due, with_swap, with_due_swap, is_running, is_here, burst, ready, after_burst}
+use Rattle.plan_runs.specs.Frames.{is_first_noticed, shown, frame_bytes, after_frame}
 use Rattle.plan_runs.specs.RightBytes.{IsHeadedBy, IsRight}
 use Rattle.plan_runs.proofs.Clock.{shown_count}
 use Rattle.stream_laws.proofs.Rows.{HasNone}
 use Rattle.stream_laws.proofs.Findings.{IsFrameFine, IsPlaceFine, Each, each_other, IsWellPlaced}
-use Rattle.stream_laws.proofs.Framing.{IsQuiet, header_of, heading_fib, figs_none, fibs_none, later_fibs, first_of_fibs, later_quiet, read_frame, frame_size, all_quiet}
+use Rattle.stream_laws.proofs.Framing.{IsQuiet, header_of, heading_fib, figs_none, fibs_none, later_fibs, first_of_fibs}
+use Rattle.stream_laws.proofs.Framing.{later_quiet, read_frame, frame_size, all_quiet}
 use Rattle.stream_check.proofs.Framing.{all_append}
 use Rattle.stream_laws.proofs.Bytes.{is_read}
 
@@ -50,13 +55,15 @@ step_eid plan (Some i) s = effect_eid plan i s
 
 burst_eid : (most : ℕ) (p : Program) (s : State) → (burst most p s).eid ≡ s.eid
 burst_eid zero p s = refl
-burst_eid (suc most) p s = either_eid (is_running s.hold) (burst most p (step p s)) s s.eid (burst_eid most p (step p s) ∙ step_eid p.plan (instr_at p s.pc) s) refl
+burst_eid (suc most) p s = either_eid (is_running s.hold) (burst most p (step p s)) s s.eid
+    (burst_eid most p (step p s) ∙ step_eid p.plan (instr_at p s.pc) s) refl
 
 pub shown_eid : (p : Program) (s : State) → (shown p s).eid ≡ s.eid
 shown_eid p s =
     let t = after_burst p s in
     let swap : (with_due_swap s).eid ≡ s.eid = either_eid (is_due s.left) (with_swap s) s s.eid refl refl in
-    let start : (ready s).eid ≡ s.eid = either_eid (is_here (with_due_swap s) (with_due_swap s).hold) _ (with_due_swap s) s.eid swap swap in
+    let start : (ready s).eid ≡ s.eid =
+    either_eid (is_here (with_due_swap s) (with_due_swap s).hold) _ (with_due_swap s) s.eid swap swap in
     let same : t.eid ≡ s.eid = burst_eid p.plan.budget p (ready s) ∙ start in
     either_eid (is_first_noticed p.plan.notice t.left) _ t s.eid same same
 
@@ -68,7 +75,7 @@ pub record IsHeaded (frame : List Fib) (e : EnsembleInformation) : Type 0 where
   pub are : frame_items frame ≡ head ∷ rest
   pub first : head.first ≡ true
   pub ensemble : is_ensemble head ≡ true
-  pub says : ensemble_of head ≡ e
+  pub says : ensemble_of_item head ≡ e
   pub none : HasNone rest
   pub whole : damaged_in frame ≡ 0
   pub lacks : lacks_opening frame ≡ false
@@ -78,26 +85,38 @@ pub none_damaged : (fibs : List Fib) → AllByRecursion IsQuiet fibs → damaged
 none_damaged [] all = refl
 none_damaged (f ∷ fs) all = ap (λ b. cond b 1 0 + damaged_in fs) all.0.whole ∙ ap (λ n. 0 + n) (none_damaged fs all.1)
 
-pub headed_frame : OneList → EnsembleIsHeard → (r : Reading) (plan : Plan) (u : State) (frame : List ℕ) → IsRight plan u frame → (h : IsHeadedBy plan u (fib_at frame 0)) → IsHeaded (read_frame r plan.layout frame) h.information
+pub headed_frame : OneList → EnsembleIsHeard → (r : Reading) (plan : Plan) (u : State) (frame : List ℕ)
+    → IsRight plan u frame → (h : IsHeadedBy plan u (fib_at frame 0))
+    → IsHeaded (read_frame r plan.layout frame) h.information
 headed_frame one heard r plan u frame right h =
     let first : List ℕ = fib_at frame 0 in
     let later : List Fib = map r.read (later_fibs plan.layout frame) in
     let quiet = later_quiet one r plan u frame right in
     let heads = heading_fib one heard r plan u first h in
     let fig = header_of heard plan u first h in
-    let read : r.read first ≡ Some (Open fig.second (fig.bytes ∷ []) ∷ h.others) = is_read one r first (h.header ∷ h.others) h.first ∙ ap (λ f. Some (f ∷ h.others)) fig.is in
-    let begin : read_frame r plan.layout frame ≡ r.read first ∷ later = ap (map r.read) (first_of_fibs plan.layout frame) in
-    let fibs : read_frame r plan.layout frame ≡ Some (Open fig.second (fig.bytes ∷ []) ∷ h.others) ∷ later = begin ∙ ap (λ f. f ∷ later) read in
+    let read : r.read first ≡ Some (Open fig.second (fig.bytes ∷ []) ∷ h.others) =
+    is_read one r first (h.header ∷ h.others) h.first ∙ ap (λ f. Some (f ∷ h.others)) fig.is in
+    let begin : read_frame r plan.layout frame ≡ r.read first ∷ later =
+    ap (map r.read) (first_of_fibs plan.layout frame) in
+    let fibs : read_frame r plan.layout frame ≡ Some (Open fig.second (fig.bytes ∷ []) ∷ h.others) ∷ later =
+    begin ∙ ap (λ f. f ∷ later) read in
     record {
-      head = record { first = true; next = is_next fig.second; raw = raw_of (fig.second % 32) (is_long fig.second) fig.bytes };
+      head = record {
+        first = true;
+        next = is_next fig.second;
+        raw = raw_of (fig.second % 32) (is_long fig.second) fig.bytes;
+      };
       rest = _;
       are = ap frame_items fibs;
       first = refl;
       ensemble = eq-eqb (fig.second % 32) 0 fig.ext;
       says = fig.says;
-      none = all_append (λ i. is_ensemble i ≡ false) _ (fibs_items false later) (figs_none false h.others h.alone) (fibs_none false later quiet);
-      whole = ap damaged_in begin ∙ ap (λ b. cond b 1 0 + damaged_in later) heads.whole ∙ ap (λ n. 0 + n) (none_damaged later quiet);
-      lacks = ap lacks_opening begin ∙ ap (λ b. not b && not (begins_with_ensemble (r.read first))) heads.whole ∙ ap (λ o. not (is_there o)) heads.opens;
+      none = all_append (λ i. is_ensemble i ≡ false) _ (fibs_items false later) (figs_none false h.others h.alone)
+          (fibs_none false later quiet);
+      whole = ap damaged_in begin ∙ ap (λ b. cond b 1 0 + damaged_in later) heads.whole
+          ∙ ap (λ n. 0 + n) (none_damaged later quiet);
+      lacks = ap lacks_opening begin ∙ ap (λ b. not b && not (begins_with_ensemble (r.read first))) heads.whole
+          ∙ ap (λ o. not (is_there o)) heads.opens;
       opens = ap first_opening begin ∙ heads.opens;
     }
 
@@ -105,20 +124,24 @@ headed_frame one heard r plan u frame right h =
 
 -- nothing, or the count and the EId of the state
 abbrev IsDue : ℕ → List Moment → State → Type 0
-IsDue step past s = ((due past ≡ None) × (last_eid step past ≡ None)) ⊎ ((due past ≡ Some s.count) × (last_eid step past ≡ Some s.eid))
+IsDue step past s = ((due past ≡ None) × (last_eid step past ≡ None))
+    ⊎ ((due past ≡ Some s.count) × (last_eid step past ≡ Some s.eid))
 
 not_other : (n m : ℕ) (o : Option ℕ) → (o ≡ None) ⊎ (o ≡ Some m) → n ≡ m → is_other n o ≡ false
 not_other n m o (inl none) e = ap (is_other n) none
 not_other n m o (inr some) e = ap (is_other n) some ∙ ap not (eq-eqb n m e)
 
 -- FIG 0/0 in place
-placed : (step period : ℕ) (past : List Moment) (s : State) (first : Bool) (e : EnsembleInformation) → IsDue step past s → first ≡ true → e.count ≡ s.count → e.eid ≡ s.eid → s.count % step ≡ 0
+placed : (step period : ℕ) (past : List Moment) (s : State) (first : Bool) (e : EnsembleInformation) → IsDue step past s
+    → first ≡ true → e.count ≡ s.count → e.eid ≡ s.eid → s.count % step ≡ 0
     → IsPlaceFine (known_of step period past) first e
 placed step period past s first e known one count eid on =
-    let k : Known = known_of step period past in
+    let k : KnownBefore = known_of step period past in
     let on_step : (e.count % step == 0) ≡ true = eq-eqb (e.count % step) 0 (ap (λ n. n % step) count ∙ on) in
-    let last : (due past ≡ None) ⊎ (due past ≡ Some s.count) = elim known [ inl none ↦ inl none.0 | inr some ↦ inr some.0 ] in
-    let ensemble : (last_eid step past ≡ None) ⊎ (last_eid step past ≡ Some s.eid) = elim known [ inl none ↦ inl none.1 | inr some ↦ inr some.1 ] in
+    let last : (due past ≡ None) ⊎ (due past ≡ Some s.count) =
+    elim known [ inl none ↦ inl none.0 | inr some ↦ inr some.0 ] in
+    let ensemble : (last_eid step past ≡ None) ⊎ (last_eid step past ≡ Some s.eid) =
+    elim known [ inl none ↦ inl none.1 | inr some ↦ inr some.1 ] in
     record {
       eid = and_right (is_placed k first e) _ (not_other e.eid s.eid (last_eid step past) ensemble eid);
       count = and_right (is_placed k first e) _ (not_other e.count s.count (due past) last count);
@@ -126,7 +149,8 @@ placed step period past s first e known one count eid on =
     }
 
 -- the frame as a whole
-whole_frame : (size step : ℕ) (last : Option ℕ) (frame : List Fib) → length frame ≡ size → damaged_in frame ≡ 0 → (count_due last frame % step == 0 && lacks_opening frame) ≡ false → IsFrameFine size step last frame
+whole_frame : (size step : ℕ) (last : Option ℕ) (frame : List Fib) → length frame ≡ size → damaged_in frame ≡ 0
+    → (count_due last frame % step == 0 && lacks_opening frame) ≡ false → IsFrameFine size step last frame
 whole_frame size step last frame same whole there = record {
   full = le-ltb (length frame) size (omega (arith, same));
   whole = le-ltb 0 (damaged_in frame) (omega (arith, whole));
@@ -134,11 +158,13 @@ whole_frame size step last frame same whole there = record {
 }
 
 -- entries other than FIG 0/0 have no place
-none_placed : (step period : ℕ) (items : List Item) (past : List Moment) → HasNone items → Each (IsWellPlaced step period) past items
+none_placed : (step period : ℕ) (items : List Item) (past : List Moment) → HasNone items
+    → Each (IsWellPlaced step period) past items
 none_placed step period items past none =
     each_other (IsWellPlaced step period) (λ before i other ens. absurd (false≢true (sym other ∙ ens))) items past none
 
-said_eid : (step : ℕ) (items : List Item) (past : List Moment) → HasNone items → last_eid step (said items past) ≡ last_eid step past
+said_eid : (step : ℕ) (items : List Item) (past : List Moment) → HasNone items
+    → last_eid step (said items past) ≡ last_eid step past
 said_eid step [] past none = refl
 said_eid step (i ∷ is) past none = said_eid step is (Said i ∷ past) none.1 ∙ sym (member_eid step past i none.0)
 
@@ -149,42 +175,54 @@ pub record IsRightFrame (size step period : ℕ) (past : List Moment) (frame : L
   pub counted : count_of_frame step (due past) frame ≡ count
   pub same : last_eid step (after_read step past frame) ≡ Some eid
 
-head_eid : (step : ℕ) (i : Item) (s : State) (o : Option ℕ) → is_ensemble i ≡ true → (ensemble_of i).eid ≡ s.eid → (o ≡ None) ⊎ (o ≡ Some s.eid) → eid_of step i o ≡ Some s.eid
-head_eid step i s o e same (inl none) = ap (eid_of step i) none ∙ ap (λ t. cond t (Some (ensemble_of i).eid) None) e ∙ ap Some same
+head_eid : (step : ℕ) (i : Item) (s : State) (o : Option ℕ) → is_ensemble i ≡ true → (ensemble_of_item i).eid ≡ s.eid
+    → (o ≡ None) ⊎ (o ≡ Some s.eid) → eid_of step i o ≡ Some s.eid
+head_eid step i s o e same (inl none) = ap (eid_of step i) none
+    ∙ ap (λ t. cond t (Some (ensemble_of_item i).eid) None) e ∙ ap Some same
 head_eid step i s o e same (inr some) = ap (eid_of step i) some ∙ either (is_in_place step i)
   where
-    either : (b : Bool) → cond b (Some (ensemble_of i).eid) (Some s.eid) ≡ Some s.eid
+    either : (b : Bool) → cond b (Some (ensemble_of_item i).eid) (Some s.eid) ≡ Some s.eid
     either true = ap Some same
     either false = refl
 
-with_header : (size step period : ℕ) (past : List Moment) (s : State) (frame : List Fib) (e : EnsembleInformation) → length frame ≡ size → IsHeaded frame e → IsDue step past s
+with_header : (size step period : ℕ) (past : List Moment) (s : State) (frame : List Fib) (e : EnsembleInformation)
+    → length frame ≡ size → IsHeaded frame e → IsDue step past s
     → e.count ≡ s.count → e.eid ≡ s.eid → s.count % step ≡ 0 → IsRightFrame size step period past frame s.count s.eid
 with_header size step period past s frame e len h known count eid on =
-    let head_count : (ensemble_of h.head).count ≡ s.count = ap (λ (x : EnsembleInformation). x.count) h.says ∙ count in
-    let head_same : (ensemble_of h.head).eid ≡ s.eid = ap (λ (x : EnsembleInformation). x.eid) h.says ∙ eid in
-    let place = placed step period past s h.head.first (ensemble_of h.head) known h.first head_count head_same on in
-    let ensemble : (last_eid step past ≡ None) ⊎ (last_eid step past ≡ Some s.eid) = elim known [ inl none ↦ inl none.1 | inr some ↦ inr some.1 ] in
+    let head_count : (ensemble_of_item h.head).count ≡ s.count =
+    ap (λ (x : EnsembleInformation). x.count) h.says ∙ count in
+    let head_same : (ensemble_of_item h.head).eid ≡ s.eid = ap (λ (x : EnsembleInformation). x.eid) h.says ∙ eid in
+    let place = placed step period past s h.head.first (ensemble_of_item h.head) known h.first head_count head_same
+    on in
+    let ensemble : (last_eid step past ≡ None) ⊎ (last_eid step past ≡ Some s.eid) =
+    elim known [ inl none ↦ inl none.1 | inr some ↦ inr some.1 ] in
     record {
-      whole = whole_frame size step (due past) frame len h.whole (and_right (count_due (due past) frame % step == 0) (lacks_opening frame) h.lacks);
+      whole = whole_frame size step (due past) frame len h.whole
+          (and_right (count_due (due past) frame % step == 0) (lacks_opening frame) h.lacks);
       place = subst (λ (is : List Item). Each (IsWellPlaced step period) past is) (sym h.are)
           ((λ ens. place), none_placed step period h.rest (Said h.head ∷ past) h.none);
       counted = ap (placed_count step (count_due (due past) frame)) h.opens
-          ∙ ap (λ t. cond t e.count (count_due (due past) frame)) (eq-eqb (e.count % step) 0 (ap (λ n. n % step) count ∙ on)) ∙ count;
-      same = ap (λ is. last_eid step (said is past)) h.are ∙ said_eid step h.rest (Said h.head ∷ past) h.none ∙ head_eid step h.head s (last_eid step past) h.ensemble head_same ensemble;
+          ∙ ap (λ t. cond t e.count (count_due (due past) frame))
+          (eq-eqb (e.count % step) 0 (ap (λ n. n % step) count ∙ on)) ∙ count;
+      same = ap (λ is. last_eid step (said is past)) h.are ∙ said_eid step h.rest (Said h.head ∷ past) h.none
+          ∙ head_eid step h.head s (last_eid step past) h.ensemble head_same ensemble;
     }
 
 quiet_opening : (frame : List Fib) → AllByRecursion IsQuiet frame → first_opening frame ≡ None
 quiet_opening [] all = refl
 quiet_opening (f ∷ fs) all = all.0.opens
 
-without_header : (size step period : ℕ) (past : List Moment) (s : State) (frame : List Fib) → length frame ≡ size → AllByRecursion IsQuiet frame → (due past ≡ Some s.count) × (last_eid step past ≡ Some s.eid)
+without_header : (size step period : ℕ) (past : List Moment) (s : State) (frame : List Fib) → length frame ≡ size
+    → AllByRecursion IsQuiet frame → (due past ≡ Some s.count) × (last_eid step past ≡ Some s.eid)
     → s.count % step ≢ 0 → IsRightFrame size step period past frame s.count s.eid
 without_header size step period past s frame len quiet known off =
     let none = fibs_none true frame quiet in
     let count : count_due (due past) frame ≡ s.count = ap (λ o. count_due o frame) known.0 in
-    let off_step : (count_due (due past) frame % step == 0) ≡ false = ap (λ n. n % step == 0) count ∙ ne_eqb (s.count % step) 0 off in
+    let off_step : (count_due (due past) frame % step == 0) ≡ false =
+    ap (λ n. n % step == 0) count ∙ ne_eqb (s.count % step) 0 off in
     record {
-      whole = whole_frame size step (due past) frame len (none_damaged frame quiet) (ap (λ b. b && lacks_opening frame) off_step);
+      whole = whole_frame size step (due past) frame len (none_damaged frame quiet)
+          (ap (λ b. b && lacks_opening frame) off_step);
       place = none_placed step period (frame_items frame) past none;
       counted = ap (placed_count step (count_due (due past) frame)) (quiet_opening frame quiet) ∙ count;
       same = said_eid step (frame_items frame) past none ∙ known.1;
@@ -194,10 +232,13 @@ without_header size step period past s frame len quiet known off =
 
 -- before the first frame, or after it
 abbrev pub IsBegun : ℕ → List Moment → State → Type 0
-IsBegun step past s = ((due past ≡ None) × (last_eid step past ≡ None) × (s.count % step ≡ 0)) ⊎ ((due past ≡ Some s.count) × (last_eid step past ≡ Some s.eid))
+IsBegun step past s = ((due past ≡ None) × (last_eid step past ≡ None) × (s.count % step ≡ 0))
+    ⊎ ((due past ≡ Some s.count) × (last_eid step past ≡ Some s.eid))
 
-pub frame_right : OneList → EnsembleIsHeard → (r : Reading) (p : Program) (s : State) (period : ℕ) (past : List Moment) → IsRight p.plan (shown p s) (frame_bytes p s) → IsBegun (count_step (layout_mode p.plan.layout)) past s
-    → IsRightFrame (frame_fibs p.plan.layout) (count_step (layout_mode p.plan.layout)) period past (read_frame r p.plan.layout (frame_bytes p s)) s.count s.eid
+pub frame_right : OneList → EnsembleIsHeard → (r : Reading) (p : Program) (s : State) (period : ℕ) (past : List Moment)
+    → IsRight p.plan (shown p s) (frame_bytes p s) → IsBegun (count_step (layout_mode p.plan.layout)) past s
+    → IsRightFrame (frame_fibs p.plan.layout) (count_step (layout_mode p.plan.layout)) period past
+    (read_frame r p.plan.layout (frame_bytes p s)) s.count s.eid
 frame_right one heard r p s period past right known =
     let step : ℕ = count_step (layout_mode p.plan.layout) in
     let size = frame_size r p.plan.layout (frame_bytes p s) in
@@ -207,18 +248,25 @@ frame_right one heard r p s period past right known =
           let on_now : (shown p s).count % step ≡ 0 = ap (λ n. n % step) count ∙ on.1 in
           let h = right.headed on_now in
           let before : IsDue step past s = elim known [ inl none ↦ inl (none.0, none.1) | inr some ↦ inr some ] in
-          with_header (frame_fibs p.plan.layout) step period past s (read_frame r p.plan.layout (frame_bytes p s)) h.information size
-          (headed_frame one heard r p.plan (shown p s) (frame_bytes p s) right h) before (h.right.count ∙ count) (h.right.eid ∙ shown_eid p s) on.1
+          with_header (frame_fibs p.plan.layout) step period past s (read_frame r p.plan.layout (frame_bytes p s))
+          h.information size
+          (headed_frame one heard r p.plan (shown p s) (frame_bytes p s) right h) before (h.right.count ∙ count)
+          (h.right.eid ∙ shown_eid p s) on.1
       | inr off ↦
           let off_now : (shown p s).count % step ≢ 0 = λ e. off.1 (ap (λ n. n % step) (sym count) ∙ e) in
-          let before : (due past ≡ Some s.count) × (last_eid step past ≡ Some s.eid) = elim known [ inl none ↦ absurd (off.1 none.2) | inr some ↦ some ] in
-          without_header (frame_fibs p.plan.layout) step period past s (read_frame r p.plan.layout (frame_bytes p s)) size
+          let before : (due past ≡ Some s.count) × (last_eid step past ≡ Some s.eid) =
+          elim known [ inl none ↦ absurd (off.1 none.2) | inr some ↦ some ] in
+          without_header (frame_fibs p.plan.layout) step period past s (read_frame r p.plan.layout (frame_bytes p s))
+          size
           (all_quiet one r p.plan (shown p s) (frame_bytes p s) right off_now) before off.1
     ]
 
 -- one frame later
-pub begun_after : (p : Program) (s : State) (size period : ℕ) (past : List Moment) (frame : List Fib) → IsRightFrame size (count_step (layout_mode p.plan.layout)) period past frame s.count s.eid
-    → (due (after_read (count_step (layout_mode p.plan.layout)) past frame) ≡ Some (after_frame p s).count) × (last_eid (count_step (layout_mode p.plan.layout)) (after_read (count_step (layout_mode p.plan.layout)) past frame) ≡ Some (after_frame p s).eid)
+pub begun_after : (p : Program) (s : State) (size period : ℕ) (past : List Moment) (frame : List Fib)
+    → IsRightFrame size (count_step (layout_mode p.plan.layout)) period past frame s.count s.eid
+    → (due (after_read (count_step (layout_mode p.plan.layout)) past frame) ≡ Some (after_frame p s).count)
+    × (last_eid (count_step (layout_mode p.plan.layout))
+    (after_read (count_step (layout_mode p.plan.layout)) past frame) ≡ Some (after_frame p s).eid)
 begun_after p s size period past frame h =
     let count : (after_frame p s).count ≡ (s.count + 1) % 5000 = ap (λ n. (n + 1) % 5000) (shown_count p s) in (
       ap (λ n. Some ((n + 1) % 5000)) h.counted ∙ ap Some (sym count),

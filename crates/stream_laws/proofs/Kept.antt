@@ -1,5 +1,6 @@
 -- Where nothing is at fault: entries agree with the picture, and what holds after one more entry.
-use Rattle.std.proofs.Common.{◌≡◌, ℕ, ◌&&◌, Bool, true, false, cond, not, nat_lt, List, [], ◌∷◌, length, Option, Some, None, refl, sym, ap, ◌∙◌, subst, ◌++◌, zero, suc, ◌+◌, ◌%◌, ◌<◌, ◌==◌, ◌||◌, arith}
+use Rattle.std.proofs.Common.{◌≡◌, ℕ, ◌&&◌, Bool, true, false, cond, not, nat_lt, List, [], ◌∷◌, length, Option, Some}
+use Rattle.std.proofs.Common.{None, refl, sym, ap, ◌∙◌, subst, ◌++◌, zero, suc, ◌+◌, ◌%◌, ◌<◌, ◌==◌, ◌||◌, arith}
 use Rattle.std.specs.List.{AllByRecursion}
 use Rattle.std.proofs.lemmas.Bool.{false≢true, le-leb, not-true, eqb-true, not-false, or_parts}
 use Rattle.fib_reader.specs.Raw.{Raw}
@@ -9,8 +10,15 @@ use Rattle.stream_check.specs.declared.finding.Fault.TheVariants as faults
 use Rattle.stream_check.specs.declared.heard_table.Lookup.TheVariants as standings
 use Rattle.stream_check.specs.Reporting.{when}
 use Rattle.stream_check.specs.Lookup.{agree, lookup_among, lookup_in, list_for}
-use Rattle.stream_check.specs.History.{Item, Moment, Said, is_ensemble, ensemble_of, frames_ended, listener_after, is_member, settles_at, has_ensemble, has_begun, Ended, is_flagged, is_swap, listening, begins_notice, flag_count, times_announced, last_flags, next_key, row_at_hand, rows}
-use Rattle.stream_check.specs.Rules.{known_of, name_of, findings_at, has_no_room, finds_no_room, is_absent, is_other_one, is_settled, current_findings, next_findings, member_findings, ensemble_findings, Known, place_faults, is_placed, is_of_other_ensemble, has_other_count, swap_or_another, announces_another, announcement, swap_findings, occurrence_of, has_low, has_flags, makes_swap, is_other}
+use Rattle.stream_check.specs.History.{Item, Moment, Said, is_ensemble, ensemble_of_item, frames_ended, listener_after}
+use Rattle.stream_check.specs.History.{is_member, settles_at, has_ensemble, has_begun, Ended, is_flagged, is_swap}
+use Rattle.stream_check.specs.History.{listening, begins_notice, flag_count, times_announced, last_flags, next_key}
+use Rattle.stream_check.specs.History.{row_at_hand, rows}
+use Rattle.stream_check.specs.Rules.{known_of, name_of, findings_at, has_no_room, finds_no_room, is_absent}
+use Rattle.stream_check.specs.Rules.{is_other_one, is_settled, current_findings, next_findings, member_findings}
+use Rattle.stream_check.specs.Rules.{ensemble_findings, KnownBefore, place_faults, is_placed, is_of_other_ensemble}
+use Rattle.stream_check.specs.Rules.{has_other_count, swap_or_another, announces_another, announcement, swap_findings}
+use Rattle.stream_check.specs.Rules.{occurrence_of, has_low, has_flags, makes_swap, is_other}
 use Rattle.stream_check.proofs.Agreeing.{agree_same}
 use Rattle.stream_laws.specs.Faultless.{IsNoFault}
 use Rattle.stream_laws.specs.Keeping.{entry_like, IsKept, CurrentIsKept}
@@ -21,7 +29,8 @@ use Rattle.std.proofs.lemmas.List.{append-nil}
 use Rattle.mux_types.specs.Entries.{EnsembleInformation}
 use Rattle.stream_check.specs.Pictures.{key_of}
 use Rattle.stream_check.proofs.Ensembles.{heard_as, heard_is}
-use Rattle.stream_check.proofs.Members.{or_false, ensemble_no_member, ensemble_heard, member_heard, member_entry, after_is, or_true}
+use Rattle.stream_check.proofs.Members.{or_false, ensemble_no_member, ensemble_heard, member_heard, member_entry}
+use Rattle.stream_check.proofs.Members.{after_is, or_true}
 use Rattle.stream_laws.proofs.Pictures.{picture_with, taken_in}
 
 pub no_fault : (b : Bool) (fault : Fault) → AllByRecursion IsNoFault (when b fault) → b ≡ false
@@ -29,7 +38,8 @@ no_fault true fault all = absurd (all.0)
 no_fault false fault all = refl
 
 -- the first of several tests
-pub first_fine : (b : Bool) (fault : Fault) (rest : List What) → AllByRecursion IsNoFault (when b fault ++ rest) → (b ≡ false) × AllByRecursion IsNoFault rest
+pub first_fine : (b : Bool) (fault : Fault) (rest : List What) → AllByRecursion IsNoFault (when b fault ++ rest)
+    → (b ≡ false) × AllByRecursion IsNoFault rest
 first_fine true fault rest all = absurd all.0
 first_fine false fault rest all = (refl, all)
 
@@ -47,63 +57,87 @@ second_holds false b h = absurd (false≢true h)
 
 -- ---- how an entry compares with the picture
 
-no_other : (raw : Raw) (many : ℕ) (found : Option Raw) (known : Raw) → is_other_one (lookup_among raw many found) ≡ false → found ≡ Some known → known ≡ raw
+no_other : (raw : Raw) (many : ℕ) (found : Option Raw) (known : Raw)
+    → is_other_one (lookup_among raw many found) ≡ false → found ≡ Some known → known ≡ raw
 no_other raw many None known none e = absurd cc
 no_other raw many (Some k) known none e =
     let same : k ≡ known = cc in
-    elim (agree k raw) as (λ t. agree k raw ≡ t → is_other_one (cond t standings.Same standings.Other) ≡ false → known ≡ raw) [
+    elim (agree k raw) as (λ t. agree k raw ≡ t → is_other_one (cond t standings.Same standings.Other) ≡ false
+    → known ≡ raw) [
       | true ↦ λ is n. sym same ∙ agree_same k raw is
       | false ↦ λ is n. absurd (false≢true (sym n))
     ] refl none
 
-pub agrees : (raw : Raw) (p : Pictured) (known : Raw) → is_other_one (lookup_in raw p) ≡ false → entry_like raw p ≡ Some known → known ≡ raw
+pub agrees : (raw : Raw) (p : Pictured) (known : Raw) → is_other_one (lookup_in raw p) ≡ false
+    → entry_like raw p ≡ Some known → known ≡ raw
 agrees raw p known none e = no_other raw (length (list_for raw p)) (entry_like raw p) known none e
 
-there_by : (raw : Raw) (many : ℕ) (found : Option Raw) (settled : Bool) → settled ≡ true → finds_no_room (lookup_among raw many found) ≡ false
+there_by : (raw : Raw) (many : ℕ) (found : Option Raw) (settled : Bool) → settled ≡ true
+    → finds_no_room (lookup_among raw many found) ≡ false
     → (is_absent (lookup_among raw many found) && settled) ≡ false → (k : Raw) × (found ≡ Some k)
 there_by raw many None settled so room none =
-    elim (nat_lt many 64) as (λ t. finds_no_room (cond t standings.Absent standings.Full) ≡ false → (is_absent (cond t standings.Absent standings.Full) && settled) ≡ false → (k : Raw) × (None ≡ Some k)) [
+    elim (nat_lt many 64) as (λ t. finds_no_room (cond t standings.Absent standings.Full) ≡ false
+    → (is_absent (cond t standings.Absent standings.Full) && settled) ≡ false → (k : Raw) × (None ≡ Some k)) [
       | true ↦ λ r n. absurd (false≢true (sym n ∙ so))
       | false ↦ λ r n. absurd (false≢true (sym r))
     ] room none
 there_by raw many (Some k) settled so room none = (k, refl)
 
-pub there : (raw : Raw) (p : Pictured) (settled : Bool) → settled ≡ true → finds_no_room (lookup_in raw p) ≡ false → (is_absent (lookup_in raw p) && settled) ≡ false
+pub there : (raw : Raw) (p : Pictured) (settled : Bool) → settled ≡ true → finds_no_room (lookup_in raw p) ≡ false
+    → (is_absent (lookup_in raw p) && settled) ≡ false
     → (k : Raw) × (entry_like raw p ≡ Some k)
 there raw p settled so room none = there_by raw (length (list_for raw p)) (entry_like raw p) settled so room none
 
 -- ---- an entry of FIG 0/1 to 0/3
 
-pub member_parts : (past : List Moment) (i : Item) → is_member past i ≡ true → (is_ensemble i ≡ false) × ((listener_after past).tuned ≡ true)
-member_parts past i m = (not-true (is_ensemble i) (first_holds (not (is_ensemble i)) (listener_after past).tuned m), second_holds (not (is_ensemble i)) (listener_after past).tuned m)
+pub member_parts : (past : List Moment) (i : Item) → is_member past i ≡ true → (is_ensemble i ≡ false)
+    × ((listener_after past).tuned ≡ true)
+member_parts past i m = (
+  not-true (is_ensemble i) (first_holds (not (is_ensemble i)) (listener_after past).tuned m),
+  second_holds (not (is_ensemble i)) (listener_after past).tuned m,
+)
 
-pub member_found : (step period : ℕ) (past : List Moment) (i : Item) → is_ensemble i ≡ false → (listener_after past).tuned ≡ true
-    → findings_at (known_of step period past) i ≡ cond i.next (next_findings (known_of step period past) i.raw) (current_findings (known_of step period past) i.raw)
+pub member_found : (step period : ℕ) (past : List Moment) (i : Item) → is_ensemble i ≡ false
+    → (listener_after past).tuned ≡ true
+    → findings_at (known_of step period past) i ≡ cond i.next (next_findings (known_of step period past) i.raw)
+    (current_findings (known_of step period past) i.raw)
 member_found step period past i e t =
-    ap (λ b. cond b (ensemble_findings (known_of step period past) i.first (ensemble_of i)) (member_findings (known_of step period past) i.next i.raw)) e
-    ∙ ap (λ b. cond b (cond i.next (next_findings (known_of step period past) i.raw) (current_findings (known_of step period past) i.raw)) []) t
+    ap (λ b. cond b (ensemble_findings (known_of step period past) i.first (ensemble_of_item i))
+    (member_findings (known_of step period past) i.next i.raw)) e
+    ∙ ap (λ b. cond b (cond i.next (next_findings (known_of step period past) i.raw)
+    (current_findings (known_of step period past) i.raw)) []) t
 
-pub member_room : (step period : ℕ) (past : List Moment) (i : Item) → is_ensemble i ≡ false → (listener_after past).tuned ≡ true
-    → has_no_room (known_of step period past) i ≡ finds_no_room (lookup_in i.raw (cond i.next (listener_after past).next (listener_after past).current))
+pub member_room : (step period : ℕ) (past : List Moment) (i : Item) → is_ensemble i ≡ false
+    → (listener_after past).tuned ≡ true
+    → has_no_room (known_of step period past) i ≡ finds_no_room
+    (lookup_in i.raw (cond i.next (listener_after past).next (listener_after past).current))
 member_room step period past i e t =
-    ap (λ b. cond b false ((listener_after past).tuned && finds_no_room (lookup_in i.raw (cond i.next (listener_after past).next (listener_after past).current)))) e
-    ∙ ap (λ b. b && finds_no_room (lookup_in i.raw (cond i.next (listener_after past).next (listener_after past).current))) t
+    ap (λ b. cond b false ((listener_after past).tuned
+    && finds_no_room (lookup_in i.raw (cond i.next (listener_after past).next (listener_after past).current)))) e
+    ∙ ap (λ b. b && finds_no_room
+    (lookup_in i.raw (cond i.next (listener_after past).next (listener_after past).current))) t
 
 -- with C/N 0
-pub current_kept : (step period : ℕ) (past : List Moment) (i : Item) → is_ensemble i ≡ false → (listener_after past).tuned ≡ true → i.next ≡ false
+pub current_kept : (step period : ℕ) (past : List Moment) (i : Item) → is_ensemble i ≡ false
+    → (listener_after past).tuned ≡ true → i.next ≡ false
     → IsClean step period (Said i ∷ past) → IsKept period past i
 current_kept step period past i e t n c =
     let now : Pictured = (listener_after past).current in
     let plain : AllByRecursion IsNoFault (current_findings (known_of step period past) i.raw) =
-    subst (AllByRecursion IsNoFault) (member_found step period past i e t ∙ ap (λ b. cond b (next_findings (known_of step period past) i.raw) (current_findings (known_of step period past) i.raw)) n) c.0 in
+    subst (AllByRecursion IsNoFault) (member_found step period past i e t
+    ∙ ap (λ b. cond b (next_findings (known_of step period past) i.raw)
+    (current_findings (known_of step period past) i.raw)) n) c.0 in
     let both = first_fine (is_other_one (lookup_in i.raw now)) (faults.Changed (name_of i.raw)) _ plain in
-    let known = no_fault (is_absent (lookup_in i.raw now) && is_settled (known_of step period past)) (faults.Appeared (name_of i.raw)) both.1 in
+    let known = no_fault (is_absent (lookup_in i.raw now) && is_settled (known_of step period past))
+    (faults.Appeared (name_of i.raw)) both.1 in
     let room : finds_no_room (lookup_in i.raw now) ≡ false =
-    sym (member_room step period past i e t ∙ ap (λ b. finds_no_room (lookup_in i.raw (cond b (listener_after past).next now))) n) ∙ c.1 in
+    sym (member_room step period past i e t
+    ∙ ap (λ b. finds_no_room (lookup_in i.raw (cond b (listener_after past).next now))) n) ∙ c.1 in
     record {
       agrees = λ k is. agrees i.raw now k both.0 is;
       there = λ settled.
-          let found = there i.raw now (is_settled (known_of step period past)) (le-leb (settles_at period past) (frames_ended past) settled) room known in
+          let found = there i.raw now (is_settled (known_of step period past))
+          (le-leb (settles_at period past) (frames_ended past) settled) room known in
           found.1 ∙ ap Some (agrees i.raw now found.0 both.0 found.1);
     }
 
@@ -123,17 +157,21 @@ turned : (b e : Bool) → (not b && e) ≡ false → b ≡ false → e ≡ false
 turned true e h is = absurd (false≢true (sym is))
 turned false e h is = h
 
-pub next_kept : (step period : ℕ) (past : List Moment) (i : Item) → is_ensemble i ≡ false → (listener_after past).tuned ≡ true → i.next ≡ true
+pub next_kept : (step period : ℕ) (past : List Moment) (i : Item) → is_ensemble i ≡ false
+    → (listener_after past).tuned ≡ true → i.next ≡ true
     → IsClean step period (Said i ∷ past) → IsNextKept past i
 next_kept step period past i e t n c =
     let next : Pictured = (listener_after past).next in
     let plain : AllByRecursion IsNoFault (next_findings (known_of step period past) i.raw) =
-    subst (AllByRecursion IsNoFault) (member_found step period past i e t ∙ ap (λ b. cond b (next_findings (known_of step period past) i.raw) (current_findings (known_of step period past) i.raw)) n) c.0 in
+    subst (AllByRecursion IsNoFault) (member_found step period past i e t
+    ∙ ap (λ b. cond b (next_findings (known_of step period past) i.raw)
+    (current_findings (known_of step period past) i.raw)) n) c.0 in
     let both = first_fine (not (has_begun past) && has_ensemble past) faults.NextUnannounced _ plain in
     let same = no_fault (is_other_one (lookup_in i.raw next)) (faults.NextChanged (name_of i.raw)) both.1 in
     record {
       agrees = λ k is. agrees i.raw next k same is;
-      room = sym (member_room step period past i e t ∙ ap (λ b. finds_no_room (lookup_in i.raw (cond b next (listener_after past).current))) n) ∙ c.1;
+      room = sym (member_room step period past i e t ∙ ap
+          (λ b. finds_no_room (lookup_in i.raw (cond b next (listener_after past).current))) n) ∙ c.1;
       early = λ is. turned (has_begun past) (has_ensemble past) both.0 is;
     }
 
@@ -144,50 +182,62 @@ with_member true raw l = record l { next = picture_with raw l.next }
 with_member false raw l = record l { current = picture_with raw l.current }
 
 abbrev pub listened : Item → Listening → Listening
-listened i l = cond (is_ensemble i) (at_ensemble (ensemble_of i) l) (cond l.tuned (with_member i.next i.raw l) l)
+listened i l = cond (is_ensemble i) (at_ensemble (ensemble_of_item i) l) (cond l.tuned (with_member i.next i.raw l) l)
 
-taken : (next : Bool) (raw : Raw) (l : Listening) → finds_no_room (lookup_in raw (cond next l.next l.current)) ≡ false → into next l (pictured raw (picture_of next l)) ≡ Some (with_member next raw l)
+taken : (next : Bool) (raw : Raw) (l : Listening) → finds_no_room (lookup_in raw (cond next l.next l.current)) ≡ false
+    → into next l (pictured raw (picture_of next l)) ≡ Some (with_member next raw l)
 taken true raw l room = ap (into true l) (taken_in raw l.next room)
 taken false raw l room = ap (into false l) (taken_in raw l.current room)
 
-heard_by : (step period : ℕ) (past : List Moment) (i : Item) (l : Listening) (b : Bool) → is_ensemble i ≡ b → listening past ≡ Some l → has_no_room (known_of step period past) i ≡ false
-    → listening (Said i ∷ past) ≡ Some (cond b (at_ensemble (ensemble_of i) l) (cond l.tuned (with_member i.next i.raw l) l))
+heard_by : (step period : ℕ) (past : List Moment) (i : Item) (l : Listening) (b : Bool) → is_ensemble i ≡ b
+    → listening past ≡ Some l → has_no_room (known_of step period past) i ≡ false
+    → listening (Said i ∷ past)
+    ≡ Some (cond b (at_ensemble (ensemble_of_item i) l) (cond l.tuned (with_member i.next i.raw l) l))
 heard_by step period past i l true e h room = ensemble_heard past i l e h
 heard_by step period past i l false e h room =
     let same : listener_after past ≡ l = after_is past l h in
     member_heard past i l h ∙ member_entry i.next i.raw l e
-    ∙ elim l.tuned as (λ t. l.tuned ≡ t → cond t (into i.next l (pictured i.raw (picture_of i.next l))) (Some l) ≡ Some (cond t (with_member i.next i.raw l) l)) [
+    ∙ elim l.tuned as (λ t. l.tuned ≡ t → cond t (into i.next l (pictured i.raw (picture_of i.next l))) (Some l)
+    ≡ Some (cond t (with_member i.next i.raw l) l)) [
       | true ↦ λ t.
           let tuned : (listener_after past).tuned ≡ true = ap (λ (x : Listening). x.tuned) same ∙ t in
           let free : finds_no_room (lookup_in i.raw (cond i.next l.next l.current)) ≡ false =
-          sym (ap (λ (x : Listening). finds_no_room (lookup_in i.raw (cond i.next x.next x.current))) same) ∙ sym (member_room step period past i e tuned) ∙ room in
+          sym (ap (λ (x : Listening). finds_no_room (lookup_in i.raw (cond i.next x.next x.current))) same)
+          ∙ sym (member_room step period past i e tuned) ∙ room in
           taken i.next i.raw l free
       | false ↦ λ t. refl
     ] refl
 
-pub hears : (step period : ℕ) (past : List Moment) → IsClean step period past → (l : Listening) × (listening past ≡ Some l)
+pub hears : (step period : ℕ) (past : List Moment) → IsClean step period past → (l : Listening)
+    × (listening past ≡ Some l)
 hears step period [] c = (untuned, refl)
 hears step period (Said i ∷ past) c =
     let before = hears step period past c.2 in
     (listened i before.0, heard_by step period past i before.0 (is_ensemble i) refl before.1 c.1)
 hears step period (Ended count ∷ past) c = hears step period past c
 
-pub after_said : (step period : ℕ) (past : List Moment) (i : Item) → IsClean step period (Said i ∷ past) → listener_after (Said i ∷ past) ≡ listened i (listener_after past)
+pub after_said : (step period : ℕ) (past : List Moment) (i : Item) → IsClean step period (Said i ∷ past)
+    → listener_after (Said i ∷ past) ≡ listened i (listener_after past)
 after_said step period past i c =
     let before = hears step period past c.2 in
     let now = heard_by step period past i before.0 (is_ensemble i) refl before.1 c.1 in
     after_is (Said i ∷ past) (listened i before.0) now ∙ ap (listened i) (sym (after_is past before.0 before.1))
 
-pub after_ensemble : (step period : ℕ) (past : List Moment) (i : Item) → IsClean step period (Said i ∷ past) → is_ensemble i ≡ true → listener_after (Said i ∷ past) ≡ at_ensemble (ensemble_of i) (listener_after past)
+pub after_ensemble : (step period : ℕ) (past : List Moment) (i : Item) → IsClean step period (Said i ∷ past)
+    → is_ensemble i ≡ true → listener_after (Said i ∷ past) ≡ at_ensemble (ensemble_of_item i) (listener_after past)
 after_ensemble step period past i c e =
     after_said step period past i c
-    ∙ ap (λ t. cond t (at_ensemble (ensemble_of i) (listener_after past)) (cond (listener_after past).tuned (with_member i.next i.raw (listener_after past)) (listener_after past))) e
+    ∙ ap (λ t. cond t (at_ensemble (ensemble_of_item i) (listener_after past))
+    (cond (listener_after past).tuned (with_member i.next i.raw (listener_after past)) (listener_after past))) e
 
-pub after_member : (step period : ℕ) (past : List Moment) (i : Item) → IsClean step period (Said i ∷ past) → is_ensemble i ≡ false
-    → listener_after (Said i ∷ past) ≡ cond (listener_after past).tuned (with_member i.next i.raw (listener_after past)) (listener_after past)
+pub after_member : (step period : ℕ) (past : List Moment) (i : Item) → IsClean step period (Said i ∷ past)
+    → is_ensemble i ≡ false
+    → listener_after (Said i ∷ past) ≡ cond (listener_after past).tuned (with_member i.next i.raw (listener_after past))
+    (listener_after past)
 after_member step period past i c e =
     after_said step period past i c
-    ∙ ap (λ t. cond t (at_ensemble (ensemble_of i) (listener_after past)) (cond (listener_after past).tuned (with_member i.next i.raw (listener_after past)) (listener_after past))) e
+    ∙ ap (λ t. cond t (at_ensemble (ensemble_of_item i) (listener_after past))
+    (cond (listener_after past).tuned (with_member i.next i.raw (listener_after past)) (listener_after past))) e
 
 awaited_with : (next : Bool) (raw : Raw) (l : Listening) → (with_member next raw l).awaited ≡ l.awaited
 awaited_with true raw l = refl
@@ -197,61 +247,73 @@ awaited_by : (t next : Bool) (raw : Raw) (l : Listening) → (cond t (with_membe
 awaited_by true next raw l = awaited_with next raw l
 awaited_by false next raw l = refl
 
-pub awaited_member : (step period : ℕ) (past : List Moment) (i : Item) → IsClean step period (Said i ∷ past) → is_ensemble i ≡ false → (listener_after (Said i ∷ past)).awaited ≡ (listener_after past).awaited
+pub awaited_member : (step period : ℕ) (past : List Moment) (i : Item) → IsClean step period (Said i ∷ past)
+    → is_ensemble i ≡ false → (listener_after (Said i ∷ past)).awaited ≡ (listener_after past).awaited
 awaited_member step period past i c e =
     ap (λ (l : Listening). l.awaited) (after_member step period past i c e)
     ∙ awaited_by (listener_after past).tuned i.next i.raw (listener_after past)
 
 -- ---- a FIG 0/0
 
-pub ensemble_made : (past : List Moment) (i : Item) → is_ensemble i ≡ true → is_swap past i ≡ is_made (listener_after past).awaited (ensemble_of i)
-ensemble_made past i e = ap (λ t. t && is_made (listener_after past).awaited (ensemble_of i)) e
+pub ensemble_made : (past : List Moment) (i : Item) → is_ensemble i ≡ true
+    → is_swap past i ≡ is_made (listener_after past).awaited (ensemble_of_item i)
+ensemble_made past i e = ap (λ t. t && is_made (listener_after past).awaited (ensemble_of_item i)) e
 
-pub ensemble_flags : (i : Item) → is_ensemble i ≡ true → is_flagged i ≡ has_flags (ensemble_of i)
-ensemble_flags i e = ap (λ t. t && not ((ensemble_of i).change == 0)) e
+pub ensemble_flags : (i : Item) → is_ensemble i ≡ true → is_flagged i ≡ has_flags (ensemble_of_item i)
+ensemble_flags i e = ap (λ t. t && not ((ensemble_of_item i).change == 0)) e
 
-begins_is : (past : List Moment) (i : Item) (f : Bool) → is_ensemble i ≡ true → is_flagged i ≡ f → begins_notice past i ≡ f
-begins_is past i f e fl = ap (λ t. t || (is_member past i && i.next)) fl ∙ ap (λ t. f || (t && i.next)) (ensemble_no_member past i e) ∙ or_false f
+begins_is : (past : List Moment) (i : Item) (f : Bool) → is_ensemble i ≡ true → is_flagged i ≡ f
+    → begins_notice past i ≡ f
+begins_is past i f e fl = ap (λ t. t || (is_member past i && i.next)) fl
+    ∙ ap (λ t. f || (t && i.next)) (ensemble_no_member past i e) ∙ or_false f
 
-pub begun_is : (past : List Moment) (i : Item) (b f : Bool) → is_ensemble i ≡ true → is_swap past i ≡ b → is_flagged i ≡ f → has_begun (Said i ∷ past) ≡ cond b f (has_begun past || f)
+pub begun_is : (past : List Moment) (i : Item) (b f : Bool) → is_ensemble i ≡ true → is_swap past i ≡ b
+    → is_flagged i ≡ f → has_begun (Said i ∷ past) ≡ cond b f (has_begun past || f)
 begun_is past i b f e sw fl =
     ap (λ t. cond t (is_flagged i) (has_begun past || begins_notice past i)) sw
     ∙ ap (λ t. cond b t (has_begun past || begins_notice past i)) fl
     ∙ ap (λ t. cond b f (has_begun past || t)) (begins_is past i f e fl)
 
-pub begun_flagged : (past : List Moment) (i : Item) (b : Bool) → is_ensemble i ≡ true → is_swap past i ≡ b → is_flagged i ≡ true → has_begun (Said i ∷ past) ≡ true
+pub begun_flagged : (past : List Moment) (i : Item) (b : Bool) → is_ensemble i ≡ true → is_swap past i ≡ b
+    → is_flagged i ≡ true → has_begun (Said i ∷ past) ≡ true
 begun_flagged past i b e sw fl = begun_is past i b true e sw fl ∙ by b
   where
     by : (t : Bool) → cond t true (has_begun past || true) ≡ true
     by true = refl
     by false = or_true (has_begun past)
 
-pub times_are : (past : List Moment) (i : Item) (b f : Bool) → is_swap past i ≡ b → is_flagged i ≡ f → times_announced (Said i ∷ past) ≡ cond b (cond f 1 0) (times_announced past + cond f 1 0)
+pub times_are : (past : List Moment) (i : Item) (b f : Bool) → is_swap past i ≡ b → is_flagged i ≡ f
+    → times_announced (Said i ∷ past) ≡ cond b (cond f 1 0) (times_announced past + cond f 1 0)
 times_are past i b f sw fl =
     ap (λ t. cond t (flag_count i) (times_announced past + flag_count i)) sw
     ∙ ap (λ t. cond b (cond t 1 0) (times_announced past + cond t 1 0)) fl
 
-pub flags_are : (past : List Moment) (i : Item) (f : Bool) → is_flagged i ≡ f → last_flags (Said i ∷ past) ≡ cond f (ensemble_of i).change (last_flags past)
-flags_are past i f fl = ap (λ t. cond t (ensemble_of i).change (last_flags past)) fl
+pub flags_are : (past : List Moment) (i : Item) (f : Bool) → is_flagged i ≡ f
+    → last_flags (Said i ∷ past) ≡ cond f (ensemble_of_item i).change (last_flags past)
+flags_are past i f fl = ap (λ t. cond t (ensemble_of_item i).change (last_flags past)) fl
 
-pub rows_are : (past : List Moment) (i : Item) (b : Bool) → is_swap past i ≡ b → rows (Said i ∷ past) ≡ cond b [] (rows past)
+pub rows_are : (past : List Moment) (i : Item) (b : Bool) → is_swap past i ≡ b
+    → rows (Said i ∷ past) ≡ cond b [] (rows past)
 rows_are past i b sw = ap (λ t. cond t [] (rows past)) sw
 
-pub row_is : (past : List Moment) (i : Item) (b : Bool) → is_ensemble i ≡ true → is_swap past i ≡ b → row_at_hand (Said i ∷ past) ≡ cond b [] (row_at_hand past)
+pub row_is : (past : List Moment) (i : Item) (b : Bool) → is_ensemble i ≡ true → is_swap past i ≡ b
+    → row_at_hand (Said i ∷ past) ≡ cond b [] (row_at_hand past)
 row_is past i b e sw =
     ap (λ t. cond t [] (row_at_hand past ++ next_key past i)) sw
     ∙ ap (λ t. cond b [] (row_at_hand past ++ cond (t && i.next) (key_of i.raw ∷ []) [])) (ensemble_no_member past i e)
     ∙ ap (λ r. cond b [] r) (append-nil (row_at_hand past))
 
-pub after_heard : (step period : ℕ) (past : List Moment) (i : Item) (b f : Bool) → IsClean step period (Said i ∷ past) → is_ensemble i ≡ true → is_swap past i ≡ b → is_flagged i ≡ f
-    → listener_after (Said i ∷ past) ≡ heard_as b f (ensemble_of i) (listener_after past)
+pub after_heard : (step period : ℕ) (past : List Moment) (i : Item) (b f : Bool) → IsClean step period (Said i ∷ past)
+    → is_ensemble i ≡ true → is_swap past i ≡ b → is_flagged i ≡ f
+    → listener_after (Said i ∷ past) ≡ heard_as b f (ensemble_of_item i) (listener_after past)
 after_heard step period past i b f c e sw fl =
     after_ensemble step period past i c e
-    ∙ heard_is (ensemble_of i) (listener_after past) b f (sym (ensemble_made past i e) ∙ sw) (sym (ensemble_flags i e) ∙ fl)
+    ∙ heard_is (ensemble_of_item i) (listener_after past) b f (sym (ensemble_made past i e) ∙ sw)
+    (sym (ensemble_flags i e) ∙ fl)
 
 -- ---- its rules
 
-pub record IsPlainEnsemble (k : Known) (first : Bool) (e : EnsembleInformation) : Type 0 where
+pub record IsPlainEnsemble (k : KnownBefore) (first : Bool) (e : EnsembleInformation) : Type 0 where
   pub first_one : first ≡ true
   pub on_step : e.count % k.step ≡ 0
   pub eid : is_other e.eid k.eid ≡ false
@@ -264,7 +326,8 @@ flags_where : (f b : Bool) → (not f && b) ≡ false → b ≡ true → f ≡ t
 flags_where true b h is = refl
 flags_where false b h is = absurd (false≢true (sym h ∙ is))
 
-plain_rules : (k : Known) (first : Bool) (e : EnsembleInformation) → AllByRecursion IsNoFault (ensemble_findings k first e) → IsPlainEnsemble k first e
+plain_rules : (k : KnownBefore) (first : Bool) (e : EnsembleInformation)
+    → AllByRecursion IsNoFault (ensemble_findings k first e) → IsPlainEnsemble k first e
 plain_rules k first e all =
     let place = all_left IsNoFault (place_faults k first e) _ all in
     let rest = all_right IsNoFault (place_faults k first e) _ all in
@@ -273,23 +336,32 @@ plain_rules k first e all =
     let last = all_right IsNoFault (announcement k e) _ later in
     let one = first_fine (is_of_other_ensemble k first e) (faults.OtherEnsemble e.eid) _ place in
     let two = first_fine (has_other_count k first e) (faults.Count (unwrap_or k.due 0)) _ one.1 in
-    let placed : is_placed k first e ≡ true = not-false (is_placed k first e) (no_fault (not (is_placed k first e)) faults.OutOfPlace two.1) in
+    let placed : is_placed k first e ≡ true =
+    not-false (is_placed k first e) (no_fault (not (is_placed k first e)) faults.OutOfPlace two.1) in
     record {
       first_one = first_holds first (e.count % k.step == 0) placed;
       on_step = eqb-true (e.count % k.step) 0 (second_holds first (e.count % k.step == 0) placed);
       eid = second_false (is_placed k first e) (is_other e.eid k.eid) placed one.0;
       count = second_false (is_placed k first e) (is_other e.count k.due) placed two.0;
       again = λ not_so.
-          let only = subst (λ (b : Bool). AllByRecursion IsNoFault (cond b (swap_findings k e) (when (announces_another k e) (faults.AnnouncedAgain e.change (occurrence_of e))))) not_so swap in
+          let only = subst (λ (b : Bool). AllByRecursion IsNoFault
+          (cond b (swap_findings k e)
+          (when (announces_another k e) (faults.AnnouncedAgain e.change (occurrence_of e))))) not_so swap in
           no_fault (announces_another k e) (faults.AnnouncedAgain e.change (occurrence_of e)) only;
-      flagged = λ is. flags_where (has_flags e) k.began_early (no_fault (not (has_flags e) && k.began_early) faults.NextUnannounced last) is;
-      swap = λ so. subst (λ (b : Bool). AllByRecursion IsNoFault (cond b (swap_findings k e) (when (announces_another k e) (faults.AnnouncedAgain e.change (occurrence_of e))))) so swap;
+      flagged = λ is. flags_where (has_flags e) k.began_early
+          (no_fault (not (has_flags e) && k.began_early) faults.NextUnannounced last) is;
+      swap = λ so. subst (λ (b : Bool). AllByRecursion IsNoFault
+          (cond b (swap_findings k e)
+          (when (announces_another k e) (faults.AnnouncedAgain e.change (occurrence_of e))))) so swap;
     }
 
-pub plain_ensemble : (step period : ℕ) (past : List Moment) (i : Item) → IsClean step period (Said i ∷ past) → is_ensemble i ≡ true → IsPlainEnsemble (known_of step period past) i.first (ensemble_of i)
+pub plain_ensemble : (step period : ℕ) (past : List Moment) (i : Item) → IsClean step period (Said i ∷ past)
+    → is_ensemble i ≡ true → IsPlainEnsemble (known_of step period past) i.first (ensemble_of_item i)
 plain_ensemble step period past i c e =
-    plain_rules (known_of step period past) i.first (ensemble_of i)
-    (subst (λ (b : Bool). AllByRecursion IsNoFault (cond b (ensemble_findings (known_of step period past) i.first (ensemble_of i)) (member_findings (known_of step period past) i.next i.raw))) e c.0)
+    plain_rules (known_of step period past) i.first (ensemble_of_item i)
+    (subst (λ (b : Bool). AllByRecursion IsNoFault
+    (cond b (ensemble_findings (known_of step period past) i.first (ensemble_of_item i))
+    (member_findings (known_of step period past) i.next i.raw))) e c.0)
 
 -- flags are not 0
 pub some_flags : (n : ℕ) → not (n == 0) ≡ true → 0 < n
@@ -297,17 +369,22 @@ some_flags zero h = absurd (false≢true h)
 some_flags (suc n) h = omega arith
 
 -- flags come with an occurrence change
-pub occurrence_is : (i : Item) → has_flags (ensemble_of i) ≡ true → (ensemble_of i).occurrence ≡ Some (get_or i.raw.bytes 4 0)
-occurrence_is i f = ap (λ t. cond t None (Some (get_or i.raw.bytes 4 0))) (not-true ((ensemble_of i).change == 0) f)
+pub occurrence_is : (i : Item) → has_flags (ensemble_of_item i) ≡ true
+    → (ensemble_of_item i).occurrence ≡ Some (get_or i.raw.bytes 4 0)
+occurrence_is i f = ap (λ t. cond t None (Some (get_or i.raw.bytes 4 0)))
+    (not-true ((ensemble_of_item i).change == 0) f)
 
 -- an awaited swap is announced again with the same values
 pub not_another : (aw : Option ℕ) (low change flags occurrence : ℕ) → aw ≡ Some low
-    → (has_low aw && (not (change == flags) || not (occurrence == unwrap_or aw 0))) ≡ false → (change ≡ flags) × (occurrence ≡ low)
+    → (has_low aw && (not (change == flags) || not (occurrence == unwrap_or aw 0))) ≡ false → (change ≡ flags)
+    × (occurrence ≡ low)
 not_another None low change flags occurrence e h = absurd cc
 not_another (Some a) low change flags occurrence e h =
     let same : a ≡ low = cc in
-    let both = or_parts (not (change == flags)) (not (occurrence == a)) h in
-    (eqb-true change flags (not-false (change == flags) both.0), eqb-true occurrence a (not-false (occurrence == a) both.1) ∙ same)
+    let both = or_parts (not (change == flags)) (not (occurrence == a)) h in (
+      eqb-true change flags (not-false (change == flags) both.0),
+      eqb-true occurrence a (not-false (occurrence == a) both.1) ∙ same,
+    )
 
 -- no swap is awaited where a FIG 0/0 without flags makes none
 pub nothing_awaited : (aw : Option ℕ) (e : EnsembleInformation) → is_made aw e ≡ false → has_flags e ≡ false → aw ≡ None

@@ -1,5 +1,7 @@
 -- When an entry was last heard, along the entries of a frame.
-use Rattle.std.proofs.Common.{◌≡◌, ℕ, zero, suc, ◌+◌, ◌*◌, ◌<◌, ◌≤◌, ◌%◌, ◌==◌, ◌&&◌, ◌||◌, Bool, true, false, cond, not, List, [], ◌∷◌, length, Contains, Option, Some, None, refl, sym, ap, ◌∙◌, subst, arith, inl, inr}
+use Rattle.std.proofs.Common.{◌≡◌, ℕ, zero, suc, ◌+◌, ◌*◌, ◌<◌, ◌≤◌, ◌%◌, ◌==◌, ◌&&◌, ◌||◌, Bool, true, false, cond}
+use Rattle.std.proofs.Common.{not, List, [], ◌∷◌, length, Contains, Option, Some, None, refl, sym, ap, ◌∙◌, subst}
+use Rattle.std.proofs.Common.{arith, inl, inr}
 use Rattle.std.specs.Prelude.{take}
 use Rattle.std.proofs.lemmas.Bool.{cases_lt, eq-eqb, eqb-true}
 use Rattle.std.proofs.lemmas.List.{drop_all}
@@ -9,16 +11,19 @@ use Rattle.mux_types.proofs.Elements.{contains_cases, contains_first, contains_l
 use Rattle.mux_types.specs.Entries.{EnsembleInformation}
 use Rattle.mux_types.specs.Facts.{Marked}
 use Rattle.mux_types.specs.declared.entry.Entry.{Entry}
-use Rattle.mux_types.specs.declared.entry.Entry.TheVariants.{Ensemble as EnsembleOf, Sub as SubOf, Short as ShortOf, Service as ServiceOf, Packet as PacketOf}
+use Rattle.mux_types.specs.declared.entry.Entry.TheVariants.{Ensemble as EnsembleOf, Sub as SubOf, Short as ShortOf}
+use Rattle.mux_types.specs.declared.entry.Entry.TheVariants.{Service as ServiceOf, Packet as PacketOf}
 use Rattle.fib_codec.specs.Grammar.{Fig, Open, Other, IsFib, OneList, is_next, is_long}
 use Rattle.fib_codec.specs.Heard.{fib_at, IsSaid, IsInFig, IsHeardInRow}
 use Rattle.fib_codec.specs.Laws.{FibHas32Bytes}
 use Rattle.fib_codec.specs.Spelling.{entry_bytes, ext_of, is_long_entry}
 use Rattle.fib_reader.specs.Raw.{Raw, raw_of, raw_entry, ensemble_in}
-use Rattle.fib_reader.specs.Listening.{Pictured, Listening, pictured, picture_of, into, is_made, swapped, at_ensemble, hear_entry, where_heard}
+use Rattle.fib_reader.specs.Listening.{Pictured, Listening, pictured, picture_of, into, is_made, swapped, at_ensemble}
+use Rattle.fib_reader.specs.Listening.{hear_entry, where_heard}
 use Rattle.stream_check.specs.Frames.{Reading}
 use Rattle.stream_check.specs.Pictures.{key_of}
-use Rattle.stream_check.specs.History.{Item, Moment, Said, Ended, said, frame_items, is_ensemble, is_swap, is_member, frames_ended, listening, listener_after, last_heard}
+use Rattle.stream_check.specs.History.{Item, Moment, Said, Ended, said, frame_items, is_ensemble, is_swap, is_member}
+use Rattle.stream_check.specs.History.{frames_ended, listening, listener_after, last_heard}
 use Rattle.stream_check.proofs.Members.{after_is, member_heard, member_last}
 use Rattle.plan_runs.specs.Listening.{fibs_from}
 use Rattle.stream_laws.proofs.Framing.{read_frame}
@@ -31,26 +36,30 @@ use Rattle.stream_laws.proofs.Clean.{said_ended}
 pub last_at_most : (key : ℕ) (past : List Moment) → last_heard key past ≤ frames_ended past + 1
 last_at_most key [] = omega arith
 last_at_most key (Said i ∷ past) =
-    elim (is_swap past i || (is_member past i && (not i.next && (key_of i.raw == key)))) as (λ b. cond b (frames_ended past + 1) (last_heard key past) ≤ frames_ended past + 1) [
+    elim (is_swap past i || (is_member past i && (not i.next && (key_of i.raw == key))))
+    as (λ b. cond b (frames_ended past + 1) (last_heard key past) ≤ frames_ended past + 1) [
       | true ↦ omega arith
       | false ↦ last_at_most key past
     ]
 last_at_most key (Ended count ∷ past) = let before = last_at_most key past in omega (arith, before)
 
-pub last_grows : (key : ℕ) (items : List Item) (past : List Moment) → last_heard key past ≤ last_heard key (said items past)
+pub last_grows : (key : ℕ) (items : List Item) (past : List Moment)
+    → last_heard key past ≤ last_heard key (said items past)
 last_grows key [] past = omega arith
 last_grows key (i ∷ is) past =
     let rest = last_grows key is (Said i ∷ past) in
     let most = last_at_most key past in
     let one : last_heard key past ≤ last_heard key (Said i ∷ past) =
-    elim (is_swap past i || (is_member past i && (not i.next && (key_of i.raw == key)))) as (λ b. last_heard key past ≤ cond b (frames_ended past + 1) (last_heard key past)) [
+    elim (is_swap past i || (is_member past i && (not i.next && (key_of i.raw == key))))
+    as (λ b. last_heard key past ≤ cond b (frames_ended past + 1) (last_heard key past)) [
       | true ↦ most
       | false ↦ omega arith
     ] in
     omega (arith, rest, one)
 
 -- once heard in the current frame, it stays so
-pub last_stays : (key : ℕ) (items : List Item) (past : List Moment) → last_heard key past ≡ frames_ended past + 1 → last_heard key (said items past) ≡ frames_ended past + 1
+pub last_stays : (key : ℕ) (items : List Item) (past : List Moment) → last_heard key past ≡ frames_ended past + 1
+    → last_heard key (said items past) ≡ frames_ended past + 1
 last_stays key items past now =
     let grows = last_grows key items past in
     let most = last_at_most key (said items past) in
@@ -59,17 +68,21 @@ last_stays key items past now =
 
 -- ---- a tuned listener stays tuned
 
-heard_some : (o : Option Listening) (f : Listening → Option Listening) (m : Listening) → where_heard o f ≡ Some m → (l : Listening) × (o ≡ Some l)
+heard_some : (o : Option Listening) (f : Listening → Option Listening) (m : Listening) → where_heard o f ≡ Some m
+    → (l : Listening) × (o ≡ Some l)
 heard_some None f m e = absurd cc
 heard_some (Some l) f m e = (l, refl)
 
-pub some_before : (items : List Item) (past : List Moment) (after : Listening) → listening (said items past) ≡ Some after → (m : Listening) × (listening past ≡ Some m)
+pub some_before : (items : List Item) (past : List Moment) (after : Listening)
+    → listening (said items past) ≡ Some after → (m : Listening) × (listening past ≡ Some m)
 some_before [] past after e = (after, e)
 some_before (i ∷ is) past after e =
     let next = some_before is (Said i ∷ past) after e in
     heard_some (listening past) (hear_entry i.next i.raw) next.0 next.1
 
-awaiting_tuned : (b : Bool) (e : EnsembleInformation) (x : Listening) → x.tuned ≡ true → (cond b x (let r : Listening = record { tuned = x.tuned; current = x.current; next = x.next; awaited = e.occurrence } in r)).tuned ≡ true
+awaiting_tuned : (b : Bool) (e : EnsembleInformation) (x : Listening) → x.tuned ≡ true
+    → (cond b x (let r : Listening =
+    record { tuned = x.tuned; current = x.current; next = x.next; awaited = e.occurrence } in r)).tuned ≡ true
 awaiting_tuned true e x t = t
 awaiting_tuned false e x t = t
 
@@ -79,7 +92,8 @@ at_tuned e l =
     let x : Listening = record { tuned = true; current = r.current; next = r.next; awaited = r.awaited } in
     awaiting_tuned (e.change == 0) e x refl
 
-into_tuned : (next : Bool) (l : Listening) (o : Option Pictured) (m : Listening) → l.tuned ≡ true → into next l o ≡ Some m → m.tuned ≡ true
+into_tuned : (next : Bool) (l : Listening) (o : Option Pictured) (m : Listening) → l.tuned ≡ true
+    → into next l o ≡ Some m → m.tuned ≡ true
 into_tuned true l None m t e = absurd cc
 into_tuned false l None m t e = absurd cc
 into_tuned true l (Some p) m t e =
@@ -90,17 +104,22 @@ into_tuned false l (Some p) m t e =
     sym (ap (λ (x : Listening). x.tuned) (some_is a m e)) ∙ t
 
 stays_by : (b t : Bool) (next : Bool) (raw : Raw) (l m : Listening) → l.tuned ≡ true
-    → cond b (Some (at_ensemble (ensemble_in raw) l)) (cond t (into next l (pictured raw (picture_of next l))) (Some l)) ≡ Some m → m.tuned ≡ true
-stays_by true t next raw l m is e = sym (ap (λ (x : Listening). x.tuned) (some_is (at_ensemble (ensemble_in raw) l) m e)) ∙ at_tuned (ensemble_in raw) l
+    → cond b (Some (at_ensemble (ensemble_in raw) l)) (cond t (into next l (pictured raw (picture_of next l))) (Some l))
+    ≡ Some m → m.tuned ≡ true
+stays_by true t next raw l m is e =
+    sym (ap (λ (x : Listening). x.tuned) (some_is (at_ensemble (ensemble_in raw) l) m e)) ∙ at_tuned (ensemble_in raw) l
 stays_by false true next raw l m is e = into_tuned next l (pictured raw (picture_of next l)) m is e
 stays_by false false next raw l m is e = sym (ap (λ (x : Listening). x.tuned) (some_is l m e)) ∙ is
 
-pub stays_tuned : (next : Bool) (raw : Raw) (l m : Listening) → l.tuned ≡ true → hear_entry next raw l ≡ Some m → m.tuned ≡ true
+pub stays_tuned : (next : Bool) (raw : Raw) (l m : Listening) → l.tuned ≡ true → hear_entry next raw l ≡ Some m
+    → m.tuned ≡ true
 stays_tuned next raw l m is e = stays_by (raw.ext == 0) l.tuned next raw l m is e
 
 -- an entry of the current configuration among these is heard
-pub last_member : (key : ℕ) (items : List Item) (past : List Moment) (l after : Listening) → listening past ≡ Some l → l.tuned ≡ true → listening (said items past) ≡ Some after
-    → (i : Item) → Contains items i → is_ensemble i ≡ false → i.next ≡ false → key_of i.raw ≡ key → last_heard key (said items past) ≡ frames_ended past + 1
+pub last_member : (key : ℕ) (items : List Item) (past : List Moment) (l after : Listening) → listening past ≡ Some l
+    → l.tuned ≡ true → listening (said items past) ≡ Some after
+    → (i : Item) → Contains items i → is_ensemble i ≡ false → i.next ≡ false → key_of i.raw ≡ key
+    → last_heard key (said items past) ≡ frames_ended past + 1
 last_member key [] past l after is t all i inside e n k = absurd (contains_none i inside)
 last_member key (j ∷ js) past l after is t all i inside e n k = elim (contains_cases j js i inside) [
   | inl same ↦ (
@@ -118,7 +137,8 @@ last_member key (j ∷ js) past l after is t all i inside e n k = elim (contains
   | inr more ↦ (
       let next = some_before js (Said j ∷ past) after all in
       let heard : hear_entry j.next j.raw l ≡ Some next.0 = sym (member_heard past j l is) ∙ next.1 in
-      last_member key js (Said j ∷ past) next.0 after next.1 (stays_tuned j.next j.raw l next.0 t heard) all i more e n k
+      last_member key js (Said j ∷ past) next.0 after next.1 (stays_tuned j.next j.raw l next.0 t heard) all i more e n
+      k
       )
 ]
 
@@ -130,17 +150,21 @@ pub record IsSaidOf (items : List Item) (m : Marked) : Type 0 where
   pub next : item.next ≡ m.next
   pub raw : item.raw ≡ raw_entry m.entry
 
-from_contains : (count n place : ℕ) (frame : List ℕ) → n ≤ place → place < n + count → Contains (fibs_from count n frame) (fib_at frame place)
+from_contains : (count n place : ℕ) (frame : List ℕ) → n ≤ place → place < n + count
+    → Contains (fibs_from count n frame) (fib_at frame place)
 from_contains zero n place frame from to = absurd (omega (arith, from, to))
 from_contains (suc count) n place frame from to = elim (cases_lt n place) [
-  | inl lt ↦ contains_later (fib_at frame n) (fibs_from count (n + 1) frame) (fib_at frame place) (from_contains count (n + 1) place frame (omega (arith, lt)) (omega (arith, to)))
+  | inl lt ↦ contains_later (fib_at frame n) (fibs_from count (n + 1) frame) (fib_at frame place)
+      (from_contains count (n + 1) place frame (omega (arith, lt)) (omega (arith, to)))
   | inr ge ↦ (
       let same : n ≡ place = omega (arith, from, ge) in
-      subst (λ (k : ℕ). Contains (fib_at frame n ∷ fibs_from count (n + 1) frame) (fib_at frame k)) same (contains_first (fib_at frame n) (fibs_from count (n + 1) frame))
+      subst (λ (k : ℕ). Contains (fib_at frame n ∷ fibs_from count (n + 1) frame) (fib_at frame k)) same
+      (contains_first (fib_at frame n) (fibs_from count (n + 1) frame))
       )
 ]
 
-place_below : FibHas32Bytes → (layout : FrameLayout) (frame : List ℕ) (place : ℕ) (figs : List Fig) → length frame ≡ 32 * frame_fibs layout → IsFib (fib_at frame place) figs → place < frame_fibs layout
+place_below : FibHas32Bytes → (layout : FrameLayout) (frame : List ℕ) (place : ℕ) (figs : List Fig)
+    → length frame ≡ 32 * frame_fibs layout → IsFib (fib_at frame place) figs → place < frame_fibs layout
 place_below size layout frame place figs long is = elim (cases_lt place (frame_fibs layout)) [
   | inl lt ↦ lt
   | inr ge ↦ (
@@ -162,18 +186,23 @@ long_alone (ShortOf s) = refl
 long_alone (ServiceOf s) = refl
 long_alone (PacketOf p) = refl
 
-raw_said : (second : ℕ) (bytes : List ℕ) (m : Marked) → IsSaid second bytes m → raw_of (second % 32) (is_long second) bytes ≡ raw_entry m.entry
+raw_said : (second : ℕ) (bytes : List ℕ) (m : Marked) → IsSaid second bytes m
+    → raw_of (second % 32) (is_long second) bytes ≡ raw_entry m.entry
 raw_said second bytes m h =
     let long : (ext_of m.entry == 2 && is_long second) ≡ is_long_entry m.entry =
-    long_same (ext_of m.entry) (is_long second) (is_long_entry m.entry) (ext_of m.entry == 2) refl h.long ∙ long_alone m.entry in
+    long_same (ext_of m.entry) (is_long second) (is_long_entry m.entry) (ext_of m.entry == 2) refl h.long
+    ∙ long_alone m.entry in
     let with_long : Bool → Raw = λ b. record { ext = ext_of m.entry; long = b; bytes = entry_bytes m.entry } in
-    ap (λ n. raw_of n (is_long second) bytes) h.ext ∙ ap (raw_of (ext_of m.entry) (is_long second)) h.spelled ∙ ap with_long long
+    ap (λ n. raw_of n (is_long second) bytes) h.ext ∙ ap (raw_of (ext_of m.entry) (is_long second)) h.spelled
+    ∙ ap with_long long
 
-fig_said : OneList → (r : Reading) (layout : FrameLayout) (frame : List ℕ) (place : ℕ) (figs : List Fig) (fig : Fig) (m : Marked) → place < frame_fibs layout → IsFib (fib_at frame place) figs → Contains figs fig → IsInFig fig m
+fig_said : OneList → (r : Reading) (layout : FrameLayout) (frame : List ℕ) (place : ℕ) (figs : List Fig) (fig : Fig)
+    (m : Marked) → place < frame_fibs layout → IsFib (fib_at frame place) figs → Contains figs fig → IsInFig fig m
     → IsSaidOf (frame_items (read_frame r layout frame)) m
 fig_said one r layout frame place figs (Other given) m below is f h = absurd h
 fig_said one r layout frame place figs (Open second es) m below is f h =
-    let there = fibs_said r true (fibs_from (frame_fibs layout) 0 frame) (fib_at frame place) figs second es h.0 (from_contains (frame_fibs layout) 0 place frame (omega arith) (omega (arith, below)))
+    let there = fibs_said r true (fibs_from (frame_fibs layout) 0 frame) (fib_at frame place) figs second es h.0
+    (from_contains (frame_fibs layout) 0 place frame (omega arith) (omega (arith, below)))
     (is_read one r (fib_at frame place) figs is) f h.1 in
     record {
       item = record { first = there.0; next = is_next second; raw = raw_of (second % 32) (is_long second) h.0 };
@@ -182,7 +211,10 @@ fig_said one r layout frame place figs (Open second es) m below is f h =
       raw = raw_said second h.0 m h.2;
     }
 
-pub row_said : OneList → FibHas32Bytes → (r : Reading) (layout : FrameLayout) (frame : List ℕ) (m : Marked) → length frame ≡ 32 * frame_fibs layout → IsHeardInRow frame m → IsSaidOf (frame_items (read_frame r layout frame)) m
+pub row_said : OneList → FibHas32Bytes → (r : Reading) (layout : FrameLayout) (frame : List ℕ) (m : Marked)
+    → length frame ≡ 32 * frame_fibs layout → IsHeardInRow frame m
+    → IsSaidOf (frame_items (read_frame r layout frame)) m
 row_said one size r layout frame m long (place, heard) =
     let inside = heard.inside in
-    fig_said one r layout frame place inside.0 inside.1 m (place_below size layout frame place inside.0 long inside.2) inside.2 inside.3 inside.4
+    fig_said one r layout frame place inside.0 inside.1 m (place_below size layout frame place inside.0 long inside.2)
+    inside.2 inside.3 inside.4

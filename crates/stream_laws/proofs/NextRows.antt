@@ -1,13 +1,16 @@
 -- What the checker hears of the next configuration in the frames of a run: a row for each frame, three times in all.
-use Rattle.std.proofs.Common.{◌≡◌, ℕ, ◌&&◌, ◌||◌, true, false, cond, List, [], ◌∷◌, ◌++◌, Contains, Some, refl, sym, ap, ◌∙◌, subst, inl, inr, ◌≢◌, ◌%◌, Bool, None, ◌≤◌, not, nat_lt, Option, arith, le-ltb}
+use Rattle.std.proofs.Common.{◌≡◌, ℕ, ◌&&◌, ◌||◌, true, false, cond, List, [], ◌∷◌, ◌++◌, Contains, Some, refl, sym, ap}
+use Rattle.std.proofs.Common.{◌∙◌, subst, inl, inr, ◌≢◌, ◌%◌, Bool, None, ◌≤◌, not, nat_lt, Option, arith, le-ltb}
 use Rattle.std.specs.List.{AllByRecursion}
 use Rattle.std.proofs.lemmas.Bool.{or_parts, false≢true}
 use Rattle.std.proofs.lemmas.List.Elements.{Contains-append_left, Contains-append_right}
 use Rattle.mux_types.proofs.Elements.{contains_cases, contains_first, contains_none}
 use Rattle.fib_reader.specs.Listening.{Listening, hear_entry, all_entries}
 use Rattle.stream_check.specs.Pictures.{key_of}
-use Rattle.stream_check.specs.History.{Item, Moment, Said, Ended, said, is_flagged, is_swap, listening, listener_after, begins_notice, has_begun, row_at_hand, rows, frame_items, is_cut_off}
-use Rattle.stream_check.proofs.Members.{and_false, or_false, or_true, member_has_begun, member_rows, member_row, member_heard, after_is}
+use Rattle.stream_check.specs.History.{Item, Moment, Said, Ended, said, is_flagged, is_swap, listening, listener_after}
+use Rattle.stream_check.specs.History.{begins_notice, has_begun, row_at_hand, rows, frame_items, is_cut_off}
+use Rattle.stream_check.proofs.Members.{and_false, or_false, or_true, member_has_begun, member_rows, member_row}
+use Rattle.stream_check.proofs.Members.{member_heard, after_is}
 use Rattle.stream_laws.proofs.Rows.{HasNone}
 use Rattle.stream_laws.proofs.LastHeard.{some_before, stays_tuned}
 use Rattle.fib_codec.specs.Layouts.{layout_mode}
@@ -29,8 +32,10 @@ use Rattle.stream_laws.proofs.Framing.{read_frame}
 use Rattle.stream_laws.proofs.Sending.{IsSentItem, not_sent}
 use Rattle.stream_laws.proofs.AgreeingRuns.{on_air, IsBetween, due_left}
 use Rattle.stream_laws.proofs.AgreeingFrames.{agrees_by, before_of}
-use Rattle.stream_laws.proofs.NoticeFrames.{SaysNothing, HasNext, IsRowed, IsNoticing, IsReading, none_rowed, rowed_more, rowed_silent, AreKeysOf, announced_thrice}
-use Rattle.stream_laws.proofs.Opening.{FrameLaws, IsOpened, entry_at_frame, items_at, past_after, next_opened, first_opened, cut_still}
+use Rattle.stream_laws.proofs.NoticeFrames.{SaysNothing, HasNext, IsRowed, IsNoticing, IsReading, none_rowed}
+use Rattle.stream_laws.proofs.NoticeFrames.{rowed_more, rowed_silent, AreKeysOf, announced_thrice}
+use Rattle.stream_laws.proofs.Opening.{FrameLaws, IsOpened, entry_at_frame, items_at, past_after, next_opened}
+use Rattle.stream_laws.proofs.Opening.{first_opened, cut_still}
 use Rattle.plan_runs.proofs.Hearing.{headed}
 use Rattle.plan_code.specs.Program.{Program}
 use Rattle.plan_verifier.specs.Typing.{Known}
@@ -55,7 +60,8 @@ use Rattle.mux_types.proofs.Members.{mapped_to}
 pub begun_rows : (past : List Moment) → has_begun past ≡ false → rows past ≡ []
 begun_rows [] e = refl
 begun_rows (Said i ∷ past) e =
-    elim (is_swap past i) as (λ t. cond t (is_flagged i) (has_begun past || begins_notice past i) ≡ false → cond t [] (rows past) ≡ []) [
+    elim (is_swap past i) as (λ t. cond t (is_flagged i) (has_begun past || begins_notice past i) ≡ false
+    → cond t [] (rows past) ≡ []) [
       | true ↦ λ h. refl
       | false ↦ λ h. begun_rows past (or_parts (has_begun past) (begins_notice past i) h).0
     ] e
@@ -67,19 +73,25 @@ pub rows_stay : (items : List Item) (past : List Moment) → HasNone items → r
 rows_stay [] past none = refl
 rows_stay (i ∷ is) past none = rows_stay is (Said i ∷ past) none.1 ∙ member_rows past i none.0
 
-pub begun_stays : (items : List Item) (past : List Moment) → HasNone items → has_begun past ≡ true → has_begun (said items past) ≡ true
+pub begun_stays : (items : List Item) (past : List Moment) → HasNone items → has_begun past ≡ true
+    → has_begun (said items past) ≡ true
 begun_stays [] past none e = e
 begun_stays (i ∷ is) past none e =
-    begun_stays is (Said i ∷ past) none.1 (member_has_begun past i none.0 ∙ ap (λ t. t || ((listener_after past).tuned && i.next)) e)
+    begun_stays is (Said i ∷ past) none.1 (member_has_begun past i none.0
+    ∙ ap (λ t. t || ((listener_after past).tuned && i.next)) e)
 
-row_stays : (key : ℕ) (items : List Item) (past : List Moment) → HasNone items → Contains (row_at_hand past) key → Contains (row_at_hand (said items past)) key
+row_stays : (key : ℕ) (items : List Item) (past : List Moment) → HasNone items → Contains (row_at_hand past) key
+    → Contains (row_at_hand (said items past)) key
 row_stays key [] past none h = h
 row_stays key (i ∷ is) past none h =
     let more : List ℕ = cond ((listener_after past).tuned && i.next) (key_of i.raw ∷ []) [] in
-    row_stays key is (Said i ∷ past) none.1 (subst (λ (r : List ℕ). Contains r key) (sym (member_row past i none.0)) (Contains-append_left (row_at_hand past) more key h))
+    row_stays key is (Said i ∷ past) none.1
+    (subst (λ (r : List ℕ). Contains r key) (sym (member_row past i none.0))
+    (Contains-append_left (row_at_hand past) more key h))
 
 -- entries with C/N 0 begin no notice
-pub none_begins : (items : List Item) (past : List Moment) → HasNone items → AllByRecursion (λ i. i.next ≡ false) items → has_begun (said items past) ≡ has_begun past
+pub none_begins : (items : List Item) (past : List Moment) → HasNone items → AllByRecursion (λ i. i.next ≡ false) items
+    → has_begun (said items past) ≡ has_begun past
 none_begins [] past none all = refl
 none_begins (i ∷ is) past none all =
     none_begins is (Said i ∷ past) none.1 all.1
@@ -94,7 +106,8 @@ pub record IsNoted (key : ℕ) (past : List Moment) : Type 0 where
   pub begun : has_begun past ≡ true
 
 -- an entry of the next configuration among these is heard
-pub next_member : (key : ℕ) (items : List Item) (past : List Moment) (l after : Listening) → listening past ≡ Some l → l.tuned ≡ true → listening (said items past) ≡ Some after → HasNone items
+pub next_member : (key : ℕ) (items : List Item) (past : List Moment) (l after : Listening) → listening past ≡ Some l
+    → l.tuned ≡ true → listening (said items past) ≡ Some after → HasNone items
     → (i : Item) → Contains items i → i.next ≡ true → key_of i.raw ≡ key → IsNoted key (said items past)
 next_member key [] past l after is t all none i inside n k = absurd (contains_none i inside)
 next_member key (j ∷ js) past l after is t all none i inside n k = elim (contains_cases j js i inside) [
@@ -106,8 +119,12 @@ next_member key (j ∷ js) past l after is t all none i inside n k = elim (conta
       member_row past j none.0
       ∙ ap (λ b. row_at_hand past ++ cond (b && j.next) (key_of j.raw ∷ []) []) tuned
       ∙ ap (λ b. row_at_hand past ++ cond b (key_of j.raw ∷ []) []) next in
-      let here : Contains (row_at_hand past ++ key_of j.raw ∷ []) (key_of j.raw) = Contains-append_right (row_at_hand past) (key_of j.raw ∷ []) (key_of j.raw) (contains_first (key_of j.raw) []) in
-      let now : Contains (row_at_hand (Said j ∷ past)) key = subst (λ (x : ℕ). Contains (row_at_hand (Said j ∷ past)) x) keys (subst (λ (r : List ℕ). Contains r (key_of j.raw)) (sym row) here) in
+      let here : Contains (row_at_hand past ++ key_of j.raw ∷ []) (key_of j.raw) =
+      Contains-append_right (row_at_hand past) (key_of j.raw ∷ []) (key_of j.raw)
+      (contains_first (key_of j.raw) []) in
+      let now : Contains (row_at_hand (Said j ∷ past)) key =
+      subst (λ (x : ℕ). Contains (row_at_hand (Said j ∷ past)) x) keys
+      (subst (λ (r : List ℕ). Contains r (key_of j.raw)) (sym row) here) in
       let begun : has_begun (Said j ∷ past) ≡ true =
       member_has_begun past j none.0
       ∙ ap (λ b. has_begun past || (b && j.next)) tuned
@@ -118,14 +135,16 @@ next_member key (j ∷ js) past l after is t all none i inside n k = elim (conta
   | inr more ↦ (
       let next = some_before js (Said j ∷ past) after all in
       let heard : hear_entry j.next j.raw l ≡ Some next.0 = sym (member_heard past j l is) ∙ next.1 in
-      next_member key js (Said j ∷ past) next.0 after next.1 (stays_tuned j.next j.raw l next.0 t heard) all none.1 i more n k
+      next_member key js (Said j ∷ past) next.0 after next.1 (stays_tuned j.next j.raw l next.0 t heard) all none.1 i
+      more n k
       )
 ]
 
 -- ---- a frame of a run
 
 -- outside of a notice all entries have C/N 0
-all_current : (c n : Configuration) (on : Bool) (items : List Item) → on ≡ false → AllByRecursion (IsSentItem on c n) items → AllByRecursion (λ i. i.next ≡ false) items
+all_current : (c n : Configuration) (on : Bool) (items : List Item) → on ≡ false
+    → AllByRecursion (IsSentItem on c n) items → AllByRecursion (λ i. i.next ≡ false) items
 all_current c n on [] off all = tt
 all_current c n on (i ∷ is) off all = (
   all.0.next
@@ -136,18 +155,24 @@ all_current c n on (i ∷ is) off all = (
   all_current c n on is off all.1,
 )
 
-pub still_quiet : (plan : Plan) (u : State) (due : Bool) (past : List Moment) (items : List Item) → IsOpened plan u due past items → on_air plan u ≡ false → has_begun (said items past) ≡ cond due false (has_begun past)
+pub still_quiet : (plan : Plan) (u : State) (due : Bool) (past : List Moment) (items : List Item)
+    → IsOpened plan u due past items → on_air plan u ≡ false
+    → has_begun (said items past) ≡ cond due false (has_begun past)
 still_quiet plan u due past items o off =
     ap has_begun o.are
-    ∙ none_begins o.members (said o.heads past) o.none (all_current u.current u.next (on_air plan u) o.members off o.sent)
+    ∙ none_begins o.members (said o.heads past) o.none
+    (all_current u.current u.next (on_air plan u) o.members off o.sent)
     ∙ o.unflagged off
 
-pub rows_after : (plan : Plan) (u : State) (due : Bool) (past : List Moment) (items : List Item) → IsOpened plan u due past items → rows (said items past) ≡ cond due [] (rows past)
+pub rows_after : (plan : Plan) (u : State) (due : Bool) (past : List Moment) (items : List Item)
+    → IsOpened plan u due past items → rows (said items past) ≡ cond due [] (rows past)
 rows_after plan u due past items o = ap rows o.are ∙ rows_stay o.members (said o.heads past) o.none ∙ o.rows_left
 
 -- an entry with C/N 1 that is heard in the bytes of the frame
-pub next_noted : FrameLaws → (r : Reading) (plan : Plan) (u : State) → Airs plan u → (due : Bool) (past : List Moment) → IsOpened plan u due past (frame_items (read_frame r plan.layout (shown_bytes plan u))) → (after : Listening)
-    → listening (said (frame_items (read_frame r plan.layout (shown_bytes plan u))) past) ≡ Some after → (m : Marked) → m.next ≡ true → IsHeardInRow (shown_bytes plan u) m
+pub next_noted : FrameLaws → (r : Reading) (plan : Plan) (u : State) → Airs plan u → (due : Bool) (past : List Moment)
+    → IsOpened plan u due past (frame_items (read_frame r plan.layout (shown_bytes plan u))) → (after : Listening)
+    → listening (said (frame_items (read_frame r plan.layout (shown_bytes plan u))) past) ≡ Some after → (m : Marked)
+    → m.next ≡ true → IsHeardInRow (shown_bytes plan u) m
     → IsNoted (key_of (raw_entry m.entry)) (said (frame_items (read_frame r plan.layout (shown_bytes plan u))) past)
 next_noted laws r plan u a due past o after all m next row =
     let key : ℕ = key_of (raw_entry m.entry) in
@@ -155,21 +180,30 @@ next_noted laws r plan u a due past o after all m next row =
     let l = some_before (frame_items (read_frame r plan.layout (shown_bytes plan u))) past after all in
     let h = o.hears l.0 l.1 in
     subst (IsNoted key) (sym o.are)
-    (next_member key o.members (said o.heads past) (headed (ensemble_sent plan u) l.0) after h.0 h.1 (sym (ap listening o.are) ∙ all) o.none it.0.item (o.among it.0.item it.0.inside it.1) (it.0.next ∙ next) (ap key_of it.0.raw))
+    (next_member key o.members (said o.heads past) (headed (ensemble_sent plan u) l.0) after h.0 h.1
+    (sym (ap listening o.are) ∙ all) o.none it.0.item (o.among it.0.item it.0.inside it.1) (it.0.next ∙ next)
+    (ap key_of it.0.raw))
 
-pub frame_next : FrameLaws → (r : Reading) (plan : Plan) (u : State) → Airs plan u → (due : Bool) (past : List Moment) → IsOpened plan u due past (frame_items (read_frame r plan.layout (shown_bytes plan u))) → (after : Listening)
+pub frame_next : FrameLaws → (r : Reading) (plan : Plan) (u : State) → Airs plan u → (due : Bool) (past : List Moment)
+    → IsOpened plan u due past (frame_items (read_frame r plan.layout (shown_bytes plan u))) → (after : Listening)
     → listening (said (frame_items (read_frame r plan.layout (shown_bytes plan u))) past) ≡ Some after
-    → HasNext (shown_bytes plan u) (row_at_hand (said (frame_items (read_frame r plan.layout (shown_bytes plan u))) past))
-frame_next laws r plan u a due past o after all m next row = (next_noted laws r plan u a due past o after all m next row).row
+    → HasNext (shown_bytes plan u)
+    (row_at_hand (said (frame_items (read_frame r plan.layout (shown_bytes plan u))) past))
+frame_next laws r plan u a due past o after all m next row =
+    (next_noted laws r plan u a due past o after all m next row).row
 
 -- if no notice has begun after a frame on the air, nothing in the frame belongs to one
-pub frame_silent : FrameLaws → (r : Reading) (plan : Plan) (u : State) → Airs plan u → (due : Bool) (past : List Moment) → IsOpened plan u due past (frame_items (read_frame r plan.layout (shown_bytes plan u))) → (after : Listening)
-    → listening (said (frame_items (read_frame r plan.layout (shown_bytes plan u))) past) ≡ Some after → on_air plan u ≡ true
-    → has_begun (said (frame_items (read_frame r plan.layout (shown_bytes plan u))) past) ≡ false → SaysNothing (shown_bytes plan u)
+pub frame_silent : FrameLaws → (r : Reading) (plan : Plan) (u : State) → Airs plan u → (due : Bool) (past : List Moment)
+    → IsOpened plan u due past (frame_items (read_frame r plan.layout (shown_bytes plan u))) → (after : Listening)
+    → listening (said (frame_items (read_frame r plan.layout (shown_bytes plan u))) past) ≡ Some after
+    → on_air plan u ≡ true
+    → has_begun (said (frame_items (read_frame r plan.layout (shown_bytes plan u))) past) ≡ false
+    → SaysNothing (shown_bytes plan u)
 frame_silent laws r plan u a due past o after all on quiet = record {
   none = λ m next row. false≢true (sym quiet ∙ (next_noted laws r plan u a due past o after all m next row).begun);
   bare = λ header. elim (zero_or_not (u.count % count_step (layout_mode plan.layout))) [
-    | inl here ↦ false≢true (sym quiet ∙ ap has_begun o.are ∙ begun_stays o.members (said o.heads past) o.none (o.flagged here on))
+    | inl here ↦ false≢true (sym quiet ∙ ap has_begun o.are
+        ∙ begun_stays o.members (said o.heads past) o.none (o.flagged here on))
     | inr off ↦ not_headed header off
   ];
 }
@@ -180,7 +214,8 @@ frame_silent laws r plan u a due past o after all on quiet = record {
     not_headed : HasHeader (shown_bytes plan u) → u.count % count_step (layout_mode plan.layout) ≢ 0 → ⊥
     not_headed (marked, e, heard) off =
         let able = pageable laws.heard.pages plan u a in
-        let sent = (laws.heard.pages.ensemble plan.layout (ensemble_sent plan u) u.page_index (sent_entries plan u) able marked e).0 heard in
+        let sent = (laws.heard.pages.ensemble plan.layout (ensemble_sent plan u) u.page_index (sent_entries plan u) able
+        marked e).0 heard in
         none_some e (sym (not_sent plan u off) ∙ sent.1)
 
 -- ---- a row for each frame heard
@@ -190,12 +225,14 @@ some_frames [] frame e = cc e
 some_frames (f ∷ fs) frame e = cc e
 
 -- one more frame, given its entries after FIG 0/0
-after_opened : FrameLaws → (r : Reading) (p : Program) (s : State) → Airs p.plan (shown p s) → (due : Bool) (past : List Moment) (count : ℕ) (heard : List (List ℕ))
+after_opened : FrameLaws → (r : Reading) (p : Program) (s : State) → Airs p.plan (shown p s)
+    → (due : Bool) (past : List Moment) (count : ℕ) (heard : List (List ℕ))
     → IsOpened p.plan (shown p s) due past (items_at r p s)
     → (after : Listening) → listening (said (items_at r p s) past) ≡ Some after
     → heard_of p.plan (after_frame p s) ≡ more_heard (on_air p.plan (shown p s)) due heard (frame_bytes p s)
     → (heard ≡ [] → has_begun past ≡ false)
-    → (on_air p.plan (shown p s) ≡ true → is_cut_off (said (items_at r p s) past) ≡ false → IsRowed (cond due [] heard) (cond due [] (rows past)))
+    → (on_air p.plan (shown p s) ≡ true → is_cut_off (said (items_at r p s) past) ≡ false
+    → IsRowed (cond due [] heard) (cond due [] (rows past)))
     → (b : Bool) → on_air p.plan (shown p s) ≡ b
     → IsNoticing p.plan (Ended count ∷ said (items_at r p s) past) (after_frame p s)
 after_opened laws r p s a due past count heard o after all more fresh old false off =
@@ -205,10 +242,12 @@ after_opened laws r p s a due past count heard o after all more fresh old false 
     let none : heard_of plan (after_frame p s) ≡ [] = quiet_heard plan u u.left refl a.ahead off in
     let before : cond due [] heard ≡ [] = sym (more ∙ ap (λ b. more_heard b due heard (frame_bytes p s)) off) ∙ none in
     let quiet : has_begun (said items past) ≡ false = still_quiet plan u due past items o off ∙ by due before in
-    let no_rows : rows (Ended count ∷ said items past) ≡ [] = ap (λ t. cond t (rows (said items past) ++ row_at_hand (said items past) ∷ []) []) quiet in
+    let no_rows : rows (Ended count ∷ said items past) ≡ [] =
+    ap (λ t. cond t (rows (said items past) ++ row_at_hand (said items past) ∷ []) []) quiet in
     record {
       fresh = λ e. quiet;
-      rowed = λ cut. subst (λ (hs : List (List ℕ)). IsRowed hs (rows (Ended count ∷ said items past))) (sym none) (subst (IsRowed []) (sym no_rows) none_rowed);
+      rowed = λ cut. subst (λ (hs : List (List ℕ)). IsRowed hs (rows (Ended count ∷ said items past))) (sym none)
+          (subst (IsRowed []) (sym no_rows) none_rowed);
     }
   where
     by : (d : Bool) → cond d [] heard ≡ [] → cond d false (has_begun past) ≡ false
@@ -218,12 +257,15 @@ after_opened laws r p s a due past count heard o after all more fresh old true o
     let plan : Plan = p.plan in
     let u : State = shown p s in
     let items : List Item = frame_items (read_frame r plan.layout (frame_bytes p s)) in
-    let now : heard_of plan (after_frame p s) ≡ cond due [] heard ++ frame_bytes p s ∷ [] = more ∙ ap (λ b. more_heard b due heard (frame_bytes p s)) on in
+    let now : heard_of plan (after_frame p s) ≡ cond due [] heard ++ frame_bytes p s ∷ [] =
+    more ∙ ap (λ b. more_heard b due heard (frame_bytes p s)) on in
     record {
       fresh = λ e. absurd (some_frames (cond due [] heard) (frame_bytes p s) (sym now ∙ e));
       rowed = λ cut.
-          let before : IsRowed (cond due [] heard) (rows (said items past)) = subst (IsRowed (cond due [] heard)) (sym (rows_after plan u due past items o)) (old on cut) in
-          subst (λ (hs : List (List ℕ)). IsRowed hs (rows (Ended count ∷ said items past))) (sym now) (grow before (has_begun (said items past)) refl);
+          let before : IsRowed (cond due [] heard) (rows (said items past)) =
+          subst (IsRowed (cond due [] heard)) (sym (rows_after plan u due past items o)) (old on cut) in
+          subst (λ (hs : List (List ℕ)). IsRowed hs (rows (Ended count ∷ said items past))) (sym now)
+          (grow before (has_begun (said items past)) refl);
     }
   where
     grow : IsRowed (cond due [] heard) (rows (said (items_at r p s) past))
@@ -231,33 +273,48 @@ after_opened laws r p s a due past count heard o after all more fresh old true o
         → IsRowed (cond due [] heard ++ frame_bytes p s ∷ []) (rows (Ended count ∷ said (items_at r p s) past))
     grow before true begun =
         let later : List Moment = said (items_at r p s) past in
-        subst (IsRowed (cond due [] heard ++ frame_bytes p s ∷ [])) (sym (ap (λ t. cond t (rows later ++ row_at_hand later ∷ []) []) begun))
-        (rowed_more (cond due [] heard) (rows later) (frame_bytes p s) (row_at_hand later) before (frame_next laws r p.plan (shown p s) a due past o after all))
+        subst (IsRowed (cond due [] heard ++ frame_bytes p s ∷ []))
+        (sym (ap (λ t. cond t (rows later ++ row_at_hand later ∷ []) []) begun))
+        (rowed_more (cond due [] heard) (rows later) (frame_bytes p s) (row_at_hand later) before
+        (frame_next laws r p.plan (shown p s) a due past o after all))
     grow before false quiet =
         let later : List Moment = said (items_at r p s) past in
-        subst (IsRowed (cond due [] heard ++ frame_bytes p s ∷ [])) (sym (ap (λ t. cond t (rows later ++ row_at_hand later ∷ []) []) quiet))
-        (rowed_silent (cond due [] heard) (rows later) (frame_bytes p s) before (begun_rows later quiet) (frame_silent laws r p.plan (shown p s) a due past o after all on quiet))
+        subst (IsRowed (cond due [] heard ++ frame_bytes p s ∷ []))
+        (sym (ap (λ t. cond t (rows later ++ row_at_hand later ∷ []) []) quiet))
+        (rowed_silent (cond due [] heard) (rows later) (frame_bytes p s) before (begun_rows later quiet)
+        (frame_silent laws r p.plan (shown p s) a due past o after all on quiet))
 
-next_noticing : FrameLaws → (r : Reading) (p : Program) (ts : List Known) → IsCode p ts → (s : State) → Holds p ts s → (past : List Moment) → IsBetween p.plan past s → IsNoticing p.plan past s → (count : ℕ) (after : Listening)
+next_noticing : FrameLaws → (r : Reading) (p : Program) (ts : List Known) → IsCode p ts → (s : State) → Holds p ts s
+    → (past : List Moment) → IsBetween p.plan past s → IsNoticing p.plan past s → (count : ℕ) (after : Listening)
     → listening (said (items_at r p s) past) ≡ Some after
     → IsNoticing p.plan (Ended count ∷ said (items_at r p s) past) (after_frame p s)
 next_noticing laws r p ts c s holds past b g count after all =
-    after_opened laws r p s (airs p ts c s holds) (is_due s.left) past count (heard_of p.plan s) (next_opened laws.one laws.heard r p ts c s holds past b (is_due s.left) refl) after all (heard_then p ts c s holds) g.fresh
+    after_opened laws r p s (airs p ts c s holds) (is_due s.left) past count (heard_of p.plan s)
+    (next_opened laws.one laws.heard r p ts c s holds past b (is_due s.left) refl) after all
+    (heard_then p ts c s holds) g.fresh
     (λ on cut. by (is_due s.left) refl cut) (on_air p.plan (shown p s)) refl
   where
-    by : (d : Bool) → is_due s.left ≡ d → is_cut_off (said (items_at r p s) past) ≡ false → IsRowed (cond d [] (heard_of p.plan s)) (cond d [] (rows past))
+    by : (d : Bool) → is_due s.left ≡ d → is_cut_off (said (items_at r p s) past) ≡ false
+        → IsRowed (cond d [] (heard_of p.plan s)) (cond d [] (rows past))
     by true due cut = none_rowed
-    by false due cut = g.rowed (sym (cut_still p.plan s (shown p s) past (items_at r p s) b (next_opened laws.one laws.heard r p ts c s holds past b false due)) ∙ cut)
+    by false due cut = g.rowed
+        (sym (cut_still p.plan s (shown p s) past (items_at r p s) b
+        (next_opened laws.one laws.heard r p ts c s holds past b false due)) ∙ cut)
 
-first_noticing : FrameLaws → (r : Reading) (p : Program) (ts : List Known) → IsCode p ts → (s : State) → Holds p ts s → s.count % count_step (layout_mode p.plan.layout) ≡ 0 → (count : ℕ) (after : Listening)
+first_noticing : FrameLaws → (r : Reading) (p : Program) (ts : List Known) → IsCode p ts → (s : State) → Holds p ts s
+    → s.count % count_step (layout_mode p.plan.layout) ≡ 0 → (count : ℕ) (after : Listening)
     → listening (said (items_at r p s) []) ≡ Some after
     → IsNoticing p.plan (Ended count ∷ said (items_at r p s) []) (after_frame p s)
 first_noticing laws r p ts c s holds whole count after all =
     let plan : Plan = p.plan in
-    after_opened laws r p s (airs p ts c s holds) false [] count (cond (is_due s.left) [] (heard_of plan s)) (first_opened laws.one laws.heard r p ts c s holds whole) after all (heard_then p ts c s holds) (λ e. refl)
-    (λ on cut. absurd (false≢true (sym cut ∙ cut_first p.plan (shown p s) (items_at r p s) (first_opened laws.one laws.heard r p ts c s holds whole) on))) (on_air plan (shown p s)) refl
+    after_opened laws r p s (airs p ts c s holds) false [] count (cond (is_due s.left) [] (heard_of plan s))
+    (first_opened laws.one laws.heard r p ts c s holds whole) after all (heard_then p ts c s holds) (λ e. refl)
+    (λ on cut. absurd (false≢true
+    (sym cut ∙ cut_first p.plan (shown p s) (items_at r p s)
+    (first_opened laws.one laws.heard r p ts c s holds whole) on))) (on_air plan (shown p s)) refl
 
-pub noticing : FrameLaws → (r : Reading) (period : ℕ) (p : Program) (ts : List Known) → IsCode p ts → (s : State) → Holds p ts s → (past : List Moment) → IsReading p.plan past s
+pub noticing : FrameLaws → (r : Reading) (period : ℕ) (p : Program) (ts : List Known) → IsCode p ts → (s : State)
+    → Holds p ts s → (past : List Moment) → IsReading p.plan past s
     → IsNoticing p.plan (past_after r p s past) (after_frame p s)
 noticing laws r period p ts c s holds past reading =
     let now = agrees_by laws.one laws.heard r period p ts c s holds past (before_of p.plan past s reading) in
@@ -272,9 +329,11 @@ noticing laws r period p ts c s holds past reading =
     by (inr (b, g)) after all = next_noticing laws r p ts c s holds past b g _ after all
 
 -- contacts between two frames change no rows
-pub noticing_contact : (p : Program) (past : List Moment) (s : State) (d : ℕ) (closed : Bool) → IsNoticing p.plan past s → IsNoticing p.plan past (happens p s (Contact d closed))
+pub noticing_contact : (p : Program) (past : List Moment) (s : State) (d : ℕ) (closed : Bool) → IsNoticing p.plan past s
+    → IsNoticing p.plan past (happens p s (Contact d closed))
 noticing_contact p past s d closed g =
-    let heard : heard_of p.plan (happens p s (Contact d closed)) ≡ heard_of p.plan s = heard_contacts p.plan s d closed s.left refl in
+    let heard : heard_of p.plan (happens p s (Contact d closed)) ≡ heard_of p.plan s =
+    heard_contacts p.plan s d closed s.left refl in
     record {
       fresh = λ e. g.fresh (sym heard ∙ e);
       rowed = λ cut. subst (λ (hs : List (List ℕ)). IsRowed hs (rows past)) (sym heard) (g.rowed cut);
@@ -286,17 +345,23 @@ facts_marked : (n : Configuration) (m : Marked) → Contains (facts_of n true) m
 facts_marked n m inside = sym (fact_in true (entries_of n) m (contains_in (facts_of n true) m inside)).0
 
 -- where a swap is due, the listener's next picture has only entries of the next configuration
-next_part : (p : Program) (ts : List Known) → IsCode p ts → (s : State) → (past : List Moment) → (b : IsBetween p.plan past s) → is_due s.left ≡ true → IsPartial (whole_of s.next) Nothing b.heard.next
+next_part : (p : Program) (ts : List Known) → IsCode p ts → (s : State) → (past : List Moment)
+    → (b : IsBetween p.plan past s) → is_due s.left ≡ true → IsPartial (whole_of s.next) Nothing b.heard.next
 next_part p ts c s past b due =
-    let pending : KnowsPending p.plan 0 s.current s.next s.count Nothing Nothing b.heard = subst (λ (o : Option ℕ). KnowsBy p.plan o s.current s.next s.count Nothing Nothing b.heard) (due_left s.left due) b.knows in
+    let pending : KnowsPending p.plan 0 s.current s.next s.count Nothing Nothing b.heard =
+    subst (λ (o : Option ℕ). KnowsBy p.plan o s.current s.next s.count Nothing Nothing b.heard)
+    (due_left s.left due) b.knows in
     (pending.inside (omega (arith, c.program.planned.notice_from))).knows.next
 
-wanted_keys : (p : Program) (ts : List Known) → IsCode p ts → (s : State) → (past : List Moment) → IsBetween p.plan past s → is_due s.left ≡ true → AreKeysOf s.next (wanted past)
+wanted_keys : (p : Program) (ts : List Known) → IsCode p ts → (s : State) → (past : List Moment)
+    → IsBetween p.plan past s → is_due s.left ≡ true → AreKeysOf s.next (wanted past)
 wanted_keys p ts c s past b due x inside =
     let same : listener_after past ≡ b.heard = after_is past b.heard b.is in
-    let there : Contains (map key_of (all_entries b.heard.next)) x = subst (λ (l : Listening). Contains (map key_of (all_entries l.next)) x) same inside in
+    let there : Contains (map key_of (all_entries b.heard.next)) x =
+    subst (λ (l : Listening). Contains (map key_of (all_entries l.next)) x) same inside in
     let raw = mapped_to key_of (all_entries b.heard.next) x there in
-    let it = entry_of s.next Nothing b.heard.next raw.0 (next_part p ts c s past b due) (contains_in (all_entries b.heard.next) raw.0 raw.1) in
+    let it = entry_of s.next Nothing b.heard.next raw.0 (next_part p ts c s past b due)
+    (contains_in (all_entries b.heard.next) raw.0 raw.1) in
     let m : Marked = marked true it.0 in
     (m, in_contains (facts_of s.next true) m (in_fact true (entries_of s.next) it.0 it.2), refl, ap key_of it.1 ∙ raw.2)
 
@@ -306,11 +371,14 @@ not_few : (cut : Bool) (n : ℕ) → (cut ≡ false → 3 ≤ n) → (not cut &&
 not_few true n h = refl
 not_few false n h = le-ltb n 3 (h refl)
 
-pub repeated : IsTheMost → FrameLaws → (p : Program) (ts : List Known) → IsCode p ts → (s : State) → Holds p ts s → (past : List Moment) → IsBetween p.plan past s → IsNoticing p.plan past s → is_due s.left ≡ true
+pub repeated : IsTheMost → FrameLaws → (p : Program) (ts : List Known) → IsCode p ts → (s : State) → Holds p ts s
+    → (past : List Moment) → IsBetween p.plan past s → IsNoticing p.plan past s → is_due s.left ≡ true
     → (not (is_cut_off past) && nat_lt (times_heard past) 3) ≡ false
 repeated most laws p ts c s holds past b g due =
-    let announced : IsAnnounced s.current s.next s.count (heard_of p.plan s) = (swaps_run laws.heard.pages p ts c s (Frame ∷ []) holds).0.announced due in
+    let announced : IsAnnounced s.current s.next s.count (heard_of p.plan s) =
+    (swaps_run laws.heard.pages p ts c s (Frame ∷ []) holds).0.announced due in
     let keys = wanted_keys p ts c s past b due in
     not_few (is_cut_off past) (times_heard past) (λ whole.
     (three_or_more (wanted past) (times_heard past) (rows past) (most (wanted past) (rows past))).1
-    (announced_thrice s.current s.next s.count (heard_of p.plan s) (rows past) (wanted past) announced (g.rowed whole) keys (facts_marked s.next)))
+    (announced_thrice s.current s.next s.count (heard_of p.plan s) (rows past) (wanted past) announced (g.rowed whole)
+    keys (facts_marked s.next)))

@@ -1,5 +1,6 @@
 -- The frames of a notice: each entry is heard in them, and the rows of identifiers heard are cut into three parts.
-use Rattle.std.proofs.Common.{◌≡◌, ℕ, zero, suc, ◌+◌, ◌-◌, ◌%◌, ◌<◌, Bool, true, false, cond, List, Contains, Option, Some, None, refl, sym, ap, ◌∙◌, subst, arith, [], ◌∷◌, ◌++◌, ◌≤◌, length, inl, inr, ◌⊎◌}
+use Rattle.std.proofs.Common.{◌≡◌, ℕ, zero, suc, ◌+◌, ◌-◌, ◌%◌, ◌<◌, Bool, true, false, cond, List, Contains, Option}
+use Rattle.std.proofs.Common.{Some, None, refl, sym, ap, ◌∙◌, subst, arith, [], ◌∷◌, ◌++◌, ◌≤◌, length, inl, inr, ◌⊎◌}
 use Rattle.std.proofs.lemmas.Bool.{lt-ltb}
 use Rattle.std.proofs.lemmas.List.Elements.{Contains-append_left, Contains-append_right, Contains-append_cases}
 use Rattle.fib_codec.specs.Layouts.{layout_mode}
@@ -18,7 +19,8 @@ use Rattle.plan_runs.proofs.Knowledge.{CommittedBy}
 use Rattle.plan_runs.proofs.Tracked.{SwapsOn, page_of, page_of_first, page_of_next, noticed}
 use Rattle.plan_runs.proofs.Facts.{Holds, IsCode}
 use Rattle.plan_runs.proofs.Right.{PageLaws, pageable}
-use Rattle.plan_runs.proofs.Notice.{frames_from, contains_frame, noticed_state, both_rounds, notice_at, notice_at_is, base_of, heard_is}
+use Rattle.plan_runs.proofs.Notice.{frames_from, contains_frame, noticed_state, both_rounds, notice_at, notice_at_is}
+use Rattle.plan_runs.proofs.Notice.{base_of, heard_is}
 use Rattle.plan_runs.proofs.Announcing.{IsDue, notice_airs}
 use Rattle.plan_runs.proofs.Pictures.{HasAll as KnowsAll, entries_of, in_contains, in_fact}
 use Rattle.plan_runs.proofs.CurrentKnown.{SomeSaid}
@@ -43,27 +45,37 @@ page_up pages (suc k) below =
     let before = page_up pages k (omega (arith, below)) in
     let test : k + 1 < pages = omega (arith, below) in
     let one : k + 1 ≡ suc k = omega arith in
-    page_of_next pages k ∙ ap (page_after pages) before ∙ ap (λ (b : Bool). cond b (k + 1) 0) (lt-ltb (k + 1) pages test) ∙ one
+    page_of_next pages k ∙ ap (page_after pages) before
+    ∙ ap (λ (b : Bool). cond b (k + 1) 0) (lt-ltb (k + 1) pages test) ∙ one
 
 -- an entry of the page in turn is heard
-notice_hears : PageLaws → (plan : Plan) (c n : Configuration) (eid count i : ℕ) → IsDue plan c n eid count → i < plan.notice → (m : Marked)
-    → Contains (page_entries plan.layout (page_of (both_rounds plan c n) i) (page_set c (Some n))) m → IsHeardInRow (notice_at plan c n eid (base_of plan count 0) i) m
+notice_hears : PageLaws → (plan : Plan) (c n : Configuration) (eid count i : ℕ) → IsDue plan c n eid count
+    → i < plan.notice → (m : Marked)
+    → Contains (page_entries plan.layout (page_of (both_rounds plan c n) i) (page_set c (Some n))) m
+    → IsHeardInRow (notice_at plan c n eid (base_of plan count 0) i) m
 notice_hears laws plan c n eid count i d below m inside =
     let base : ℕ = base_of plan count 0 in
     let st : State = noticed_state plan c n eid base i in
     let a = notice_airs plan c n eid count i d below in
     let yes = noticed plan.notice (plan.notice - i) (omega (arith, below)) (omega arith) in
-    let entries : sent_entries plan st ≡ page_set c (Some n) = ap (λ (b : Bool). page_set c (cond b (Some n) None)) yes in
+    let entries : sent_entries plan st ≡ page_set c (Some n) =
+    ap (λ (b : Bool). page_set c (cond b (Some n) None)) yes in
     let there : Contains (page_entries plan.layout st.page_index (sent_entries plan st)) m =
-    subst (λ (es : List Marked). Contains (page_entries plan.layout (page_of (both_rounds plan c n) i) es) m) (sym entries) inside in
-    let heard : IsHeardInRow (shown_bytes plan st) m = (laws.heard plan.layout (ensemble_sent plan st) st.page_index (sent_entries plan st) (pageable laws plan st a) m).1 there in
+    subst (λ (es : List Marked). Contains (page_entries plan.layout (page_of (both_rounds plan c n) i) es) m)
+    (sym entries) inside in
+    let heard : IsHeardInRow (shown_bytes plan st) m =
+    (laws.heard plan.layout (ensemble_sent plan st) st.page_index (sent_entries plan st) (pageable laws plan st a)
+    m).1 there in
     subst (λ (b : List ℕ). IsHeardInRow b m) (sym (notice_at_is plan c n eid base i)) heard
 
-notice_has : PageLaws → (p : Program) (ts : List Known) → IsCode p ts → (s : State) → Holds p ts s → is_due s.left ≡ true → (m : Marked) → Contains (page_set s.current (Some s.next)) m → IsHeardInSome (heard_of p.plan s) m
+notice_has : PageLaws → (p : Program) (ts : List Known) → IsCode p ts → (s : State) → Holds p ts s
+    → is_due s.left ≡ true → (m : Marked) → Contains (page_set s.current (Some s.next)) m
+    → IsHeardInSome (heard_of p.plan s) m
 notice_has laws p ts c s h due m inside =
     let plan : Plan = p.plan in
     let is = due_left s.left due in
-    let whole : (s.count + 0) % count_step (layout_mode plan.layout) ≡ 0 = subst (λ (o : Option ℕ). SwapsOn plan s.count o) is h.tracked.swaps in
+    let whole : (s.count + 0) % count_step (layout_mode plan.layout) ≡ 0 =
+    subst (λ (o : Option ℕ). SwapsOn plan s.count o) is h.tracked.swaps in
     let none : s.count + 0 ≡ s.count = omega arith in
     let all : plan.notice - 0 ≡ plan.notice = omega arith in
     let d : IsDue plan s.current s.next s.eid s.count =
@@ -83,22 +95,38 @@ notice_has laws p ts c s h due m inside =
     let there = laws.each plan.layout (page_set s.current (Some s.next)) m inside in
     let j : ℕ = there.0 in
     let here : Contains (page_entries plan.layout (page_of pages j) (page_set s.current (Some s.next))) m =
-    subst (λ (x : ℕ). Contains (page_entries plan.layout x (page_set s.current (Some s.next))) m) (sym (page_up pages j there.1)) there.2 in
+    subst (λ (x : ℕ). Contains (page_entries plan.layout x (page_set s.current (Some s.next))) m)
+    (sym (page_up pages j there.1)) there.2 in
     let below : j < plan.notice = omega (arith, there.1, d.committed.three_times) in
     let heard : heard_of plan s ≡ frames_from f 0 plan.notice = heard_is plan s 0 is ∙ ap (frames_from f 0) all in
-    subst (λ (xs : List (List ℕ)). IsHeardInSome xs m) (sym heard)
-    (f j, contains_frame f 0 plan.notice j (omega arith) (omega (arith, below)), notice_hears laws plan s.current s.next s.eid s.count j d below m here)
+    subst (λ (xs : List (List ℕ)). IsHeardInSome xs m) (sym heard) (
+      f j,
+      contains_frame f 0 plan.notice j (omega arith) (omega (arith, below)),
+      notice_hears laws plan s.current s.next s.eid s.count j d below m here,
+    )
 
 -- where a swap is due, both configurations were heard in full
-pub current_whole : PageLaws → (p : Program) (ts : List Known) → IsCode p ts → (s : State) → Holds p ts s → is_due s.left ≡ true → KnowsAll s.current (SomeSaid (heard_of p.plan s) false)
+pub current_whole : PageLaws → (p : Program) (ts : List Known) → IsCode p ts → (s : State) → Holds p ts s
+    → is_due s.left ≡ true → KnowsAll s.current (SomeSaid (heard_of p.plan s) false)
 current_whole laws p ts c s h due e inside =
-    let fact : Contains (facts_of s.current false) (marked false e) = in_contains (facts_of s.current false) (marked false e) (in_fact false (entries_of s.current) e inside) in
-    (e, refl, notice_has laws p ts c s h due (marked false e) (Contains-append_left (facts_of s.current false) (facts_of s.next true) (marked false e) fact))
+    let fact : Contains (facts_of s.current false) (marked false e) =
+    in_contains (facts_of s.current false) (marked false e) (in_fact false (entries_of s.current) e inside) in (
+      e,
+      refl,
+      notice_has laws p ts c s h due (marked false e)
+          (Contains-append_left (facts_of s.current false) (facts_of s.next true) (marked false e) fact),
+    )
 
-pub next_whole : PageLaws → (p : Program) (ts : List Known) → IsCode p ts → (s : State) → Holds p ts s → is_due s.left ≡ true → KnowsAll s.next (SomeSaid (heard_of p.plan s) true)
+pub next_whole : PageLaws → (p : Program) (ts : List Known) → IsCode p ts → (s : State) → Holds p ts s
+    → is_due s.left ≡ true → KnowsAll s.next (SomeSaid (heard_of p.plan s) true)
 next_whole laws p ts c s h due e inside =
-    let fact : Contains (facts_of s.next true) (marked true e) = in_contains (facts_of s.next true) (marked true e) (in_fact true (entries_of s.next) e inside) in
-    (e, refl, notice_has laws p ts c s h due (marked true e) (Contains-append_right (facts_of s.current false) (facts_of s.next true) (marked true e) fact))
+    let fact : Contains (facts_of s.next true) (marked true e) =
+    in_contains (facts_of s.next true) (marked true e) (in_fact true (entries_of s.next) e inside) in (
+      e,
+      refl,
+      notice_has laws p ts c s h due (marked true e)
+          (Contains-append_right (facts_of s.current false) (facts_of s.next true) (marked true e) fact),
+    )
 
 -- ---- the rows of identifiers heard in them
 
@@ -150,7 +178,8 @@ rows_more (f1 ∷ fs) [] f r all one = absurd all
 rows_more (f1 ∷ fs) (r1 ∷ rs) f r all one = (all.0, rows_more fs rs f r all.1 one)
 
 -- one more frame, and its row
-pub rowed_more : (heard rows : List (List ℕ)) (frame row : List ℕ) → IsRowed heard rows → HasNext frame row → IsRowed (heard ++ frame ∷ []) (rows ++ row ∷ [])
+pub rowed_more : (heard rows : List (List ℕ)) (frame row : List ℕ) → IsRowed heard rows → HasNext frame row
+    → IsRowed (heard ++ frame ∷ []) (rows ++ row ∷ [])
 rowed_more heard rows frame row h one = record {
   missing = h.missing;
   later = h.later ++ frame ∷ [];
@@ -163,12 +192,14 @@ none_later : (fs : List (List ℕ)) → AreRows fs [] → fs ≡ []
 none_later [] all = refl
 none_later (f ∷ fs) all = absurd all
 
-silent_more : (fs : List (List ℕ)) (f : List ℕ) → AllByRecursion SaysNothing fs → SaysNothing f → AllByRecursion SaysNothing (fs ++ f ∷ [])
+silent_more : (fs : List (List ℕ)) (f : List ℕ) → AllByRecursion SaysNothing fs → SaysNothing f
+    → AllByRecursion SaysNothing (fs ++ f ∷ [])
 silent_more [] f all one = (one, tt)
 silent_more (x ∷ xs) f all one = (all.0, silent_more xs f all.1 one)
 
 -- one more frame without a part in the notice, where there are no rows yet
-pub rowed_silent : (heard rows : List (List ℕ)) (frame : List ℕ) → IsRowed heard rows → rows ≡ [] → SaysNothing frame → IsRowed (heard ++ frame ∷ []) []
+pub rowed_silent : (heard rows : List (List ℕ)) (frame : List ℕ) → IsRowed heard rows → rows ≡ [] → SaysNothing frame
+    → IsRowed (heard ++ frame ∷ []) []
 rowed_silent heard rows frame h none one =
     let last : h.later ≡ [] = none_later h.later (subst (AreRows h.later) none h.are) in
     record {
@@ -193,7 +224,8 @@ tail_is x y xs ys e = cc e
 
 -- of two cuts of a list, one comes first
 cut_first : {X : Type 0} (missing later first rest : List X) → missing ++ later ≡ first ++ rest
-    → ((extra : List X) × (missing ≡ first ++ extra)) ⊎ ((more : List X) × (first ≡ missing ++ more) × (later ≡ more ++ rest))
+    → ((extra : List X) × (missing ≡ first ++ extra))
+    ⊎ ((more : List X) × (first ≡ missing ++ more) × (later ≡ more ++ rest))
 cut_first [] later first rest e = inr (first, refl, e)
 cut_first (x ∷ xs) later [] rest e = inl (x ∷ xs, refl)
 cut_first (x ∷ xs) later (y ∷ ys) rest e =
@@ -215,21 +247,32 @@ rows_cut [] gs rs all = record { left = []; right = rs; whole = refl; first = tt
 rows_cut (f ∷ fs) gs [] all = absurd all
 rows_cut (f ∷ fs) gs (r ∷ rs) all =
     let rest = rows_cut fs gs rs all.1 in
-    record { left = r ∷ rest.left; right = rest.right; whole = ap (λ xs. r ∷ xs) rest.whole; first = (all.0, rest.first); second = rest.second }
+    record {
+      left = r ∷ rest.left;
+      right = rest.right;
+      whole = ap (λ xs. r ∷ xs) rest.whole;
+      first = (all.0, rest.first);
+      second = rest.second;
+    }
 
 -- these are identifiers of entries of the configuration
 abbrev pub AreKeysOf : Configuration → List ℕ → Type 0
-AreKeysOf n wanted = (x : ℕ) → Contains wanted x → (m : Marked) × Contains (facts_of n true) m × (m.next ≡ true) × (key_of (raw_entry m.entry) ≡ x)
+AreKeysOf n wanted = (x : ℕ) → Contains wanted x → (m : Marked) × Contains (facts_of n true) m × (m.next ≡ true)
+    × (key_of (raw_entry m.entry) ≡ x)
 
-row_has : (fs rs : List (List ℕ)) (m : Marked) → AreRows fs rs → m.next ≡ true → IsHeardInSome fs m → Contains (concat rs) (key_of (raw_entry m.entry))
+row_has : (fs rs : List (List ℕ)) (m : Marked) → AreRows fs rs → m.next ≡ true → IsHeardInSome fs m
+    → Contains (concat rs) (key_of (raw_entry m.entry))
 row_has [] rs m all next (f, inside, heard) = absurd (contains_none f inside)
 row_has (f ∷ fs) [] m all next h = absurd all
 row_has (f ∷ fs) (r ∷ rs) m all next (g, inside, heard) = elim (contains_cases f fs g inside) [
-  | inl same ↦ Contains-append_left r (concat rs) (key_of (raw_entry m.entry)) (all.0 m next (subst (λ (b : List ℕ). IsHeardInRow b m) (sym same) heard))
-  | inr later ↦ Contains-append_right r (concat rs) (key_of (raw_entry m.entry)) (row_has fs rs m all.1 next (g, later, heard))
+  | inl same ↦ Contains-append_left r (concat rs) (key_of (raw_entry m.entry))
+      (all.0 m next (subst (λ (b : List ℕ). IsHeardInRow b m) (sym same) heard))
+  | inr later ↦ Contains-append_right r (concat rs) (key_of (raw_entry m.entry))
+      (row_has fs rs m all.1 next (g, later, heard))
 ]
 
-part_is : (n : Configuration) (wanted : List ℕ) (x : ℕ) → Contains wanted x → AreKeysOf n wanted → (fs rs : List (List ℕ)) → AreRows fs rs → IsHeardWhole n true fs → IsPart wanted rs
+part_is : (n : Configuration) (wanted : List ℕ) (x : ℕ) → Contains wanted x → AreKeysOf n wanted
+    → (fs rs : List (List ℕ)) → AreRows fs rs → IsHeardWhole n true fs → IsPart wanted rs
 part_is n wanted x some keys fs rs all whole = (
   λ empty. contains_none x (subst (λ (xs : List (List ℕ)). Contains (concat xs) x) empty (has x some)),
   has,
@@ -241,33 +284,41 @@ part_is n wanted x some keys fs rs all whole = (
         subst (λ (k : ℕ). Contains (concat rs) k) it.3 (row_has fs rs it.0 all it.2 (whole it.0 it.1))
 
 -- what is heard in all frames is heard in the later ones, as nothing in the first ones belongs to the notice
-heard_later : (missing more : List (List ℕ)) (m : Marked) → AllByRecursion SaysNothing missing → m.next ≡ true → IsHeardInSome (missing ++ more) m → IsHeardInSome more m
+heard_later : (missing more : List (List ℕ)) (m : Marked) → AllByRecursion SaysNothing missing → m.next ≡ true
+    → IsHeardInSome (missing ++ more) m → IsHeardInSome more m
 heard_later missing more m silent next (f, inside, heard) = elim (Contains-append_cases missing more f inside) [
   | inl early ↦ absurd ((each_contains SaysNothing missing f silent early).none m next heard)
   | inr late ↦ (f, late, heard)
 ]
 
 -- a configuration with entries
-three_parts : (n : Configuration) (wanted : List ℕ) (x : ℕ) → Contains wanted x → AreKeysOf n wanted → (next_marked : (m : Marked) → Contains (facts_of n true) m → m.next ≡ true)
-    → (missing first second third rows : List (List ℕ)) (later : List (List ℕ)) → missing ++ later ≡ (first ++ second) ++ third → AllByRecursion SaysNothing missing → AreRows later rows
+three_parts : (n : Configuration) (wanted : List ℕ) (x : ℕ) → Contains wanted x → AreKeysOf n wanted
+    → (next_marked : (m : Marked) → Contains (facts_of n true) m → m.next ≡ true)
+    → (missing first second third rows : List (List ℕ)) (later : List (List ℕ)) → missing ++ later ≡ (first ++ second)
+    ++ third → AllByRecursion SaysNothing missing → AreRows later rows
     → IsHeardWhole n true first → IsHeardWhole n true second → IsHeardWhole n true third → IsCutInThree wanted rows
 three_parts n wanted x some keys marks missing first second third rows later cut silent are one two three =
     elim (cut_first missing later first (second ++ third) (cut ∙ append_assoc first second third)) [
       | inl (extra, is) ↦ (
           let it = keys x some in
           let heard = one it.0 it.1 in
-          let early : Contains missing heard.0 = subst (λ (fs : List (List ℕ)). Contains fs heard.0) (sym is) (Contains-append_left first extra heard.0 heard.1) in
+          let early : Contains missing heard.0 =
+          subst (λ (fs : List (List ℕ)). Contains fs heard.0) (sym is)
+          (Contains-append_left first extra heard.0 heard.1) in
           absurd ((each_contains SaysNothing missing heard.0 silent early).none it.0 it.2 heard.2)
           )
       | inr (more, is, last) ↦ (
           let front = rows_cut more (second ++ third) rows (subst (λ (fs : List (List ℕ)). AreRows fs rows) last are) in
           let back = rows_cut second third front.right front.second in
-          let whole : IsHeardWhole n true more = λ m inside. heard_later missing more m silent (marks m inside) (subst (λ (fs : List (List ℕ)). IsHeardInSome fs m) is (one m inside)) in
+          let whole : IsHeardWhole n true more = λ m inside.
+          heard_later missing more m silent (marks m inside)
+          (subst (λ (fs : List (List ℕ)). IsHeardInSome fs m) is (one m inside)) in
           record {
             first = front.left;
             second = back.left;
             third = back.right;
-            cut = front.whole ∙ ap (λ xs. front.left ++ xs) back.whole ∙ sym (append_assoc front.left back.left back.right);
+            cut = front.whole ∙ ap (λ xs. front.left ++ xs) back.whole
+                ∙ sym (append_assoc front.left back.left back.right);
             whole_in_first = part_is n wanted x some keys more front.left front.first whole;
             whole_in_second = part_is n wanted x some keys second back.left back.first two;
             whole_in_third = part_is n wanted x some keys third back.right back.second three;
@@ -278,12 +329,14 @@ three_parts n wanted x some keys marks missing first second third rows later cut
 -- ---- a configuration without entries: any three rows are enough
 
 -- FIG 0/0 is in none of the first frames
-header_late : (missing later : List (List ℕ)) (place : ℕ) (frame : List ℕ) → AllByRecursion SaysNothing missing → slice_get (missing ++ later) place ≡ Some frame → HasHeader frame → length missing ≤ place
+header_late : (missing later : List (List ℕ)) (place : ℕ) (frame : List ℕ) → AllByRecursion SaysNothing missing
+    → slice_get (missing ++ later) place ≡ Some frame → HasHeader frame → length missing ≤ place
 header_late [] later place frame silent got header = omega arith
 header_late (f ∷ fs) later zero frame silent got header =
     let same : f ≡ frame = cc got in
     absurd (silent.0.bare (subst HasHeader (sym same) header))
-header_late (f ∷ fs) later (suc place) frame silent got header = let rest = header_late fs later place frame silent.1 got header in omega (arith, rest)
+header_late (f ∷ fs) later (suc place) frame silent got header = let rest =
+    header_late fs later place frame silent.1 got header in omega (arith, rest)
 
 as_many : (fs rs : List (List ℕ)) → AreRows fs rs → length fs ≡ length rs
 as_many [] [] all = refl
@@ -291,7 +344,8 @@ as_many [] (r ∷ rs) all = absurd all
 as_many (f ∷ fs) [] all = absurd all
 as_many (f ∷ fs) (r ∷ rs) all = let rest = as_many fs rs all.1 in omega (arith, rest)
 
-three_rows : (missing later rows : List (List ℕ)) → AllByRecursion SaysNothing missing → AreRows later rows → HasThreeHeaders (missing ++ later) → 3 ≤ length rows
+three_rows : (missing later rows : List (List ℕ)) → AllByRecursion SaysNothing missing → AreRows later rows
+    → HasThreeHeaders (missing ++ later) → 3 ≤ length rows
 three_rows missing later rows silent are h =
     let late = header_late missing later h.first h.in_first.0 silent h.in_first.1 h.in_first.2 in
     let below = get_below (missing ++ later) h.third h.in_third.0 h.in_third.1 in
@@ -320,9 +374,11 @@ cut_rows (a ∷ b ∷ c ∷ rows) long = record {
 
 -- ---- the rows of frames that announce a swap have three parts, each with the next configuration
 
-pub announced_thrice : (now next : Configuration) (count : ℕ) (heard rows : List (List ℕ)) (wanted : List ℕ) → IsAnnounced now next count heard → IsRowed heard rows → AreKeysOf next wanted
+pub announced_thrice : (now next : Configuration) (count : ℕ) (heard rows : List (List ℕ)) (wanted : List ℕ)
+    → IsAnnounced now next count heard → IsRowed heard rows → AreKeysOf next wanted
     → ((m : Marked) → Contains (facts_of next true) m → m.next ≡ true) → IsCutInThree wanted rows
 announced_thrice now next count heard rows [] a h keys marks =
     cut_rows rows (three_rows h.missing h.later rows h.silent h.are (subst HasThreeHeaders h.whole a.headers))
 announced_thrice now next count heard rows (w ∷ ws) a h keys marks =
-    three_parts next (w ∷ ws) w (contains_first w ws) keys marks h.missing a.first a.second a.third rows h.later (sym h.whole ∙ a.cut) h.silent h.are a.whole_in_first a.whole_in_second a.whole_in_third
+    three_parts next (w ∷ ws) w (contains_first w ws) keys marks h.missing a.first a.second a.third rows h.later
+    (sym h.whole ∙ a.cut) h.silent h.are a.whole_in_first a.whole_in_second a.whole_in_third

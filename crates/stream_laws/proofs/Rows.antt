@@ -1,12 +1,14 @@
 -- The entries of the frames of a notice.
-use Rattle.std.proofs.Common.{◌≡◌, ℕ, ◌+◌, Bool, true, false, cond, List, [], ◌∷◌, ◌++◌, length, refl, sym, ap, ◌∙◌, subst, inl, inr, ◌⊎◌}
+use Rattle.std.proofs.Common.{◌≡◌, ℕ, ◌+◌, Bool, true, false, cond, List, [], ◌∷◌, ◌++◌, length, refl, sym, ap, ◌∙◌}
+use Rattle.std.proofs.Common.{subst, inl, inr, ◌⊎◌}
 use Rattle.std.specs.Prelude.{map}
 use Rattle.std.specs.List.{AllByRecursion}
 use Rattle.std.proofs.lemmas.Bool.{or_parts}
 use Rattle.std.proofs.lemmas.List.{append_assoc, append-nil, length-append, map-append}
 use Rattle.stream_check.specs.Frames.{Fib}
-use Rattle.stream_check.specs.History.{Item, Moment, Said, Ended, said, frame_items, is_ensemble, is_swap, has_ensemble, has_begun, rows, row_at_hand}
-use Rattle.stream_check.specs.Stream.{after_frame, after_frames}
+use Rattle.stream_check.specs.History.{Item, Moment, Said, Ended, said, frame_items, is_ensemble, is_swap, has_ensemble}
+use Rattle.stream_check.specs.History.{has_begun, rows, row_at_hand}
+use Rattle.stream_check.specs.Stream.{past_after_frame, after_frames}
 use Rattle.mux_types.proofs.Tables.{each_pushed}
 
 -- the entries of the current frame
@@ -28,11 +30,15 @@ hand_after (i ∷ is) past = hand_after is (Said i ∷ past) ∙ append_assoc (a
 -- there are as many as rows of identifiers
 pub as_many : (past : List Moment) → length (notice_rows past) ≡ length (rows past)
 as_many [] = refl
-as_many (Said i ∷ past) = elim (is_swap past i) as (λ t. length (cond t [] (notice_rows past)) ≡ length (cond t [] (rows past))) [ true ↦ refl | false ↦ as_many past ]
-as_many (Ended count ∷ past) = elim (has_begun past) as (λ t. length (cond t (notice_rows past ++ at_hand past ∷ []) []) ≡ length (cond t (rows past ++ row_at_hand past ∷ []) [])) [
-  | true ↦ length-append (notice_rows past) (at_hand past ∷ []) ∙ ap (λ n. n + 1) (as_many past) ∙ sym (length-append (rows past) (row_at_hand past ∷ []))
-  | false ↦ refl
-]
+as_many (Said i ∷ past) = elim (is_swap past i) as (λ t.
+    length (cond t [] (notice_rows past)) ≡ length (cond t [] (rows past))) [ true ↦ refl | false ↦ as_many past ]
+as_many (Ended count ∷ past) =
+    elim (has_begun past) as (λ t. length (cond t (notice_rows past ++ at_hand past ∷ []) [])
+    ≡ length (cond t (rows past ++ row_at_hand past ∷ []) [])) [
+      | true ↦ length-append (notice_rows past) (at_hand past ∷ []) ∙ ap (λ n. n + 1) (as_many past)
+          ∙ sym (length-append (rows past) (row_at_hand past ∷ []))
+      | false ↦ refl
+    ]
 
 -- no FIG 0/0 among these entries
 abbrev pub HasNone : List Item → Type 0
@@ -47,13 +53,15 @@ none_at_hand (Ended count ∷ past) e = tt
 
 -- ---- they are those of the last frames
 
-rows_or_none : (items : List Item) (past : List Moment) → (notice_rows (said items past) ≡ notice_rows past) ⊎ (notice_rows (said items past) ≡ [])
+rows_or_none : (items : List Item) (past : List Moment) → (notice_rows (said items past) ≡ notice_rows past)
+    ⊎ (notice_rows (said items past) ≡ [])
 rows_or_none [] past = inl refl
 rows_or_none (i ∷ is) past = elim (rows_or_none is (Said i ∷ past)) [
-  | inl same ↦ elim (is_swap past i) as (λ t. notice_rows (said is (Said i ∷ past)) ≡ cond t [] (notice_rows past) → (notice_rows (said is (Said i ∷ past)) ≡ notice_rows past) ⊎ (notice_rows (said is (Said i ∷ past)) ≡ [])) [
-    | true ↦ λ h. inr h
-    | false ↦ λ h. inl h
-  ] same
+  | inl same ↦ elim (is_swap past i) as (λ t. notice_rows (said is (Said i ∷ past)) ≡ cond t [] (notice_rows past)
+      → (notice_rows (said is (Said i ∷ past)) ≡ notice_rows past) ⊎ (notice_rows (said is (Said i ∷ past)) ≡ [])) [
+        | true ↦ λ h. inr h
+        | false ↦ λ h. inl h
+      ] same
   | inr none ↦ inr none
 ]
 
@@ -67,38 +75,48 @@ pub record EndsWith (frames : List (List Fib)) (past : List Moment) : Type 0 whe
 none_last : (frames : List (List Fib)) (past : List Moment) → notice_rows past ≡ [] → EndsWith frames past
 none_last frames past e = record { earlier = frames; notice = []; whole = sym (append-nil frames); are = sym e }
 
-ended_by : (count : ℕ) (frames : List (List Fib)) (frame : List Fib) (past : List Moment) (b : Bool) → has_begun past ≡ b → at_hand past ≡ frame_items frame → EndsWith frames past
+ended_by : (count : ℕ) (frames : List (List Fib)) (frame : List Fib) (past : List Moment) (b : Bool)
+    → has_begun past ≡ b → at_hand past ≡ frame_items frame → EndsWith frames past
     → EndsWith (frames ++ frame ∷ []) (Ended count ∷ past)
 ended_by count frames frame past true b hand h = record {
   earlier = h.earlier;
   notice = h.notice ++ frame ∷ [];
   whole = ap (λ fs. fs ++ frame ∷ []) h.whole ∙ append_assoc h.earlier h.notice (frame ∷ []);
-  are = map-append frame_items h.notice (frame ∷ []) ∙ ap (λ rs. rs ++ frame_items frame ∷ []) h.are ∙ ap (λ r. notice_rows past ++ r ∷ []) (sym hand)
+  are = map-append frame_items h.notice (frame ∷ []) ∙ ap (λ rs. rs ++ frame_items frame ∷ []) h.are
+      ∙ ap (λ r. notice_rows past ++ r ∷ []) (sym hand)
       ∙ sym (ap (λ t. cond t (notice_rows past ++ at_hand past ∷ []) []) b);
 }
-ended_by count frames frame past false b hand h = none_last (frames ++ frame ∷ []) (Ended count ∷ past) (ap (λ t. cond t (notice_rows past ++ at_hand past ∷ []) []) b)
+ended_by count frames frame past false b hand h =
+    none_last (frames ++ frame ∷ []) (Ended count ∷ past)
+    (ap (λ t. cond t (notice_rows past ++ at_hand past ∷ []) []) b)
 
-said_by : (frames : List (List Fib)) (items : List Item) (past : List Moment) → EndsWith frames past → EndsWith frames (said items past)
+said_by : (frames : List (List Fib)) (items : List Item) (past : List Moment) → EndsWith frames past
+    → EndsWith frames (said items past)
 said_by frames items past h = elim (rows_or_none items past) [
   | inl same ↦ record { earlier = h.earlier; notice = h.notice; whole = h.whole; are = h.are ∙ sym same }
   | inr none ↦ none_last frames (said items past) none
 ]
 
-ends_by : (step : ℕ) (done frames : List (List Fib)) (past : List Moment) → at_hand past ≡ [] → EndsWith done past → EndsWith (done ++ frames) (after_frames step past frames)
+ends_by : (step : ℕ) (done frames : List (List Fib)) (past : List Moment) → at_hand past ≡ [] → EndsWith done past
+    → EndsWith (done ++ frames) (after_frames step past frames)
 ends_by step done [] past hand h = subst (λ (fs : List (List Fib)). EndsWith fs past) (sym (append-nil done)) h
 ends_by step done (frame ∷ frames) past hand h =
-    let items : at_hand (said (frame_items frame) past) ≡ frame_items frame = hand_after (frame_items frame) past ∙ ap (λ r. r ++ frame_items frame) hand in
-    let one : EndsWith (done ++ frame ∷ []) (after_frame step past frame) =
-    ended_by _ done frame (said (frame_items frame) past) (has_begun (said (frame_items frame) past)) refl items (said_by done (frame_items frame) past h) in
-    subst (λ (fs : List (List Fib)). EndsWith fs (after_frames step (after_frame step past frame) frames)) (append_assoc done (frame ∷ []) frames)
-    (ends_by step (done ++ frame ∷ []) frames (after_frame step past frame) refl one)
+    let items : at_hand (said (frame_items frame) past) ≡ frame_items frame =
+    hand_after (frame_items frame) past ∙ ap (λ r. r ++ frame_items frame) hand in
+    let one : EndsWith (done ++ frame ∷ []) (past_after_frame step past frame) =
+    ended_by _ done frame (said (frame_items frame) past) (has_begun (said (frame_items frame) past)) refl items
+    (said_by done (frame_items frame) past h) in
+    subst (λ (fs : List (List Fib)). EndsWith fs (after_frames step (past_after_frame step past frame) frames))
+    (append_assoc done (frame ∷ []) frames)
+    (ends_by step (done ++ frame ∷ []) frames (past_after_frame step past frame) refl one)
 
 pub ends_with : (step : ℕ) (frames : List (List Fib)) → EndsWith frames (after_frames step [] frames)
 ends_with step frames = ends_by step [] frames [] refl (none_last [] [] refl)
 
-hand_ended : (step : ℕ) (frames : List (List Fib)) (past : List Moment) → at_hand past ≡ [] → at_hand (after_frames step past frames) ≡ []
+hand_ended : (step : ℕ) (frames : List (List Fib)) (past : List Moment) → at_hand past ≡ []
+    → at_hand (after_frames step past frames) ≡ []
 hand_ended step [] past e = e
-hand_ended step (frame ∷ frames) past e = hand_ended step frames (after_frame step past frame) refl
+hand_ended step (frame ∷ frames) past e = hand_ended step frames (past_after_frame step past frame) refl
 
 pub none_between : (step : ℕ) (frames : List (List Fib)) → at_hand (after_frames step [] frames) ≡ []
 none_between step frames = hand_ended step frames [] refl

@@ -1,5 +1,6 @@
 -- Which page of entries is in turn in the frames of a run, and how many frames later each other one is.
-use Rattle.std.proofs.Common.{◌≡◌, ◌≢◌, ℕ, ◌+◌, ◌-◌, ◌*◌, ◌<◌, ◌≤◌, ◌==◌, ◌||◌, Bool, true, false, cond, List, Contains, Option, Some, None, refl, sym, ap, ◌∙◌, subst, arith, inl, inr, ◌⊎◌, lt-ltb, le-ltb}
+use Rattle.std.proofs.Common.{◌≡◌, ◌≢◌, ℕ, ◌+◌, ◌-◌, ◌*◌, ◌<◌, ◌≤◌, ◌==◌, ◌||◌, Bool, true, false, cond, List, Contains}
+use Rattle.std.proofs.Common.{Option, Some, None, refl, sym, ap, ◌∙◌, subst, arith, inl, inr, ◌⊎◌, lt-ltb, le-ltb}
 use Rattle.std.proofs.lemmas.Bool.{cases_lt, eqb-true, eqb-false}
 use Rattle.std.proofs.lemmas.List.Elements.{Contains-append_left}
 use Rattle.mux_config.specs.Configuration.{Configuration}
@@ -9,7 +10,8 @@ use Rattle.plan_code.specs.declared.plan.Plan.{Plan}
 use Rattle.plan_code.specs.Program.{Program}
 use Rattle.plan_code.specs.Machine.{State}
 use Rattle.plan_verifier.specs.Typing.{Known}
-use Rattle.plan_runs.specs.Frames.{is_due, is_noticed, is_first_noticed, shown, sent_entries, sent_rounds, left_after_frame, after_frame, begins_phase}
+use Rattle.plan_runs.specs.Frames.{is_due, is_noticed, is_first_noticed, shown, sent_entries, sent_rounds}
+use Rattle.plan_runs.specs.Frames.{left_after_frame, after_frame, begins_phase}
 use Rattle.plan_runs.proofs.Tracked.{split_le, some_rounds, page_after_below}
 use Rattle.plan_runs.proofs.Carries.{LeftBy}
 use Rattle.plan_runs.proofs.Passing.{not_due, some_is}
@@ -26,7 +28,8 @@ use Rattle.stream_laws.proofs.Following.{begun_left, no_counts}
 abbrev pub ComesIn : ℕ → ℕ → ℕ → ℕ → Type 0
 ComesIn pages page_index page d = (d < pages) × ((page_index + d ≡ page) ⊎ (page_index + d ≡ page + pages))
 
-pub comes_in : (pages page_index page : ℕ) → page_index < pages → page < pages → (d : ℕ) × ComesIn pages page_index page d
+pub comes_in : (pages page_index page : ℕ) → page_index < pages → page < pages → (d : ℕ)
+    × ComesIn pages page_index page d
 comes_in pages page_index page below last = elim (split_le page_index page) [
   | inl up ↦ (page - page_index, (omega (arith, last), inl (omega (arith, up))))
   | inr down ↦ (page + pages - page_index, (omega (arith, below, down), inr (omega (arith, below, down))))
@@ -39,35 +42,47 @@ same_or_not a b = by (a == b) refl
     by true e = inl (eqb-true a b e)
     by false e = inr (eqb-false a b e)
 
-comes_up : (pages page_index page d : ℕ) → page_index + 1 < pages → page < pages → page ≢ page_index → ComesIn pages (page_index + 1) page d → ComesIn pages page_index page (d + 1)
-comes_up pages page_index page d up last apart (below, inl at) = (omega (arith, up, last, below, at), inl (omega (arith, at)))
-comes_up pages page_index page d up last apart (below, inr at) = (omega (arith, up, last, below, at, apart), inr (omega (arith, at)))
+comes_up : (pages page_index page d : ℕ) → page_index + 1 < pages → page < pages → page ≢ page_index
+    → ComesIn pages (page_index + 1) page d → ComesIn pages page_index page (d + 1)
+comes_up pages page_index page d up last apart (below, inl at) =
+    (omega (arith, up, last, below, at), inl (omega (arith, at)))
+comes_up pages page_index page d up last apart (below, inr at) =
+    (omega (arith, up, last, below, at, apart), inr (omega (arith, at)))
 
-comes_round : (pages page_index page d : ℕ) → page_index < pages → pages ≤ page_index + 1 → page < pages → page ≢ page_index → ComesIn pages 0 page d → ComesIn pages page_index page (d + 1)
-comes_round pages page_index page d within top last apart (below, inl at) = (omega (arith, within, top, last, apart, at), inr (omega (arith, within, top, at)))
+comes_round : (pages page_index page d : ℕ) → page_index < pages → pages ≤ page_index + 1 → page < pages
+    → page ≢ page_index → ComesIn pages 0 page d → ComesIn pages page_index page (d + 1)
+comes_round pages page_index page d within top last apart (below, inl at) =
+    (omega (arith, within, top, last, apart, at), inr (omega (arith, within, top, at)))
 comes_round pages page_index page d within top last apart (below, inr at) = absurd (omega (arith, below, at))
 
 -- a frame earlier, it was the page in turn or one frame further away
-pub comes_before : (pages page_index page d : ℕ) → page_index < pages → page < pages → ComesIn pages (page_after pages page_index) page d → (page ≡ page_index) ⊎ ComesIn pages page_index page (d + 1)
+pub comes_before : (pages page_index page d : ℕ) → page_index < pages → page < pages
+    → ComesIn pages (page_after pages page_index) page d → (page ≡ page_index) ⊎ ComesIn pages page_index page (d + 1)
 comes_before pages page_index page d within last to = elim (same_or_not page page_index) [
   | inl same ↦ inl same
   | inr apart ↦ elim (cases_lt (page_index + 1) pages) [
-    | inl lt ↦ inr (comes_up pages page_index page d lt last apart (subst (λ (t : ℕ). ComesIn pages t page d) (ap (λ (b : Bool). cond b (page_index + 1) 0) (lt-ltb (page_index + 1) pages lt)) to))
-    | inr ge ↦ inr (comes_round pages page_index page d within ge last apart (subst (λ (t : ℕ). ComesIn pages t page d) (ap (λ (b : Bool). cond b (page_index + 1) 0) (le-ltb (page_index + 1) pages ge)) to))
+    | inl lt ↦ inr (comes_up pages page_index page d lt last apart
+        (subst (λ (t : ℕ). ComesIn pages t page d)
+        (ap (λ (b : Bool). cond b (page_index + 1) 0) (lt-ltb (page_index + 1) pages lt)) to))
+    | inr ge ↦ inr (comes_round pages page_index page d within ge last apart
+        (subst (λ (t : ℕ). ComesIn pages t page d)
+        (ap (λ (b : Bool). cond b (page_index + 1) 0) (le-ltb (page_index + 1) pages ge)) to))
   ]
 ]
 
 -- ---- when an entry of the current configuration is sent
 
 -- d frames later the page of an entry is in turn
-pub record Comes (plan : Plan) (c : Configuration) (ms : List Marked) (page_index : ℕ) (m : Marked) (d : ℕ) : Type 0 where
+pub record Comes (plan : Plan) (c : Configuration) (ms : List Marked) (page_index : ℕ) (m : Marked) (d : ℕ) : Type
+    0 where
   pub fact : Contains (facts_of c false) m
   pub page : ℕ
   pub below : page < rounds plan.layout ms
   pub inside : Contains (page_entries plan.layout page ms) m
   pub comes : ComesIn (rounds plan.layout ms) page_index page d
 
-pub comes_some : PageLaws → (plan : Plan) (c : Configuration) (ms : List Marked) (page_index : ℕ) → page_index < rounds plan.layout ms → (m : Marked) → Contains (facts_of c false) m → Contains ms m
+pub comes_some : PageLaws → (plan : Plan) (c : Configuration) (ms : List Marked) (page_index : ℕ)
+    → page_index < rounds plan.layout ms → (m : Marked) → Contains (facts_of c false) m → Contains ms m
     → (d : ℕ) × Comes plan c ms page_index m d
 comes_some laws plan c ms page_index first m fact inside =
     let there = laws.each plan.layout ms m inside in
@@ -75,12 +90,15 @@ comes_some laws plan c ms page_index first m fact inside =
     (way.0, record { fact = fact; page = there.0; below = there.1; inside = there.2; comes = way.1 })
 
 -- one frame earlier, it was in turn or one frame further away
-pub comes_now : (plan : Plan) (c : Configuration) (ms : List Marked) (page_index : ℕ) → page_index < rounds plan.layout ms → (m : Marked) (d : ℕ) → Comes plan c ms (page_after (rounds plan.layout ms) page_index) m d
+pub comes_now : (plan : Plan) (c : Configuration) (ms : List Marked) (page_index : ℕ)
+    → page_index < rounds plan.layout ms → (m : Marked) (d : ℕ)
+    → Comes plan c ms (page_after (rounds plan.layout ms) page_index) m d
     → Contains (page_entries plan.layout page_index ms) m ⊎ Comes plan c ms page_index m (d + 1)
-comes_now plan c ms page_index first m d x = elim (comes_before (rounds plan.layout ms) page_index x.page d first x.below x.comes) [
-  | inl same ↦ inl (subst (λ (k : ℕ). Contains (page_entries plan.layout k ms) m) same x.inside)
-  | inr further ↦ inr (record { fact = x.fact; page = x.page; below = x.below; inside = x.inside; comes = further })
-]
+comes_now plan c ms page_index first m d x =
+    elim (comes_before (rounds plan.layout ms) page_index x.page d first x.below x.comes) [
+      | inl same ↦ inl (subst (λ (k : ℕ). Contains (page_entries plan.layout k ms) m) same x.inside)
+      | inr further ↦ inr (record { fact = x.fact; page = x.page; below = x.below; inside = x.inside; comes = further })
+    ]
 
 -- ---- the pages in turn, along a run
 
@@ -106,13 +124,16 @@ pub some_period : (p : Program) (ts : List Known) → IsCode p ts → 1 ≤ p.pl
 some_period p ts c = omega (arith, c.program.planned.period_from)
 
 pub new_bound : (p : Program) (ts : List Known) → IsCode p ts → (u : State) → IsBound p.plan u (p.plan.period - 1)
-new_bound p ts c u = (let some = some_period p ts c in record { from = omega (arith, some); to = omega (arith, some); outside = λ none. omega (arith, some) })
+new_bound p ts c u = (let some = some_period p ts c in
+    record { from = omega (arith, some); to = omega (arith, some); outside = λ none. omega (arith, some) })
 
-pub current_inside : (c n : Configuration) (b : Bool) (m : Marked) → Contains (facts_of c false) m → Contains (page_set c (cond b (Some n) None)) m
+pub current_inside : (c n : Configuration) (b : Bool) (m : Marked) → Contains (facts_of c false) m
+    → Contains (page_set c (cond b (Some n) None)) m
 current_inside c n false m h = h
 current_inside c n true m h = Contains-append_left (facts_of c false) (facts_of n true) m h
 
-abbrev pub turns_by : (p : Program) (ts : List Known) → IsCode p ts → (s : State) → Holds p ts s → (bound : ℕ) → IsBound p.plan (shown p s) bound → Turns p.plan (after_frame p s)
+abbrev pub turns_by : (p : Program) (ts : List Known) → IsCode p ts → (s : State) → Holds p ts s → (bound : ℕ)
+    → IsBound p.plan (shown p s) bound → Turns p.plan (after_frame p s)
 turns_by p ts c s holds bound h =
     let plan : Plan = p.plan in
     let u : State = shown p s in
@@ -129,7 +150,8 @@ turns_by p ts c s holds bound h =
     }
 
 -- contacts between two frames change no turn
-abbrev pub turns_contact : (p : Program) (s : State) (d : ℕ) (closed : Bool) → Turns p.plan s → Turns p.plan (happens p s (Contact d closed))
+abbrev pub turns_contact : (p : Program) (s : State) (d : ℕ) (closed : Bool) → Turns p.plan s
+    → Turns p.plan (happens p s (Contact d closed))
 turns_contact p s d closed g = record {
   ms = g.ms;
   page_index = g.page_index;
@@ -144,14 +166,16 @@ turns_contact p s d closed g = record {
 -- ---- where no swap is due
 
 -- no notice had begun before one begins
-none_before : (plan : Plan) (count : ℕ) (before left : Option ℕ) (n m : Configuration) → LeftBy plan count before n left m → left ≡ Some plan.notice → (k : ℕ) → before ≡ Some k → k < plan.notice → ⊥
+none_before : (plan : Plan) (count : ℕ) (before left : Option ℕ) (n m : Configuration)
+    → LeftBy plan count before n left m → left ≡ Some plan.notice → (k : ℕ) → before ≡ Some k → k < plan.notice → ⊥
 none_before plan count None left n m g is k e below = no_counts k e
 none_before plan count (Some j) left n m g is k e below =
     let one : j ≡ plan.notice = some_is j plan.notice (sym g.0 ∙ is) in
     let two : j ≡ k = some_is j k e in
     omega (arith, one, two, below)
 
-left_on : (plan : Plan) (count k : ℕ) (before left : Option ℕ) (n m : Configuration) → before ≡ Some k → LeftBy plan count before n left m → left ≡ Some k
+left_on : (plan : Plan) (count k : ℕ) (before left : Option ℕ) (n m : Configuration) → before ≡ Some k
+    → LeftBy plan count before n left m → left ≡ Some k
 left_on plan count k None left n m e g = absurd cc
 left_on plan count k (Some j) left n m e g = g.0 ∙ e
 
@@ -159,10 +183,12 @@ left_on plan count k (Some j) left n m e g = g.0 ∙ e
 pub record Turned (p : Program) (s : State) (g : Turns p.plan s) : Type 0 where
   pub bound : ℕ
   pub is : IsBound p.plan (shown p s) bound
-  pub before : (m : Marked) (d : ℕ) → Comes p.plan (shown p s).current (sent_entries p.plan (shown p s)) (shown p s).page_index m d
+  pub before : (m : Marked) (d : ℕ) → Comes p.plan (shown p s).current (sent_entries p.plan (shown p s))
+      (shown p s).page_index m d
       → (e : ℕ) × Comes p.plan s.current g.ms g.page_index m e × (d + g.bound ≤ e + bound)
 
-pub turned : PageLaws → (p : Program) (ts : List Known) → IsCode p ts → (s : State) → Holds p ts s → (g : Turns p.plan s) → is_due s.left ≡ false → p.plan.period ≤ g.bound + 1
+pub turned : PageLaws → (p : Program) (ts : List Known) → IsCode p ts → (s : State) → Holds p ts s
+    → (g : Turns p.plan s) → is_due s.left ≡ false → p.plan.period ≤ g.bound + 1
     → (b : Bool) → is_first_noticed p.plan.notice (shown p s).left ≡ b → Turned p s g
 turned laws p ts c s holds g due from true first =
     let plan : Plan = p.plan in
@@ -177,10 +203,12 @@ turned laws p ts c s holds g due from true first =
       is = record {
         from = omega (arith, some);
         to = omega (arith, some);
-        outside = λ none. absurd (none (plan.notice - 1) (ap left_after_frame begun) (omega (arith, c.program.planned.notice_from)));
+        outside = λ none. absurd
+            (none (plan.notice - 1) (ap left_after_frame begun) (omega (arith, c.program.planned.notice_from)));
       };
       before = λ m d x.
-          let mine : Contains (facts_of s.current false) m = subst (λ (y : Configuration). Contains (facts_of y false) m) (link.current due) x.fact in
+          let mine : Contains (facts_of s.current false) m =
+          subst (λ (y : Configuration). Contains (facts_of y false) m) (link.current due) x.fact in
           let way = comes_some laws plan s.current g.ms g.page_index g.below m mine (g.has m mine) in
           let short = x.comes.0 in
           (way.0, way.1, omega (arith, short, few, small, some));

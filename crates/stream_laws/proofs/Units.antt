@@ -1,5 +1,6 @@
 -- The capacity units of a sound configuration, as the checker counts them.
-use Rattle.std.proofs.Common.{◌≡◌, ℕ, ◌+◌, ◌-◌, ◌*◌, ◌/◌, ◌%◌, ◌<◌, ◌≤◌, ◌&&◌, Bool, true, false, cond, nat_lt, List, [], ◌∷◌, Contains, Some, None, refl, sym, ap, ◌∙◌, subst, arith, inl, inr}
+use Rattle.std.proofs.Common.{◌≡◌, ℕ, ◌+◌, ◌-◌, ◌*◌, ◌/◌, ◌%◌, ◌<◌, ◌≤◌, ◌&&◌, Bool, true, false, cond, nat_lt, List}
+use Rattle.std.proofs.Common.{[], ◌∷◌, Contains, Some, None, refl, sym, ap, ◌∙◌, subst, arith, inl, inr}
 use Rattle.std.specs.Prelude.{map}
 use Rattle.std.specs.List.{AllByRecursion}
 use Rattle.std.proofs.lemmas.Bool.{false≢true, cases_lt, ltb-true, le-ltb, false_from_ne_true, and_right}
@@ -14,7 +15,8 @@ use Rattle.fib_reader.specs.Raw.{Raw, raw_entry}
 use Rattle.fib_reader.specs.Listening.{identifier_of}
 use Rattle.fib_reader.proofs.FromEntries.{sub_identified}
 use Rattle.stream_check.specs.declared.finding.Fault.TheVariants as faults
-use Rattle.stream_check.specs.Rules.{first_unit, end_unit, is_long_form, share_unit, partner, overlap_or, overlap, past_end}
+use Rattle.stream_check.specs.Rules.{first_unit, end_unit, is_long_form, share_unit, partner, overlap_or, overlap}
+use Rattle.stream_check.specs.Rules.{past_end}
 use Rattle.plan_runs.proofs.Parts.{partly, IsPart}
 use Rattle.plan_runs.proofs.Pictures.{whole_of, whole_is_set}
 
@@ -31,7 +33,8 @@ starts : (s : Sub) → IsPlaced s → first_unit (raw_entry (sub_entry s)) ≡ s
 starts s h =
     let named = h.named in
     let ends = h.ends in
-    let word : (s.id * 1024 + s.start) / 256 % 256 * 256 + (s.id * 1024 + s.start) % 256 ≡ s.id * 1024 + s.start = word_low (s.id * 1024 + s.start) (omega (arith, named, ends)) in
+    let word : (s.id * 1024 + s.start) / 256 % 256 * 256 + (s.id * 1024 + s.start) % 256 ≡ s.id * 1024 + s.start =
+    word_low (s.id * 1024 + s.start) (omega (arith, named, ends)) in
     let low : (s.id * 1024 + s.start) % 1024 ≡ s.start = omega (arith, ends) in
     ap (λ n. n % 1024) word ∙ low
 
@@ -61,7 +64,8 @@ parts : (t : Bool) (a b : Bool) → t ≡ (a && b) → t ≡ true → (a ≡ tru
 parts t true b e is = (refl, sym e ∙ is)
 parts t false b e is = absurd (false≢true (sym e ∙ is))
 
-shared : (c : Configuration) → IsSound c → IsConfiguration c → (a b : Raw) → IsSubRaw c a → IsSubRaw c b → share_unit a b ≡ true → identifier_of a ≡ identifier_of b
+shared : (c : Configuration) → IsSound c → IsConfiguration c → (a b : Raw) → IsSubRaw c a → IsSubRaw c b
+    → share_unit a b ≡ true → identifier_of a ≡ identifier_of b
 shared c sound is a b x y shares =
     let one = parts (share_unit a b) (is_long_form a && is_long_form b) _ refl shares in
     let two = parts _ (nat_lt (first_unit a) (end_unit a)) _ refl one.1 in
@@ -78,23 +82,33 @@ shared c sound is a b x y shares =
     let ab = ltb-true (first_unit a) (end_unit b) four.0 in
     let ba = ltb-true (first_unit b) (end_unit a) four.1 in
     let same : x.sub.id ≡ y.sub.id = elim (cases_lt (first_unit a) (first_unit b)) [
-      | inl lt ↦ sound.apart x.sub y.sub (first_unit b) x.inside y.inside (omega (arith, lt, start_a), omega (arith, ba, end_a)) (omega (arith, start_b), omega (arith, bb, end_b))
-      | inr ge ↦ sound.apart x.sub y.sub (first_unit a) x.inside y.inside (omega (arith, start_a), omega (arith, aa, end_a)) (omega (arith, ge, start_b), omega (arith, ab, end_b))
+      | inl lt ↦ sound.apart x.sub y.sub (first_unit b) x.inside y.inside
+          (omega (arith, lt, start_a), omega (arith, ba, end_a)) (omega (arith, start_b), omega (arith, bb, end_b))
+      | inr ge ↦ sound.apart x.sub y.sub (first_unit a) x.inside y.inside
+          (omega (arith, start_a), omega (arith, aa, end_a)) (omega (arith, ge, start_b), omega (arith, ab, end_b))
     ] in
-    ap identifier_of (sym x.is) ∙ sub_identified x.sub placed_a ∙ same ∙ sym (sub_identified y.sub placed_b) ∙ ap identifier_of y.is
+    ap identifier_of (sym x.is) ∙ sub_identified x.sub placed_a ∙ same ∙ sym (sub_identified y.sub placed_b)
+    ∙ ap identifier_of y.is
 
-no_partner : (c : Configuration) → IsSound c → IsConfiguration c → (a : Raw) (bs : List Raw) → IsSubRaw c a → AllByRecursion (IsSubRaw c) bs → AllByRecursion (λ b. identifier_of a < identifier_of b) bs → partner a bs ≡ None
+no_partner : (c : Configuration) → IsSound c → IsConfiguration c → (a : Raw) (bs : List Raw) → IsSubRaw c a
+    → AllByRecursion (IsSubRaw c) bs → AllByRecursion (λ b. identifier_of a < identifier_of b) bs → partner a bs ≡ None
 no_partner c sound is a [] x all up = refl
 no_partner c sound is a (b ∷ bs) x all up =
     let less : identifier_of a < identifier_of b = up.0 in
-    let apart : share_unit a b ≡ false = false_from_ne_true (share_unit a b) (λ shares. (let same = shared c sound is a b x all.0 shares in omega (arith, less, same))) in
+    let apart : share_unit a b ≡ false =
+    false_from_ne_true (share_unit a b) (λ shares.
+    (let same = shared c sound is a b x all.0 shares in omega (arith, less, same))) in
     ap (λ t. cond t (Some (identifier_of b)) (partner a bs)) apart ∙ no_partner c sound is a bs x all.1 up.1
 
-no_overlap : (c : Configuration) → IsSound c → IsConfiguration c → (rs : List Raw) → AllByRecursion (IsSubRaw c) rs → IsAscending identifier_of rs → overlap rs ≡ None
+no_overlap : (c : Configuration) → IsSound c → IsConfiguration c → (rs : List Raw) → AllByRecursion (IsSubRaw c) rs
+    → IsAscending identifier_of rs → overlap rs ≡ None
 no_overlap c sound is [] all up = refl
-no_overlap c sound is (r ∷ rs) all up = ap (λ o. overlap_or o r (overlap rs)) (no_partner c sound is r rs all.0 all.1 up.0) ∙ no_overlap c sound is rs all.1 up.1
+no_overlap c sound is (r ∷ rs) all up =
+    ap (λ o. overlap_or o r (overlap rs)) (no_partner c sound is r rs all.0 all.1 up.0)
+    ∙ no_overlap c sound is rs all.1 up.1
 
-none_past : (c : Configuration) → IsConfiguration c → (rs : List Raw) → AllByRecursion (IsSubRaw c) rs → past_end rs ≡ None
+none_past : (c : Configuration) → IsConfiguration c → (rs : List Raw) → AllByRecursion (IsSubRaw c) rs
+    → past_end rs ≡ None
 none_past c is [] all = refl
 none_past c is (r ∷ rs) all =
     let x = all.0 in
@@ -102,31 +116,44 @@ none_past c is (r ∷ rs) all =
     let last : end_unit r ≡ x.sub.start + size_of_sub x.sub = ap end_unit (sym x.is) ∙ ends_at x.sub placed in
     let ends = placed.ends in
     let within : nat_lt 864 (end_unit r) ≡ false = le-ltb 864 (end_unit r) (omega (arith, last, ends)) in
-    ap (λ t. cond t (Some (faults.PastEnd (identifier_of r))) (past_end rs)) (and_right (is_long_form r) _ within) ∙ none_past c is rs all.1
+    ap (λ t. cond t (Some (faults.PastEnd (identifier_of r))) (past_end rs)) (and_right (is_long_form r) _ within)
+    ∙ none_past c is rs all.1
 
 -- ---- a part of them
 
-each_of : (c : Configuration) (ss : List Sub) → ((s : Sub) → Contains ss s → Contains c.subs s) → AllByRecursion (IsSubRaw c) (map (λ s. raw_entry (sub_entry s)) ss)
+each_of : (c : Configuration) (ss : List Sub) → ((s : Sub) → Contains ss s → Contains c.subs s)
+    → AllByRecursion (IsSubRaw c) (map (λ s. raw_entry (sub_entry s)) ss)
 each_of c [] f = tt
-each_of c (s ∷ ss) f = (record { sub = s; inside = f s (contains_first s ss); is = refl }, each_of c ss (λ t h. f t (contains_later s ss t h)))
+each_of c (s ∷ ss) f = (
+  record { sub = s; inside = f s (contains_first s ss); is = refl },
+  each_of c ss (λ t h. f t (contains_later s ss t h)),
+)
 
-each_partly : (P : Raw → Type 0) (known : ℕ → Bool) (rs : List Raw) → AllByRecursion P rs → AllByRecursion P (partly known rs)
+each_partly : (P : Raw → Type 0) (known : ℕ → Bool) (rs : List Raw) → AllByRecursion P rs
+    → AllByRecursion P (partly known rs)
 each_partly P known [] all = tt
-each_partly P known (r ∷ rs) all = elim (known (identifier_of r)) as (λ t. AllByRecursion P (cond t (r ∷ partly known rs) (partly known rs))) [
-  | true ↦ (all.0, each_partly P known rs all.1)
-  | false ↦ each_partly P known rs all.1
-]
+each_partly P known (r ∷ rs) all =
+    elim (known (identifier_of r)) as (λ t. AllByRecursion P (cond t (r ∷ partly known rs) (partly known rs))) [
+      | true ↦ (all.0, each_partly P known rs all.1)
+      | false ↦ each_partly P known rs all.1
+    ]
 
-ascends : (known : ℕ → Bool) (rs : List Raw) → IsAscending identifier_of rs → IsAscending identifier_of (partly known rs)
+ascends : (known : ℕ → Bool) (rs : List Raw) → IsAscending identifier_of rs
+    → IsAscending identifier_of (partly known rs)
 ascends known [] up = tt
-ascends known (r ∷ rs) up = elim (known (identifier_of r)) as (λ t. IsAscending identifier_of (cond t (r ∷ partly known rs) (partly known rs))) [
-  | true ↦ (each_partly (λ b. identifier_of r < identifier_of b) known rs up.0, ascends known rs up.1)
-  | false ↦ ascends known rs up.1
-]
+ascends known (r ∷ rs) up = elim (known (identifier_of r))
+    as (λ t. IsAscending identifier_of (cond t (r ∷ partly known rs) (partly known rs))) [
+      | true ↦ (each_partly (λ b. identifier_of r < identifier_of b) known rs up.0, ascends known rs up.1)
+      | false ↦ ascends known rs up.1
+    ]
 
-pub units_fine : (c : Configuration) (C : Raw → Type 0) (rs : List Raw) → IsSound c → IsConfiguration c → IsPart (whole_of c).subs C rs → (overlap rs ≡ None) × (past_end rs ≡ None)
+pub units_fine : (c : Configuration) (C : Raw → Type 0) (rs : List Raw) → IsSound c → IsConfiguration c
+    → IsPart (whole_of c).subs C rs → (overlap rs ≡ None) × (past_end rs ≡ None)
 units_fine c C rs sound is h =
     let full : AllByRecursion (IsSubRaw c) (whole_of c).subs = each_of c c.subs (λ s inside. inside) in
-    let all : AllByRecursion (IsSubRaw c) rs = subst (AllByRecursion (IsSubRaw c)) (sym h.is) (each_partly (IsSubRaw c) h.known (whole_of c).subs full) in
-    let up : IsAscending identifier_of rs = subst (IsAscending identifier_of) (sym h.is) (ascends h.known (whole_of c).subs (whole_is_set c is).subs_ascend) in
+    let all : AllByRecursion (IsSubRaw c) rs =
+    subst (AllByRecursion (IsSubRaw c)) (sym h.is) (each_partly (IsSubRaw c) h.known (whole_of c).subs full) in
+    let up : IsAscending identifier_of rs =
+    subst (IsAscending identifier_of) (sym h.is)
+    (ascends h.known (whole_of c).subs (whole_is_set c is).subs_ascend) in
     (no_overlap c sound is rs all up, none_past c is rs all)

@@ -65,7 +65,11 @@ silent_change h = h.plain.1.0
 -- ---- the swap of this stream
 
 abbrev swap_header : Item
-swap_header = record { first = true; next = false; raw = record { ext = 0; long = false; bytes = 225 ∷ 197 ∷ 0 ∷ 4 ∷ [] } }
+swap_header = record {
+  first = true;
+  next = false;
+  raw = record { ext = 0; long = false; bytes = 225 ∷ 197 ∷ 0 ∷ 4 ∷ [] };
+}
 
 abbrev past : List Moment
 past = after_frames 1 [] (first ∷ noticed 1 ∷ noticed 2 ∷ noticed 3 ∷ [])
@@ -82,7 +86,8 @@ said_there = record {
   past_is = refl;
 }
 
-its_frames : notice_frames past (((10 ∷ []) ∷ []) ∷ ((11 ∷ []) ∷ (12 ∷ []) ∷ []) ∷ ((20 ∷ []) ∷ []) ∷ ((30 ∷ []) ∷ []) ∷ ((40 ∷ []) ∷ []) ∷ []) ≡ (11 ∷ 12 ∷ []) ∷ (20 ∷ []) ∷ (30 ∷ []) ∷ []
+its_frames : notice_frames past (((10 ∷ []) ∷ []) ∷ ((11 ∷ []) ∷ (12 ∷ []) ∷ []) ∷ ((20 ∷ []) ∷ []) ∷ ((30 ∷ []) ∷ [])
+    ∷ ((40 ∷ []) ∷ []) ∷ []) ≡ (11 ∷ 12 ∷ []) ∷ (20 ∷ []) ∷ (30 ∷ []) ∷ []
 its_frames = refl
 
 last_two : last_of {X = ℕ} 2 (1 ∷ 2 ∷ 3 ∷ []) ≡ 2 ∷ 3 ∷ []
@@ -101,7 +106,8 @@ as_it_was = record { agrees = λ known e. cc; there = λ settled. refl }
 
 otherwise : IsKept 250 heard (now after) → ⊥
 otherwise h =
-    let same = ap (λ (r : Raw). get_or r.bytes 3 0) (h.agrees (record { ext = 1; long = false; bytes = before }) refl) in
+    let same = ap (λ (r : Raw). get_or r.bytes 3 0)
+    (h.agrees (record { ext = 1; long = false; bytes = before }) refl) in
     let wrong : 96 ≡ 72 = same in
     omega (arith, wrong)
 
@@ -114,7 +120,8 @@ not_yet : last_swap (after_frames 1 [] (first ∷ noticed 1 ∷ [])) ≡ 0
 not_yet = refl
 
 none_in_the_notice : MakeNoSwap 1 (first ∷ []) (noticed 1 ∷ noticed 2 ∷ noticed 3 ∷ [])
-none_in_the_notice = (let none : last_swap (after_frames 1 [] (first ∷ noticed 1 ∷ noticed 2 ∷ noticed 3 ∷ [])) ≡ 0 = refl in omega (arith, none))
+none_in_the_notice = (let none : last_swap (after_frames 1 [] (first ∷ noticed 1 ∷ noticed 2 ∷ noticed 3 ∷ [])) ≡ 0 =
+    refl in omega (arith, none))
 
 one_after_it : MakeNoSwap 1 (first ∷ []) (noticed 1 ∷ noticed 2 ∷ noticed 3 ∷ swapped ∷ []) → ⊥
 one_after_it h = (let fifth : last_swap (after_frames 1 [] stream) ≡ 5 = refl in omega (arith, fifth, h))
@@ -167,7 +174,8 @@ side_by_side : HaveOwnUnits (sub before ∷ sub beside ∷ [])
 side_by_side = own_units (sub before ∷ sub beside ∷ []) tt
 
 one_in_the_other : HaveOwnUnits (sub before ∷ sub within_it ∷ []) → ⊥
-one_in_the_other h = (let same : 0 ≡ 1 = h.apart 0 1 (sub before) (sub within_it) 5 refl refl unit_of_both unit_of_the_other in omega (arith, same))
+one_in_the_other h = (let same : 0 ≡ 1 =
+    h.apart 0 1 (sub before) (sub within_it) 5 refl refl unit_of_both unit_of_the_other in omega (arith, same))
 
 -- ---- the first FIG 0/0
 

@@ -1,5 +1,6 @@
 -- The terms of the laws in small cases, computed by the checker from the definitions: examples that hold and that fail.
-use Rattle.std.proofs.Common.{◌≡◌, ℕ, zero, suc, ◌%◌, Bool, false, List, [], ◌∷◌, ◌++◌, length, flat_map, replicate, refl, sym, ap, ◌∙◌, subst, arith, ◌<◌, true, Some}
+use Rattle.std.proofs.Common.{◌≡◌, ℕ, zero, suc, ◌%◌, Bool, false, List, [], ◌∷◌, ◌++◌, length, flat_map, replicate}
+use Rattle.std.proofs.Common.{refl, sym, ap, ◌∙◌, subst, arith, ◌<◌, true, Some}
 use Rattle.std.specs.Prelude.{map, take, drop, ◌*◌, slice_get, cond, ◌==◌}
 use Rattle.std.specs.List.{AllByRecursion}
 use Rattle.std.proofs.lemmas.Bool.{false≢true}
@@ -18,7 +19,7 @@ use Rattle.stream_check.specs.Reported.{All}
 use Rattle.plan_code.specs.Program.{Program}
 use Rattle.plan_code.specs.Machine.{State}
 use Rattle.stream_laws.specs.Faultless.{IsNoFault, IsSaidIn}
-use Rattle.stream_laws.specs.Counting.{IsCounted, AreCounted}
+use Rattle.stream_laws.specs.Counting.{IsFrameOfCount, AreCounted}
 use Rattle.stream_laws.specs.RunningOn.{IsAtCount, RunOn}
 use Rattle.stream_laws.specs.Delivered.{IsCleared, IsPieceOf, IsHeardOut}
 use Rattle.stream_check.proofs.Fronts.{no_flat}
@@ -38,7 +39,9 @@ use Rattle.plan_runs.specs.Frames.{is_due}
 use Rattle.stream_laws.specs.Notices.{IsFibBytes, AreFibBytes, IsCutOf}
 use Rattle.stream_laws.specs.Entries.{IsSent, IsSentWhole, AnnouncesChange}
 use Rattle.stream_laws.specs.Framing.{frames_of}
-use Rattle.stream_laws.specs.Sorts.{is_of_frame, is_of_word, is_of_times, is_of_flags, is_of_mention, is_of_silence, is_of_appearance, is_of_repetition, is_of_period, IsFreeOf, IsFreeUnlessShort, IsLongFor, RunIsFree}
+use Rattle.stream_laws.specs.Sorts.{is_of_frame, is_of_word, is_of_times, is_of_flags, is_of_mention, is_of_silence}
+use Rattle.stream_laws.specs.Sorts.{is_of_appearance, is_of_repetition, is_of_period, IsFreeOf, IsFreeUnlessShort}
+use Rattle.stream_laws.specs.Sorts.{IsLongFor, RunIsFree}
 use Rattle.stream_laws.specs.Naming.{swap_frames, due_frames, due_after_first}
 use Rattle.stream_laws.proofs.Delivered.{all_of}
 
@@ -55,17 +58,26 @@ heard_nowhere size next e h =
     none (suc n) = refl
 
 -- a frame of no bytes has no FIG 0/0: as it has to be at count 1, and not at count 4
-off_the_step : FibHas32Bytes → IsCounted 4 7 1 []
-off_the_step size = record { there = λ on. absurd (omega (arith, on)); only = λ next e h. absurd (heard_nowhere size next e h) }
+off_the_step : FibHas32Bytes → IsFrameOfCount 4 7 1 []
+off_the_step size = record {
+  there = λ on. absurd (omega (arith, on));
+  only = λ next e h. absurd (heard_nowhere size next e h);
+}
 
-on_the_step : FibHas32Bytes → IsCounted 4 7 4 [] → ⊥
+on_the_step : FibHas32Bytes → IsFrameOfCount 4 7 4 [] → ⊥
 on_the_step size c = (let header = c.there refl in heard_nowhere size false header.0 header.1)
 
 three_frames : FibHas32Bytes → AreCounted 4 7 4997 ([] ∷ [] ∷ [] ∷ [])
-three_frames size = (off 4997 (λ on. omega (arith, on)), (off 4998 (λ on. omega (arith, on)), (off 4999 (λ on. omega (arith, on)), tt)))
+three_frames size = (
+  off 4997 (λ on. omega (arith, on)),
+  (off 4998 (λ on. omega (arith, on)), (off 4999 (λ on. omega (arith, on)), tt)),
+)
   where
-    off : (count : ℕ) → (count % 4 ≡ 0 → ⊥) → IsCounted 4 7 count []
-    off count never = record { there = λ on. absurd (never on); only = λ next e h. absurd (heard_nowhere size next e h) }
+    off : (count : ℕ) → (count % 4 ≡ 0 → ⊥) → IsFrameOfCount 4 7 count []
+    off count never = record {
+      there = λ on. absurd (never on);
+      only = λ next e h. absurd (heard_nowhere size next e h);
+    }
 
 -- after 4999 comes 0
 the_next_is_zero : FibHas32Bytes → AreCounted 4 7 4999 ([] ∷ [] ∷ []) → ⊥
@@ -73,13 +85,17 @@ the_next_is_zero size c = (let header = c.1.0.there refl in heard_nowhere size f
 
 -- in a stream, too
 no_header : FibHas32Bytes → (eid count : ℕ) → (count % 4 ≡ 0 → ⊥) → IsAtCount 4 eid count []
-no_header size eid count never = record { there = λ on. absurd (never on); only = λ next e h. absurd (heard_nowhere size next e h) }
+no_header size eid count never =
+    record { there = λ on. absurd (never on); only = λ next e h. absurd (heard_nowhere size next e h) }
 
 a_header_is_due : FibHas32Bytes → IsAtCount 4 7 4 [] → ⊥
 a_header_is_due size c = (let header = c.there refl in heard_nowhere size header.0 header.1 header.2)
 
 two_run_on : FibHas32Bytes → RunOn 4 7 4998 ([] ∷ [] ∷ [])
-two_run_on size = (no_header size 7 4998 (λ on. omega (arith, on)), (no_header size 7 4999 (λ on. omega (arith, on)), tt))
+two_run_on size = (
+  no_header size 7 4998 (λ on. omega (arith, on)),
+  (no_header size 7 4999 (λ on. omega (arith, on)), tt),
+)
 
 zero_follows : FibHas32Bytes → RunOn 4 7 4999 ([] ∷ [] ∷ []) → ⊥
 zero_follows size c = (let header = c.1.0.there refl in heard_nowhere size header.0 header.1 header.2)
@@ -100,21 +116,30 @@ nothing_given r mode period = record {
       let none = no_frames e.skipped e.frames e.rest e.framed.cut (sym e.framed.whole) in
       false≢true (sym (ap (frames_full (count_step mode) period []) none) ∙ e.full);
   events = λ start reported c f. no_faults f.skipped f.frames (map r.read c.held) f.framed.cut (sym f.framed.whole);
-  plain = λ found c f. subst (AllByRecursion (λ (one : Finding). IsNoFault one.what)) (sym (all_of found _ f.findings)) (no_faults f.skipped f.frames (map r.read c.held) f.framed.cut (sym f.framed.whole));
+  plain = λ found c f. subst (AllByRecursion (λ (one : Finding). IsNoFault one.what)) (sym (all_of found _ f.findings))
+      (no_faults f.skipped f.frames (map r.read c.held) f.framed.cut (sym f.framed.whole));
 }
   where
-    no_frames : (skipped : List Fib) (frames : List (List Fib)) (rest : List Fib) → AreFrames (fib_count mode) frames rest → skipped ++ (flat_map (λ f. f) frames ++ rest) ≡ [] → frames ≡ []
+    no_frames : (skipped : List Fib) (frames : List (List Fib)) (rest : List Fib)
+        → AreFrames (fib_count mode) frames rest → skipped ++ (flat_map (λ f. f) frames ++ rest) ≡ [] → frames ≡ []
     no_frames [] frames rest cut e = no_flat (fib_count mode) frames rest cut e
     no_frames (x ∷ xs) frames rest cut e = absurd cc
 
-    no_faults : (skipped : List Fib) (frames : List (List Fib)) (rest : List Fib) → AreFrames (fib_count mode) frames rest → skipped ++ (flat_map (λ f. f) frames ++ rest) ≡ []
-        → AllByRecursion (λ (one : Finding). IsNoFault one.what) (findings_of (fib_count mode) (count_step mode) period [] frames)
-    no_faults skipped frames rest cut e = subst (λ fs. AllByRecursion (λ (one : Finding). IsNoFault one.what) (findings_of (fib_count mode) (count_step mode) period [] fs)) (sym (no_frames skipped frames rest cut e)) tt
+    no_faults : (skipped : List Fib) (frames : List (List Fib)) (rest : List Fib)
+        → AreFrames (fib_count mode) frames rest → skipped ++ (flat_map (λ f. f) frames ++ rest) ≡ []
+        → AllByRecursion (λ (one : Finding). IsNoFault one.what)
+        (findings_of (fib_count mode) (count_step mode) period [] frames)
+    no_faults skipped frames rest cut e =
+        subst (λ fs. AllByRecursion (λ (one : Finding). IsNoFault one.what)
+        (findings_of (fib_count mode) (count_step mode) period [] fs)) (sym (no_frames skipped frames rest cut e)) tt
 
-a_fault_reported : (r : Reading) (mode : Mode) (period : ℕ) (fibs : List (List ℕ)) (frame count : ℕ) (fault : Fault) (c : Checking)
-    → Follows r mode period (map r.read fibs) (All []) (All (record { frame = frame; count = count; what = whats.Fault fault } ∷ [])) c
+a_fault_reported : (r : Reading) (mode : Mode) (period : ℕ) (fibs : List (List ℕ)) (frame count : ℕ) (fault : Fault)
+    (c : Checking)
+    → Follows r mode period (map r.read fibs) (All [])
+    (All (record { frame = frame; count = count; what = whats.Fault fault } ∷ [])) c
     → IsCleared r mode period fibs → ⊥
-a_fault_reported r mode period fibs frame count fault c f cleared = (cleared.plain (record { frame = frame; count = count; what = whats.Fault fault } ∷ []) c f).0
+a_fault_reported r mode period fibs frame count fault c f cleared =
+    (cleared.plain (record { frame = frame; count = count; what = whats.Fault fault } ∷ []) c f).0
 
 -- without events nothing is skipped, heard or left over
 nothing_heard : (r : Reading) (p : Program) (s : State) → IsHeardOut r p s [] [] [] [] []
@@ -154,7 +179,8 @@ nothing_cut r = record { before = []; bytes = []; after = []; whole = refl; skip
 more_than_given : (r : Reading) (fib : Fib) → IsCutOf r [] (fib ∷ []) [] [] → ⊥
 more_than_given r fib c = none c.before c.whole c.skips
   where
-    none : (before : List (List ℕ)) → [] ≡ before ++ (flat_map (λ frame. frame) c.bytes ++ c.after) → map r.read before ≡ fib ∷ [] → ⊥
+    none : (before : List (List ℕ)) → [] ≡ before ++ (flat_map (λ frame. frame) c.bytes ++ c.after)
+        → map r.read before ≡ fib ∷ [] → ⊥
     none [] whole skips = absurd cc
     none (b ∷ bs) whole skips = absurd cc
 
@@ -181,10 +207,13 @@ blank_sent : IsSentWhole blank []
 blank_sent raw known = absurd (nothing raw known)
   where
     nothing : (raw : Raw) → entry_like raw blank ≡ Some raw → ⊥
-    nothing raw known = elim (raw.ext == 1) as (λ t. entry_at identifier_of (identifier_of raw) (cond t [] (cond (raw.ext == 2) [] [])) ≡ Some raw → ⊥) [
-      | true ↦ λ k. absurd cc
-      | false ↦ elim (raw.ext == 2) as (λ t. entry_at identifier_of (identifier_of raw) (cond t [] []) ≡ Some raw → ⊥) [ true ↦ λ k. absurd cc | false ↦ λ k. absurd cc ]
-    ] known
+    nothing raw known = elim (raw.ext == 1)
+        as (λ t. entry_at identifier_of (identifier_of raw) (cond t [] (cond (raw.ext == 2) [] [])) ≡ Some raw → ⊥) [
+          | true ↦ λ k. absurd cc
+          | false ↦ elim (raw.ext == 2) as (λ t. entry_at identifier_of (identifier_of raw) (cond t [] []) ≡ Some raw
+              → ⊥)
+              [ true ↦ λ k. absurd cc | false ↦ λ k. absurd cc ]
+        ] known
 
 -- but without frames no change is announced
 not_announced : AnnouncesChange blank blank 0 [] → ⊥

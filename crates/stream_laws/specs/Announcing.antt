@@ -4,7 +4,7 @@ use Rattle.std.specs.List.{AllByRecursion}
 use Rattle.mux_config.specs.Configuration.{Configuration, IsConfiguration}
 use Rattle.fib_reader.specs.Picture.{Shows}
 use Rattle.stream_check.specs.Frames.{Reading}
-use Rattle.stream_check.specs.History.{Item, Moment, ensemble_of, listener_after, is_swap, is_cut_off}
+use Rattle.stream_check.specs.History.{Item, Moment, ensemble_of_item, listener_after, is_swap, is_cut_off}
 use Rattle.plan_runs.specs.Announced.{IsAnnounced}
 use Rattle.stream_laws.specs.Faultless.{IsFaultless, IsSaidIn}
 use Rattle.stream_laws.specs.Notices.{AreFibBytes, read_frames, notice_frames}
@@ -14,10 +14,11 @@ use Rattle.stream_laws.specs.Notices.{AreFibBytes, read_frames, notice_frames}
 -- count
 abbrev pub SwapsAreAnnounced : Type 0
 SwapsAreAnnounced =
-    (r : Reading) (size step period : ℕ) (frames : List (List (List ℕ))) (past : List Moment) (i : Item) (now next : Configuration)
+    (r : Reading) (size step period : ℕ) (frames : List (List (List ℕ))) (past : List Moment) (i : Item)
+    (now next : Configuration)
     → AllByRecursion AreFibBytes frames
     → IsFaultless size step period (read_frames r frames) → IsSaidIn step (read_frames r frames) past i
     → is_swap past i ≡ true → is_cut_off past ≡ false
     → IsConfiguration now → IsConfiguration next
     → Shows (listener_after past).current now → Shows (listener_after past).next next
-    → IsAnnounced now next (ensemble_of i).count (notice_frames past frames)
+    → IsAnnounced now next (ensemble_of_item i).count (notice_frames past frames)

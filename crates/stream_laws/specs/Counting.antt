@@ -13,7 +13,7 @@ use Rattle.plan_runs.specs.TypedRuns.{IsPlayed}
 
 -- FIG 0/0 is heard in the frame where this count is a multiple of the step, and nowhere else, with C/N 0, this EId and
 -- this count
-pub record IsCounted (step eid count : ℕ) (frame : List ℕ) : Type 0 where
+pub record IsFrameOfCount (step eid count : ℕ) (frame : List ℕ) : Type 0 where
   pub there : count % step ≡ 0 → (e : EnsembleInformation) × IsEnsembleHeardInRow frame false e
   pub only : (next : Bool) (e : EnsembleInformation) → IsEnsembleHeardInRow frame next e
       → (count % step ≡ 0) × (next ≡ false) × (e.eid ≡ eid) × (e.count ≡ count)
@@ -22,7 +22,7 @@ pub record IsCounted (step eid count : ℕ) (frame : List ℕ) : Type 0 where
 abbrev pub AreCounted : (step eid count : ℕ) → List (List ℕ) → Type 0
 AreCounted step eid count [] = Unit {0}
 AreCounted step eid count (frame ∷ frames) =
-    IsCounted step eid count frame × AreCounted step eid ((count + 1) % COUNTS) frames
+    IsFrameOfCount step eid count frame × AreCounted step eid ((count + 1) % COUNTS) frames
 
 -- the law of counts: those of a run run on, and FIG 0/0 is in each frame at a multiple of the step, and in no other
 abbrev pub RunsAreCounted : Type 0

@@ -37,9 +37,9 @@ pub record IsPieceOf (bytes : List ℕ) (fibs : List (List ℕ)) : Type 0 where
   pub starts : length before % 32 ≡ 0
   pub sizes : AllByRecursion (λ fib. length fib ≡ 32) fibs
 
--- what a checker has skipped, the frames that it has heard, and the FIBs that it still holds after all bytes of a run, of
--- which those of `waiting` come before the first FIG 0/0: these are skipped, the frames are exactly the others of the
--- run, none of their FIBs is damaged, and none is left over
+-- what a checker has skipped, the frames that it has heard, and the FIBs that it still holds after all bytes of a run,
+-- of which those of `waiting` come before the first FIG 0/0: these are skipped, the frames are exactly the others of
+-- the run, none of their FIBs is damaged, and none is left over
 pub record IsHeardOut (r : Reading) (p : Program) (s : State) (waiting events : List Event)
     (skipped : List Fib) (frames : List (List Fib)) (held : List (List ℕ)) : Type 0 where
   pub skips : length skipped ≡ length (fibs_of p.plan.layout (run_frames p s waiting))

@@ -8,7 +8,7 @@ use Rattle.fib_codec.specs.Heard.{fib_at, IsEnsembleHeardInRow}
 use Rattle.fib_reader.specs.Raw.{Raw, entries_in}
 use Rattle.fib_reader.specs.Listening.{Pictured}
 use Rattle.stream_check.specs.Frames.{Reading}
-use Rattle.stream_check.specs.History.{Item, Moment, ensemble_of, listener_after, is_swap, is_cut_off}
+use Rattle.stream_check.specs.History.{Item, Moment, ensemble_of_item, listener_after, is_swap, is_cut_off}
 use Rattle.stream_check.specs.Rules.{change_between}
 use Rattle.plan_runs.specs.Announced.{HasThreeHeaders}
 use Rattle.stream_laws.specs.Faultless.{IsFaultless, IsSaidIn}
@@ -28,7 +28,8 @@ pub record IsSent (next : Bool) (row : List ℕ) (raw : Raw) : Type 0 where
 
 -- each entry of the picture is sent with C/N 1 in one of these frames
 abbrev pub IsSentWhole : Pictured → List (List ℕ) → Type 0
-IsSentWhole p frames = (raw : Raw) → entry_like raw p ≡ Some raw → (frame : List ℕ) × Contains frames frame × IsSent true frame raw
+IsSentWhole p frames = (raw : Raw) → entry_like raw p ≡ Some raw → (frame : List ℕ) × Contains frames frame
+    × IsSent true frame raw
 
 -- these frames announce the change from one picture to another at this count
 pub record AnnouncesChange (now next : Pictured) (count : ℕ) (heard : List (List ℕ)) : Type 0 where
@@ -52,4 +53,5 @@ ChangesAreAnnounced =
     → AllByRecursion AreFibBytes frames
     → IsFaultless size step period (read_frames r frames) → IsSaidIn step (read_frames r frames) past i
     → is_swap past i ≡ true → is_cut_off past ≡ false
-    → AnnouncesChange (listener_after past).current (listener_after past).next (ensemble_of i).count (notice_frames past frames)
+    → AnnouncesChange (listener_after past).current (listener_after past).next (ensemble_of_item i).count
+    (notice_frames past frames)

@@ -18,4 +18,5 @@ abbrev pub RunsAreFaultless : Type 0
 RunsAreFaultless =
     (r : Reading) (p : Program) (s : State) (period : ℕ) (waiting events : List Event) → IsPlayed p s
     → (run p s waiting).count % count_step (layout_mode p.plan.layout) ≡ 0 → 2 * p.plan.period ≤ period + 1
-    → IsFaultless (frame_fibs p.plan.layout) (count_step (layout_mode p.plan.layout)) period (read_frames r (frames_of p.plan.layout (run_frames p (run p s waiting) events)))
+    → IsFaultless (frame_fibs p.plan.layout) (count_step (layout_mode p.plan.layout)) period
+    (read_frames r (frames_of p.plan.layout (run_frames p (run p s waiting) events)))

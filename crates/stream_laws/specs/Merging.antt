@@ -8,7 +8,7 @@ use Rattle.mux_config.specs.Configuration.{Configuration, IsConfiguration}
 use Rattle.fib_reader.specs.Listening.{Listening, untuned}
 use Rattle.fib_reader.specs.Picture.{Shows}
 use Rattle.stream_check.specs.Frames.{Fib, Reading, IsFramed}
-use Rattle.stream_check.specs.History.{Item, Moment, ensemble_of, listener_after, is_swap, is_cut_off}
+use Rattle.stream_check.specs.History.{Item, Moment, ensemble_of_item, listener_after, is_swap, is_cut_off}
 use Rattle.stream_check.specs.Stream.{findings_of}
 use Rattle.fig_merge.specs.Taking.{nothing_taken}
 use Rattle.fig_merge.specs.Steps.{Step, Take, Fill}
@@ -34,8 +34,8 @@ filled_in [] = []
 filled_in (Take fib ∷ calls) = filled_in calls
 filled_in (Fill fib ∷ calls) = fib ∷ filled_in calls
 
--- a new merger makes these of the plan's FIBs, in any sequence of calls that fills them in order, whatever it takes before
--- each
+-- a new merger makes these of the plan's FIBs, in any sequence of calls that fills them in order, whatever it takes
+-- before each
 pub record IsMergedOf (r : Reading) (fibs sent : List (List ℕ)) : Type 0 where
   pub calls : List Step
   pub fills : filled_in calls ≡ fibs
@@ -60,8 +60,8 @@ MergedAreHeardAlike =
     (r : Reading) (fibs sent : List (List ℕ)) (old new : Listening) → IsMergedOf r fibs sent
     → HearsAll sent old new ↔ HearsAll fibs old new
 
--- a new listener hears the merged frames of all of `waiting` and then those of `window`, which are P frames of one phase
--- that begin when it is tuned: then it knows the current configuration
+-- a new listener hears the merged frames of all of `waiting` and then those of `window`, which are P frames of one
+-- phase that begin when it is tuned: then it knows the current configuration
 abbrev pub MergedTellTheCurrent : Reading → Program → State → Type 0
 MergedTellTheCurrent r p s =
     (waiting window : List Event) (sent : List (List ℕ)) (heard : Listening)
@@ -83,7 +83,8 @@ MergedTellTheNew r p s =
     → IsUntilNextSwap p (run p s (waiting ++ notice)) after
     → 1 ≤ fibs
     → IsMergedOf r
-    (fibs_of p.plan.layout (run_frames p s (waiting ++ notice)) ++ take fibs (fibs_of p.plan.layout (run_frames p (run p s (waiting ++ notice)) after)))
+    (fibs_of p.plan.layout (run_frames p s (waiting ++ notice))
+    ++ take fibs (fibs_of p.plan.layout (run_frames p (run p s (waiting ++ notice)) after)))
     sent
     → HearsAll sent untuned heard
     → Shows heard.current (run p s (waiting ++ notice)).next
@@ -108,26 +109,30 @@ MergedListenersAreRight = (r : Reading) (p : Program) (s : State) → IsPlayed p
 -- the merged FIBs of a run are cut into as many frames, with none left over, and the checker finds in them exactly what
 -- it finds in those of the run from one with a FIG 0/0 on; so no fault, if its period is at least 2P - 1 for the plan's
 -- period P
-pub record IsCheckedAlike (r : Reading) (p : Program) (s : State) (period : ℕ) (events : List Event) (sent : List (List ℕ)) : Type 0 where
+pub record IsCheckedAlike (r : Reading) (p : Program) (s : State) (period : ℕ) (events : List Event)
+    (sent : List (List ℕ)) : Type 0 where
   pub skipped : List Fib
   pub frames : List (List Fib)
   pub framed : IsFramed (frame_fibs p.plan.layout) (map r.read sent) skipped frames []
   pub cut : IsCutOf r sent skipped frames []
   pub findings : findings_of (frame_fibs p.plan.layout) (count_step (layout_mode p.plan.layout)) period [] frames
-      ≡ findings_of (frame_fibs p.plan.layout) (count_step (layout_mode p.plan.layout)) period [] (read_frames r (frames_of p.plan.layout (run_frames p s events)))
-  pub faultless : 2 * p.plan.period ≤ period + 1 → IsFaultless (frame_fibs p.plan.layout) (count_step (layout_mode p.plan.layout)) period frames
+      ≡ findings_of (frame_fibs p.plan.layout) (count_step (layout_mode p.plan.layout)) period []
+      (read_frames r (frames_of p.plan.layout (run_frames p s events)))
+  pub faultless : 2 * p.plan.period ≤ period + 1 → IsFaultless (frame_fibs p.plan.layout)
+      (count_step (layout_mode p.plan.layout)) period frames
 
 -- the law of merged runs: no false alarm
 abbrev pub MergedRunsAreFaultless : Type 0
 MergedRunsAreFaultless =
-    (r : Reading) (p : Program) (s : State) (period : ℕ) (waiting events : List Event) (sent : List (List ℕ)) → IsPlayed p s
+    (r : Reading) (p : Program) (s : State) (period : ℕ) (waiting events : List Event) (sent : List (List ℕ))
+    → IsPlayed p s
     → (HasCount p s waiting → ⊥) → (run p s waiting).count % count_step (layout_mode p.plan.layout) ≡ 0
     → IsMergedOf r (fibs_of p.plan.layout (run_frames p s (waiting ++ events))) sent
     → IsCheckedAlike r p (run p s waiting) period events sent
 
--- the law of merged swaps, what the headline says of a swap: at each swap that the checker finds in merged frames, unless
--- the beginning of its notice was not heard, if the pictures before it show two configurations, then the bytes of the
--- notice's merged frames announce the change from one to the other at the swap's count
+-- the law of merged swaps, what the headline says of a swap: at each swap that the checker finds in merged frames,
+-- unless the beginning of its notice was not heard, if the pictures before it show two configurations, then the bytes
+-- of the notice's merged frames announce the change from one to the other at the swap's count
 abbrev pub MergedSwapsAreAnnounced : Type 0
 MergedSwapsAreAnnounced =
     (r : Reading) (p : Program) (s : State) (period : ℕ) (events : List Event) (sent : List (List ℕ))
@@ -137,4 +142,4 @@ MergedSwapsAreAnnounced =
     → is_swap past i ≡ true → is_cut_off past ≡ false
     → IsConfiguration now → IsConfiguration next
     → Shows (listener_after past).current now → Shows (listener_after past).next next
-    → IsAnnounced now next (ensemble_of i).count (notice_frames past checked.cut.bytes)
+    → IsAnnounced now next (ensemble_of_item i).count (notice_frames past checked.cut.bytes)

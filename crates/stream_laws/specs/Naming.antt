@@ -38,7 +38,8 @@ abbrev pub due_frames : Program → ℕ → State → List Event → List ℕ
 due_frames p number s [] = []
 due_frames p number s (Contact c closed ∷ es) = due_frames p number (happens p s (Contact c closed)) es
 due_frames p number s (Frame ∷ es) =
-    if is_due s.left then number ∷ due_frames p (number + 1) (after_frame p s) es else due_frames p (number + 1) (after_frame p s) es
+    if is_due s.left then number ∷ due_frames p (number + 1) (after_frame p s) es else due_frames p (number + 1)
+    (after_frame p s) es
 
 -- those after the first frame, which has number 0
 abbrev pub due_after_first : Program → State → List Event → List ℕ
@@ -52,5 +53,6 @@ abbrev pub SwapsAreNamed : Type 0
 SwapsAreNamed =
     (r : Reading) (p : Program) (s : State) (period : ℕ) (waiting events : List Event) → IsPlayed p s
     → (run p s waiting).count % count_step (layout_mode p.plan.layout) ≡ 0
-    → swap_frames (findings_of (frame_fibs p.plan.layout) (count_step (layout_mode p.plan.layout)) period [] (read_frames r (frames_of p.plan.layout (run_frames p (run p s waiting) events))))
+    → swap_frames (findings_of (frame_fibs p.plan.layout) (count_step (layout_mode p.plan.layout)) period []
+    (read_frames r (frames_of p.plan.layout (run_frames p (run p s waiting) events))))
     ≡ due_after_first p (run p s waiting) events

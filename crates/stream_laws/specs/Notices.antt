@@ -29,7 +29,8 @@ abbrev pub notice_frames : List Moment → List (List (List ℕ)) → List (List
 notice_frames past frames = map row_of (last_of (length (rows past)) (take (frames_ended past) frames))
 
 -- FIBs that were cut into frames, as bytes: those that are skipped, those of each frame, and those that are left over
-pub record IsCutOf (r : Reading) (fibs : List (List ℕ)) (skipped : List Fib) (frames : List (List Fib)) (rest : List Fib) : Type 0 where
+pub record IsCutOf (r : Reading) (fibs : List (List ℕ)) (skipped : List Fib) (frames : List (List Fib))
+    (rest : List Fib) : Type 0 where
   pub before : List (List ℕ)
   pub bytes : List (List (List ℕ))
   pub after : List (List ℕ)

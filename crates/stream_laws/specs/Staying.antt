@@ -33,7 +33,8 @@ CurrentStays =
     → MakeNoSwap step (read_frames r before) (read_frames r window)
     → IsCurrentAfter step (read_frames r before) raw → IsCurrentAfter step (read_frames r (before ++ window)) raw
 
--- the law of presence: each entry of the current configuration is in the bytes of any N successive frames without a swap
+-- the law of presence: each entry of the current configuration is in the bytes of any N successive frames without a
+-- swap
 abbrev pub CurrentIsSent : Type 0
 CurrentIsSent =
     (r : Reading) (size step period : ℕ) (before window after : List (List (List ℕ))) (raw : Raw)

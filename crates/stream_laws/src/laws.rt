@@ -10,13 +10,15 @@ ghost use Rattle.stream_laws.specs.Framing.{RunsAreFramed};
 ghost use Rattle.stream_laws.specs.Held.{CountsAreHeld, WholeNoticesAreHeld};
 ghost use Rattle.stream_laws.specs.Keeping.{CurrentIsKept};
 ghost use Rattle.stream_laws.specs.Merging.{MergedAreHeardAlike, MergedHaveTheEntries};
-ghost use Rattle.stream_laws.specs.Merging.{MergedListenersAreRight, MergedRunsAreFaultless, MergedSwapsAreAnnounced};
+ghost use Rattle.stream_laws.specs.Merging.{MergedListenersAreRight, MergedRunsAreFaultless};
+ghost use Rattle.stream_laws.specs.Merging.{MergedSwapsAreAnnounced};
 ghost use Rattle.stream_laws.specs.Naming.{SwapsAreNamed};
 ghost use Rattle.stream_laws.specs.Notices.{FramesAreOfBytes};
 ghost use Rattle.stream_laws.specs.RunningOn.{CountsRunOn};
 ghost use Rattle.stream_laws.specs.Sorts.{RunsAgree, RunsAreFree, RunsAreInPlace, RunsAreKnown};
 ghost use Rattle.stream_laws.specs.Sorts.{RunsContradictNothing};
-ghost use Rattle.stream_laws.specs.Sorts.{RunsAreNeverSilent, RunsAreTimely, RunsFlagTheChange, RunsRepeatTheNext};
+ghost use Rattle.stream_laws.specs.Sorts.{RunsAreNeverSilent, RunsAreTimely, RunsFlagTheChange};
+ghost use Rattle.stream_laws.specs.Sorts.{RunsRepeatTheNext};
 ghost use Rattle.stream_laws.specs.Staying.{CurrentIsSent, CurrentStays};
 ghost use Rattle.stream_laws.specs.Units.{SwapsKeepUnits, UnitsStayOwn};
 
@@ -38,8 +40,8 @@ pub fn presence()
 
 /// The law of capacity units: in a stream without a fault, after each swap, no capacity unit is one
 /// of two sub-channels, and each is one of the 864 of a CIF, as far as their entries are in the
-/// long form. This holds for the swap of a notice whose beginning was not heard, too. After the swap
-/// of a notice whose beginning was heard it stays so until the next swap.
+/// long form. This holds for the swap of a notice whose beginning was not heard, too. After the
+/// swap of a notice whose beginning was heard it stays so until the next swap.
 pub fn units()
     ensures swapped { SwapsKeepUnits }
     ensures stay { UnitsStayOwn }
@@ -258,10 +260,11 @@ pub fn bytes()
     no_false_alarm();
 }
 
-/// The law of merged frames: a merger fills the FIBs of a run of a typed code in order, with FIGs of any other FIBs that
-/// it takes before each. The merged FIBs have the entries of those of the run, each in its place, and from every state a
-/// listener hears them as those of the run. So what the law of listeners says of the frames of a run holds of them merged;
-/// and the checker cuts them into as many frames, and finds in these what it finds in those of the run: no fault. At each
+/// The law of merged frames: a merger fills the FIBs of a run of a typed code in order, with FIGs
+/// of any other FIBs that it takes before each. The merged FIBs have the entries of those of the
+/// run, each in its place, and from every state a listener hears them as those of the run. So what
+/// the law of listeners says of the frames of a run holds of them merged; and the checker cuts them
+/// into as many frames, and finds in these what it finds in those of the run: no fault. At each
 /// swap the bytes of the notice's merged frames announce the change, as the law of swaps says.
 pub fn merged()
     ensures heard { MergedAreHeardAlike }

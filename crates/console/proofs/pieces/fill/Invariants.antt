@@ -5,4 +5,5 @@ use Rattle.console.proofs.pieces.fill.Given as goal
 
 abbrev pub invariant-loop : goal.invariant-loop
 invariant-loop g l = (length l.buffer ≡ length l.initial.buffer) × (l.filled ≤ length l.buffer)
-    × Consumes (prepend_known (take l.kept l.initial.buffer) (g.R.Read.remaining l.initial.source)) (g.R.Read.remaining l.source) (take l.filled l.buffer)
+    × Consumes (prepend_known (take l.kept l.initial.buffer) (g.R.Read.remaining l.initial.source))
+    (g.R.Read.remaining l.source) (take l.filled l.buffer)

@@ -15,6 +15,7 @@ loop-place-preserved g c =
     record {
       low = omega (arith, c.loop-place.invariant.low);
       high = omega (arith, c.loop-place-test.true);
-      bytes = one_more packet_entry _ c.args.from c.loop-place.place x _ _ _ c.loop-place.invariant.low c.packet_at.ensures.value c.loop-place.invariant.bytes c.put_packet.ensures;
+      bytes = one_more packet_entry _ c.args.from c.loop-place.place x _ _ _ c.loop-place.invariant.low
+          c.packet_at.ensures.value c.loop-place.invariant.bytes c.put_packet.ensures;
       room = omega (arith, long, size, c.loop-place.invariant.room, c.loop-place-test.true);
     }

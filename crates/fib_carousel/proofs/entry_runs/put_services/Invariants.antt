@@ -10,8 +10,10 @@ invariant-services g l = record {
   low : l.from < l.place;
   high : l.place ≤ length (g.S.Store.content l.store).services;
   room : (l.place - l.from) * l.shape.size + l.left ≡ l.room;
-  alike : AreAlike l.shape (marked_all l.next service_entry (take (l.place - l.from) (drop l.from (g.S.Store.content l.store).services)));
-  bytes : l.fib ≡ l.fn.fib ++ entries_bytes (map service_entry (take (l.place - l.from) (drop l.from (g.S.Store.content l.store).services)));
+  alike : AreAlike l.shape (marked_all l.next service_entry
+      (take (l.place - l.from) (drop l.from (g.S.Store.content l.store).services)));
+  bytes : l.fib ≡ l.fn.fib ++ entries_bytes (map service_entry
+      (take (l.place - l.from) (drop l.from (g.S.Store.content l.store).services)));
 }
 
 abbrev pub decreases-services : goal.decreases-services

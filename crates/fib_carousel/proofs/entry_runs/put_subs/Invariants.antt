@@ -7,6 +7,7 @@ abbrev pub invariant-loop-place : goal.invariant-loop-place
 invariant-loop-place g l = record {
   low : l.from ≤ l.place;
   high : l.place ≤ l.end;
-  bytes : l.fib ≡ l.fn.fib ++ entries_bytes (map sub_entry (take (l.place - l.from) (drop l.from (g.S.Store.content l.store).subs)));
+  bytes : l.fib ≡ l.fn.fib ++ entries_bytes (map sub_entry
+      (take (l.place - l.from) (drop l.from (g.S.Store.content l.store).subs)));
   room : length l.fib + (l.end - l.place) * 4 ≤ 30;
 }

@@ -1,4 +1,5 @@
-use Rattle.fib_carousel.proofs.Hearing.{page_sets_are_pageable, pages_are_valid, pages_are_heard, ensemble_is_heard, pages_keep_reserve}
+use Rattle.fib_carousel.proofs.Hearing.{page_sets_are_pageable, pages_are_valid, pages_are_heard, ensemble_is_heard}
+use Rattle.fib_carousel.proofs.Hearing.{pages_keep_reserve}
 use Rattle.fib_carousel.proofs.laws.carried.Goals as goal
 
 pub returns-clause-pageable : goal.returns-clause-pageable

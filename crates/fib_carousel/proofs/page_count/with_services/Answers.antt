@@ -11,6 +11,8 @@ loop-index-preserved g c =
     record {
       used = c.then-state.ensures.used;
       fib = omega (arith, c.then-state.ensures.to, c.loop-index.invariant.fib);
-      rest = service_placed c.args.layout c.args.next d.services c.loop-index.index c.service_at.result.now c.loop-index.state c.then-state.result c.service_shape.result _ c.service_at.ensures.value
-          (same_fields _ _ shape.next shape.ours shape.long shape.ext) shape.size c.then-state.ensures.value c.loop-index.invariant.rest;
+      rest = service_placed c.args.layout c.args.next d.services c.loop-index.index c.service_at.result.now
+          c.loop-index.state c.then-state.result c.service_shape.result _ c.service_at.ensures.value
+          (same_fields _ _ shape.next shape.ours shape.long shape.ext) shape.size c.then-state.ensures.value
+          c.loop-index.invariant.rest;
     }

@@ -7,4 +7,5 @@ put_component-requires c =
 
 pub loop-place-preserved : goal.loop-place-preserved
 loop-place-preserved c =
-    bytes_more _ _ _ c.args.components.now c.loop-place.place c.index-components-place.result _ c.loop-place-test.true c.index-components-place.is c.component_entry.ensures c.loop-place.invariant c.put_component.ensures
+    bytes_more _ _ _ c.args.components.now c.loop-place.place c.index-components-place.result _ c.loop-place-test.true
+    c.index-components-place.is c.component_entry.ensures c.loop-place.invariant c.put_component.ensures

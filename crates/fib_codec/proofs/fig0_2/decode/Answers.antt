@@ -14,4 +14,5 @@ returns-clause-form c = search rules
 
 pub returns-clause-only : goal.returns-clause-only
 returns-clause-only c e within form same =
-    service_told _ e (returns-clause-within c) within (returns-clause-form c ∙ sym form) (sym (returns-clause-spelled c) ∙ same)
+    service_told _ e (returns-clause-within c) within (returns-clause-form c ∙ sym form)
+    (sym (returns-clause-spelled c) ∙ same)

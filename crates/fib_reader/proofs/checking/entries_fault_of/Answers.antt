@@ -14,7 +14,8 @@ loop-rest-preserved c =
     let some : 0 < length c.loop-rest.rest.now = some_left _ _ c.is_empty.ensures c.loop-rest-test.true in
     record {
       place = omega arith;
-      same = rw (c.split_at.ensures.back, c.entry_len_of-len.ensures) (next_entry _ _ _ _ _ c.loop-rest.invariant.same some (omega arith));
+      same = rw (c.split_at.ensures.back, c.entry_len_of-len.ensures)
+          (next_entry _ _ _ _ _ c.loop-rest.invariant.same some (omega arith));
     }
 
 pub loop-rest-smaller : goal.loop-rest-smaller

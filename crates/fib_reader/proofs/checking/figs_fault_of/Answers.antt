@@ -12,7 +12,8 @@ pub returns-in-Some : goal.returns-in-Some
 returns-in-Some c =
     let some : 0 < length c.loop-rest.rest.now = some_left _ _ c.is_empty.ensures c.loop-rest-test.true in
     let other : get_or c.loop-rest.rest.now 0 0 ≢ 255 = omega arith in
-    let found : fig_fault c.loop-rest.at (get_or c.loop-rest.rest.now 0 0) (drop 1 c.loop-rest.rest.now) ≡ Some c.in-Some.fault =
+    let found : fig_fault c.loop-rest.at (get_or c.loop-rest.rest.now 0 0) (drop 1 c.loop-rest.rest.now)
+    ≡ Some c.in-Some.fault =
     rw (← c.byte_at-header.ensures, ← c.split_at.ensures.back) (sym c.fig_fault_of.ensures ∙ c.in-Some.is) in
     fault_here _ _ _ _ c.loop-rest.invariant.same some other found
 
@@ -24,7 +25,12 @@ loop-rest-preserved c =
     rw (← c.byte_at-header.ensures, ← c.split_at.ensures.back) (sym c.fig_fault_of.ensures ∙ c.in_default.is) in
     record {
       place = omega arith;
-      same = rw (c.split_at-in-loop-rest.ensures.back, c.split_at.ensures.back, c.from-len.ensures, c.byte_at-header.ensures)
+      same = rw (
+        c.split_at-in-loop-rest.ensures.back,
+        c.split_at.ensures.back,
+        c.from-len.ensures,
+        c.byte_at-header.ensures,
+      )
           (next_fig _ _ _ c.loop-rest.invariant.same some other fine);
     }
 

@@ -12,10 +12,15 @@ returns-then-is_empty c = no_entries_of _ _ _ (none_left _ _ c.is_empty.ensures 
 pub returns : goal.returns
 returns c =
     let some : 0 < length c.args.bytes.now = some_left _ _ c.is_empty.ensures c.if-is_empty.false in
-    let len : c.min-len.result ≡ min (entry_len (number_of c.args.extension) c.args.long c.args.bytes.now) (length c.args.bytes.now) =
+    let len : c.min-len.result ≡ min (entry_len (number_of c.args.extension) c.args.long c.args.bytes.now)
+    (length c.args.bytes.now) =
     c.min-len.ensures ∙ ap (λ n. min n (length c.args.bytes.now)) c.entry_len_of.ensures in
-    let front : c.split_at.result.0.now ≡ take (entry_len (number_of c.args.extension) c.args.long c.args.bytes.now) c.args.bytes.now =
-    c.split_at.ensures.front ∙ ap (λ n. take n c.args.bytes.now) len ∙ take_min (entry_len (number_of c.args.extension) c.args.long c.args.bytes.now) c.args.bytes.now in
-    let back : c.split_at.result.1.now ≡ drop (entry_len (number_of c.args.extension) c.args.long c.args.bytes.now) c.args.bytes.now =
-    c.split_at.ensures.back ∙ ap (λ n. drop n c.args.bytes.now) len ∙ drop_min (entry_len (number_of c.args.extension) c.args.long c.args.bytes.now) c.args.bytes.now in
+    let front : c.split_at.result.0.now ≡ take (entry_len (number_of c.args.extension) c.args.long c.args.bytes.now)
+    c.args.bytes.now =
+    c.split_at.ensures.front ∙ ap (λ n. take n c.args.bytes.now) len
+    ∙ take_min (entry_len (number_of c.args.extension) c.args.long c.args.bytes.now) c.args.bytes.now in
+    let back : c.split_at.result.1.now ≡ drop (entry_len (number_of c.args.extension) c.args.long c.args.bytes.now)
+    c.args.bytes.now =
+    c.split_at.ensures.back ∙ ap (λ n. drop n c.args.bytes.now) len
+    ∙ drop_min (entry_len (number_of c.args.extension) c.args.long c.args.bytes.now) c.args.bytes.now in
     rw (front, back) (first_of_entries (number_of c.args.extension) c.args.long c.args.bytes.now some)

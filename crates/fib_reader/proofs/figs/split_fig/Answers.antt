@@ -17,9 +17,12 @@ returns c =
     let some : 0 < length c.args.bytes.now = some_left _ _ c.is_empty.ensures c.if-is_empty.false in
     let no_marker : get_or c.args.bytes.now 0 0 ≢ 255 = omega arith in
     let len : c.min-len.result ≡ min (1 + get_or c.args.bytes.now 0 0 % 32) (length c.args.bytes.now) =
-    c.min-len.ensures ∙ ap (λ n. min (1 + n) (length c.args.bytes.now)) (c.from.ensures ∙ ap (λ n. n % 32) c.byte_at-header.ensures) in
+    c.min-len.ensures ∙ ap (λ n. min (1 + n) (length c.args.bytes.now))
+    (c.from.ensures ∙ ap (λ n. n % 32) c.byte_at-header.ensures) in
     let front : c.split_at.result.0.now ≡ take (1 + get_or c.args.bytes.now 0 0 % 32) c.args.bytes.now =
-    c.split_at.ensures.front ∙ ap (λ n. take n c.args.bytes.now) len ∙ take_min (1 + get_or c.args.bytes.now 0 0 % 32) c.args.bytes.now in
+    c.split_at.ensures.front ∙ ap (λ n. take n c.args.bytes.now) len
+    ∙ take_min (1 + get_or c.args.bytes.now 0 0 % 32) c.args.bytes.now in
     let back : c.split_at.result.1.now ≡ drop (1 + get_or c.args.bytes.now 0 0 % 32) c.args.bytes.now =
-    c.split_at.ensures.back ∙ ap (λ n. drop n c.args.bytes.now) len ∙ drop_min (1 + get_or c.args.bytes.now 0 0 % 32) c.args.bytes.now in
+    c.split_at.ensures.back ∙ ap (λ n. drop n c.args.bytes.now) len
+    ∙ drop_min (1 + get_or c.args.bytes.now 0 0 % 32) c.args.bytes.now in
     rw (front, back) (first_of_pieces c.args.bytes.now some no_marker)

@@ -5,13 +5,15 @@ use Rattle.mux_config.specs.Configuration.{carrier_of}
 use Rattle.mux_config.specs.Sameness.{names}
 use Rattle.mux_types.specs.Facts.{component_entry, component_entries}
 use Rattle.mux_types.specs.declared.parts.Component.TheVariants.{Packet}
-use Rattle.fib_reader.proofs.Components.{entry_at_place, named_twice, component_entries-more, members_more, different_more}
+use Rattle.fib_reader.proofs.Components.{entry_at_place, named_twice, component_entries-more, members_more}
+use Rattle.fib_reader.proofs.Components.{different_more}
 use Rattle.fib_reader.proofs.from_entry.components_from_entry.Goals as goal
 
 pub returns-in_default-clause-none : goal.returns-in_default-clause-none
 returns-in_default-clause-none c = λ cs different whole.
     c.in_default.ensures.none (get_or cs c.loop-index.index (Packet 0))
-    (entry_at_place cs c.args.entries.now c.loop-index.index c.index-entries-index.result (Packet 0) whole c.loop-index-test.true
+    (entry_at_place cs c.args.entries.now c.loop-index.index c.index-entries-index.result (Packet 0) whole
+    c.loop-index-test.true
     c.index-entries-index.is)
 
 pub returns-then-is_named_by-clause-none : goal.returns-then-is_named_by-clause-none
@@ -20,8 +22,10 @@ returns-then-is_named_by-clause-none c = λ cs different whole.
     ap (λ x. list_any (names x) c.loop-index.components) (sym c.carrier.ensures)
     ∙ ap (list_any (names c.carrier.result)) (sym c.as_slice.ensures.value)
     ∙ sym c.is_named_by.ensures ∙ c.if-is_named_by.true in
-    named_twice c.loop-index.components cs c.args.entries.now c.loop-index.index c.index-entries-index.result c.in-Some.component
-    c.loop-index.invariant.value c.loop-index-test.true c.index-entries-index.is c.in-Some.ensures.value named different whole
+    named_twice c.loop-index.components cs c.args.entries.now c.loop-index.index c.index-entries-index.result
+    c.in-Some.component
+    c.loop-index.invariant.value c.loop-index-test.true c.index-entries-index.is c.in-Some.ensures.value named different
+    whole
 
 pub loop-index-preserved : goal.loop-index-preserved
 loop-index-preserved c =
@@ -29,7 +33,8 @@ loop-index-preserved c =
     ap (λ x. list_any (names x) c.loop-index.components) (sym c.carrier.ensures)
     ∙ ap (list_any (names c.carrier.result)) (sym c.as_slice.ensures.value)
     ∙ sym c.is_named_by.ensures ∙ c.if-is_named_by.false in
-    let first : (length c.loop-index.components == 0) ≡ (c.loop-index.index == 0) = ap (λ n. n == 0) c.loop-index.invariant.count in
+    let first : (length c.loop-index.components == 0) ≡ (c.loop-index.index == 0) =
+    ap (λ n. n == 0) c.loop-index.invariant.count in
     let size : length (c.loop-index.components ++ c.in-Some.component ∷ []) ≡ length c.loop-index.components + 1 =
     length-append c.loop-index.components (c.in-Some.component ∷ []) in
     let count = c.loop-index.invariant.count in
@@ -37,9 +42,14 @@ loop-index-preserved c =
       count = ap length c.push.ensures ∙ size ∙ ap (λ n. n + 1) count;
       value = ap component_entries c.push.ensures ∙ component_entries-more c.loop-index.components c.in-Some.component
           ∙ ap (λ b. component_entries c.loop-index.components ++ component_entry b c.in-Some.component ∷ []) first
-          ∙ ap (λ e. component_entries c.loop-index.components ++ e ∷ []) (c.in-Some.ensures.value ∙ c.index-entries-index.is)
-          ∙ ap (λ es. es ++ get_or c.args.entries.now c.loop-index.index c.index-entries-index.result ∷ []) c.loop-index.invariant.value
+          ∙ ap (λ e. component_entries c.loop-index.components ++ e ∷ [])
+          (c.in-Some.ensures.value ∙ c.index-entries-index.is)
+          ∙ ap (λ es. es ++ get_or c.args.entries.now c.loop-index.index c.index-entries-index.result ∷ [])
+          c.loop-index.invariant.value
           ∙ sym (take_more c.args.entries.now c.loop-index.index c.index-entries-index.result c.loop-index-test.true);
-      members = rw c.push.ensures (members_more c.loop-index.components c.in-Some.component c.loop-index.invariant.members c.in-Some.ensures.member);
-      different = rw c.push.ensures (different_more c.loop-index.components c.in-Some.component c.loop-index.invariant.different unnamed);
+      members = rw c.push.ensures
+          (members_more c.loop-index.components c.in-Some.component c.loop-index.invariant.members
+          c.in-Some.ensures.member);
+      different = rw c.push.ensures
+          (different_more c.loop-index.components c.in-Some.component c.loop-index.invariant.different unnamed);
     }

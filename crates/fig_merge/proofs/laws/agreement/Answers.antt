@@ -3,4 +3,5 @@ use Rattle.fig_merge.specs.Filling.{agrees_with, room_of, turns_in}
 use Rattle.fig_merge.proofs.laws.agreement.Goals as goal
 
 pub returns : goal.returns
-returns c = λ figs m. all_agree (agrees_with figs m.heard) (turns_in (agrees_with figs m.heard) (room_of figs) m.waiting)
+returns c = λ figs m. all_agree (agrees_with figs m.heard)
+    (turns_in (agrees_with figs m.heard) (room_of figs) m.waiting)

@@ -8,5 +8,6 @@ invariant-loop-place g l =
     let d = g.T.Store.content l.next in
     record {
       lengths : length c.packets ≡ length d.packets;
-      left : is_same_list is_same_packet (drop l.place c.packets) (drop l.place d.packets) ≡ is_same_list is_same_packet c.packets d.packets;
+      left : is_same_list is_same_packet (drop l.place c.packets) (drop l.place d.packets)
+          ≡ is_same_list is_same_packet c.packets d.packets;
     }

@@ -7,7 +7,10 @@ pub returns-then-not-is_same_service : goal.returns-then-not-is_same_service
 returns-then-not-is_same_service g c =
     let k = g.S.Store.content c.args.current.now in
     let d = g.T.Store.content c.args.next.now in
-    same_not is_same_service k.services d.services c.loop-place.place c.service_at.result.now c.service_at-in-loop-place.result.now (is_same_list is_same_service k.services d.services) c.loop-place.invariant.left c.service_at.ensures.value c.service_at-in-loop-place.ensures.value (sym c.is_same_service.ensures ∙ c.if-not-is_same_service.true)
+    same_not is_same_service k.services d.services c.loop-place.place c.service_at.result.now
+    c.service_at-in-loop-place.result.now (is_same_list is_same_service k.services d.services)
+    c.loop-place.invariant.left c.service_at.ensures.value c.service_at-in-loop-place.ensures.value
+    (sym c.is_same_service.ensures ∙ c.if-not-is_same_service.true)
 
 pub loop-place-preserved : goal.loop-place-preserved
 loop-place-preserved g c =
@@ -15,5 +18,8 @@ loop-place-preserved g c =
     let d = g.T.Store.content c.args.next.now in
     record {
       lengths = c.loop-place.invariant.lengths;
-      left = same_more is_same_service k.services d.services c.loop-place.place c.service_at.result.now c.service_at-in-loop-place.result.now (is_same_list is_same_service k.services d.services) c.loop-place.invariant.left c.service_at.ensures.value c.service_at-in-loop-place.ensures.value (sym c.is_same_service.ensures ∙ c.if-not-is_same_service.false);
+      left = same_more is_same_service k.services d.services c.loop-place.place c.service_at.result.now
+          c.service_at-in-loop-place.result.now (is_same_list is_same_service k.services d.services)
+          c.loop-place.invariant.left c.service_at.ensures.value c.service_at-in-loop-place.ensures.value
+          (sym c.is_same_service.ensures ∙ c.if-not-is_same_service.false);
     }

@@ -8,5 +8,6 @@ invariant-loop-place g l =
     let d = g.T.Store.content l.next in
     record {
       lengths : length c.services ≡ length d.services;
-      left : is_same_list is_same_service (drop l.place c.services) (drop l.place d.services) ≡ is_same_list is_same_service c.services d.services;
+      left : is_same_list is_same_service (drop l.place c.services) (drop l.place d.services)
+          ≡ is_same_list is_same_service c.services d.services;
     }

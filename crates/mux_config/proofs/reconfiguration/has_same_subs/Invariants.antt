@@ -8,5 +8,6 @@ invariant-loop-place g l =
     let d = g.T.Store.content l.next in
     record {
       lengths : length c.subs ≡ length d.subs;
-      left : is_same_list is_same_sub (drop l.place c.subs) (drop l.place d.subs) ≡ is_same_list is_same_sub c.subs d.subs;
+      left : is_same_list is_same_sub (drop l.place c.subs) (drop l.place d.subs)
+          ≡ is_same_list is_same_sub c.subs d.subs;
     }

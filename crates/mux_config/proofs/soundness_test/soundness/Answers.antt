@@ -9,8 +9,10 @@ some_none x e = absurd (cc)
 pub returns-in-Some-clause-sound : goal.returns-in-Some-clause-sound
 returns-in-Some-clause-sound g c =
     let k = g.S.Store.content c.args.store.now in
-    let is = sym c.in-Some.is ∙ c.first_fault.ensures.value in
-    (λ e. absurd (false≢true e), λ sound. absurd (some_none c.in-Some.fault (is ∙ sound_found k c.first_fault.ensures.configuration sound)))
+    let is = sym c.in-Some.is ∙ c.first_fault.ensures.value in (
+      λ e. absurd (false≢true e),
+      λ sound. absurd (some_none c.in-Some.fault (is ∙ sound_found k c.first_fault.ensures.configuration sound)),
+    )
 
 pub returns-in-None-clause-sound : goal.returns-in-None-clause-sound
 returns-in-None-clause-sound g c =

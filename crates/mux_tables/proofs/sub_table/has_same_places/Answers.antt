@@ -11,11 +11,13 @@ returns-then-not-is_same_entry c = (
   λ e.
       let i = c.loop-place.place in
       let same = same_place c.args.one.now c.args.other.now i c.requires.one c.requires.other e in
-      let here = with_default c.args.one.now i c.index-one-place.result (omega arith) ∙ same ∙ sym (with_default c.args.other.now i c.index-other-place.result (omega arith)) in
+      let here = with_default c.args.one.now i c.index-one-place.result (omega arith) ∙ same
+      ∙ sym (with_default c.args.other.now i c.index-other-place.result (omega arith)) in
       sym c.if-not-is_same_entry.true ∙ c.is_same_entry.ensures.1 here,
 )
 
 pub returns : goal.returns
 returns c =
-    let same = all_same c.args.one.now c.args.other.now (omega arith) (λ i lt. c.loop-place.invariant i (omega arith)) in
+    let same = all_same c.args.one.now c.args.other.now (omega arith)
+    (λ i lt. c.loop-place.invariant i (omega arith)) in
     (λ e. ap (λ (ps : List (Option Sub)). members ps) same, λ e. refl)

@@ -1,6 +1,7 @@
 use Rattle.std.proofs.Common.{◌≡◌, ◌+◌, ◌-◌, ◌/◌, ◌<◌, get_or, sym, ap, ◌∙◌, arith}
 use Rattle.std.proofs.lemmas.List.{get_or_default}
-use Rattle.mux_types.proofs.Tables.{IsAbsentAt, place_of, place_bound, place_above, place_below, found_here, apart_at_end, absent_between}
+use Rattle.mux_types.proofs.Tables.{IsAbsentAt, place_of, place_bound, place_above, place_below, found_here}
+use Rattle.mux_types.proofs.Tables.{apart_at_end, absent_between}
 use Rattle.mux_types.proofs.sorted_table.search.Given as given
 use Rattle.mux_types.proofs.sorted_table.search.Goals as goal
 
@@ -33,10 +34,12 @@ returns-then-found-key-clause-changed g c =
 pub loop-low-preserved-then-found-key-2 : goal.loop-low-preserved-then-found-key-2
 loop-low-preserved-then-found-key-2 g c =
     let middle = c.loop-low.low + (c.loop-low.high - c.loop-low.low) / 2 in
-    let there : c.key-found.result ≡ g.T.Keyed.key (get_or c.args.entries.now middle c.index-entries-middle.result) = c.key-found.ensures ∙ ap g.T.Keyed.key c.index-entries-middle.is in
+    let there : c.key-found.result ≡ g.T.Keyed.key (get_or c.args.entries.now middle c.index-entries-middle.result) =
+    c.key-found.ensures ∙ ap g.T.Keyed.key c.index-entries-middle.is in
     let below : c.key-found.result < c.args.key = c.if-found-key-2.true in
     let past : middle < place_of g.T.Keyed.key c.args.key c.args.entries.now =
-    place_above g.T.Keyed.key c.args.key c.args.entries.now middle c.index-entries-middle.result c.requires (omega arith) (omega (arith, there, below)) in
+    place_above g.T.Keyed.key c.args.key c.args.entries.now middle c.index-entries-middle.result c.requires
+    (omega arith) (omega (arith, there, below)) in
     record {
       ordered = omega arith;
       within = c.loop-low.invariant.within;
@@ -48,20 +51,26 @@ loop-low-preserved-then-found-key-2 g c =
 pub loop-low-preserved : goal.loop-low-preserved
 loop-low-preserved g c =
     let middle = c.loop-low.low + (c.loop-low.high - c.loop-low.low) / 2 in
-    let there : c.key-found.result ≡ g.T.Keyed.key (get_or c.args.entries.now middle c.index-entries-middle.result) = c.key-found.ensures ∙ ap g.T.Keyed.key c.index-entries-middle.is in
+    let there : c.key-found.result ≡ g.T.Keyed.key (get_or c.args.entries.now middle c.index-entries-middle.result) =
+    c.key-found.ensures ∙ ap g.T.Keyed.key c.index-entries-middle.is in
     let above : c.args.key < c.key-found.result = omega (arith, c.if-found-key.false, c.if-found-key-2.false) in
     record {
       ordered = omega arith;
       within = omega arith;
       from = c.loop-low.invariant.from;
-      to = place_below g.T.Keyed.key c.args.key c.args.entries.now middle c.index-entries-middle.result (omega arith) (omega (arith, there, above));
-      apart = λ d lt. let same = ap g.T.Keyed.key (get_or_default c.args.entries.now middle c.index-entries-middle.result d lt) in omega (arith, there, above, same);
+      to = place_below g.T.Keyed.key c.args.key c.args.entries.now middle c.index-entries-middle.result (omega arith)
+          (omega (arith, there, above));
+      apart = λ d lt. let same =
+          ap g.T.Keyed.key (get_or_default c.args.entries.now middle c.index-entries-middle.result d lt) in
+          omega (arith, there, above, same);
     }
 
-absent : (g : given.Over) (c : goal.After-loop-low g) → IsAbsentAt g.T.Keyed.key c.args.key c.args.entries.now c.loop-low.low
+absent : (g : given.Over) (c : goal.After-loop-low g) → IsAbsentAt g.T.Keyed.key c.args.key c.args.entries.now
+    c.loop-low.low
 absent g c =
     let all = c.loop-low.invariant in
-    absent_between g.T.Keyed.key c.args.key c.args.entries.now c.loop-low.low c.loop-low.high c.requires (omega (arith, c.loop-low-test.false)) all.from all.to all.apart
+    absent_between g.T.Keyed.key c.args.key c.args.entries.now c.loop-low.low c.loop-low.high c.requires
+    (omega (arith, c.loop-low-test.false)) all.from all.to all.apart
 
 pub returns-clause-absent : goal.returns-clause-absent
 returns-clause-absent g c = (absent g c).absent

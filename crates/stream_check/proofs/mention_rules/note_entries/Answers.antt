@@ -1,6 +1,6 @@
 use Rattle.std.proofs.Common.{◌<◌, ◌≤◌, length, arith}
 use Rattle.std.proofs.lemmas.Grind.{common_steps}
-use Rattle.stream_check.specs.Pictures.{shown}
+use Rattle.stream_check.specs.Pictures.{picture_of_heard}
 use Rattle.stream_check.proofs.Mentioned.{fits_where, left_more, left_none}
 use Rattle.stream_check.proofs.mention_rules.note_entries.Goals as goal
 
@@ -20,11 +20,15 @@ slice_bounds-rest-start g c =
 pub loop-rest-preserved : goal.loop-rest-preserved
 loop-rest-preserved g c =
     let some : 0 < length c.loop-rest.rest.now = grind (arith, common_steps, c.loop-rest-test.ensures) in
-    left_more c.args.at (shown c.args.current.now) c.args.ext c.args.long c.args.entries.now c.loop-rest.rest.now c.entry_size.result c.args.noted.now c.loop-rest.noted c.note_entry.new.noted
-    (g.R.Report.reported c.args.report.now) (g.R.Report.reported c.loop-rest.report) (g.R.Report.reported c.note_entry.new.report)
+    left_more c.args.at (picture_of_heard c.args.current.now) c.args.ext c.args.long c.args.entries.now
+    c.loop-rest.rest.now c.entry_size.result c.args.noted.now c.loop-rest.noted c.note_entry.new.noted
+    (g.R.Report.reported c.args.report.now) (g.R.Report.reported c.loop-rest.report)
+    (g.R.Report.reported c.note_entry.new.report)
     some c.entry_size.ensures.value c.note_entry.ensures c.loop-rest.invariant
 
 pub returns : goal.returns
 returns g c =
-    left_none c.args.at (shown c.args.current.now) c.args.ext c.args.long c.args.entries.now c.loop-rest.rest.now c.args.noted.now c.loop-rest.noted (g.R.Report.reported c.args.report.now) (g.R.Report.reported c.loop-rest.report)
+    left_none c.args.at (picture_of_heard c.args.current.now) c.args.ext c.args.long c.args.entries.now
+    c.loop-rest.rest.now c.args.noted.now c.loop-rest.noted (g.R.Report.reported c.args.report.now)
+    (g.R.Report.reported c.loop-rest.report)
     (grind (arith, common_steps, c.loop-rest-test.ensures)) c.loop-rest.invariant

@@ -5,5 +5,11 @@ use Rattle.stream_laws.proofs.laws.counts.Goals as goal
 pub returns : goal.returns
 returns c =
     let pages : PageLaws =
-    record { each = c.pages.ensures.each; pageable = c.carried.ensures.pageable; valid = c.carried.ensures.valid; heard = c.carried.ensures.heard; ensemble = c.carried.ensures.ensemble } in
+    record {
+      each = c.pages.ensures.each;
+      pageable = c.carried.ensures.pageable;
+      valid = c.carried.ensures.valid;
+      heard = c.carried.ensures.heard;
+      ensemble = c.carried.ensures.ensemble;
+    } in
     runs_are_counted pages

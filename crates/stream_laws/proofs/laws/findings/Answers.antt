@@ -8,8 +8,19 @@ use Rattle.stream_laws.proofs.Opening.{FrameLaws}
 pub returns : goal.returns
 returns c =
     let pages : PageLaws =
-    record { each = c.pages.ensures.each; pageable = c.carried.ensures.pageable; valid = c.carried.ensures.valid; heard = c.carried.ensures.heard; ensemble = c.carried.ensures.ensemble } in
+    record {
+      each = c.pages.ensures.each;
+      pageable = c.carried.ensures.pageable;
+      valid = c.carried.ensures.valid;
+      heard = c.carried.ensures.heard;
+      ensemble = c.carried.ensures.ensemble;
+    } in
     let heard : Laws = record { pages = pages; fibs = c.pages.ensures.fibs; ensemble = c.ensemble.ensures } in
-    let swap : SwapLaws = record { one = c.one_list.ensures; heard = heard; tells = c.spelling.ensures.tells; change = c.changes.ensures } in
+    let swap : SwapLaws = record {
+      one = c.one_list.ensures;
+      heard = heard;
+      tells = c.spelling.ensures.tells;
+      change = c.changes.ensures;
+    } in
     let laws : FrameLaws = record { one = c.one_list.ensures; size = c.fib_length.ensures; heard = heard } in
     runs_are_free c.headline.ensures c.parts.ensures swap laws

@@ -5,4 +5,5 @@ use Rattle.fib_codec.proofs.data.Data.finish.Goals as goal
 
 pub returns-clause-value : goal.returns-clause-value
 returns-clause-value c =
-    c.with_crc.ensures ∙ ap checked (begun_is_filled c.self.inside.len c.self.inside.bytes c.self.invariant ∙ ap filled c.self.view_is)
+    c.with_crc.ensures ∙ ap checked (begun_is_filled c.self.inside.len c.self.inside.bytes c.self.invariant
+    ∙ ap filled c.self.view_is)

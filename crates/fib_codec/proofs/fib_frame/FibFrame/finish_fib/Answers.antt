@@ -9,16 +9,20 @@ pub invariant_of-self : goal.invariant_of-self
 invariant_of-self c =
     let frame = c.self.inside in
     let fib : List ℕ = checked (take 30 c.row.result.now) in
-    let long : length fib ≡ 32 = checked_len _ (length-take-le 30 c.row.result.now (omega (arith, c.row.ensures.whole))) in
-    let is = written_over frame.len (32 * c.args.index) frame.bytes fib c.self.invariant (rw c.self.view_is c.requires) long in
+    let long : length fib ≡ 32 =
+    checked_len _ (length-take-le 30 c.row.result.now (omega (arith, c.row.ensures.whole))) in
+    let is = written_over frame.len (32 * c.args.index) frame.bytes fib c.self.invariant (rw c.self.view_is c.requires)
+    long in
     subst (λ bytes. IsInFrame frame.len bytes) (sym c.write_sealed.ensures) is.kept
 
 pub returns-clause-written : goal.returns-clause-written
 returns-clause-written c =
     let frame = c.self.inside in
     let fib : List ℕ = checked (take 30 c.row.result.now) in
-    let long : length fib ≡ 32 = checked_len _ (length-take-le 30 c.row.result.now (omega (arith, c.row.ensures.whole))) in
-    let is = written_over frame.len (32 * c.args.index) frame.bytes fib c.self.invariant (rw c.self.view_is c.requires) long in
+    let long : length fib ≡ 32 =
+    checked_len _ (length-take-le 30 c.row.result.now (omega (arith, c.row.ensures.whole))) in
+    let is = written_over frame.len (32 * c.args.index) frame.bytes fib c.self.invariant (rw c.self.view_is c.requires)
+    long in
     rw (sym c.self.view_is)
     (written_fib frame.len c.args.index frame.bytes fib c.write_sealed.new.bytes is c.write_sealed.ensures
     ∙ ap (λ xs. with_fib c.args.index (checked xs) (take frame.len frame.bytes)) c.row.ensures.filled)
@@ -26,5 +30,6 @@ returns-clause-written c =
 pub returns-clause-front : goal.returns-clause-front
 returns-clause-front c =
     let long : length (checked (filled c.args.fib.now)) ≡ 32 =
-    ap (λ xs. length (checked xs)) (sym c.row.ensures.filled) ∙ checked_len _ (length-take-le 30 c.row.result.now (omega (arith, c.row.ensures.whole))) in
+    ap (λ xs. length (checked xs)) (sym c.row.ensures.filled)
+    ∙ checked_len _ (length-take-le 30 c.row.result.now (omega (arith, c.row.ensures.whole))) in
     front_of c.args.index _ (checked (filled c.args.fib.now)) _ long c.requires (returns-clause-written c)

@@ -9,14 +9,21 @@ pub invariant_of-self : goal.invariant_of-self
 invariant_of-self g c =
     let frame = c.self.inside in
     let fib : List ℕ = checked (c.args.fig.now ++ take (30 - length c.args.fig.now) c.args.plain.now) in
-    let long : length fib ≡ 32 = checked_len _ (joined_len c.args.fig.now c.args.plain.now (omega (arith, c.requires.few, c.told-fig)) (omega (arith, c.told-plain))) in
-    let is = written_over frame.len (32 * c.args.index) frame.bytes fib c.self.invariant (rw c.self.view_is c.requires.there) long in
+    let long : length fib ≡ 32 =
+    checked_len _ (joined_len c.args.fig.now c.args.plain.now (omega (arith, c.requires.few, c.told-fig))
+    (omega (arith, c.told-plain))) in
+    let is = written_over frame.len (32 * c.args.index) frame.bytes fib c.self.invariant
+    (rw c.self.view_is c.requires.there) long in
     subst (λ bytes. IsInFrame frame.len bytes) (sym c.write_joined.ensures) is.kept
 
 pub returns : goal.returns
 returns g c =
     let frame = c.self.inside in
     let fib : List ℕ = checked (c.args.fig.now ++ take (30 - length c.args.fig.now) c.args.plain.now) in
-    let long : length fib ≡ 32 = checked_len _ (joined_len c.args.fig.now c.args.plain.now (omega (arith, c.requires.few, c.told-fig)) (omega (arith, c.told-plain))) in
-    let is = written_over frame.len (32 * c.args.index) frame.bytes fib c.self.invariant (rw c.self.view_is c.requires.there) long in
-    rw (sym c.self.view_is) (written_fib frame.len c.args.index frame.bytes fib c.write_joined.new.bytes is c.write_joined.ensures)
+    let long : length fib ≡ 32 =
+    checked_len _ (joined_len c.args.fig.now c.args.plain.now (omega (arith, c.requires.few, c.told-fig))
+    (omega (arith, c.told-plain))) in
+    let is = written_over frame.len (32 * c.args.index) frame.bytes fib c.self.invariant
+    (rw c.self.view_is c.requires.there) long in
+    rw (sym c.self.view_is) (written_fib frame.len c.args.index frame.bytes fib c.write_joined.new.bytes is
+    c.write_joined.ensures)

@@ -6,11 +6,14 @@ use Rattle.fib_codec.proofs.fib_frame.FibFrame.write_fib.Goals as goal
 pub invariant_of-self : goal.invariant_of-self
 invariant_of-self c =
     let frame = c.self.inside in
-    let is = written_over frame.len (32 * c.args.index) frame.bytes c.args.fib.now c.self.invariant (rw c.self.view_is c.requires) (omega arith) in
+    let is = written_over frame.len (32 * c.args.index) frame.bytes c.args.fib.now c.self.invariant
+    (rw c.self.view_is c.requires) (omega arith) in
     subst (λ bytes. IsInFrame frame.len bytes) (sym c.write_at.ensures) is.kept
 
 pub returns-clause-written : goal.returns-clause-written
 returns-clause-written c =
     let frame = c.self.inside in
-    let is = written_over frame.len (32 * c.args.index) frame.bytes c.args.fib.now c.self.invariant (rw c.self.view_is c.requires) (omega arith) in
-    rw (sym c.self.view_is) (written_fib frame.len c.args.index frame.bytes c.args.fib.now c.write_at.new.bytes is c.write_at.ensures)
+    let is = written_over frame.len (32 * c.args.index) frame.bytes c.args.fib.now c.self.invariant
+    (rw c.self.view_is c.requires) (omega arith) in
+    rw (sym c.self.view_is) (written_fib frame.len c.args.index frame.bytes c.args.fib.now c.write_at.new.bytes is
+    c.write_at.ensures)

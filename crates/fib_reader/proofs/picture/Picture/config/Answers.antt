@@ -14,17 +14,28 @@ returns-in_default-clause-every c = λ d is_d shows.
 pub returns-in_default-members-clause-every : goal.returns-in_default-members-clause-every
 returns-in_default-members-clause-every c = λ d is_d shows.
     let parts = shows_each _ d c.self.invariant (subst (λ (p : Pictured). Shows p d) (sym c.self.view_is) shows) in
-    absurd (c.in_default-members.ensures.none d.services is_d.services_formed (parts.services ∙ sym c.as_slice-2.ensures.value))
+    absurd (c.in_default-members.ensures.none d.services is_d.services_formed
+    (parts.services ∙ sym c.as_slice-2.ensures.value))
 
 pub returns-in_default-members-2-clause-every : goal.returns-in_default-members-2-clause-every
 returns-in_default-members-2-clause-every c = λ d is_d shows.
     let parts = shows_each _ d c.self.invariant (subst (λ (p : Pictured). Shows p d) (sym c.self.view_is) shows) in
-    absurd (c.in_default-members-2.ensures.none d.packets is_d.packets_addressed (parts.packets ∙ sym c.as_slice-3.ensures.value))
+    absurd (c.in_default-members-2.ensures.none d.packets is_d.packets_addressed
+    (parts.packets ∙ sym c.as_slice-3.ensures.value))
 
 pub returns-clause-shown : goal.returns-clause-shown
 returns-clause-shown c =
-    let made : Configuration = record { subs = c.in-Some.subs; services = c.in-Some-members.services; packets = c.in-Some-members-2.packets } in
-    let inside : Pictured = record { subs = c.self.inside.subs; services = c.self.inside.services; packets = c.self.inside.packets } in
+    let made : Configuration =
+    record {
+      subs = c.in-Some.subs;
+      services = c.in-Some-members.services;
+      packets = c.in-Some-members-2.packets;
+    } in
+    let inside : Pictured = record {
+      subs = c.self.inside.subs;
+      services = c.self.inside.services;
+      packets = c.self.inside.packets;
+    } in
     let parts : ShowsEach inside made = record {
       subs = c.in-Some.ensures.said ∙ c.as_slice.ensures.value;
       services = c.in-Some-members.ensures.said ∙ c.as_slice-2.ensures.value;
@@ -35,15 +46,25 @@ returns-clause-shown c =
 
 pub returns-clause-every : goal.returns-clause-every
 returns-clause-every c = λ d is_d shows.
-    let made : Configuration = record { subs = c.in-Some.subs; services = c.in-Some-members.services; packets = c.in-Some-members-2.packets } in
-    let inside : Pictured = record { subs = c.self.inside.subs; services = c.self.inside.services; packets = c.self.inside.packets } in
+    let made : Configuration =
+    record {
+      subs = c.in-Some.subs;
+      services = c.in-Some-members.services;
+      packets = c.in-Some-members-2.packets;
+    } in
+    let inside : Pictured = record {
+      subs = c.self.inside.subs;
+      services = c.self.inside.services;
+      packets = c.self.inside.packets;
+    } in
     let parts : ShowsEach inside made = record {
       subs = c.in-Some.ensures.said ∙ c.as_slice.ensures.value;
       services = c.in-Some-members.ensures.said ∙ c.as_slice-2.ensures.value;
       packets = c.in-Some-members-2.ensures.said ∙ c.as_slice-3.ensures.value;
     } in
     let is_made : IsConfiguration made =
-    makes_configuration inside made parts c.in-Some.ensures.members c.in-Some-members.ensures.members c.in-Some-members-2.ensures.members
+    makes_configuration inside made parts c.in-Some.ensures.members c.in-Some-members.ensures.members
+    c.in-Some-members-2.ensures.members
     c.as_slice.ensures.ascending
     c.as_slice-2.ensures.ascending
     c.as_slice-3.ensures.ascending
@@ -51,4 +72,5 @@ returns-clause-every c = λ d is_d shows.
     (subst (λ (xs : List Raw). length xs ≤ 64) c.as_slice-2.ensures.value c.as_slice-2.ensures.bound)
     (subst (λ (xs : List Raw). length xs ≤ 64) c.as_slice-3.ensures.value c.as_slice-3.ensures.bound) in
     let shown : Shows inside d = subst (λ (p : Pictured). Shows p d) (sym c.self.view_is) shows in
-    ap Some (c.of.ensures ∙ shows_one inside made d c.spelling.ensures.tells c.facts.ensures is_made is_d (each_shows inside made parts) shown)
+    ap Some (c.of.ensures ∙ shows_one inside made d c.spelling.ensures.tells c.facts.ensures is_made is_d
+    (each_shows inside made parts) shown)

@@ -5,12 +5,14 @@ use Rattle.fib_reader.proofs.Forecast.{Takes, takes_sub, takes_if_service, takes
 use Rattle.fib_reader.proofs.picture.Picture.new_members.Goals as goal
 
 pub returns-in-SubChannels : goal.returns-in-SubChannels
-returns-in-SubChannels c = takes_sub c.args.self.now c.args.entry.now c.args.others (sym c.extension.ensures.value ∙ ap number_of c.in-SubChannels.is)
+returns-in-SubChannels c = takes_sub c.args.self.now c.args.entry.now c.args.others
+    (sym c.extension.ensures.value ∙ ap number_of c.in-SubChannels.is)
 
 pub returns-in-Services : goal.returns-in-Services
 returns-in-Services c =
     subst (λ (p : Pictured). IfSome c.new_members.result (Takes p c.args.entry.now c.args.others)) c.self.view_is
-    (takes_if_service _ c.args.entry.now c.args.others c.new_members.result (sym c.extension.ensures.value ∙ ap number_of c.in-Services.is)
+    (takes_if_service _ c.args.entry.now c.args.others c.new_members.result
+    (sym c.extension.ensures.value ∙ ap number_of c.in-Services.is)
     c.new_members.ensures.known c.new_members.ensures.new)
 
 pub returns-in-Packets : goal.returns-in-Packets
@@ -18,6 +20,7 @@ returns-in-Packets c =
     let is_packet : c.args.entry.now.ext ≡ 3 = sym c.extension.ensures.value ∙ ap number_of c.in-Packets.is in
     let one : c.args.entry.now.ext ≢ 1 = λ e. omega (arith, is_packet, e) in
     let two : c.args.entry.now.ext ≢ 2 = λ e. omega (arith, is_packet, e) in
-    subst (λ (p : Pictured). IfSome c.new_members-in-Packets.result (Takes p c.args.entry.now c.args.others)) c.self.view_is
+    subst (λ (p : Pictured). IfSome c.new_members-in-Packets.result (Takes p c.args.entry.now c.args.others))
+    c.self.view_is
     (takes_if_packet _ c.args.entry.now c.args.others c.new_members-in-Packets.result one two
     c.new_members-in-Packets.ensures.known c.new_members-in-Packets.ensures.new)

@@ -11,7 +11,8 @@ invariant_of-self c =
     let low : identifier_of c.args.entry.now < 64 =
     subst (λ n. n < 64) c.identifier-identifier.ensures.value (c.identifier-identifier.ensures.sub is_sub) in
     record {
-      subs = each_after IsSubOf c.args.entry.now _ _ c.keep.result (is_sub, low) c.self.invariant.subs c.keep.ensures.kept c.keep.ensures.unchanged;
+      subs = each_after IsSubOf c.args.entry.now _ _ c.keep.result (is_sub, low) c.self.invariant.subs
+          c.keep.ensures.kept c.keep.ensures.unchanged;
       services = c.self.invariant.services;
       packets = c.self.invariant.packets;
     }
@@ -21,7 +22,8 @@ invariant_of-self-in-Services c =
     let is_service : c.args.entry.now.ext ≡ 2 = sym c.extension.ensures.value ∙ ap number_of c.in-Services.is in
     record {
       subs = c.self.invariant.subs;
-      services = each_after (λ raw. raw.ext ≡ 2) c.args.entry.now _ _ c.keep-in-Services.result is_service c.self.invariant.services
+      services = each_after (λ raw. raw.ext ≡ 2) c.args.entry.now _ _ c.keep-in-Services.result is_service
+          c.self.invariant.services
           c.keep-in-Services.ensures.kept c.keep-in-Services.ensures.unchanged;
       packets = c.self.invariant.packets;
     }
@@ -32,7 +34,8 @@ invariant_of-self-in-Packets c =
     record {
       subs = c.self.invariant.subs;
       services = c.self.invariant.services;
-      packets = each_after (λ raw. raw.ext ≡ 3) c.args.entry.now _ _ c.keep-in-Packets.result is_packet c.self.invariant.packets
+      packets = each_after (λ raw. raw.ext ≡ 3) c.args.entry.now _ _ c.keep-in-Packets.result is_packet
+          c.self.invariant.packets
           c.keep-in-Packets.ensures.kept c.keep-in-Packets.ensures.unchanged;
     }
 

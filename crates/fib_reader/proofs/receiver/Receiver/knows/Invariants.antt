@@ -4,4 +4,5 @@ use Rattle.fib_reader.specs.Remembering.{Agrees}
 use Rattle.fib_reader.proofs.receiver.Receiver.knows.Given as goal
 
 abbrev pub invariant-loop-fig : goal.invariant-loop-fig
-invariant-loop-fig l = (x : Listening) → Agrees l.basis l.self x → hear_figs l.figs x ≡ Some x → hear_figs l.initial.figs x ≡ Some x
+invariant-loop-fig l = (x : Listening) → Agrees l.basis l.self x → hear_figs l.figs x ≡ Some x
+    → hear_figs l.initial.figs x ≡ Some x

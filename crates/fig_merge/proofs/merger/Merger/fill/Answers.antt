@@ -1,4 +1,5 @@
-use Rattle.std.proofs.Common.{◌≡◌, ◌-◌, ◌++◌, ℕ, Bool, List, Some, Ok, length, take, map, refl, ap, ap₂, sym, subst, ◌∙◌, arith}
+use Rattle.std.proofs.Common.{◌≡◌, ◌-◌, ◌++◌, ℕ, Bool, List, Some, Ok, length, take, map, refl, ap, ap₂, sym, subst}
+use Rattle.std.proofs.Common.{◌∙◌, arith}
 use Rattle.std.specs.Prelude.{Result}
 use Rattle.std.specs.List.{concat}
 use Rattle.fib_codec.specs.Grammar.{Fig, IsFib, Other}
@@ -33,12 +34,15 @@ invariant_of-self c =
     }
 
 -- the bytes of the FIB, by the FIGs that were read
-pub bytes_are : (before behind sealed : List ℕ) (used : ℕ) (figs : List Fig) (l : Listening) (ok : List ℕ → Bool) (waiting : List (List ℕ)) → IsFib before figs → used ≡ length (data_of figs)
-    → ok ≡ agrees_with figs l → behind ≡ take used before ++ concat (carried_in ok (30 - used) waiting) → sealed ≡ checked (filled behind) → sealed ≡ filled_fib figs l waiting
+pub bytes_are : (before behind sealed : List ℕ) (used : ℕ) (figs : List Fig) (l : Listening) (ok : List ℕ → Bool)
+    (waiting : List (List ℕ)) → IsFib before figs → used ≡ length (data_of figs)
+    → ok ≡ agrees_with figs l → behind ≡ take used before ++ concat (carried_in ok (30 - used) waiting)
+    → sealed ≡ checked (filled behind) → sealed ≡ filled_fib figs l waiting
 bytes_are before behind sealed used figs l ok waiting is size same carried seals =
     let front : take used before ≡ data_of figs = ap (λ n. take n before) size ∙ data_front before figs is in
     seals ∙ ap (λ xs. checked (filled xs))
-    (carried ∙ ap₂ (λ xs n. xs ++ concat (carried_in ok (30 - n) waiting)) front size ∙ ap (λ (k : List ℕ → Bool). data_of figs ++ concat (carried_in k (room_of figs) waiting)) same)
+    (carried ∙ ap₂ (λ xs n. xs ++ concat (carried_in ok (30 - n) waiting)) front size
+    ∙ ap (λ (k : List ℕ → Bool). data_of figs ++ concat (carried_in k (room_of figs) waiting)) same)
 
 -- the FIGs of the FIB are read in one way alone
 abbrev whole : List Fig → Result (List Fig) FibFault
@@ -52,12 +56,19 @@ returns-clause-figs c = λ figs is.
     let l = c.self.inside.listener in
     let waiting = c.self.inside.queue in
     let same : c.in-Ok.figs ≡ figs = ok_same _ _ (sym c.in-Ok.is ∙ c.check.ensures.every figs is) in
-    let heard = heard_is (hear_figs c.in-Ok.figs l) l c.hear.new.self c.hear.result (c.hear.ensures.every c.in-Ok.figs c.in-Ok.ensures.figs) in
+    let heard = heard_is (hear_figs c.in-Ok.figs l) l c.hear.new.self c.hear.result
+    (c.hear.ensures.every c.in-Ok.figs c.in-Ok.ensures.figs) in
     let here : c.end_fib.new.fib ≡ filled_fib c.in-Ok.figs l waiting =
-    bytes_are c.args.fib.now _ c.end_fib.new.fib c.data_len-used.result c.in-Ok.figs l (fig_agrees c.current.result.now) waiting
-    c.in-Ok.ensures.figs c.data_len-used.ensures (judges c.in-Ok.figs l c.hear.new.self c.current.result.now heard c.current.ensures) c.carry-load.ensures.data c.end_fib.ensures in
-    let there : c.end_fib.new.fib ≡ filled_fib figs l waiting = here ∙ ap (λ (fs : List Fig). filled_fib fs l waiting) same in
-    rw (← c.self.view_is) (subst (λ (xs : List ℕ). IsFib xs (figs ++ map Other (carried_in (agrees_with figs l) (room_of figs) waiting))) (sym there)
+    bytes_are c.args.fib.now _ c.end_fib.new.fib c.data_len-used.result c.in-Ok.figs l (fig_agrees c.current.result.now)
+    waiting
+    c.in-Ok.ensures.figs c.data_len-used.ensures
+    (judges c.in-Ok.figs l c.hear.new.self c.current.result.now heard c.current.ensures) c.carry-load.ensures.data
+    c.end_fib.ensures in
+    let there : c.end_fib.new.fib ≡ filled_fib figs l waiting =
+    here ∙ ap (λ (fs : List Fig). filled_fib fs l waiting) same in
+    rw (← c.self.view_is) (subst
+    (λ (xs : List ℕ). IsFib xs (figs ++ map Other (carried_in (agrees_with figs l) (room_of figs) waiting)))
+    (sym there)
     (filled_is c.args.fib.now figs l waiting is c.self.invariant.passed_over))
 
 pub returns-clause-bytes : goal.returns-clause-bytes
@@ -67,11 +78,16 @@ returns-clause-bytes c = λ r.
     let one : Some c.in-Ok.figs ≡ r.read c.args.fib.now =
     read_whole c.args.fib.now c.in-Ok.figs c.in-Ok.ensures.figs (λ fs is. sym c.in-Ok.is ∙ c.check.ensures.every fs is)
     (r.read c.args.fib.now) (r.right c.args.fib.now) in
-    let heard = heard_is (hear_figs c.in-Ok.figs l) l c.hear.new.self c.hear.result (c.hear.ensures.every c.in-Ok.figs c.in-Ok.ensures.figs) in
+    let heard = heard_is (hear_figs c.in-Ok.figs l) l c.hear.new.self c.hear.result
+    (c.hear.ensures.every c.in-Ok.figs c.in-Ok.ensures.figs) in
     let here : c.end_fib.new.fib ≡ filled_fib c.in-Ok.figs l waiting =
-    bytes_are c.args.fib.now _ c.end_fib.new.fib c.data_len-used.result c.in-Ok.figs l (fig_agrees c.current.result.now) waiting
-    c.in-Ok.ensures.figs c.data_len-used.ensures (judges c.in-Ok.figs l c.hear.new.self c.current.result.now heard c.current.ensures) c.carry-load.ensures.data c.end_fib.ensures in
-    let seen : filled_fib c.in-Ok.figs l waiting ≡ filled_fib c.in-Ok.figs c.args.self.now.heard c.args.self.now.waiting = rw (← c.self.view_is) refl in
+    bytes_are c.args.fib.now _ c.end_fib.new.fib c.data_len-used.result c.in-Ok.figs l (fig_agrees c.current.result.now)
+    waiting
+    c.in-Ok.ensures.figs c.data_len-used.ensures
+    (judges c.in-Ok.figs l c.hear.new.self c.current.result.now heard c.current.ensures) c.carry-load.ensures.data
+    c.end_fib.ensures in
+    let seen : filled_fib c.in-Ok.figs l waiting ≡ filled_fib c.in-Ok.figs c.args.self.now.heard
+    c.args.self.now.waiting = rw (← c.self.view_is) refl in
     here ∙ seen ∙ ap (λ (fib : Fib). merged c.args.fib.now fib c.args.self.now) one
 
 pub returns-clause-merger : goal.returns-clause-merger
@@ -81,9 +97,13 @@ returns-clause-merger c = λ r.
     let one : Some c.in-Ok.figs ≡ r.read c.args.fib.now =
     read_whole c.args.fib.now c.in-Ok.figs c.in-Ok.ensures.figs (λ fs is. sym c.in-Ok.is ∙ c.check.ensures.every fs is)
     (r.read c.args.fib.now) (r.right c.args.fib.now) in
-    let heard = heard_is (hear_figs c.in-Ok.figs l) l c.hear.new.self c.hear.result (c.hear.ensures.every c.in-Ok.figs c.in-Ok.ensures.figs) in
+    let heard = heard_is (hear_figs c.in-Ok.figs l) l c.hear.new.self c.hear.result
+    (c.hear.ensures.every c.in-Ok.figs c.in-Ok.ensures.figs) in
     let done : _ ≡ after_fill (Some c.in-Ok.figs) m =
-    rw (← c.self.view_is) (fill_is c.in-Ok.figs _ (fig_agrees c.current.result.now) c.data_len-used.result c.carry-load.new.self c.sum-self-inside.result c.sum-self-inside-2.result
-    c.carry-load.result.figs c.carry-load.result.stale c.hear.new.self c.data_len-used.ensures (judges c.in-Ok.figs l c.hear.new.self c.current.result.now heard c.current.ensures)
-    c.carry-load.ensures.left c.carry-load.ensures.count c.carry-load.ensures.stale c.sum-self-inside.ensures c.sum-self-inside-2.ensures heard) in
+    rw (← c.self.view_is) (fill_is c.in-Ok.figs _ (fig_agrees c.current.result.now) c.data_len-used.result
+    c.carry-load.new.self c.sum-self-inside.result c.sum-self-inside-2.result
+    c.carry-load.result.figs c.carry-load.result.stale c.hear.new.self c.data_len-used.ensures
+    (judges c.in-Ok.figs l c.hear.new.self c.current.result.now heard c.current.ensures)
+    c.carry-load.ensures.left c.carry-load.ensures.count c.carry-load.ensures.stale c.sum-self-inside.ensures
+    c.sum-self-inside-2.ensures heard) in
     done ∙ ap (λ (fib : Fib). after_fill fib m) one

@@ -11,5 +11,7 @@ invariant_of-self c =
     let before = with_sub_channels c.self.inside.subs c.self.inside.others in
     let fault : edit_fault (AddService c.args.sid) before ≡ None = rw (← c.self.view_is) at c.requires in
     let within : IsSid c.args.sid = search rules in
-    let kept = known_keeps (AddService c.args.sid) tt within c.self.inside.subs c.self.inside.others c.add_service_known.new.self c.self.invariant.apart c.self.invariant.configuration fault c.add_service_known.ensures in
+    let kept = known_keeps (AddService c.args.sid) tt within c.self.inside.subs c.self.inside.others
+    c.add_service_known.new.self c.self.invariant.apart c.self.invariant.configuration fault
+    c.add_service_known.ensures in
     record { apart = kept.0; configuration = kept.1; counted = c.self.invariant.counted }

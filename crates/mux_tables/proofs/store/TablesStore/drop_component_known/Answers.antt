@@ -8,6 +8,9 @@ use Rattle.mux_tables.proofs.store.TablesStore.drop_component_known.Goals as goa
 pub invariant_of-self : goal.invariant_of-self
 invariant_of-self c =
     let before = with_sub_channels c.self.inside.subs c.self.inside.others in
-    let fault : edit_fault (DropComponent c.args.sid c.args.carrier) before ≡ None = rw (← c.self.view_is) at c.requires in
-    let kept = known_keeps (DropComponent c.args.sid c.args.carrier) tt tt c.self.inside.subs c.self.inside.others c.drop_component_known.new.self c.self.invariant.apart c.self.invariant.configuration fault c.drop_component_known.ensures in
+    let fault : edit_fault (DropComponent c.args.sid c.args.carrier) before ≡ None =
+    rw (← c.self.view_is) at c.requires in
+    let kept = known_keeps (DropComponent c.args.sid c.args.carrier) tt tt c.self.inside.subs c.self.inside.others
+    c.drop_component_known.new.self c.self.invariant.apart c.self.invariant.configuration fault
+    c.drop_component_known.ensures in
     record { apart = kept.0; configuration = kept.1; counted = c.self.invariant.counted }

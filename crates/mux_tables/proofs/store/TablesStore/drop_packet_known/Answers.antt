@@ -9,5 +9,7 @@ pub invariant_of-self : goal.invariant_of-self
 invariant_of-self c =
     let before = with_sub_channels c.self.inside.subs c.self.inside.others in
     let fault : edit_fault (DropPacket c.args.scid) before ≡ None = rw (← c.self.view_is) at c.requires in
-    let kept = known_keeps (DropPacket c.args.scid) tt tt c.self.inside.subs c.self.inside.others c.drop_packet_known.new.self c.self.invariant.apart c.self.invariant.configuration fault c.drop_packet_known.ensures in
+    let kept = known_keeps (DropPacket c.args.scid) tt tt c.self.inside.subs c.self.inside.others
+    c.drop_packet_known.new.self c.self.invariant.apart c.self.invariant.configuration fault
+    c.drop_packet_known.ensures in
     record { apart = kept.0; configuration = kept.1; counted = c.self.invariant.counted }

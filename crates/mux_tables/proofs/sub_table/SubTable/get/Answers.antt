@@ -8,7 +8,8 @@ use Rattle.mux_tables.proofs.sub_table.SubTable.get.Goals as goal
 
 pub returns-clause-value : goal.returns-clause-value
 returns-clause-value c =
-    found_at c.self.inside.by_id c.args.id c.from.result c.index-self-from.result (omega arith) (omega arith) c.self.invariant.0 (c.from.ensures ∙ c.get.ensures.value)
+    found_at c.self.inside.by_id c.args.id c.from.result c.index-self-from.result (omega arith) (omega arith)
+    c.self.invariant.0 (c.from.ensures ∙ c.get.ensures.value)
     ∙ ap (λ (xs : List Sub). entry_at sub_key c.args.id xs) c.self.view_is
 
 pub returns-clause-ascending : goal.returns-clause-ascending

@@ -7,4 +7,5 @@ returns g c =
     let held = take c.self.inside.len c.self.inside.items in
     let len : c.self.inside.len ≡ length held = search rules in
     let lt : c.args.place < length held = rw c.self.view_is c.requires in
-    rw (← c.self.view_is) (taken_out held c.to_last.new.values (drop c.self.inside.len c.self.inside.items) c.args.place c.self.inside.len lt len c.to_last.ensures)
+    rw (← c.self.view_is) (taken_out held c.to_last.new.values (drop c.self.inside.len c.self.inside.items) c.args.place
+    c.self.inside.len lt len c.to_last.ensures)

@@ -5,7 +5,8 @@ use Rattle.mux_types.proofs.Tables.{ascends_without, without_absent}
 use Rattle.mux_types.proofs.sorted_table.SortedTable.remove.Given as given
 use Rattle.mux_types.proofs.sorted_table.SortedTable.remove.Goals as goal
 
-new_is : (g : given.Over) (c : goal.After-remove g) → c.remove.new.self ≡ without_entry g.T.Keyed.key c.args.key c.args.self.now
+new_is : (g : given.Over) (c : goal.After-remove g) → c.remove.new.self
+    ≡ without_entry g.T.Keyed.key c.args.key c.args.self.now
 new_is g c =
     c.remove.ensures
     ∙ ap (λ (xs : List g.row.T.Denot). remove xs c.in-Ok.place) (sym c.as_slice.ensures.value)

@@ -8,6 +8,8 @@ returns-clause-some c = (
   sym c.has_begun.ensures ∙ c.if-not-has_begun.false,
   λ r mode period stream start reported f.
       summed r mode period stream start reported c.args.self.now _ f
-      (c.frames.ensures ∙ ap (λ (x : Checking). x.state.frames) c.self.view_is) (ap (λ (x : Checking). x.skipped) c.self.view_is)
-      (c.len.ensures.value ∙ ap (λ (x : Checking). length x.held) c.self.view_is) (ap (λ (x : Checking). x.damaged) c.self.view_is),
+      (c.frames.ensures ∙ ap (λ (x : Checking). x.state.frames) c.self.view_is)
+      (ap (λ (x : Checking). x.skipped) c.self.view_is)
+      (c.len.ensures.value ∙ ap (λ (x : Checking). length x.held) c.self.view_is)
+      (ap (λ (x : Checking). x.damaged) c.self.view_is),
 )

@@ -13,6 +13,8 @@ returns g c =
     let after = g.R.Report.reported c.report_unannounced.new.report in
     let k = known_in c.args.self.now in
     let e = c.args.ensemble.now in
-    more_thrice c.args.at before place swap after (place_faults k c.args.first e) (swap_or_another k e) (announcement k e ++ unannounced_findings k e)
+    more_thrice c.args.at before place swap after (place_faults k c.args.first e) (swap_or_another k e)
+    (announcement k e ++ unannounced_findings k e)
     c.report_place.ensures c.report_swap_or_another.ensures
-    (more_pair c.args.at swap told after (announcement k e) (unannounced_findings k e) c.report_announcement.ensures c.report_unannounced.ensures)
+    (more_pair c.args.at swap told after (announcement k e) (unannounced_findings k e) c.report_announcement.ensures
+    c.report_unannounced.ensures)

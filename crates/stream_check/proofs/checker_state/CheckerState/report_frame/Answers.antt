@@ -12,6 +12,8 @@ returns g c = λ r.
     let after = g.R.Report.reported c.report_missing.new.report in
     let frame = map r.read c.args.fibs.now in
     let missing = missing_findings c.args.self.now.step c.args.self.now.due frame in
-    more_thrice c.args.at before first sized after (first_line c.args.self.now.due frame) (size_findings c.args.size frame) (damaged_findings frame ++ missing)
+    more_thrice c.args.at before first sized after (first_line c.args.self.now.due frame)
+    (size_findings c.args.size frame) (damaged_findings frame ++ missing)
     (c.report_first_line.ensures r) (c.report_size.ensures r)
-    (more_pair c.args.at sized whole after (damaged_findings frame) missing (c.report_damaged.ensures r) (c.report_missing.ensures r))
+    (more_pair c.args.at sized whole after (damaged_findings frame) missing (c.report_damaged.ensures r)
+    (c.report_missing.ensures r))

@@ -8,8 +8,10 @@ use Rattle.stream_check.specs.Reported.{with_more}
 
 abbrev pub invariant-loop-entry : goal.invariant-loop-entry
 invariant-loop-entry g l = record {
-  reported : with_more (g.R.Report.reported l.report) (map (in_frame l.at) (quiet_findings l.self.swapped l.self.period l.self.frames l.rest))
-      ≡ with_more (g.R.Report.reported l.initial.report) (map (in_frame l.at) (quiet_findings l.self.swapped l.self.period l.self.frames l.table));
+  reported : with_more (g.R.Report.reported l.report)
+      (map (in_frame l.at) (quiet_findings l.self.swapped l.self.period l.self.frames l.rest))
+      ≡ with_more (g.R.Report.reported l.initial.report)
+      (map (in_frame l.at) (quiet_findings l.self.swapped l.self.period l.self.frames l.table));
   members : AllByRecursion (λ (h : Heard). h.raw.ext ≢ 0) l.rest;
 }
 
