@@ -1,28 +1,14 @@
 -- A FIB closed after its last entry: the next one goes past it either way.
-use Rattle.std.proofs.Common.{◌≡◌, ℕ, zero, suc, ◌+◌, ◌-◌, ◌<◌, ◌≤◌, ◌⊎◌, Option, Some, None, IfSome, is_some, List, []}
-use Rattle.std.proofs.Common.{◌∷◌, length, take, drop, get_or, refl, sym, ◌∙◌, ap, subst, inl, inr, arith}
-use Rattle.std.proofs.Common.{if◌then◌else◌, nat_le}
-use Rattle.std.specs.List.{AllByRecursion}
-use Rattle.std.proofs.lemmas.List.{drop_all, length-drop}
-use Rattle.std.proofs.lemmas.Bool.{lt-leb, le-leb}
-use Rattle.mux_types.specs.declared.numbers.Sid.{Sid}
-use Rattle.mux_types.specs.declared.numbers.Sid.TheVariants.{Short, Long}
-use Rattle.mux_types.specs.Facts.{Marked}
-use Rattle.mux_types.specs.declared.entry.Entry.{Entry}
+use Rattle.fib_carousel.proofs.Words.{[], ◌+◌, ◌-◌, ◌<◌, ◌∙◌, ◌∷◌, ◌≡◌, ◌≤◌, ◌⊎◌, AllByRecursion, AreSendable, Entry}
+use Rattle.fib_carousel.proofs.Words.{EntryShape, FrameLayout, HasPassed, Head, IfSome, IsAtFib, IsSendable}
+use Rattle.fib_carousel.proofs.Words.{IsThenWithin, List, Long, Marked, NextIsAfter, None, Option, PackState, Position}
+use Rattle.fib_carousel.proofs.Words.{Short, Sid, Some, ap, arith, closed, cost, drop, drop_all, entries_in_fib}
+use Rattle.fib_carousel.proofs.Words.{entry_size, ext_of, fib_entries, get_or, if◌then◌else◌, inl, inr, is_some}
+use Rattle.fib_carousel.proofs.Words.{last_number, le-leb, length, length-drop, lt-leb, nat_le, numbers_from, opened}
+use Rattle.fib_carousel.proofs.Words.{packing, placed, refl, room, sid_size, size_of, state_at, subst, suc, sym, take}
+use Rattle.fib_carousel.proofs.Words.{zero, ℕ}
 use Rattle.mux_types.specs.declared.entry.Entry.TheVariants.{Ensemble as EnsembleOf, Sub as SubOf, Short as ShortOf}
 use Rattle.mux_types.specs.declared.entry.Entry.TheVariants.{Service as ServiceOf, Packet as PacketOf}
-use Rattle.fib_codec.specs.declared.head.Head.{Head}
-use Rattle.fib_codec.specs.declared.frame_layout.FrameLayout.{FrameLayout}
-use Rattle.fib_codec.specs.Spelling.{sid_size, ext_of, entry_size}
-use Rattle.fib_carousel.specs.declared.pack_state.EntryShape.{EntryShape}
-use Rattle.fib_carousel.specs.declared.pack_state.PackState.{PackState}
-use Rattle.fib_carousel.specs.declared.pack_state.Position.{Position}
-use Rattle.fib_carousel.specs.Packing.{room, size_of, cost, entries_in_fib, last_number}
-use Rattle.fib_carousel.specs.Greedy.{placed, opened, numbers_from, packing}
-use Rattle.fib_carousel.specs.Pages.{fib_entries}
-use Rattle.fib_carousel.specs.Carried.{IsSendable, AreSendable}
-use Rattle.fib_carousel.specs.Runs.{closed, state_at, IsThenWithin}
-use Rattle.fib_carousel.specs.Walk.{IsAtFib, HasPassed, NextIsAfter}
 use Rattle.fib_carousel.proofs.Steps.{in_fib_other, in_fib_past}
 use Rattle.fib_carousel.proofs.Least.{placed_cases, room_high, cost_low, numbers_rise}
 use Rattle.fib_carousel.proofs.Pieces.{last_rises}

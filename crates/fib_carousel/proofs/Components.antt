@@ -1,15 +1,12 @@
 -- The components of a service, one after another in its entry.
-use Rattle.std.proofs.Common.{◌≡◌, ℕ, ◌+◌, ◌*◌, ◌<◌, ◌≤◌, ◌==◌, true, false, List, [], ◌∷◌, ◌++◌, zero, suc, length}
-use Rattle.std.proofs.Common.{take, map, get_or, refl, sym, ◌∙◌, ap, arith, append_assoc, append-nil}
-use Rattle.std.proofs.lemmas.List.{take_more, length-append, length-take-le, map-append}
-use Rattle.std.proofs.lemmas.Bool.{ne_eqb}
+use Rattle.fib_carousel.proofs.Words.{[], ◌*◌, ◌++◌, ◌+◌, ◌<◌, ◌==◌, ◌∙◌, ◌∷◌, ◌≡◌, ◌≤◌, Component, List, ap}
+use Rattle.fib_carousel.proofs.Words.{append-nil, append_assoc, arith, component_entries, component_entry}
+use Rattle.fib_carousel.proofs.Words.{component_u16, components_bytes, components_len, false, flat_map-append, get_or}
+use Rattle.fib_carousel.proofs.Words.{length, length-append, length-take-le, map, map-append, ne_eqb, refl, suc, sym}
+use Rattle.fib_carousel.proofs.Words.{take, take_more, true, zero, ℕ}
 use Rattle.byteorder.specs.Endian.{big_bytes}
-use Rattle.mux_types.specs.declared.parts.Component.{Component}
 use Rattle.mux_types.specs.declared.entry.ComponentEntry.{ComponentEntry}
-use Rattle.mux_types.specs.Facts.{component_entry, component_entries}
-use Rattle.fib_codec.specs.Spelling.{component_u16, components_bytes}
 use Rattle.fib_carousel.proofs.Sendable.{length-component_entries}
-use Rattle.fib_codec.proofs.Lengths.{components_len, flat_map-append}
 
 -- one more component after the previous ones
 entries_more : (cs : List Component) (i : ℕ) (d : Component) → i < length cs

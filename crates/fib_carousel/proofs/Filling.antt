@@ -1,26 +1,13 @@
 -- A FIB filled entry by entry.
-use Rattle.std.proofs.Common.{◌≡◌, ℕ, ◌+◌, ◌-◌, ◌<◌, ◌≤◌, Bool, true, false, Option, Some, None, List, [], ◌∷◌, ◌++◌}
-use Rattle.std.proofs.Common.{length, take, drop, slice_get, slice_index_or, slice_set, if◌then◌else◌, inl, inr, refl}
-use Rattle.std.proofs.Common.{sym, ◌∙◌, ap, subst, arith, append_assoc, append-nil}
-use Rattle.std.proofs.lemmas.List.{length-append, length-set}
-use Rattle.std.proofs.lemmas.Option.{get_or_from_slice_get}
-use Rattle.std.proofs.Math.Seq.{get_or-append_seam, set-append_seam}
-use Rattle.mux_types.specs.Facts.{Marked}
-use Rattle.mux_types.specs.declared.entry.Entry.{Entry}
-use Rattle.fib_codec.specs.declared.head.Head.{Head}
-use Rattle.fib_codec.specs.declared.frame_layout.FrameLayout.{FrameLayout}
-use Rattle.fib_codec.specs.Spelling.{Written, head_of, head_byte, entry_bytes, entry_size, entries_bytes, fig_bytes}
-use Rattle.fib_codec.specs.Spelling.{figs_bytes}
-use Rattle.fib_codec.proofs.Lengths.{entry_length, flat_map-append}
-use Rattle.fib_carousel.specs.declared.pack_state.EntryShape.{EntryShape}
-use Rattle.fib_carousel.specs.declared.pack_state.PackState.{PackState}
-use Rattle.fib_carousel.specs.declared.pack_state.Position.{Position}
-use Rattle.fib_carousel.specs.declared.page_writer.OpenFig.{OpenFig}
-use Rattle.fib_carousel.specs.Packing.{same_head, size_of, figs_size}
-use Rattle.fib_carousel.specs.Pages.{fib_entries}
-use Rattle.fib_carousel.specs.Bytes.{with_entry_first, figs_of}
-use Rattle.fib_carousel.specs.Walk.{IsShapeAt, IsAtFib}
-use Rattle.fib_carousel.specs.Filling.{Begins, Lengthens, GrowsBy, Grows, FitsBy, TakesEntry}
+use Rattle.fib_carousel.proofs.Words.{[], ◌++◌, ◌+◌, ◌-◌, ◌<◌, ◌∙◌, ◌∷◌, ◌≡◌, ◌≤◌, Begins, Bool, Entry, EntryShape}
+use Rattle.fib_carousel.proofs.Words.{FitsBy, FrameLayout, Grows, GrowsBy, Head, IsAtFib, IsShapeAt, Lengthens, List}
+use Rattle.fib_carousel.proofs.Words.{Marked, None, OpenFig, Option, PackState, Position, Some, TakesEntry, Written, ap}
+use Rattle.fib_carousel.proofs.Words.{append-nil, append_assoc, arith, drop, entries_bytes, entry_bytes, entry_length}
+use Rattle.fib_carousel.proofs.Words.{entry_size, false, fib_entries, fig_bytes, figs_bytes, figs_of, figs_size}
+use Rattle.fib_carousel.proofs.Words.{flat_map-append, get_or-append_seam, get_or_from_slice_get, head_byte, head_of}
+use Rattle.fib_carousel.proofs.Words.{if◌then◌else◌, inl, inr, length, length-append, length-set, refl, same_head}
+use Rattle.fib_carousel.proofs.Words.{set-append_seam, size_of, slice_get, slice_index_or, slice_set, subst, sym, take}
+use Rattle.fib_carousel.proofs.Words.{true, with_entry_first, ℕ}
 use Rattle.fib_carousel.proofs.Sharing.{same_head_is, figs_cost, written_of}
 use Rattle.fib_carousel.proofs.Walk.{Passed, Walked, walked_start, walked_before, passed_above, rest_in, rest_takes}
 

@@ -1,24 +1,16 @@
 -- A kept page with FIG 0/0 before the FIGs of its first FIB.
-use Rattle.std.proofs.Common.{◌≡◌, ℕ, ◌+◌, ◌-◌, ◌<◌, ◌≤◌, List, [], ◌∷◌, ◌++◌, suc, length, take, drop, map, flat_map}
-use Rattle.std.proofs.Common.{replicate, Some, None, refl, sym, ◌∙◌, ap, inl, inr, arith, append_assoc, lt-ltb, le-ltb}
-use Rattle.std.proofs.Common.{false}
-use Rattle.std.proofs.lemmas.Bool.{cases_lt}
+use Rattle.fib_carousel.proofs.Words.{[], ◌++◌, ◌+◌, ◌-◌, ◌<◌, ◌∙◌, ◌∷◌, ◌≡◌, ◌≤◌, EnsembleInformation, FrameLayout}
+use Rattle.fib_carousel.proofs.Words.{List, Marked, None, Some, Written, ap, append_assoc, arith, cases_lt, checked}
+use Rattle.fib_carousel.proofs.Words.{drop, drop_at, ensemble_figs, entry_size, false, fib_at, fib_bytes, fib_entries}
+use Rattle.fib_carousel.proofs.Words.{fig_bytes, figs_bytes, figs_of, filled, first_fib, flat_map, inl, inr, later_fibs}
+use Rattle.fib_carousel.proofs.Words.{le-ltb, length, length-append, length-filled, lt-ltb, map, marked, page_bytes}
+use Rattle.fib_carousel.proofs.Words.{refl, replicate, reserved_figs, room, suc, sym, take, take-append-add}
+use Rattle.fib_carousel.proofs.Words.{take-append-le, take-replicate, take_at, ℕ}
 use Rattle.std.proofs.lemmas.Grind.{flat_map-append}
-use Rattle.std.proofs.lemmas.List.{take_at, drop_at, take-append-le, take-replicate, length-append}
-use Rattle.std.proofs.Math.Seq.{take-append-add}
-use Rattle.mux_types.specs.Entries.{EnsembleInformation}
-use Rattle.mux_types.specs.Facts.{Marked, marked}
-use Rattle.mux_types.specs.declared.entry.Entry.TheVariants.{Ensemble as EnsembleOf}
 use Rattle.fib_codec.specs.Modes.{with_fib}
-use Rattle.fib_codec.specs.Heard.{fib_at}
-use Rattle.fib_codec.specs.Spelling.{Written, entry_size, fig_bytes, figs_bytes, fib_bytes, filled, checked}
-use Rattle.fib_codec.specs.declared.frame_layout.FrameLayout.{FrameLayout}
-use Rattle.fib_codec.proofs.Finished.{length-filled}
 use Rattle.fib_carousel.specs.declared.kept_page.KeptPage.{KeptPage}
-use Rattle.fib_carousel.specs.Packing.{room}
-use Rattle.fib_carousel.specs.Pages.{fib_entries, first_fib, later_fibs}
-use Rattle.fib_carousel.specs.Bytes.{figs_of, ensemble_figs, reserved_figs, page_bytes}
 use Rattle.fib_carousel.specs.Kept.{IsKept}
+use Rattle.mux_types.specs.declared.entry.Entry.TheVariants.{Ensemble as EnsembleOf}
 use Rattle.fib_carousel.proofs.Least.{room_cases}
 use Rattle.fib_carousel.proofs.Sharing.{figs_cost}
 use Rattle.fib_carousel.proofs.Sent.{fib_fits}

@@ -1,37 +1,26 @@
 -- What a receiver decodes from the bytes of a page.
-use Rattle.std.proofs.Common.{◌≡◌, ℕ, ◌+◌, ◌*◌, ◌≤◌, ◌==◌, ◌↔◌, Bool, true, false, List, [], ◌∷◌, ◌++◌, zero, suc}
-use Rattle.std.proofs.Common.{length, take, drop, map, flat_map, Option, Some, None, IfSome, IsSome, Contains, ◌%◌, ◌/◌}
-use Rattle.std.proofs.Common.{refl, sym, ◌∙◌, ap, subst, inl, inr, ◌⊎◌, if◌then◌else◌, arith, append_assoc, ◌-◌, ◌<◌}
-use Rattle.std.proofs.Common.{replicate}
-use Rattle.fib_codec.specs.declared.frame_layout.FrameLayout.{FrameLayout}
-use Rattle.std.proofs.lemmas.List.{length-append, length-replicate, append-nil, take_at, drop_at, drop_all, drop-drop}
+use Rattle.fib_carousel.proofs.Words.{[], ◌%◌, ◌*◌, ◌++◌, ◌+◌, ◌-◌, ◌/◌, ◌<◌, ◌==◌, ◌↔◌, ◌∙◌, ◌∷◌, ◌≡◌, ◌≤◌, ◌⊎◌}
+use Rattle.fib_carousel.proofs.Words.{AllByRecursion, AreFibs, AreSendable, Bool, Configuration, Contains}
+use Rattle.fib_carousel.proofs.Words.{Contains-append_cases, Contains-append_left, Contains-append_right}
+use Rattle.fib_carousel.proofs.Words.{EnsembleInformation, FrameLayout, Head, IfSome, IsConfiguration}
+use Rattle.fib_carousel.proofs.Words.{IsEnsembleHeardInRow, IsEnsembleInformation, IsHeardInRow, IsInFib, IsPacking}
+use Rattle.fib_carousel.proofs.Words.{IsPageable, IsSendable, IsSome, IsWritten, List, Marked, None, Option}
+use Rattle.fib_carousel.proofs.Words.{PagesKeepReserve, Some, Written, ap, append-nil, append_assoc, arith, drop}
+use Rattle.fib_carousel.proofs.Words.{drop-drop, drop_all, drop_at, empty_fib, ensemble_figs, entries_where, ext_of}
+use Rattle.fib_carousel.proofs.Words.{false, fib_at, fib_bytes, fib_entries, fib_is, fig_bytes, figs_by, figs_bytes}
+use Rattle.fib_carousel.proofs.Words.{figs_of, filled, first_fib, flat_map, frame_fibs, head_of, if◌then◌else◌, inl}
+use Rattle.fib_carousel.proofs.Words.{inr, later_fibs, length, length-append, length-filled, length-map}
+use Rattle.fib_carousel.proofs.Words.{length-replicate, map, marked, marked_of, occurrence_bytes, packing, page_bytes}
+use Rattle.fib_carousel.proofs.Words.{page_entries, page_figs, page_set, refl, replicate, reserved_fibs, reserved_figs}
+use Rattle.fib_carousel.proofs.Words.{room, same_head, subst, suc, sym, take, take_at, true, used_fibs, used_figs}
+use Rattle.fib_carousel.proofs.Words.{valid_is, with_entry_first, zero, ℕ}
 use Rattle.std.proofs.lemmas.Grind.{flat_map-append}
-use Rattle.std.proofs.lemmas.List.Elements.{Contains-append_cases, Contains-append_left, Contains-append_right}
-use Rattle.mux_config.specs.Configuration.{Configuration, IsConfiguration}
-use Rattle.std.specs.List.{AllByRecursion}
-use Rattle.mux_types.specs.Entries.{EnsembleInformation}
-use Rattle.mux_types.specs.Facts.{Marked, marked}
-use Rattle.mux_types.specs.declared.entry.Entry.TheVariants.{Ensemble as EnsembleOf}
-use Rattle.fib_codec.specs.declared.head.Head.{Head}
-use Rattle.fib_codec.specs.Ranges.{IsEnsembleInformation}
-use Rattle.fib_codec.specs.Spelling.{Written, IsWritten, head_of, ext_of, fig_bytes, figs_bytes, fib_bytes, filled}
-use Rattle.fib_codec.specs.Spelling.{occurrence_bytes}
 use Rattle.fib_codec.specs.Grammar.{Fig, Open, Other, IsFig, AreFigs, IsValid, IsOurs, fig_of}
-use Rattle.fib_codec.specs.Heard.{IsInFib, IsHeardInRow, IsEnsembleHeardInRow, fib_at, marked_of}
-use Rattle.fib_codec.proofs.Finished.{length-filled, fib_is, valid_is}
 use Rattle.fib_codec.proofs.Sent.{heard_is_written}
-use Rattle.fib_carousel.specs.Packing.{same_head, room, entries_where, IsPacking}
-use Rattle.fib_carousel.specs.Greedy.{packing}
-use Rattle.fib_carousel.specs.Pages.{page_set, fib_entries, page_entries, first_fib, later_fibs}
-use Rattle.fib_codec.specs.Layouts.{used_fibs, reserved_fibs, frame_fibs, empty_fib}
 use Rattle.fib_codec.proofs.Layouts.{layouts_divide}
-use Rattle.fib_carousel.proofs.Widths.{some_fibs, first_of_page}
-use Rattle.std.proofs.lemmas.List.{length-map}
 use Rattle.std.proofs.lemmas.List.FromFn.{length-range_with_len}
-use Rattle.fib_carousel.specs.Bytes.{with_entry_first, figs_of, ensemble_figs, used_figs, reserved_figs, page_figs}
-use Rattle.fib_carousel.specs.Bytes.{page_bytes, figs_by, AreFibs}
-use Rattle.fib_carousel.specs.Carried.{IsSendable, AreSendable}
-use Rattle.fib_carousel.specs.Carried.{IsPageable, PagesKeepReserve}
+use Rattle.mux_types.specs.declared.entry.Entry.TheVariants.{Ensemble as EnsembleOf}
+use Rattle.fib_carousel.proofs.Widths.{some_fibs, first_of_page}
 use Rattle.fib_carousel.proofs.Least.{of_packing}
 use Rattle.fib_carousel.proofs.Pieces.{page_is_fibs}
 use Rattle.fib_carousel.proofs.Sharing.{same_head_is, figs_cost, written_of}

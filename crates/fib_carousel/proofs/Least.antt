@@ -1,18 +1,10 @@
 -- The greedy rule: each step stays in its FIB or goes to the next with room, and is never ahead of another division.
-use Rattle.std.proofs.Common.{◌≡◌, ℕ, ◌+◌, ◌%◌, ◌<◌, ◌≤◌, true, false, List, [], ◌∷◌, zero, suc, length, slice_index}
-use Rattle.std.proofs.Common.{Option, Some, None, refl, sym, ◌∙◌, ap, subst, inl, inr, ◌⊎◌, if◌then◌else◌, arith}
-use Rattle.std.proofs.Common.{eq-eqb}
-use Rattle.fib_codec.specs.declared.frame_layout.FrameLayout.{FrameLayout}
-use Rattle.std.proofs.lemmas.Bool.{ne_eqb, cases_lt, le-leb, lt-leb}
-use Rattle.std.proofs.lemmas.List.{ext_get_or}
-use Rattle.mux_types.specs.Facts.{Marked}
-use Rattle.fib_codec.specs.declared.head.Head.{Head}
-use Rattle.fib_carousel.specs.declared.pack_state.PackState.{PackState}
-use Rattle.fib_codec.specs.Spelling.{head_of}
-use Rattle.fib_carousel.specs.Packing.{room, size_of, same_head, cost, NeverFalls, IsDivision, IsPacking, AreSmall}
-use Rattle.fib_carousel.specs.Packing.{last_number, rounds_of}
-use Rattle.fib_carousel.specs.Greedy.{start, extended, opened, placed, numbers_from, packing}
-use Rattle.fib_codec.specs.Layouts.{used_fibs}
+use Rattle.fib_carousel.proofs.Words.{[], ◌%◌, ◌+◌, ◌<◌, ◌∙◌, ◌∷◌, ◌≡◌, ◌≤◌, ◌⊎◌, AreSmall, FrameLayout, Head}
+use Rattle.fib_carousel.proofs.Words.{IsDivision, IsPacking, List, Marked, NeverFalls, None, Option, PackState, Some}
+use Rattle.fib_carousel.proofs.Words.{ap, arith, cases_lt, cost, eq-eqb, ext_get_or, extended, false, head_of}
+use Rattle.fib_carousel.proofs.Words.{if◌then◌else◌, inl, inr, last_number, le-leb, length, lt-leb, ne_eqb}
+use Rattle.fib_carousel.proofs.Words.{numbers_from, opened, packing, placed, refl, room, rounds_of, same_head, size_of}
+use Rattle.fib_carousel.proofs.Words.{slice_index, start, subst, suc, sym, true, used_fibs, zero, ℕ}
 use Rattle.fib_carousel.proofs.Widths.{apart, later_page}
 use Rattle.fib_carousel.proofs.Steps.{Goes, goes_all, division_from}
 

@@ -19,3 +19,4 @@ pub mod Runs
 pub mod Together
 pub mod Sections
 pub mod Vectors
+mod Words

@@ -1,27 +1,14 @@
 -- How many pages configurations can need.
-use Rattle.std.proofs.Common.{◌≡◌, ℕ, ◌+◌, ◌-◌, ◌*◌, ◌%◌, ◌<◌, ◌≤◌, ◌==◌, Bool, true, false, List, [], ◌∷◌, ◌++◌, zero}
-use Rattle.std.proofs.Common.{suc, length, map, Option, Some, None, refl, sym, ◌∙◌, ap, subst, inl, inr, ◌⊎◌}
-use Rattle.std.proofs.Common.{if◌then◌else◌, arith, eq-eqb}
-use Rattle.fib_codec.specs.declared.frame_layout.FrameLayout.{FrameLayout}
-use Rattle.fib_codec.specs.declared.modes.Mode.TheVariants.{I, II, III, IV}
-use Rattle.fib_codec.specs.declared.frame_layout.FrameLayout.TheVariants.{Whole, ReserveOne, ReserveTwo}
-use Rattle.fib_codec.specs.Layouts.{used_fibs}
+use Rattle.fib_carousel.proofs.Words.{[], ◌%◌, ◌*◌, ◌++◌, ◌+◌, ◌-◌, ◌<◌, ◌==◌, ◌∙◌, ◌∷◌, ◌≡◌, ◌≤◌, ◌⊎◌, AllByRecursion}
+use Rattle.fib_carousel.proofs.Words.{Bool, Configuration, Entry, FrameLayout, Head, I, II, III, IV, IsAddressed}
+use Rattle.fib_carousel.proofs.Words.{IsConfiguration, IsPlaced, IsService, List, Marked, None, Option, PackState}
+use Rattle.fib_carousel.proofs.Words.{ReserveOne, ReserveTwo, Service, Some, Whole, add-mod_right, ap, arith, cases_lt}
+use Rattle.fib_carousel.proofs.Words.{cost, eq-eqb, extended, facts_of, false, head_of, if◌then◌else◌, inl, inr}
+use Rattle.fib_carousel.proofs.Words.{last_number, length, length-map, map, map-append, marked, mul-le-mul_left, ne_eqb}
+use Rattle.fib_carousel.proofs.Words.{numbers_from, opened, packet_entry, packing, page_set, placed, refl, room, rounds}
+use Rattle.fib_carousel.proofs.Words.{service_entries, service_entry, size_of, start, sub_entries, sub_entry, subst}
+use Rattle.fib_carousel.proofs.Words.{suc, sym, true, used_fibs, zero, ℕ}
 use Rattle.fib_carousel.specs.Most.{most_alone, most_together}
-use Rattle.std.proofs.lemmas.Bool.{ne_eqb, cases_lt}
-use Rattle.std.proofs.Math.Nat.{mul-le-mul_left, add-mod_right}
-use Rattle.std.proofs.lemmas.List.{length-map, map-append}
-use Rattle.mux_config.specs.Configuration.{Configuration, IsConfiguration, IsPlaced, IsService, IsAddressed}
-use Rattle.std.specs.List.{AllByRecursion}
-use Rattle.mux_types.specs.Facts.{Marked, marked, facts_of, sub_entry, service_entry, packet_entry, sub_entries}
-use Rattle.mux_types.specs.Facts.{service_entries}
-use Rattle.mux_types.specs.declared.entry.Entry.{Entry}
-use Rattle.mux_types.specs.declared.parts.Service.{Service}
-use Rattle.fib_codec.specs.declared.head.Head.{Head}
-use Rattle.fib_codec.specs.Spelling.{head_of}
-use Rattle.fib_carousel.specs.declared.pack_state.PackState.{PackState}
-use Rattle.fib_carousel.specs.Packing.{room, size_of, cost, last_number}
-use Rattle.fib_carousel.specs.Greedy.{numbers_from, placed, extended, opened, start, packing}
-use Rattle.fib_carousel.specs.Pages.{page_set, rounds}
 use Rattle.fib_carousel.proofs.Widths.{by_width}
 use Rattle.fib_carousel.proofs.Least.{room_cases, placed_cases, Leaves}
 use Rattle.fib_carousel.proofs.Sent.{same_head_own}

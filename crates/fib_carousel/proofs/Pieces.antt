@@ -1,16 +1,10 @@
 -- The list of entries cut into pages, and pages into FIBs: pieces of the list, joined in order.
-use Rattle.std.proofs.Common.{◌≡◌, ℕ, ◌+◌, ◌/◌, ◌<◌, ◌≤◌, ◌==◌, Bool, true, false, ◌&&◌, List, [], ◌∷◌, ◌++◌, zero, suc}
-use Rattle.std.proofs.Common.{length, refl, sym, ◌∙◌, ap, subst, inl, inr, if◌then◌else◌, nat_lt, nat_le, flat_map, ◌-◌}
-use Rattle.std.proofs.Common.{arith, eq-eqb, Contains, lt-ltb, le-ltb}
-use Rattle.fib_codec.specs.declared.frame_layout.FrameLayout.{FrameLayout}
-use Rattle.std.specs.List.{range_with_len}
-use Rattle.std.proofs.lemmas.Bool.{ne_eqb, cases_lt, le-leb, lt-leb}
-use Rattle.std.proofs.lemmas.List.Elements.{Contains-append_cases}
-use Rattle.mux_types.specs.Facts.{Marked}
-use Rattle.fib_carousel.specs.Packing.{entries_where, entries_in_fib, NeverFalls, last_number}
-use Rattle.fib_carousel.specs.Greedy.{start, packing}
-use Rattle.fib_carousel.specs.Pages.{rounds, fib_entries, page_entries, pages_below, first_fib, fibs_of_page}
-use Rattle.fib_codec.specs.Layouts.{used_fibs}
+use Rattle.fib_carousel.proofs.Words.{[], ◌&&◌, ◌++◌, ◌+◌, ◌-◌, ◌/◌, ◌<◌, ◌==◌, ◌∙◌, ◌∷◌, ◌≡◌, ◌≤◌, Bool, Contains}
+use Rattle.fib_carousel.proofs.Words.{Contains-append_cases, FrameLayout, List, Marked, NeverFalls, ap, arith, cases_lt}
+use Rattle.fib_carousel.proofs.Words.{entries_in_fib, entries_where, eq-eqb, false, fib_entries, fibs_of_page}
+use Rattle.fib_carousel.proofs.Words.{first_fib, flat_map, if◌then◌else◌, inl, inr, last_number, le-leb, le-ltb, length}
+use Rattle.fib_carousel.proofs.Words.{lt-leb, lt-ltb, nat_le, nat_lt, ne_eqb, packing, page_entries, pages_below}
+use Rattle.fib_carousel.proofs.Words.{range_with_len, refl, rounds, start, subst, suc, sym, true, used_fibs, zero, ℕ}
 use Rattle.fib_carousel.proofs.Widths.{some_fibs, no_page, next_page, in_its_page, before_its_page, behind_its_page}
 use Rattle.fib_carousel.proofs.Widths.{later_page, within_its_page}
 use Rattle.fib_carousel.proofs.Least.{numbers_rise, length-numbers_from}

@@ -1,8 +1,6 @@
 -- The FIBs of a page written one after another.
-use Rattle.std.proofs.Common.{◌≡◌, ℕ, ◌+◌, ◌-◌, ◌<◌, List, [], ◌++◌, suc, replicate, map, flat_map, sym, ◌∙◌, ap, arith}
-use Rattle.std.proofs.Common.{append_assoc}
-use Rattle.std.specs.List.{range_with_len}
-use Rattle.fib_codec.specs.Spelling.{Written, fib_bytes}
+use Rattle.fib_carousel.proofs.Words.{[], ◌++◌, ◌+◌, ◌-◌, ◌<◌, ◌∙◌, ◌≡◌, List, Written, ap, append_assoc, arith}
+use Rattle.fib_carousel.proofs.Words.{fib_bytes, flat_map, map, range_with_len, replicate, suc, sym, ℕ}
 
 -- the FIBs still to be written, from this slot on
 pub fibs_left : (count first slot : ℕ) (figs : ℕ → List Written) → slot < count

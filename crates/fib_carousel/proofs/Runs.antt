@@ -1,24 +1,13 @@
 -- Entries placed one after another, and runs of entries of one head and size.
-use Rattle.std.proofs.Common.{◌≡◌, ℕ, zero, suc, ◌+◌, ◌-◌, ◌*◌, ◌/◌, ◌%◌, ◌<◌, ◌≤◌, Bool, true, false, List, [], ◌∷◌}
-use Rattle.std.proofs.Common.{◌++◌, length, map, drop, slice_get, Option, Some, None, refl, sym, ap, ◌∙◌, arith}
-use Rattle.std.proofs.Math.Nat.{div-mul-le_self, mod-eq-sub-div-mul, le-div_iff_mul-le, mod-lt}
-use Rattle.std.proofs.lemmas.Bool.{le-leb, lt-leb}
+use Rattle.fib_carousel.proofs.Words.{[], ◌%◌, ◌*◌, ◌++◌, ◌+◌, ◌-◌, ◌/◌, ◌<◌, ◌∙◌, ◌∷◌, ◌≡◌, ◌≤◌, Bool, Configuration}
+use Rattle.fib_carousel.proofs.Words.{EntryShape, FrameLayout, Head, List, Marked, None, Option, PackState, Packet}
+use Rattle.fib_carousel.proofs.Words.{Service, Some, Sub, all_placed, ap, arith, cost, div-mul-le_self, drop, facts_of}
+use Rattle.fib_carousel.proofs.Words.{false, head_of, last_number, le-div_iff_mul-le, le-leb, length, lt-leb, map}
+use Rattle.fib_carousel.proofs.Words.{marked, mod-eq-sub-div-mul, mod-lt, numbers_from, packet_entry, packet_shape}
+use Rattle.fib_carousel.proofs.Words.{page_set, placed, refl, room, rounds, service_entry, shape_cost, shape_of}
+use Rattle.fib_carousel.proofs.Words.{size_of, slice_get, start, state_at, step, steps, sub_entry, sub_shape, suc, sym}
+use Rattle.fib_carousel.proofs.Words.{true, used_fibs, zero, ℕ}
 use Rattle.mux_types.proofs.Walking.{cut}
-use Rattle.mux_types.specs.declared.parts.Sub.{Sub}
-use Rattle.mux_types.specs.declared.parts.Packet.{Packet}
-use Rattle.mux_types.specs.declared.parts.Service.{Service}
-use Rattle.mux_config.specs.Configuration.{Configuration}
-use Rattle.mux_types.specs.Facts.{Marked, marked, facts_of, sub_entry, service_entry, packet_entry}
-use Rattle.fib_codec.specs.declared.head.Head.{Head}
-use Rattle.fib_codec.specs.Layouts.{used_fibs}
-use Rattle.fib_codec.specs.Spelling.{head_of}
-use Rattle.fib_codec.specs.declared.frame_layout.FrameLayout.{FrameLayout}
-use Rattle.fib_carousel.specs.declared.pack_state.EntryShape.{EntryShape}
-use Rattle.fib_carousel.specs.declared.pack_state.PackState.{PackState}
-use Rattle.fib_carousel.specs.Packing.{room, cost, size_of, last_number}
-use Rattle.fib_carousel.specs.Greedy.{start, placed, numbers_from}
-use Rattle.fib_carousel.specs.Pages.{page_set, rounds}
-use Rattle.fib_carousel.specs.Runs.{shape_of, sub_shape, packet_shape, shape_cost, state_at, step, steps, all_placed}
 use Rattle.fib_carousel.proofs.Least.{room_low}
 use Rattle.fib_carousel.proofs.Sent.{same_head_own}
 use Rattle.fib_carousel.proofs.Walk.{IsThen}

@@ -1,25 +1,14 @@
 -- The three sets of a configuration in the list of its entries, and runs of entries in them.
-use Rattle.std.proofs.Common.{◌≡◌, ℕ, suc, ◌+◌, ◌-◌, ◌*◌, ◌<◌, ◌≤◌, Bool, false, List, [], ◌∷◌, ◌++◌, length, map, take}
-use Rattle.std.proofs.Common.{drop, slice_get, Some, refl, sym, ◌∙◌, ap, subst, arith, append_assoc, append-nil}
-use Rattle.std.proofs.lemmas.List.{length-append, length-map, length-drop, take-map, drop-map, take-append-le}
-use Rattle.std.proofs.lemmas.List.{drop-append-le, length-take-le}
-use Rattle.std.proofs.Math.Seq.{drop-append-add}
-use Rattle.mux_types.specs.declared.parts.Sub.{Sub}
-use Rattle.mux_types.specs.declared.parts.Service.{Service}
-use Rattle.mux_types.specs.declared.parts.Packet.{Packet}
-use Rattle.mux_config.specs.Configuration.{Configuration, IsConfiguration, IsService}
-use Rattle.std.proofs.lemmas.Option.{slice_get_within, get_or_from_slice_get}
-use Rattle.mux_types.specs.Facts.{Marked, marked, facts_of, sub_entry, service_entry, packet_entry}
-use Rattle.mux_types.specs.declared.entry.Entry.{Entry}
-use Rattle.fib_codec.specs.Spelling.{entry_bytes, entries_bytes, entry_size, head_of, is_long_entry}
-use Rattle.fib_codec.proofs.Lengths.{AllByRecursion-at}
+use Rattle.fib_carousel.proofs.Words.{[], ◌*◌, ◌++◌, ◌+◌, ◌-◌, ◌<◌, ◌∙◌, ◌∷◌, ◌≡◌, ◌≤◌, AllByRecursion-at, AreAlike}
+use Rattle.fib_carousel.proofs.Words.{Bool, Configuration, Entry, EntryShape, IsConfiguration, IsRun, IsService}
+use Rattle.fib_carousel.proofs.Words.{IsShapeAt, List, Marked, Packet, PutsRun, Service, Some, Sub, TakesRuns, ap}
+use Rattle.fib_carousel.proofs.Words.{append-nil, append_assoc, arith, config_entries, drop, drop-append-add}
+use Rattle.fib_carousel.proofs.Words.{drop-append-le, drop-map, entries_bytes, entry_bytes, entry_size, facts_of, false}
+use Rattle.fib_carousel.proofs.Words.{get_or_from_slice_get, head_of, is_long_entry, length, length-append, length-drop}
+use Rattle.fib_carousel.proofs.Words.{length-map, length-take-le, map, marked, marked_bytes, packet_entry, packet_shape}
+use Rattle.fib_carousel.proofs.Words.{piece, refl, service_entry, shape_of, size_of, slice_get, slice_get_within}
+use Rattle.fib_carousel.proofs.Words.{sub_entry, sub_shape, subst, suc, sym, take, take-append-le, take-map, ℕ}
 use Rattle.fib_carousel.proofs.Sharing.{same_fields}
-use Rattle.fib_carousel.specs.declared.pack_state.EntryShape.{EntryShape}
-use Rattle.fib_carousel.specs.Packing.{size_of}
-use Rattle.fib_carousel.specs.Items.{config_entries}
-use Rattle.fib_carousel.specs.Runs.{shape_of, sub_shape, packet_shape}
-use Rattle.fib_carousel.specs.Walk.{IsShapeAt}
-use Rattle.fib_carousel.specs.Shapes.{piece, AreAlike, IsRun, marked_bytes, PutsRun, TakesRuns}
 use Rattle.fib_carousel.proofs.Walk.{take_here}
 use Rattle.fib_carousel.proofs.Together.{in_run, run_shape, run_length, same_shape}
 

@@ -1,26 +1,14 @@
 -- Pages can carry every entry of a configuration.
-use Rattle.std.proofs.Common.{◌≡◌, ℕ, ◌+◌, ◌*◌, ◌<◌, ◌≤◌, Bool, true, false, List, [], ◌∷◌, ◌++◌, suc, length, map}
-use Rattle.std.proofs.Common.{Option, Some, None, IfSome, refl, ap, arith}
-use Rattle.std.proofs.lemmas.List.{length-map}
+use Rattle.fib_carousel.proofs.Words.{[], ◌*◌, ◌++◌, ◌+◌, ◌<◌, ◌∷◌, ◌≡◌, ◌≤◌, AllByRecursion, AreSendable, Bool}
+use Rattle.fib_carousel.proofs.Words.{Component, Configuration, Entry, IfSome, IsAddressed, IsComponent}
+use Rattle.fib_carousel.proofs.Words.{IsComponentEntry, IsConfiguration, IsPlaced, IsSendable, IsService, List, Long}
+use Rattle.fib_carousel.proofs.Words.{None, Option, Packet, Service, Short, Sid, Some, Sub, ap, arith}
+use Rattle.fib_carousel.proofs.Words.{component_entries, component_entry, component_limit, facts_of, false, length}
+use Rattle.fib_carousel.proofs.Words.{length-map, map, marked, option_of, packet_entry, page_set, refl, service_entries}
+use Rattle.fib_carousel.proofs.Words.{service_entry, sid_size, sub_entries, sub_entry, suc, true, ℕ}
 use Rattle.mux_eep.specs.declared.sizes.EepSet.{EepSet}
 use Rattle.mux_eep.specs.declared.sizes.EepSet.TheVariants.{A, B}
-use Rattle.mux_config.specs.Configuration.{Configuration, IsConfiguration, IsPlaced, IsService, IsAddressed}
-use Rattle.mux_config.specs.Configuration.{IsComponent, component_limit}
-use Rattle.std.specs.List.{AllByRecursion}
-use Rattle.mux_types.specs.Facts.{marked, facts_of, sub_entry, service_entry, packet_entry, sub_entries}
-use Rattle.mux_types.specs.Facts.{service_entries, component_entry, component_entries, option_of}
-use Rattle.mux_types.specs.declared.parts.Sub.{Sub}
-use Rattle.mux_types.specs.declared.parts.Service.{Service}
-use Rattle.mux_types.specs.declared.parts.Packet.{Packet}
-use Rattle.mux_types.specs.declared.parts.Component.{Component}
 use Rattle.mux_types.specs.declared.parts.Component.TheVariants.{Sound, Stream, Packet as InPackets}
-use Rattle.mux_types.specs.declared.entry.Entry.{Entry}
-use Rattle.mux_types.specs.declared.numbers.Sid.{Sid}
-use Rattle.mux_types.specs.declared.numbers.Sid.TheVariants.{Short, Long}
-use Rattle.fib_codec.specs.Ranges.{IsComponentEntry}
-use Rattle.fib_codec.specs.Spelling.{sid_size}
-use Rattle.fib_carousel.specs.Pages.{page_set}
-use Rattle.fib_carousel.specs.Carried.{IsSendable, AreSendable}
 
 pub each_append : {A : Type 0} (P : A → Type 0) (xs ys : List A) → AllByRecursion P xs → AllByRecursion P ys
     → AllByRecursion P (xs ++ ys)

@@ -1,20 +1,11 @@
 -- The entries of a FIB sent as FIGs.
-use Rattle.std.proofs.Common.{◌≡◌, ℕ, ◌+◌, ◌≤◌, Bool, true, false, List, [], ◌∷◌, Option, Some, None, IsSome, ◌%◌, refl}
-use Rattle.std.proofs.Common.{ap, subst, inl, inr, arith, eq-eqb}
-use Rattle.fib_codec.specs.declared.frame_layout.FrameLayout.{FrameLayout}
-use Rattle.std.specs.List.{AllByRecursion}
-use Rattle.mux_types.specs.Entries.{EnsembleInformation}
-use Rattle.mux_types.specs.Facts.{Marked}
-use Rattle.mux_types.specs.declared.entry.Entry.{Entry}
+use Rattle.fib_carousel.proofs.Words.{[], ◌%◌, ◌+◌, ◌∷◌, ◌≡◌, ◌≤◌, AllByRecursion, AreSendable, AreSmall, Bool}
+use Rattle.fib_carousel.proofs.Words.{EnsembleInformation, Entry, FrameLayout, Head, IsSendable, IsSome, IsUnder}
+use Rattle.fib_carousel.proofs.Words.{IsWritten, List, Marked, None, Option, Some, Written, ap, arith, eq-eqb, ext_of}
+use Rattle.fib_carousel.proofs.Words.{false, fib_entries, figs_of, figs_size, head_of, inl, inr, refl, room, same_flag}
+use Rattle.fib_carousel.proofs.Words.{same_head, subst, true, used_fibs, with_entry_first, ℕ}
 use Rattle.mux_types.specs.declared.entry.Entry.TheVariants.{Ensemble as EnsembleOf, Sub as SubOf, Short as ShortOf}
 use Rattle.mux_types.specs.declared.entry.Entry.TheVariants.{Service as ServiceOf, Packet as PacketOf}
-use Rattle.fib_codec.specs.declared.head.Head.{Head}
-use Rattle.fib_codec.specs.Layouts.{used_fibs}
-use Rattle.fib_codec.specs.Spelling.{Written, IsWritten, IsUnder, head_of, ext_of}
-use Rattle.fib_carousel.specs.Packing.{same_flag, same_head, figs_size, room, AreSmall}
-use Rattle.fib_carousel.specs.Pages.{fib_entries}
-use Rattle.fib_carousel.specs.Bytes.{with_entry_first, figs_of}
-use Rattle.fib_carousel.specs.Carried.{IsSendable, AreSendable}
 use Rattle.fib_carousel.proofs.Least.{room_high, room_cases, greedy_is_packing}
 use Rattle.fib_carousel.proofs.Sharing.{same_head_is, written_of}
 

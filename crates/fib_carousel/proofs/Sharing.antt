@@ -1,15 +1,8 @@
 -- Successive entries with the same head in one FIG, from the front.
-use Rattle.std.proofs.Common.{◌≡◌, ℕ, ◌+◌, ◌==◌, Bool, true, false, ◌&&◌, List, [], ◌∷◌, length, Some, None, refl, sym}
-use Rattle.std.proofs.Common.{◌∙◌, ap, if◌then◌else◌, arith}
-use Rattle.std.proofs.lemmas.Bool.{eqb-true}
-use Rattle.std.proofs.lemmas.List.{length-append}
-use Rattle.mux_types.specs.Facts.{Marked}
-use Rattle.mux_types.specs.declared.entry.Entry.{Entry}
-use Rattle.fib_codec.specs.declared.head.Head.{Head}
-use Rattle.fib_codec.specs.Spelling.{Written, head_of, figs_bytes}
-use Rattle.fib_codec.proofs.Lengths.{entry_length}
-use Rattle.fib_carousel.specs.Packing.{size_of, same_flag, same_head, figs_size}
-use Rattle.fib_carousel.specs.Bytes.{with_entry_first, figs_of, run_of}
+use Rattle.fib_carousel.proofs.Words.{[], ◌&&◌, ◌+◌, ◌==◌, ◌∙◌, ◌∷◌, ◌≡◌, Bool, Entry, Head, List, Marked, None, Some}
+use Rattle.fib_carousel.proofs.Words.{Written, ap, arith, entry_length, eqb-true, false, figs_bytes, figs_of, figs_size}
+use Rattle.fib_carousel.proofs.Words.{head_of, if◌then◌else◌, length, length-append, refl, run_of, same_flag, same_head}
+use Rattle.fib_carousel.proofs.Words.{size_of, sym, true, with_entry_first, ℕ}
 
 -- only equal heads are the same
 same_flag_is : (a b : Bool) → same_flag a b ≡ true → a ≡ b

@@ -1,21 +1,11 @@
 -- The entries of a configuration, each with its C/N flag, and those of two side by side.
-use Rattle.std.proofs.Common.{◌≡◌, ℕ, ◌+◌, ◌-◌, ◌<◌, ◌≤◌, Bool, true, false, List, ◌++◌, length, slice_get, get_or}
-use Rattle.std.proofs.Common.{subst, Option, Some, None, option_map, refl, sym, ◌∙◌, ap, arith}
-use Rattle.std.proofs.lemmas.List.{length-append, length-map, get_or_append_left}
-use Rattle.std.proofs.Math.Seq.{get_or-append_right}
-use Rattle.std.proofs.lemmas.Option.{slice_get-map, slice_get-get_or, slice_get_within, slice_get_read}
-use Rattle.std.proofs.lemmas.Option.{get_or_from_slice_get}
-use Rattle.mux_config.specs.Configuration.{Configuration}
-use Rattle.mux_types.specs.Facts.{marked, facts_of}
-use Rattle.mux_types.specs.declared.entry.Entry.{Entry}
-use Rattle.fib_carousel.specs.Items.{config_entries}
-use Rattle.fib_carousel.specs.Pages.{page_set}
-use Rattle.mux_types.specs.Facts.{Marked}
-use Rattle.fib_codec.specs.Spelling.{head_of}
-use Rattle.fib_carousel.specs.declared.pack_state.EntryShape.{EntryShape}
-use Rattle.fib_carousel.specs.Packing.{size_of}
-use Rattle.fib_carousel.specs.Walk.{IsShapeAt}
-use Rattle.fib_carousel.specs.Shapes.{piece, AreAlike, IsRun, marked_bytes, PutsRun, TakesRuns}
+use Rattle.fib_carousel.proofs.Words.{◌++◌, ◌+◌, ◌-◌, ◌<◌, ◌∙◌, ◌≡◌, ◌≤◌, AreAlike, Bool, Configuration, Entry}
+use Rattle.fib_carousel.proofs.Words.{EntryShape, IsRun, IsShapeAt, List, Marked, None, Option, PutsRun, Some}
+use Rattle.fib_carousel.proofs.Words.{TakesRuns, ap, arith, config_entries, facts_of, false, get_or}
+use Rattle.fib_carousel.proofs.Words.{get_or-append_right, get_or_append_left, get_or_from_slice_get, head_of, length}
+use Rattle.fib_carousel.proofs.Words.{length-append, length-map, marked, marked_bytes, option_map, page_set, piece}
+use Rattle.fib_carousel.proofs.Words.{refl, size_of, slice_get, slice_get-get_or, slice_get-map, slice_get_read}
+use Rattle.fib_carousel.proofs.Words.{slice_get_within, subst, sym, true, ℕ}
 use Rattle.fib_carousel.proofs.Filling.{same_there}
 use Rattle.fib_carousel.proofs.Sections.{piece_front, piece_behind}
 

@@ -1,13 +1,8 @@
 -- A division read entry by entry.
-use Rattle.std.proofs.Common.{◌≡◌, ℕ, ◌+◌, ◌<◌, ◌≤◌, List, [], ◌∷◌, length, Option, Some, None, refl, sym, ◌∙◌, ap}
-use Rattle.std.proofs.Common.{subst, inl, inr, ◌⊎◌, arith, eq-eqb}
-use Rattle.fib_codec.specs.declared.frame_layout.FrameLayout.{FrameLayout}
-use Rattle.std.proofs.lemmas.Bool.{ne_eqb, cases_lt}
-use Rattle.mux_types.specs.Facts.{Marked}
-use Rattle.fib_carousel.specs.declared.pack_state.PackState.{PackState}
-use Rattle.fib_codec.specs.Spelling.{head_of}
-use Rattle.fib_carousel.specs.Packing.{room, size_of, cost, figs_size, entries_in_fib, NeverFalls, IsDivision}
-use Rattle.fib_carousel.specs.Greedy.{extended, opened, start}
+use Rattle.fib_carousel.proofs.Words.{[], ◌+◌, ◌<◌, ◌∙◌, ◌∷◌, ◌≡◌, ◌≤◌, ◌⊎◌, FrameLayout, IsDivision, List, Marked}
+use Rattle.fib_carousel.proofs.Words.{NeverFalls, None, Option, PackState, Some, ap, arith, cases_lt, cost}
+use Rattle.fib_carousel.proofs.Words.{entries_in_fib, eq-eqb, extended, figs_size, head_of, inl, inr, length, ne_eqb}
+use Rattle.fib_carousel.proofs.Words.{opened, refl, room, size_of, start, subst, sym, ℕ}
 
 -- from state p on, each entry continues in its FIB or opens a later one
 abbrev pub Goes : (layout : FrameLayout) → PackState → List Marked → List ℕ → Type 0

@@ -1,29 +1,15 @@
 -- Successive entries with the same head and size: the position after all of them, and their FIG with all of them.
-use Rattle.std.proofs.Common.{◌≡◌, ℕ, zero, suc, ◌+◌, ◌-◌, ◌*◌, ◌<◌, ◌≤◌, true, false, Bool, Option, Some, None, List}
-use Rattle.std.proofs.Common.{[], ◌∷◌, ◌++◌, length, map, take, drop, slice_get, get_or, slice_index_or, slice_set}
-use Rattle.std.proofs.Common.{refl, sym, ◌∙◌, ap, subst, inl, inr, arith, append_assoc, append-nil}
-use Rattle.std.proofs.lemmas.List.{length-append, length-set, length-drop, length-take-le, get_or-take, get_or-drop}
-use Rattle.std.proofs.lemmas.List.{drop-drop}
-use Rattle.std.proofs.lemmas.Option.{slice_get-get_or}
-use Rattle.std.proofs.Math.Seq.{get_or-append_seam, set-append_seam, take-add}
-use Rattle.mux_types.specs.Facts.{Marked}
-use Rattle.mux_types.specs.declared.entry.Entry.{Entry}
-use Rattle.fib_codec.specs.declared.head.Head.{Head}
-use Rattle.fib_codec.specs.declared.frame_layout.FrameLayout.{FrameLayout}
-use Rattle.fib_codec.specs.Spelling.{Written, head_of, head_byte, entry_bytes, entries_bytes, fig_bytes, figs_bytes}
-use Rattle.fib_codec.proofs.Lengths.{AllByRecursion-at, entry_length, flat_map-append}
-use Rattle.fib_carousel.specs.declared.pack_state.EntryShape.{EntryShape}
-use Rattle.fib_carousel.specs.declared.pack_state.PackState.{PackState}
-use Rattle.fib_carousel.specs.declared.pack_state.Position.{Position}
-use Rattle.fib_carousel.specs.declared.page_writer.OpenFig.{OpenFig}
-use Rattle.fib_carousel.specs.Packing.{room, size_of, same_head, figs_size}
-use Rattle.fib_carousel.specs.Greedy.{placed}
-use Rattle.fib_carousel.specs.Pages.{fib_entries}
-use Rattle.fib_carousel.specs.Bytes.{figs_of}
-use Rattle.fib_carousel.specs.Walk.{IsShapeAt}
-use Rattle.fib_carousel.specs.Filling.{Grows, GrowsBy}
-use Rattle.fib_carousel.specs.Runs.{shape_of, state_at, step}
-use Rattle.fib_carousel.specs.Shapes.{piece, AreAlike, IsRun, marked_bytes, PutsRun, TakesRuns}
+use Rattle.fib_carousel.proofs.Words.{[], ◌*◌, ◌++◌, ◌+◌, ◌-◌, ◌<◌, ◌∙◌, ◌∷◌, ◌≡◌, ◌≤◌, AllByRecursion-at, AreAlike}
+use Rattle.fib_carousel.proofs.Words.{Bool, Entry, EntryShape, FrameLayout, Grows, GrowsBy, Head, IsRun, IsShapeAt}
+use Rattle.fib_carousel.proofs.Words.{List, Marked, None, OpenFig, Option, PackState, Position, PutsRun, Some}
+use Rattle.fib_carousel.proofs.Words.{TakesRuns, Written, ap, append-nil, append_assoc, arith, drop, drop-drop}
+use Rattle.fib_carousel.proofs.Words.{entries_bytes, entry_bytes, entry_length, false, fib_entries, fig_bytes}
+use Rattle.fib_carousel.proofs.Words.{figs_bytes, figs_of, figs_size, flat_map-append, get_or, get_or-append_seam}
+use Rattle.fib_carousel.proofs.Words.{get_or-drop, get_or-take, head_byte, head_of, inl, inr, length, length-append}
+use Rattle.fib_carousel.proofs.Words.{length-drop, length-set, length-take-le, map, marked_bytes, piece, placed, refl}
+use Rattle.fib_carousel.proofs.Words.{room, same_head, set-append_seam, shape_of, size_of, slice_get, slice_get-get_or}
+use Rattle.fib_carousel.proofs.Words.{slice_index_or, slice_set, state_at, step, subst, suc, sym, take, take-add, true}
+use Rattle.fib_carousel.proofs.Words.{zero, ℕ}
 use Rattle.fib_carousel.proofs.Least.{placed_cases, room_high}
 use Rattle.fib_carousel.proofs.Sharing.{same_head_is, figs_cost, written_of}
 use Rattle.fib_carousel.proofs.Sent.{same_head_own}

@@ -1,14 +1,7 @@
 -- A cursor advances from page to page.
-use Rattle.std.proofs.Common.{◌≡◌, ℕ, ◌+◌, ◌-◌, ◌/◌, ◌<◌, ◌≤◌, List, length, inl, inr, if◌then◌else◌, ap, arith, lt-ltb}
-use Rattle.std.proofs.Common.{le-ltb}
-use Rattle.mux_types.specs.Facts.{Marked}
-use Rattle.fib_codec.specs.Layouts.{used_fibs}
-use Rattle.fib_codec.specs.declared.frame_layout.FrameLayout.{FrameLayout}
-use Rattle.fib_carousel.specs.declared.pack_state.Position.{Position}
-use Rattle.fib_carousel.specs.Packing.{last_number}
-use Rattle.fib_carousel.specs.Greedy.{packing}
-use Rattle.fib_carousel.specs.Pages.{rounds, first_fib, page_after}
-use Rattle.fib_carousel.specs.Walk.{IsAtFib, HasPassed}
+use Rattle.fib_carousel.proofs.Words.{◌+◌, ◌-◌, ◌/◌, ◌<◌, ◌≡◌, ◌≤◌, FrameLayout, HasPassed, IsAtFib, List, Marked}
+use Rattle.fib_carousel.proofs.Words.{Position, ap, arith, first_fib, if◌then◌else◌, inl, inr, last_number, le-ltb}
+use Rattle.fib_carousel.proofs.Words.{length, lt-ltb, packing, page_after, rounds, used_fibs, ℕ}
 use Rattle.fib_carousel.proofs.Walk.{last_end}
 use Rattle.fib_carousel.proofs.Widths.{last_in, last_over}
 

@@ -1,17 +1,9 @@
 -- Examples of runs: for each definition one that satisfies it, and one that does not.
-use Rattle.std.proofs.Common.{◌≡◌, ℕ, ◌+◌, ◌*◌, ◌<◌, ◌≤◌, true, false, List, [], ◌∷◌, replicate, refl, sym, ◌∙◌, ap}
-use Rattle.std.proofs.Common.{subst, arith}
-use Rattle.mux_types.specs.Facts.{Marked, marked}
+use Rattle.fib_carousel.proofs.Words.{[], ◌*◌, ◌+◌, ◌<◌, ◌∙◌, ◌∷◌, ◌≡◌, ◌≤◌, EntryShape, I, IsPlacedAfter, IsRun}
+use Rattle.fib_carousel.proofs.Words.{IsThenWithin, List, Marked, PackState, PutsRun, TakesRuns, Whole, ap, arith}
+use Rattle.fib_carousel.proofs.Words.{false, head_of, marked, placed, refl, replicate, shape_of, size_of, start}
+use Rattle.fib_carousel.proofs.Words.{state_at, step, sub_shape, subst, sym, true, ℕ}
 use Rattle.mux_types.specs.declared.entry.Entry.TheVariants.{Sub as SubOf}
-use Rattle.fib_codec.specs.declared.modes.Mode.TheVariants.{I}
-use Rattle.fib_codec.specs.declared.frame_layout.FrameLayout.TheVariants.{Whole}
-use Rattle.fib_codec.specs.Spelling.{head_of}
-use Rattle.fib_carousel.specs.declared.pack_state.EntryShape.{EntryShape}
-use Rattle.fib_carousel.specs.declared.pack_state.PackState.{PackState}
-use Rattle.fib_carousel.specs.Packing.{size_of}
-use Rattle.fib_carousel.specs.Greedy.{start, placed}
-use Rattle.fib_carousel.specs.Runs.{sub_shape, shape_of, state_at, step, IsThenWithin, IsPlacedAfter}
-use Rattle.fib_carousel.specs.Shapes.{IsRun, PutsRun, TakesRuns}
 use Rattle.fib_carousel.proofs.Runs.{placed_step}
 use Rattle.fib_carousel.proofs.Together.{same_shape}
 

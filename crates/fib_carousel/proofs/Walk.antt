@@ -1,18 +1,10 @@
 -- Walking the list entry by entry.
-use Rattle.std.proofs.Common.{◌≡◌, ℕ, ◌+◌, ◌-◌, ◌*◌, ◌<◌, ◌≤◌, List, [], ◌∷◌, ◌++◌, length, take, drop, slice_get}
-use Rattle.std.proofs.Common.{get_or, Some, refl, sym, ◌∙◌, ap, subst, inl, inr, ◌⊎◌, arith, append_assoc}
-use Rattle.fib_codec.specs.declared.frame_layout.FrameLayout.{FrameLayout}
-use Rattle.std.proofs.lemmas.List.{drop_more, drop_all, take_more, get_or-drop, length-drop, append-nil}
-use Rattle.std.proofs.lemmas.Option.{slice_get_within, get_or_from_slice_get}
-use Rattle.mux_types.specs.Facts.{Marked}
-use Rattle.fib_codec.specs.Spelling.{head_of}
-use Rattle.fib_carousel.specs.declared.pack_state.PackState.{PackState}
-use Rattle.fib_carousel.specs.declared.pack_state.EntryShape.{EntryShape}
-use Rattle.fib_carousel.specs.declared.pack_state.Position.{Position}
-use Rattle.fib_carousel.specs.Packing.{size_of, entries_in_fib, last_number}
-use Rattle.fib_carousel.specs.Greedy.{placed, numbers_from, packing, start}
-use Rattle.fib_carousel.specs.Pages.{rounds, fib_entries}
-use Rattle.fib_carousel.specs.Walk.{IsShapeAt, IsAtFib, HasPassed}
+use Rattle.fib_carousel.proofs.Words.{[], ◌*◌, ◌++◌, ◌+◌, ◌-◌, ◌<◌, ◌∙◌, ◌∷◌, ◌≡◌, ◌≤◌, ◌⊎◌, EntryShape, FrameLayout}
+use Rattle.fib_carousel.proofs.Words.{HasPassed, IsAtFib, IsShapeAt, List, Marked, PackState, Position, Some, ap}
+use Rattle.fib_carousel.proofs.Words.{append-nil, append_assoc, arith, drop, drop_all, drop_more, entries_in_fib}
+use Rattle.fib_carousel.proofs.Words.{fib_entries, get_or, get_or-drop, get_or_from_slice_get, head_of, inl, inr}
+use Rattle.fib_carousel.proofs.Words.{last_number, length, length-drop, numbers_from, packing, placed, refl, rounds}
+use Rattle.fib_carousel.proofs.Words.{size_of, slice_get, slice_get_within, start, subst, sym, take, take_more, ℕ}
 use Rattle.fib_carousel.proofs.Steps.{in_fib_same, in_fib_other, in_fib_past}
 use Rattle.fib_carousel.proofs.Least.{placed_cases, placed_above, numbers_rise}
 use Rattle.fib_carousel.proofs.Pieces.{last_rises}

@@ -1,9 +1,6 @@
 -- The number of FIBs of a page: two to four.
-use Rattle.std.proofs.Common.{◌≡◌, ℕ, ◌+◌, ◌-◌, ◌*◌, ◌/◌, ◌%◌, ◌<◌, ◌≤◌, suc, arith, subst, sym}
-use Rattle.fib_codec.specs.declared.frame_layout.FrameLayout.{FrameLayout}
-use Rattle.fib_codec.specs.declared.frame_layout.FrameLayout.TheVariants.{Whole, ReserveOne, ReserveTwo}
-use Rattle.fib_codec.specs.declared.modes.Mode.TheVariants.{I, II, III, IV}
-use Rattle.fib_codec.specs.Layouts.{used_fibs}
+use Rattle.fib_carousel.proofs.Words.{◌%◌, ◌*◌, ◌+◌, ◌-◌, ◌/◌, ◌<◌, ◌≡◌, ◌≤◌, FrameLayout, I, II, III, IV, ReserveOne}
+use Rattle.fib_carousel.proofs.Words.{ReserveTwo, Whole, arith, subst, suc, sym, used_fibs, ℕ}
 
 -- what holds of each width holds of each layout
 pub by_width : (P : ℕ → Type 0) → P 2 → P 3 → P 4 → (layout : FrameLayout) → P (used_fibs layout)

@@ -1,12 +1,9 @@
 -- A FIB that is being written, byte by byte.
-use Rattle.std.proofs.Common.{◌≡◌, ℕ, suc, ◌+◌, ◌-◌, ◌<◌, ◌≤◌, List, ◌∷◌, ◌++◌, length, take, drop, replicate}
-use Rattle.std.proofs.Common.{slice_set, lt-ltb, le-ltb, inl, inr, sym, ◌∙◌, ap, arith}
-use Rattle.std.proofs.lemmas.List.{drop-drop, drop-set, drop-set-lt, drop-replicate, take-replicate, take-append-drop}
-use Rattle.std.proofs.lemmas.List.{length-set, length-take-le}
-use Rattle.std.proofs.lemmas.Bool.{cases_lt}
-use Rattle.std.proofs.Math.Seq.{take-append-add}
+use Rattle.fib_codec.proofs.Words.{◌++◌, ◌+◌, ◌-◌, ◌<◌, ◌∙◌, ◌∷◌, ◌≡◌, ◌≤◌, List, ap, arith, cases_lt, drop, drop-drop}
+use Rattle.fib_codec.proofs.Words.{drop-replicate, drop-set, drop-set-lt, filled, inl, inr, le-ltb, length, length-set}
+use Rattle.fib_codec.proofs.Words.{length-take-le, lt-ltb, replicate, slice_set, suc, sym, take, take-append-add}
+use Rattle.fib_codec.proofs.Words.{take-append-drop, take-replicate, ℕ}
 use Rattle.fib_codec.specs.Begun.{IsBegun}
-use Rattle.fib_codec.specs.Spelling.{filled}
 
 -- the zeros after this many more bytes
 zeros_after : (size more : ℕ) (bytes : List ℕ) → IsBegun size bytes

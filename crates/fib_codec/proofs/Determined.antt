@@ -1,27 +1,15 @@
 -- An entry is determined by its encoding.
-use Rattle.std.proofs.Common.{◌≡◌, ℕ, ◌+◌, ◌*◌, ◌/◌, ◌%◌, ◌<◌, Bool, true, false, Option, Some, None, is_some, List, []}
-use Rattle.std.proofs.Common.{◌∷◌, ◌++◌, length, refl, ap, ap₂, arith}
-use Rattle.std.specs.Prelude.{IfSome}
-use Rattle.mux_types.specs.Configuration.{IsSid}
-use Rattle.std.specs.List.{AllByRecursion}
-use Rattle.mux_types.specs.Entries.{EnsembleInformation}
-use Rattle.mux_types.specs.declared.numbers.Sid.{Sid}
-use Rattle.mux_types.specs.declared.numbers.Sid.TheVariants.{Short, Long}
-use Rattle.mux_types.specs.declared.entry.Entry.{Entry}
+use Rattle.fib_codec.proofs.Words.{[], ◌%◌, ◌*◌, ◌++◌, ◌+◌, ◌/◌, ◌<◌, ◌∷◌, ◌≡◌, AllByRecursion, Bool, ComponentEntry}
+use Rattle.fib_codec.proofs.Words.{EnsembleInformation, Entry, IfSome, IsComponentEntry, IsEnsembleInformation}
+use Rattle.fib_codec.proofs.Words.{IsPacketEntry, IsServiceEntry, IsShortEntry, IsSid, IsSubEntry, IsWithin, List, Long}
+use Rattle.fib_codec.proofs.Words.{None, Option, Packet, PacketEntry, ServiceEntry, Short, ShortEntry, Sid, Some, Sound}
+use Rattle.fib_codec.proofs.Words.{Stream, SubEntry, ap, ap₂, arith, big_bytes, bit_of, ca_org_bytes, component_u16}
+use Rattle.fib_codec.proofs.Words.{components_bytes, ensemble_bytes, entry_bytes, ext_of, false, is_long_entry}
+use Rattle.fib_codec.proofs.Words.{is_long_sid, is_some, length, occurrence_bytes, packet_bytes, refl, service_bytes}
+use Rattle.fib_codec.proofs.Words.{short_bytes, sid_bytes, sub_bytes, true, ℕ}
+use Rattle.mux_types.specs.declared.entry.ComponentEntry.TheVariants.{Other}
 use Rattle.mux_types.specs.declared.entry.Entry.TheVariants.{Ensemble as EnsembleOf, Sub as SubOf, Short as ShortOf}
 use Rattle.mux_types.specs.declared.entry.Entry.TheVariants.{Service as ServiceOf, Packet as PacketOf}
-use Rattle.mux_types.specs.declared.entry.SubEntry.{SubEntry}
-use Rattle.mux_types.specs.declared.entry.ShortEntry.{ShortEntry}
-use Rattle.mux_types.specs.declared.entry.ServiceEntry.{ServiceEntry}
-use Rattle.mux_types.specs.declared.entry.PacketEntry.{PacketEntry}
-use Rattle.mux_types.specs.declared.entry.ComponentEntry.{ComponentEntry}
-use Rattle.mux_types.specs.declared.entry.ComponentEntry.TheVariants.{Sound, Stream, Other, Packet}
-use Rattle.byteorder.specs.Endian.{big_bytes}
-use Rattle.fib_codec.specs.Ranges.{IsWithin, IsEnsembleInformation, IsSubEntry, IsShortEntry, IsServiceEntry}
-use Rattle.fib_codec.specs.Ranges.{IsPacketEntry, IsComponentEntry}
-use Rattle.fib_codec.specs.Spelling.{bit_of, ensemble_bytes, sub_bytes, short_bytes, service_bytes, packet_bytes}
-use Rattle.fib_codec.specs.Spelling.{component_u16, components_bytes, occurrence_bytes, ca_org_bytes, sid_bytes}
-use Rattle.fib_codec.specs.Spelling.{is_long_sid, entry_bytes, ext_of, is_long_entry}
 use Rattle.fib_codec.proofs.Finished.{bit_small}
 
 same_bit : (a b : Bool) → bit_of a ≡ bit_of b → a ≡ b

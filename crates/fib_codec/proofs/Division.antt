@@ -1,14 +1,13 @@
 -- The register performs the long division: the rest of the dividend, with the register added at its front, leaves the
 -- remainder that the whole leaves.
-use Rattle.std.proofs.Common.{◌≡◌, ℕ, zero, suc, ◌+◌, ◌-◌, ◌*◌, ◌/◌, ◌%◌, ◌^◌, ◌<◌, ◌≤◌, eqb, List, [], ◌∷◌, ◌++◌, map}
-use Rattle.std.proofs.Common.{length, replicate, refl, sym, ◌∙◌, ap, arith, inl, inr, append_assoc}
-use Rattle.std.proofs.lemmas.Bool.{cases_Bool, cond-true, cond-false, eqb-true, eqb-false}
-use Rattle.std.proofs.lemmas.Nat.Bits.{bit_at-suc, bit_at_xor, bit_at_cat_low, bit_at-lt, bit_at_ones, shr_and_one}
-use Rattle.std.specs.Prelude.{bit_xor, bit_and}
-use Rattle.std.specs.Int.{bit_at}
-use Rattle.fib_codec.specs.Crc.{low_bits, bits_of_bytes, AreBits, plus, generator, without_leading, divided, dividend}
-use Rattle.fib_codec.specs.Crc.{check_bits}
-use Rattle.fib_codec.specs.Register.{next, after, after_all}
+use Rattle.fib_codec.proofs.Words.{[], ◌%◌, ◌*◌, ◌++◌, ◌+◌, ◌-◌, ◌/◌, ◌<◌, ◌^◌, ◌∙◌, ◌∷◌, ◌≡◌, ◌≤◌, AreBits, List}
+use Rattle.fib_codec.proofs.Words.{after_all, ap, append_assoc, arith, bit_and, bit_at, bit_at-lt, bit_at-suc}
+use Rattle.fib_codec.proofs.Words.{bit_at_cat_low, bit_at_ones, bit_at_xor, bit_xor, bits_of_bytes, cases_Bool}
+use Rattle.fib_codec.proofs.Words.{check_bits, cond-false, cond-true, dividend, eqb, eqb-false, eqb-true, generator}
+use Rattle.fib_codec.proofs.Words.{inl, inr, length, map, next, plus, refl, replicate, shr_and_one, suc, sym}
+use Rattle.fib_codec.proofs.Words.{without_leading, zero, ℕ}
+use Rattle.fib_codec.specs.Crc.{low_bits, divided}
+use Rattle.fib_codec.specs.Register.{after}
 
 -- ---- bits of numbers
 pub bits_of-suc : (w n : ℕ) → low_bits (suc w) n ≡ bit_at n w ∷ low_bits w n

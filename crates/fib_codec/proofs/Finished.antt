@@ -1,34 +1,20 @@
 -- A FIB that is written is in the grammar with exactly the FIGs that were appended.
-use Rattle.std.proofs.Common.{◌≡◌, ◌≢◌, inl, inr, ℕ, zero, suc, ◌+◌, ◌-◌, ◌*◌, ◌/◌, ◌%◌, ◌<◌, ◌≤◌, ◌↔◌, Bool, true}
-use Rattle.std.proofs.Common.{false, cond, eqb, ltb, Option, Some, None, is_some, List, [], ◌∷◌, ◌++◌, map, length}
-use Rattle.std.proofs.Common.{replicate, refl, sym, ◌∙◌, ap, ap₂, subst, subst₂, arith, length-append, append_assoc}
-use Rattle.std.proofs.Common.{append-nil, take_at, lt-ltb, le-ltb, eq-eqb, ne_eqb}
-use Rattle.std.specs.Prelude.{flat_map, IsSome}
-use Rattle.std.proofs.lemmas.List.{length-replicate}
-use Rattle.std.proofs.lemmas.Bool.{and_from, and_left, and_right, cases_lt, cond-true, cond-false, cond_both, ltb-true}
-use Rattle.std.proofs.lemmas.Bool.{ltb-false}
-use Rattle.std.specs.List.{AllByRecursion}
-use Rattle.mux_types.specs.Entries.{EnsembleInformation}
-use Rattle.mux_types.specs.declared.numbers.Sid.{Sid}
-use Rattle.mux_types.specs.declared.numbers.Sid.TheVariants.{Short, Long}
-use Rattle.mux_types.specs.declared.entry.Entry.{Entry}
+use Rattle.fib_codec.proofs.Words.{[], ◌%◌, ◌*◌, ◌++◌, ◌+◌, ◌-◌, ◌/◌, ◌<◌, ◌↔◌, ◌∙◌, ◌∷◌, ◌≡◌, ◌≢◌, ◌≤◌, AllByRecursion}
+use Rattle.fib_codec.proofs.Words.{AreEntries, AreFigs, Bool, ComponentEntry, EnsembleInformation, Entry, Head, IsBody}
+use Rattle.fib_codec.proofs.Words.{IsCounted, IsEnsembleInformation, IsEntry, IsFib, IsFig, IsOpen, IsOurs}
+use Rattle.fib_codec.proofs.Words.{IsPacketEntry, IsServiceEntry, IsShortEntry, IsSome, IsSubEntry, IsUnder, IsValid}
+use Rattle.fib_codec.proofs.Words.{IsWithin, IsWritten, List, Long, None, Open, Option, Other, PacketEntry}
+use Rattle.fib_codec.proofs.Words.{ServiceEntry, Short, ShortEntry, Sid, Some, SubEntry, Written, and_from, and_left}
+use Rattle.fib_codec.proofs.Words.{and_right, ap, append-nil, append_assoc, ap₂, arith, bit_of, ca_org_bytes, cases_lt}
+use Rattle.fib_codec.proofs.Words.{checked, components_bytes, cond, cond-false, cond-true, cond_both, ensemble_bytes}
+use Rattle.fib_codec.proofs.Words.{ensemble_len, entries_bytes, entry_bytes, entry_len, eq-eqb, eqb, false, fig_bytes}
+use Rattle.fib_codec.proofs.Words.{fig_of, fig_spelled, figs_bytes, filled, flat_map, head_byte, inl, inr, is_long}
+use Rattle.fib_codec.proofs.Words.{is_long_sid, is_next, is_open, is_some, le-ltb, length, length-append}
+use Rattle.fib_codec.proofs.Words.{length-replicate, lt-ltb, ltb, ltb-false, ltb-true, map, ne_eqb, occurrence_bytes}
+use Rattle.fib_codec.proofs.Words.{packet_bytes, packet_len, refl, replicate, service_bytes, service_len, short_bytes}
+use Rattle.fib_codec.proofs.Words.{sid_bytes, sub_bytes, sub_len, subst, subst₂, suc, sym, take_at, true, zero, ℕ}
 use Rattle.mux_types.specs.declared.entry.Entry.TheVariants.{Ensemble as EnsembleOf, Sub as SubOf, Short as ShortOf}
 use Rattle.mux_types.specs.declared.entry.Entry.TheVariants.{Service as ServiceOf, Packet as PacketOf}
-use Rattle.mux_types.specs.declared.entry.SubEntry.{SubEntry}
-use Rattle.mux_types.specs.declared.entry.ShortEntry.{ShortEntry}
-use Rattle.mux_types.specs.declared.entry.ServiceEntry.{ServiceEntry}
-use Rattle.mux_types.specs.declared.entry.PacketEntry.{PacketEntry}
-use Rattle.mux_types.specs.declared.entry.ComponentEntry.{ComponentEntry}
-use Rattle.fib_codec.specs.Ranges.{IsWithin, IsEnsembleInformation, IsSubEntry, IsShortEntry, IsServiceEntry}
-use Rattle.fib_codec.specs.Ranges.{IsPacketEntry}
-use Rattle.fib_codec.specs.declared.head.Head.{Head}
-use Rattle.fib_codec.specs.Spelling.{bit_of, ensemble_bytes, sub_bytes, short_bytes, service_bytes, packet_bytes}
-use Rattle.fib_codec.specs.Spelling.{components_bytes, occurrence_bytes, ca_org_bytes, sid_bytes, is_long_sid}
-use Rattle.fib_codec.specs.Spelling.{entry_bytes, entries_bytes, head_byte, fig_bytes, figs_bytes, IsUnder, Written}
-use Rattle.fib_codec.specs.Spelling.{IsWritten, filled, checked}
-use Rattle.fib_codec.specs.Grammar.{ensemble_len, sub_len, service_len, packet_len, entry_len, IsEntry, AreEntries}
-use Rattle.fib_codec.specs.Grammar.{IsCounted, IsBody, Open, Other, is_open, is_long, is_next, IsFig, AreFigs, IsFib}
-use Rattle.fib_codec.specs.Grammar.{IsValid, IsOpen, fig_spelled, fig_of, IsOurs}
 use Rattle.fib_codec.proofs.Lengths.{components_len, ext_small}
 use Rattle.fib_codec.proofs.U16.{checked_is}
 

@@ -1,10 +1,8 @@
 -- Frames of FIBs: the law of steps, and that a FIB written into a frame leaves the others unchanged.
-use Rattle.std.proofs.Common.{◌≡◌, ℕ, ◌+◌, ◌*◌, ◌≤◌, List, ◌++◌, length, take, drop, arith, refl, sym, ap, ◌∙◌}
-use Rattle.std.proofs.Common.{length-append, take-append-drop, length-take-le}
-use Rattle.std.proofs.Math.Seq.{take-append_seam, drop-append_seam}
-use Rattle.std.proofs.lemmas.List.{take-append-le, drop-append-le, length-drop, append_assoc}
-use Rattle.fib_codec.specs.Modes.{StepsDivide, IsInFrame, with_fib}
-use Rattle.fib_codec.specs.declared.modes.Mode.TheVariants.{I, II, III, IV}
+use Rattle.fib_codec.proofs.Words.{◌*◌, ◌++◌, ◌+◌, ◌∙◌, ◌≡◌, ◌≤◌, I, II, III, IV, IsInFrame, List, StepsDivide, ap}
+use Rattle.fib_codec.proofs.Words.{append_assoc, arith, drop, drop-append-le, drop-append_seam, length, length-append}
+use Rattle.fib_codec.proofs.Words.{length-drop, length-take-le, refl, sym, take, take-append-drop, take-append-le}
+use Rattle.fib_codec.proofs.Words.{take-append_seam, with_fib, ℕ}
 
 pub steps_divide : StepsDivide
 steps_divide I = (refl, omega arith, omega arith)

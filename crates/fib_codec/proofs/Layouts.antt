@@ -1,9 +1,8 @@
 -- The layouts of a frame, and examples of frames that keep their reserve and of one that does not.
-use Rattle.std.proofs.Common.{◌≡◌, ℕ, List, ◌∷◌, ◌++◌, replicate, arith, refl, sym, ap, subst}
+use Rattle.fib_codec.proofs.Words.{◌++◌, ◌∷◌, ◌≡◌, I, II, III, IV, List, ap, arith, fib_at, refl, replicate, subst, sym}
+use Rattle.fib_codec.proofs.Words.{ℕ}
 use Rattle.fib_codec.specs.declared.modes.Mode.{Mode}
-use Rattle.fib_codec.specs.declared.modes.Mode.TheVariants.{I, II, III, IV}
 use Rattle.fib_codec.specs.declared.frame_layout.FrameLayout.TheVariants.{Whole, ReserveOne, ReserveTwo}
-use Rattle.fib_codec.specs.Heard.{fib_at}
 use Rattle.fib_codec.specs.Layouts.{empty_fib, KeepsReserve, LayoutsDivide, LayoutIsOne}
 
 pub layouts_divide : LayoutsDivide

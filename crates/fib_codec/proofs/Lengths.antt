@@ -1,19 +1,12 @@
 -- The lengths of encodings.
-use Rattle.std.proofs.Common.{◌≡◌, ℕ, zero, suc, drop, ◌+◌, ◌-◌, ◌*◌, ◌≤◌, cond, Option, Some, None, is_some, List, []}
-use Rattle.std.proofs.Common.{◌∷◌, ◌++◌, length, get_or, take, refl, sym, ◌∙◌, ap, arith, length-append, append_assoc}
-use Rattle.std.proofs.Common.{append-nil, ◌<◌}
-use Rattle.std.specs.Prelude.{flat_map}
-use Rattle.std.proofs.lemmas.List.{take_more, length-take-le, take-append-drop}
-use Rattle.std.specs.List.{AllByRecursion}
-use Rattle.mux_types.specs.declared.numbers.Sid.{Sid}
-use Rattle.mux_types.specs.declared.numbers.Sid.TheVariants.{Short, Long}
-use Rattle.mux_types.specs.declared.entry.Entry.{Entry}
+use Rattle.fib_codec.proofs.Words.{[], ◌*◌, ◌++◌, ◌+◌, ◌-◌, ◌<◌, ◌∙◌, ◌∷◌, ◌≡◌, ◌≤◌, AllByRecursion, ComponentEntry}
+use Rattle.fib_codec.proofs.Words.{Entry, Head, IsFormed, IsUnder, List, Long, None, Option, Short, Sid, Some, ap}
+use Rattle.fib_codec.proofs.Words.{append-nil, append_assoc, arith, ca_org_bytes, components_bytes, cond, drop}
+use Rattle.fib_codec.proofs.Words.{entries_bytes, entry_bytes, entry_size, flat_map, get_or, is_some, length}
+use Rattle.fib_codec.proofs.Words.{length-append, length-take-le, occurrence_bytes, refl, sid_bytes, sid_size, suc, sym}
+use Rattle.fib_codec.proofs.Words.{take, take-append-drop, take_more, zero, ℕ}
 use Rattle.mux_types.specs.declared.entry.Entry.TheVariants.{Ensemble as EnsembleOf, Sub as SubOf, Short as ShortOf}
 use Rattle.mux_types.specs.declared.entry.Entry.TheVariants.{Service as ServiceOf, Packet as PacketOf}
-use Rattle.mux_types.specs.declared.entry.ComponentEntry.{ComponentEntry}
-use Rattle.fib_codec.specs.Spelling.{occurrence_bytes, ca_org_bytes, sid_bytes, sid_size, components_bytes, entry_bytes}
-use Rattle.fib_codec.specs.Spelling.{entry_size, entries_bytes, IsUnder, IsFormed}
-use Rattle.fib_codec.specs.declared.head.Head.{Head}
 
 occurrence_len : (o : Option ℕ) → 4 + length (occurrence_bytes o) ≡ cond (is_some o) 5 4
 occurrence_len None = refl

@@ -12,3 +12,4 @@ pub mod Layouts
 pub mod Begun
 pub mod Spelled
 pub mod Vectors
+mod Words

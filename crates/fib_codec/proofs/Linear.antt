@@ -1,13 +1,10 @@
 -- The division is linear, so a byte and the register before it act independently, and tables can process several bytes.
-use Rattle.std.proofs.Common.{◌≡◌, ℕ, zero, suc, ◌+◌, ◌*◌, ◌/◌, ◌%◌, ◌^◌, ◌<◌, eqb, List, [], ◌∷◌, ◌++◌, length}
-use Rattle.std.proofs.Common.{replicate, refl, sym, ◌∙◌, ap, inl, inr, arith, append-nil, length-append}
-use Rattle.std.proofs.lemmas.Bool.{cond_both, cases_eq}
-use Rattle.std.proofs.lemmas.Nat.{xor_comm, shr-shr, xor_of_16}
-use Rattle.std.proofs.lemmas.Nat.Bits.{same_from_bits_below}
-use Rattle.std.specs.Prelude.{bit_xor}
-use Rattle.std.specs.Int.{bit_at}
-use Rattle.fib_codec.specs.Crc.{low_bits, AreBits, plus, generator, without_leading, divided}
-use Rattle.fib_codec.specs.Register.{next, after}
+use Rattle.fib_codec.proofs.Words.{[], ◌%◌, ◌*◌, ◌++◌, ◌+◌, ◌/◌, ◌<◌, ◌^◌, ◌∙◌, ◌∷◌, ◌≡◌, AreBits, List, ap, append-nil}
+use Rattle.fib_codec.proofs.Words.{arith, bit_at, bit_xor, cases_eq, cond_both, eqb, generator, inl, inr, length}
+use Rattle.fib_codec.proofs.Words.{length-append, next, plus, refl, replicate, same_from_bits_below, shr-shr, suc, sym}
+use Rattle.fib_codec.proofs.Words.{without_leading, xor_comm, xor_of_16, zero, ℕ}
+use Rattle.fib_codec.specs.Crc.{low_bits, divided}
+use Rattle.fib_codec.specs.Register.{after}
 use Rattle.fib_codec.proofs.Division.{bits_of-suc, bits_of-zero, length-bits_of, bits_of_are, bits_of-xor}
 use Rattle.fib_codec.proofs.Division.{bits_of-below, plus-nil, plus-plus, plus-append, AreBits-append}
 use Rattle.fib_codec.proofs.Division.{AreBits-replicate, divided-suc, divided-zero, steps, word_left}

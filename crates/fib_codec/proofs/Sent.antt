@@ -1,19 +1,13 @@
 -- A receiver decodes from a FIB what was written into it.
-use Rattle.std.proofs.Common.{◌≡◌, ◌⊎◌, inl, inr, ℕ, zero, suc, ◌<◌, ◌↔◌, Bool, true, false, cond, List, [], ◌∷◌, map}
-use Rattle.std.proofs.Common.{refl, sym, ◌∙◌, subst, arith}
-use Rattle.std.specs.Prelude.{Contains}
+use Rattle.fib_codec.proofs.Words.{[], ◌<◌, ◌↔◌, ◌∙◌, ◌∷◌, ◌≡◌, ◌⊎◌, AllByRecursion, Bool, Contains, Entry, Fig, Head}
+use Rattle.fib_codec.proofs.Words.{HeardIsWritten, IsFib, IsInFib, IsInFig, IsSaid, IsUnder, IsWithin, IsWritten, List}
+use Rattle.fib_codec.proofs.Words.{Open, Other, Written, arith, cond, entry_bytes, ext_of, false, fig_bytes, fig_of}
+use Rattle.fib_codec.proofs.Words.{head_byte, inl, inr, is_long_entry, map, marked_by, marked_of, refl, subst, suc, sym}
+use Rattle.fib_codec.proofs.Words.{true, zero, ℕ}
 use Rattle.std.proofs.lemmas.List.Elements.{Contains-append_left, Contains-append_right, Contains-append_cases}
-use Rattle.std.specs.List.{AllByRecursion}
 use Rattle.mux_types.specs.Facts.{Marked, marked}
-use Rattle.mux_types.specs.declared.entry.Entry.{Entry}
 use Rattle.mux_types.specs.declared.entry.Entry.TheVariants.{Ensemble as EnsembleOf, Sub as SubOf, Short as ShortOf}
 use Rattle.mux_types.specs.declared.entry.Entry.TheVariants.{Service as ServiceOf, Packet as PacketOf}
-use Rattle.fib_codec.specs.declared.head.Head.{Head}
-use Rattle.fib_codec.specs.Ranges.{IsWithin}
-use Rattle.fib_codec.specs.Spelling.{entry_bytes, ext_of, is_long_entry, head_byte, fig_bytes, IsUnder, Written}
-use Rattle.fib_codec.specs.Spelling.{IsWritten}
-use Rattle.fib_codec.specs.Grammar.{Fig, Open, Other, IsFib, fig_of}
-use Rattle.fib_codec.specs.Heard.{IsSaid, IsInFig, IsInFib, marked_by, marked_of, HeardIsWritten}
 use Rattle.fib_codec.proofs.Lengths.{ext_small}
 use Rattle.fib_codec.proofs.Finished.{head_ext, head_long, head_next}
 use Rattle.fib_codec.proofs.Determined.{entry_told}

@@ -1,27 +1,16 @@
 -- Bytes that are an entry in the grammar encode an entry.
-use Rattle.std.proofs.Common.{◌≡◌, ◌⊎◌, inl, inr, ℕ, zero, suc, ◌+◌, ◌*◌, ◌/◌, ◌%◌, ◌<◌, Bool, true, false, cond, eqb}
-use Rattle.std.proofs.Common.{Option, Some, None, List, [], ◌∷◌, ◌++◌, length, refl, sym, ◌∙◌, ap, ap₂, arith, eqb-true}
-use Rattle.std.specs.Prelude.{is_some, IfSome}
-use Rattle.mux_types.specs.Configuration.{IsSid}
-use Rattle.std.specs.List.{AllByRecursion}
-use Rattle.mux_types.specs.declared.numbers.Sid.{Sid}
-use Rattle.mux_types.specs.declared.numbers.Sid.TheVariants.{Short, Long}
+use Rattle.fib_codec.proofs.Words.{[], ◌%◌, ◌*◌, ◌++◌, ◌+◌, ◌/◌, ◌<◌, ◌∙◌, ◌∷◌, ◌≡◌, ◌⊎◌, AllByRecursion, Bool}
+use Rattle.fib_codec.proofs.Words.{ComponentEntry, Head, IfSome, IsComponentEntry, IsCounted, IsEnsembleInformation}
+use Rattle.fib_codec.proofs.Words.{IsEntry, IsPacketEntry, IsServiceEntry, IsShortEntry, IsSid, IsSubEntry, List, Long}
+use Rattle.fib_codec.proofs.Words.{None, Option, Packet, PacketEntry, ServiceEntry, Short, ShortEntry, Sid, Some, Sound}
+use Rattle.fib_codec.proofs.Words.{Stream, SubEntry, ap, ap₂, arith, big_bytes, bit_of, ca_org_bytes, component_u16}
+use Rattle.fib_codec.proofs.Words.{components_bytes, cond, ensemble_bytes, ensemble_len, entry_len, eqb, eqb-true}
+use Rattle.fib_codec.proofs.Words.{false, inl, inr, is_long_sid, is_some, length, occurrence_bytes, packet_len, refl}
+use Rattle.fib_codec.proofs.Words.{service_len, sid_bytes, sub_len, suc, sym, true, zero, ℕ}
+use Rattle.mux_types.specs.declared.entry.ComponentEntry.TheVariants.{Other}
+use Rattle.fib_codec.specs.Laws.{IsByte, IsSpelled}
 use Rattle.mux_types.specs.declared.entry.Entry.TheVariants.{Ensemble as EnsembleOf, Sub as SubOf, Short as ShortOf}
 use Rattle.mux_types.specs.declared.entry.Entry.TheVariants.{Service as ServiceOf, Packet as PacketOf}
-use Rattle.mux_types.specs.declared.entry.SubEntry.{SubEntry}
-use Rattle.mux_types.specs.declared.entry.ShortEntry.{ShortEntry}
-use Rattle.mux_types.specs.declared.entry.ServiceEntry.{ServiceEntry}
-use Rattle.mux_types.specs.declared.entry.PacketEntry.{PacketEntry}
-use Rattle.mux_types.specs.declared.entry.ComponentEntry.{ComponentEntry}
-use Rattle.mux_types.specs.declared.entry.ComponentEntry.TheVariants.{Sound, Stream, Other, Packet}
-use Rattle.byteorder.specs.Endian.{big_bytes}
-use Rattle.fib_codec.specs.declared.head.Head.{Head}
-use Rattle.fib_codec.specs.Ranges.{IsEnsembleInformation, IsSubEntry, IsShortEntry, IsServiceEntry, IsPacketEntry}
-use Rattle.fib_codec.specs.Ranges.{IsComponentEntry}
-use Rattle.fib_codec.specs.Spelling.{bit_of, ensemble_bytes, component_u16, components_bytes, occurrence_bytes}
-use Rattle.fib_codec.specs.Spelling.{ca_org_bytes, sid_bytes, is_long_sid}
-use Rattle.fib_codec.specs.Grammar.{ensemble_len, sub_len, service_len, packet_len, entry_len, IsEntry, IsCounted}
-use Rattle.fib_codec.specs.Laws.{IsByte, IsSpelled}
 
 -- ---- numbers
 -- a bit as a flag

@@ -1,10 +1,9 @@
 -- The contents of the CRC's tables, and why they can process six bytes at once.
-use Rattle.std.proofs.Common.{◌≡◌, ℕ, zero, suc, ◌+◌, ◌/◌, ◌%◌, ◌<◌, true, List, [], ◌∷◌, length, get_or, refl, sym}
-use Rattle.std.proofs.Common.{◌∙◌, ap, ap₂, arith}
-use Rattle.std.proofs.lemmas.Bool.{and_parts, eqb-true}
-use Rattle.std.specs.Prelude.{bit_xor}
-use Rattle.fib_codec.specs.Register.{after, later, is_table, is_next_table}
+use Rattle.fib_codec.proofs.Words.{[], ◌%◌, ◌+◌, ◌/◌, ◌<◌, ◌∙◌, ◌∷◌, ◌≡◌, List, and_parts, ap, ap₂, arith, bit_xor}
+use Rattle.fib_codec.proofs.Words.{eqb-true, get_or, is_next_table, is_table, later, length, refl, suc, sym, true, zero}
+use Rattle.fib_codec.proofs.Words.{ℕ}
 use Rattle.fib_codec.specs.declared.crc_tables.TheConstants.{SLICE_0, SLICE_1, SLICE_2, SLICE_3, SLICE_4, SLICE_5}
+use Rattle.fib_codec.specs.Register.{after}
 use Rattle.fib_codec.proofs.Linear.{apart, zeros_apart, two_bytes}
 
 -- ---- the tables, computed

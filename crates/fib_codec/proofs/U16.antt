@@ -1,17 +1,12 @@
 -- Numbers of sixteen bits as two bytes, and as bits.
-use Rattle.std.proofs.Common.{◌≡◌, ℕ, zero, suc, ◌+◌, ◌-◌, ◌*◌, ◌/◌, ◌%◌, ◌^◌, ◌<◌, ◌≤◌, map, refl, replicate, List, []}
-use Rattle.std.proofs.Common.{◌∷◌, ◌++◌, length, get_or, drop, take, sym, ◌∙◌, ap, ap₂, arith, subst, take_at, drop_at}
-use Rattle.std.proofs.Common.{length-append, pow-suc, length-take, length-take-le, append-nil, drop-cons, ◌↔◌}
-use Rattle.std.proofs.Common.{length-drop}
-use Rattle.std.proofs.lemmas.List.{drop_all, drop-drop, length-map}
-use Rattle.std.proofs.lemmas.Nat.Bits.{bit_at_cat_high, bit_at_lowest}
-use Rattle.std.specs.Int.{bit_at}
-use Rattle.std.proofs.lemmas.Nat.{mod-pow-add}
-use Rattle.byteorder.specs.Endian.{big_bytes}
-use Rattle.fib_codec.specs.Spelling.{checked}
+use Rattle.fib_codec.proofs.Words.{[], ◌%◌, ◌*◌, ◌++◌, ◌+◌, ◌-◌, ◌/◌, ◌<◌, ◌^◌, ◌↔◌, ◌∙◌, ◌∷◌, ◌≡◌, ◌≤◌, AreBits}
+use Rattle.fib_codec.proofs.Words.{IsChecked, List, ap, append-nil, ap₂, arith, big_bytes, bit_at, bit_at_cat_high}
+use Rattle.fib_codec.proofs.Words.{bit_at_lowest, bits_of_bytes, check_bits, checked, crc_value, divided, dividend}
+use Rattle.fib_codec.proofs.Words.{drop, drop-cons, drop-drop, drop_all, drop_at, get_or, length, length-append}
+use Rattle.fib_codec.proofs.Words.{length-drop, length-map, length-take, length-take-le, low_bits, map, mod-pow-add}
+use Rattle.fib_codec.proofs.Words.{number_of_bits, pow-suc, refl, replicate, subst, suc, sym, take, take_at}
+use Rattle.fib_codec.proofs.Words.{without_leading, zero, ℕ}
 use borrow.Rule.Slice.PartMut.{put_mid}
-use Rattle.fib_codec.specs.Crc.{low_bits, bits_of_bytes, check_bits, number_of_bits, crc_value, IsChecked, AreBits}
-use Rattle.fib_codec.specs.Crc.{divided, dividend, without_leading}
 use Rattle.fib_codec.proofs.Division.{bits_of-suc, bits_of-zero, length-bits_of, bits_of-below, divided-zero}
 use Rattle.fib_codec.proofs.Division.{divided-suc}
 use Rattle.fib_codec.proofs.Linear.{one_word, split, length-plus, divided-nil, length-without}

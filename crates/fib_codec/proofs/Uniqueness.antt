@@ -1,11 +1,9 @@
 -- Bytes are at most one list of entries, and at most one list of FIGs: the length of each is in its first bytes.
-use Rattle.std.proofs.Common.{◌≡◌, ◌≢◌, inl, inr, ℕ, ◌+◌, ◌*◌, ◌/◌, ◌%◌, ◌≤◌, Bool, true, false, cond, eqb, ltb, List}
-use Rattle.std.proofs.Common.{[], ◌∷◌, ◌++◌, length, get_or, take, refl, sym, ◌∙◌, ap, ap₂, subst, arith, length-append}
-use Rattle.std.proofs.Common.{lt-ltb, true≢false}
-use Rattle.std.proofs.lemmas.Bool.{cond_both, and_from}
-use Rattle.std.proofs.lemmas.List.{get_or_append_left}
-use Rattle.fib_codec.specs.Grammar.{ensemble_len, sub_len, service_len, packet_len, entry_len, IsEntry, AreEntries, Fig}
-use Rattle.fib_codec.specs.Grammar.{Open, Other, is_long, IsOther, IsFig, AreFigs, OneList}
+use Rattle.fib_codec.proofs.Words.{[], ◌%◌, ◌*◌, ◌++◌, ◌+◌, ◌/◌, ◌∙◌, ◌∷◌, ◌≡◌, ◌≢◌, ◌≤◌, AreEntries, AreFigs, Bool}
+use Rattle.fib_codec.proofs.Words.{Fig, IsEntry, IsFig, IsOther, List, OneList, Open, Other, and_from, ap, ap₂, arith}
+use Rattle.fib_codec.proofs.Words.{cond, cond_both, ensemble_len, entry_len, eqb, false, get_or, get_or_append_left}
+use Rattle.fib_codec.proofs.Words.{inl, inr, is_long, length, length-append, lt-ltb, ltb, packet_len, refl, service_len}
+use Rattle.fib_codec.proofs.Words.{sub_len, subst, sym, take, true, true≢false, ℕ}
 
 -- ---- lists
 -- lists with equal beginnings, with fronts of one length

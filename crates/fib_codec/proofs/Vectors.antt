@@ -1,6 +1,6 @@
 -- Examples of bytes in the grammar, and of bytes that are not.
-use Rattle.std.proofs.Common.{◌≡◌, ℕ, true, false, List, [], ◌∷◌, inl, inr, refl, arith}
-use Rattle.fib_codec.specs.Grammar.{Other, IsEntry, AreEntries, IsCounted, IsFig, AreFigs, is_open}
+use Rattle.fib_codec.proofs.Words.{[], ◌∷◌, ◌≡◌, AreEntries, AreFigs, IsCounted, IsEntry, IsFig, List, Other, arith}
+use Rattle.fib_codec.proofs.Words.{false, inl, inr, is_open, refl, true, ℕ}
 
 -- ensemble information without flags is 4 bytes, with a flag 5
 flagged_ensemble : IsEntry 0 false (225 ∷ 197 ∷ 64 ∷ 4 ∷ 28 ∷ [])

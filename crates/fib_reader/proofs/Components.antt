@@ -1,20 +1,14 @@
 -- The components of a service, decoded from their entries.
-use Rattle.std.proofs.Common.{◌≡◌, ◌≢◌, ℕ, zero, suc, ◌<◌, ◌==◌, ◌++◌, Bool, true, false, List, [], ◌∷◌, length, map}
-use Rattle.std.proofs.Common.{take, get_or, refl, ap, sym, ◌∙◌, arith}
-use Rattle.std.specs.Prelude.{◌||◌}
-use Rattle.std.specs.List.{list_any, AllByRecursion}
-use Rattle.std.proofs.lemmas.List.{take-map, length-map, get_or-map}
-use Rattle.std.proofs.lemmas.Bool.{eqb-true, eq-eqb, ne_eqb}
-use Rattle.mux_types.specs.declared.parts.Component.{Component}
-use Rattle.mux_types.specs.declared.parts.Component.TheVariants.{Sound, Stream, Packet}
+use Rattle.fib_reader.proofs.Words.{[], ◌++◌, ◌<◌, ◌==◌, ◌||◌, ◌∙◌, ◌∷◌, ◌≡◌, ◌≢◌, AllByRecursion, AreDifferent, Bool}
+use Rattle.fib_reader.proofs.Words.{Component, IsComponent, List, Packet, Sound, Stream, ap, arith, carrier_of}
+use Rattle.fib_reader.proofs.Words.{component_entries, component_entry, eq-eqb, eqb-true, false, get_or, get_or-map}
+use Rattle.fib_reader.proofs.Words.{is_same_carrier, length, length-map, list_any, map, names, ne_eqb, refl, suc, sym}
+use Rattle.fib_reader.proofs.Words.{take, take-map, true, zero, ℕ}
 use Rattle.mux_types.specs.declared.parts.Carrier.{Carrier}
-use Rattle.mux_types.specs.declared.parts.Carrier.TheVariants.{Sub as BySub, Packet as ByPacket}
 use Rattle.mux_types.specs.declared.entry.ComponentEntry.{ComponentEntry}
-use Rattle.mux_types.specs.declared.entry.ComponentEntry.TheVariants.{Sound as SoundOf, Stream as StreamOf, Other}
+use Rattle.mux_types.specs.declared.entry.ComponentEntry.TheVariants.{Other, Sound as SoundOf, Stream as StreamOf}
 use Rattle.mux_types.specs.declared.entry.ComponentEntry.TheVariants.{Packet as PacketsOf}
-use Rattle.mux_config.specs.Configuration.{AreDifferent, carrier_of, IsComponent}
-use Rattle.mux_config.specs.Sameness.{names, is_same_carrier}
-use Rattle.mux_types.specs.Facts.{component_entry, component_entries}
+use Rattle.mux_types.specs.declared.parts.Carrier.TheVariants.{Sub as BySub, Packet as ByPacket}
 
 -- one more component
 entries_more : (xs : List Component) (c : Component) → map (component_entry false) (xs ++ c ∷ [])

@@ -1,13 +1,12 @@
 -- The walk over entries stops where the bytes are at fault, and only there.
-use Rattle.std.proofs.Common.{◌≡◌, ◌≢◌, ℕ, zero, suc, ◌+◌, ◌-◌, ◌/◌, ◌%◌, ◌<◌, ◌≤◌, ◌==◌, ◌++◌, inl, inr, Bool, true}
-use Rattle.std.proofs.Common.{false, cond, nat_lt, List, [], ◌∷◌, length, get_or, take, drop, Option, Some, None}
-use Rattle.std.proofs.Common.{append_assoc, refl, ap, sym, ◌∙◌, subst, lt-ltb, le-ltb, arith, length-drop}
-use Rattle.std.proofs.lemmas.Bool.{ltb-false, ltb-true, cases_lt, eqb-true, eqb-false}
-use Rattle.std.proofs.lemmas.List.{take-append-drop, length-take-le, length-append, get_or_append_left}
-use Rattle.std.proofs.Math.Seq.{drop-append_seam}
-use Rattle.fib_codec.specs.Grammar.{entry_len, ensemble_len, IsEntry, AreEntries, IsCounted}
-use Rattle.fib_reader.specs.Faults.{IsGood, BeginsNone, IsNoEntryAt, IsNotOneAt, IsBodyFault}
-use Rattle.fib_reader.specs.FirstFault.{entries_fault, ensemble_fault, body_fault}
+use Rattle.fib_reader.proofs.Words.{[], ◌%◌, ◌++◌, ◌+◌, ◌-◌, ◌/◌, ◌<◌, ◌==◌, ◌∙◌, ◌∷◌, ◌≡◌, ◌≢◌, ◌≤◌, AreEntries}
+use Rattle.fib_reader.proofs.Words.{BeginsNone, Bool, IsBodyFault, IsCounted, IsEntry, IsGood, IsNoEntryAt, IsNotOneAt}
+use Rattle.fib_reader.proofs.Words.{List, None, Option, Some, ap, append_assoc, arith, body_fault, cases_lt, cond, drop}
+use Rattle.fib_reader.proofs.Words.{drop-append_seam, ensemble_fault, ensemble_len, entry_len, eqb-false, eqb-true}
+use Rattle.fib_reader.proofs.Words.{false, get_or, get_or_append_left, inl, inr, le-ltb, length, length-append}
+use Rattle.fib_reader.proofs.Words.{length-drop, length-take-le, lt-ltb, ltb-false, ltb-true, nat_lt, refl, subst, suc}
+use Rattle.fib_reader.proofs.Words.{sym, take, take-append-drop, true, zero, ℕ}
+use Rattle.fib_reader.specs.FirstFault.{entries_fault}
 use Rattle.fib_reader.proofs.Lengths.{some_bytes, entry_len_more, cut_len}
 use Rattle.fib_reader.proofs.FaultSteps.{none_in_nothing}
 

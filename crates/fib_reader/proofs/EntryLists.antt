@@ -1,13 +1,10 @@
 -- The entries found by the walk are those of the grammar, and exist exactly if there is no fault.
-use Rattle.std.proofs.Common.{◌≡◌, ℕ, zero, suc, ◌+◌, ◌-◌, ◌<◌, ◌≤◌, ◌++◌, Bool, true, false, cond, nat_lt, List, []}
-use Rattle.std.proofs.Common.{◌∷◌, length, take, drop, Option, Some, None, refl, ap, sym, ◌∙◌, subst, le-ltb, arith}
-use Rattle.std.proofs.Common.{length-drop}
-use Rattle.std.proofs.lemmas.Bool.{ltb-false}
-use Rattle.std.proofs.lemmas.List.{take-append-drop, length-append}
-use Rattle.std.proofs.Math.Seq.{take-append_seam, drop-append_seam}
-use Rattle.fib_codec.specs.Grammar.{entry_len, AreEntries}
+use Rattle.fib_reader.proofs.Words.{[], ◌++◌, ◌+◌, ◌-◌, ◌<◌, ◌∙◌, ◌∷◌, ◌≡◌, ◌≤◌, AreEntries, Bool, List, None, Option}
+use Rattle.fib_reader.proofs.Words.{Some, ap, arith, cond, drop, drop-append_seam, entries_of, entry_len, false, le-ltb}
+use Rattle.fib_reader.proofs.Words.{length, length-append, length-drop, ltb-false, nat_lt, raws_of, refl, subst, suc}
+use Rattle.fib_reader.proofs.Words.{sym, take, take-append-drop, take-append_seam, true, zero, ℕ}
 use Rattle.fib_reader.specs.FirstFault.{entries_fault}
-use Rattle.fib_reader.specs.Walk.{entries_within, entries_of, raws_of}
+use Rattle.fib_reader.specs.Walk.{entries_within}
 use Rattle.fib_reader.proofs.Lengths.{some_bytes, entry_len_more, cut_len}
 
 -- any fuel that suffices gives the same list

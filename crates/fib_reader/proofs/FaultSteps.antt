@@ -1,12 +1,10 @@
 -- The steps of a walk that searches for the first fault.
-use Rattle.std.proofs.Common.{◌≡◌, ◌≢◌, ℕ, zero, suc, ◌+◌, ◌-◌, ◌%◌, ◌<◌, ◌≤◌, ◌==◌, Bool, true, false, cond, nat_lt}
-use Rattle.std.proofs.Common.{List, [], ◌∷◌, length, get_or, drop, Option, Some, None, refl, ap, sym, ◌∙◌, lt-ltb}
-use Rattle.std.proofs.Common.{le-ltb, arith, length-drop}
-use Rattle.std.proofs.lemmas.Bool.{ne_eqb, eq-eqb, eqb-true}
-use Rattle.fib_codec.specs.Grammar.{entry_len}
+use Rattle.fib_reader.proofs.Words.{[], ◌%◌, ◌+◌, ◌-◌, ◌<◌, ◌==◌, ◌∙◌, ◌∷◌, ◌≡◌, ◌≢◌, ◌≤◌, Bool, FibFault, List, None}
+use Rattle.fib_reader.proofs.Words.{Option, Some, ap, arith, cond, drop, entry_len, eq-eqb, eqb-true, false, fig_fault}
+use Rattle.fib_reader.proofs.Words.{get_or, le-ltb, length, length-drop, lt-ltb, nat_lt, ne_eqb, or_else, refl, suc}
+use Rattle.fib_reader.proofs.Words.{sym, true, zero, ℕ}
+use Rattle.fib_reader.specs.FirstFault.{entries_fault, figs_fault}
 use Rattle.fib_reader.proofs.Lengths.{some_bytes}
-use Rattle.fib_reader.specs.FirstFault.{entries_fault, figs_fault, fig_fault, or_else}
-use Rattle.fib_reader.specs.declared.fault.FibFault.{FibFault}
 
 -- the rest to be examined gives this fault
 pub record LeadsTo (ext : ℕ) (long : Bool) (at : ℕ) (rest : List ℕ) (fault : Option ℕ) : Type 0 where

@@ -1,19 +1,15 @@
 -- The walk over FIGs stops where the data bytes are at fault, and only there; so there is at most one fault, and there
 -- is one exactly if there are no FIGs.
-use Rattle.std.proofs.Common.{◌≡◌, ◌≢◌, ℕ, zero, suc, ◌+◌, ◌-◌, ◌%◌, ◌<◌, ◌≤◌, ◌==◌, ◌++◌, inl, inr, ◌⊎◌, Bool, true}
-use Rattle.std.proofs.Common.{false, cond, nat_lt, List, [], ◌∷◌, length, get_or, take, drop, Option, Some, None}
-use Rattle.std.proofs.Common.{append_assoc, refl, ap, sym, ◌∙◌, subst, lt-ltb, le-ltb, arith, length-drop}
-use Rattle.std.proofs.lemmas.Bool.{ltb-false, ltb-true, ne_eqb, eqb-true, eqb-false}
-use Rattle.std.proofs.lemmas.List.{take-append-drop, length-take-le, length-append}
-use Rattle.std.proofs.Math.Seq.{take-append_seam, drop-append_seam}
+use Rattle.fib_reader.proofs.Words.{[], ◌%◌, ◌++◌, ◌+◌, ◌-◌, ◌<◌, ◌==◌, ◌∙◌, ◌∷◌, ◌≡◌, ◌≢◌, ◌≤◌, ◌⊎◌, AreWhole, Bool}
+use Rattle.fib_reader.proofs.Words.{Crc, Entry, FibFault, Fig, IsBodyFault, IsEntryFault, IsFib, IsFibFault, IsFig}
+use Rattle.fib_reader.proofs.Words.{IsFigFault, IsOverrun, LeadsToHeader, List, None, Option, Overrun, Some, ap}
+use Rattle.fib_reader.proofs.Words.{append_assoc, arith, body_fault, cond, drop, drop-append_seam, entry_at_fault}
+use Rattle.fib_reader.proofs.Words.{eqb-false, eqb-true, false, fig_fault, fig_of_bytes, figs_of_bytes, get_or, inl}
+use Rattle.fib_reader.proofs.Words.{inr, is_long, is_open, le-ltb, length, length-append, length-drop, length-take-le}
+use Rattle.fib_reader.proofs.Words.{lt-ltb, ltb-false, ltb-true, nat_lt, ne_eqb, or_else, refl, subst, suc, sym, take}
+use Rattle.fib_reader.proofs.Words.{take-append-drop, take-append_seam, true, zero, ℕ}
 use Rattle.fib_codec.specs.Crc.{IsChecked, bits_of_bytes, check_bits}
-use Rattle.fib_codec.specs.Grammar.{Fig, IsFig, IsFib, is_open, is_long}
-use Rattle.fib_reader.specs.declared.fault.FibFault.{FibFault}
-use Rattle.fib_reader.specs.declared.fault.FibFault.TheVariants.{Crc, Overrun, Entry}
-use Rattle.fib_reader.specs.Faults.{AreWhole, LeadsToHeader, IsOverrun, IsBodyFault, IsFigFault, IsEntryFault}
-use Rattle.fib_reader.specs.Faults.{IsFibFault}
-use Rattle.fib_reader.specs.FirstFault.{body_fault, entry_at_fault, fig_fault, figs_fault, or_else}
-use Rattle.fib_reader.specs.Walk.{fig_of_bytes, figs_of_bytes}
+use Rattle.fib_reader.specs.FirstFault.{figs_fault}
 use Rattle.fib_reader.proofs.EntryFaults.{body_found, body_given}
 use Rattle.fib_reader.proofs.FaultSteps.{no_fault_in_nothing}
 use Rattle.fib_reader.proofs.FigLists.{fig_header, sound_fig, sound_figs, past_tests, complete_fig, no_fault_twice}

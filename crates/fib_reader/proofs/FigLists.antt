@@ -1,20 +1,16 @@
 -- The FIGs found by the walk are those of the grammar, and exist exactly if there is no fault.
-use Rattle.std.proofs.Common.{◌≡◌, ◌≢◌, ℕ, zero, suc, ◌+◌, ◌*◌, ◌/◌, ◌-◌, ◌%◌, ◌<◌, ◌≤◌, ◌==◌, ◌++◌, inl, inr, Bool}
-use Rattle.std.proofs.Common.{true, false, cond, nat_lt, List, [], ◌∷◌, length, get_or, take, drop, map, flat_map}
-use Rattle.std.proofs.Common.{Option, Some, None, refl, ap, sym, ◌∙◌, subst, lt-ltb, le-ltb, arith, length-drop}
-use Rattle.std.specs.Prelude.{◌&&◌}
-use Rattle.std.proofs.lemmas.Bool.{ltb-false, ltb-true, cases_lt, eq-eqb, ne_eqb, eqb-true, eqb-false}
-use Rattle.std.proofs.lemmas.List.{take-append-drop, length-take-le, length-append, append-nil}
-use Rattle.std.proofs.Math.Seq.{take-append_seam, drop-append_seam}
-use Rattle.std.specs.List.{AllByRecursion}
-use Rattle.fib_codec.specs.Grammar.{Fig, Open, Other, entry_len, ensemble_len, sub_len, packet_len, AreEntries}
-use Rattle.fib_codec.specs.Grammar.{IsCounted, IsBody, IsOther, IsFig, AreFigs, is_open, is_long, fig_spelled}
-use Rattle.fib_reader.specs.FirstFault.{entries_fault, ensemble_fault, body_fault, entry_at_fault, fig_fault}
-use Rattle.fib_reader.specs.FirstFault.{figs_fault, or_else}
-use Rattle.fib_reader.specs.declared.fault.FibFault.{FibFault}
-use Rattle.fib_reader.specs.declared.fault.FibFault.TheVariants.{Overrun, Entry}
-use Rattle.fib_reader.specs.Raw.{raw_of}
-use Rattle.fib_reader.specs.Walk.{AreRaw, entries_of, fig_of_bytes, IsWholeFig, pieces_within, pieces_of, figs_of_bytes}
+use Rattle.fib_reader.proofs.Words.{[], ◌%◌, ◌&&◌, ◌*◌, ◌++◌, ◌+◌, ◌-◌, ◌/◌, ◌<◌, ◌==◌, ◌∙◌, ◌∷◌, ◌≡◌, ◌≢◌, ◌≤◌}
+use Rattle.fib_reader.proofs.Words.{AllByRecursion, AreEntries, AreFigs, AreRaw, Bool, Entry, FibFault, Fig, IsBody}
+use Rattle.fib_reader.proofs.Words.{IsCounted, IsFig, IsOther, IsWholeFig, List, None, Open, Option, Other, Overrun}
+use Rattle.fib_reader.proofs.Words.{Some, ap, append-nil, arith, body_fault, cases_lt, cond, drop, drop-append_seam}
+use Rattle.fib_reader.proofs.Words.{ensemble_fault, ensemble_len, entries_fault, entries_of, entry_at_fault, entry_len}
+use Rattle.fib_reader.proofs.Words.{eq-eqb, eqb-false, eqb-true, false, fig_fault, fig_of_bytes, fig_spelled}
+use Rattle.fib_reader.proofs.Words.{figs_of_bytes, flat_map, get_or, inl, inr, is_long, is_open, le-ltb, length}
+use Rattle.fib_reader.proofs.Words.{length-append, length-drop, length-take-le, lt-ltb, ltb-false, ltb-true, map}
+use Rattle.fib_reader.proofs.Words.{nat_lt, ne_eqb, or_else, packet_len, pieces_of, raw_of, refl, sub_len, subst, suc}
+use Rattle.fib_reader.proofs.Words.{sym, take, take-append-drop, take-append_seam, true, zero, ℕ}
+use Rattle.fib_reader.specs.FirstFault.{figs_fault}
+use Rattle.fib_reader.specs.Walk.{pieces_within}
 use Rattle.fib_reader.proofs.EntryLists.{through, same_entries, sound_entries, complete_entries}
 
 -- ---- one FIG

@@ -1,19 +1,12 @@
 -- A pass over FIGs predicts that they contain nothing new, or that there is room for it.
-use Rattle.std.proofs.Common.{◌≡◌, ◌≢◌, ℕ, suc, ◌+◌, ◌<◌, ◌≤◌, ◌==◌, Bool, true, false, cond, nat_lt, List, [], ◌∷◌}
-use Rattle.std.proofs.Common.{length, Option, Some, None, refl, ap, sym, ◌∙◌, subst, arith}
-use Rattle.std.specs.Prelude.{◌||◌, IfSome}
-use Rattle.std.proofs.lemmas.Bool.{eq-eqb, ne_eqb, eqb-true, or_right}
-use Rattle.std.proofs.lemmas.List.{length-map}
-use Rattle.mux_types.specs.Entries.{EnsembleInformation}
-use Rattle.mux_config.specs.Tables.{with_entry, with_entry_changed, has_entry}
-use Rattle.mux_config.proofs.Keeping.{length_with}
-use Rattle.fib_codec.specs.Grammar.{Fig, Open, Other, is_next}
-use Rattle.fib_codec.specs.declared.head.Head.{Head}
-use Rattle.fib_reader.specs.Raw.{Raw, entries_in, head_in, ensemble_in}
-use Rattle.fib_reader.specs.Listening.{Pictured, Listening, identifier_of, is_known, kept, has_room, pictured, swapped}
-use Rattle.fib_reader.specs.Listening.{awaiting, at_ensemble, into, picture_of, hear_entry, hear_entries, hear_fig}
-use Rattle.fib_reader.specs.Listening.{where_heard}
-use Rattle.fib_reader.specs.Forecast.{IsKnownTo, HasGrown, HasGrownBy, LeavesRoom}
+use Rattle.fib_reader.proofs.Words.{[], ◌+◌, ◌<◌, ◌==◌, ◌||◌, ◌∙◌, ◌∷◌, ◌≡◌, ◌≢◌, ◌≤◌, Bool, EnsembleInformation, Fig}
+use Rattle.fib_reader.proofs.Words.{HasGrown, HasGrownBy, Head, IfSome, IsKnownTo, LeavesRoom, List, Listening, None}
+use Rattle.fib_reader.proofs.Words.{Open, Option, Other, Pictured, Raw, Some, ap, arith, at_ensemble, awaiting, cond}
+use Rattle.fib_reader.proofs.Words.{ensemble_in, entries_in, eq-eqb, eqb-true, false, has_entry, has_room, head_in}
+use Rattle.fib_reader.proofs.Words.{hear_entries, hear_entry, hear_fig, identifier_of, into, is_known, is_next, kept}
+use Rattle.fib_reader.proofs.Words.{length, length-map, length_with, nat_lt, ne_eqb, or_right, picture_of, pictured}
+use Rattle.fib_reader.proofs.Words.{refl, subst, suc, swapped, sym, true, where_heard, with_entry, with_entry_changed}
+use Rattle.fib_reader.proofs.Words.{ℕ}
 use Rattle.fib_reader.proofs.Keeping.{room_for_known, room_for_new}
 
 -- ---- what is known stays known

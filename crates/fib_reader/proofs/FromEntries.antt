@@ -1,25 +1,19 @@
 -- The entries that describe members of a configuration.
-use Rattle.std.proofs.Common.{◌≡◌, ℕ, zero, suc, ◌<◌, ◌≤◌, Bool, true, false, List, [], ◌∷◌, length, map, take, get_or}
-use Rattle.std.proofs.Common.{refl, ap, sym, ◌∙◌, subst, arith}
-use Rattle.std.proofs.lemmas.List.{length-map}
+use Rattle.fib_reader.proofs.Words.{[], ◌<◌, ◌∙◌, ◌∷◌, ◌≡◌, ◌≤◌, AllByRecursion, Bool, Component, IsAddressed}
+use Rattle.fib_reader.proofs.Words.{IsAscending, IsComponent, IsComponentEntry, IsPlaced, IsService, IsSid, IsWithin}
+use Rattle.fib_reader.proofs.Words.{List, Raw, Sound, SpellingIdentifies, Stream, ap, arith, component_entries}
+use Rattle.fib_reader.proofs.Words.{component_entry, component_limit, false, get_or, identifier_of, length, length-map}
+use Rattle.fib_reader.proofs.Words.{map, option_of, packet_entry, packet_key, raw_entry, refl, service_entry}
+use Rattle.fib_reader.proofs.Words.{service_key, sid_key, sub_entry, sub_key, subst, suc, sym, take, true, zero, ℕ}
 use Rattle.mux_eep.specs.declared.sizes.EepSet.{EepSet}
 use Rattle.mux_eep.specs.declared.sizes.EepSet.TheVariants.{A, B}
 use Rattle.mux_types.specs.declared.parts.Sub.{Sub}
 use Rattle.mux_types.specs.declared.parts.Service.{Service}
 use Rattle.mux_types.specs.declared.parts.Packet.{Packet}
-use Rattle.mux_types.specs.declared.parts.Component.{Component}
-use Rattle.mux_types.specs.declared.parts.Component.TheVariants.{Sound, Stream, Packet as InPackets}
 use Rattle.mux_types.specs.declared.entry.Entry.{Entry}
 use Rattle.mux_types.specs.declared.numbers.Sid.{Sid}
 use Rattle.mux_types.specs.declared.numbers.Sid.TheVariants.{Short, Long}
-use Rattle.mux_config.specs.Configuration.{IsAscending, IsPlaced, IsService, IsAddressed, IsComponent, IsSid, sub_key}
-use Rattle.mux_config.specs.Configuration.{sid_key, service_key, packet_key, component_limit}
-use Rattle.std.specs.List.{AllByRecursion}
-use Rattle.mux_types.specs.Facts.{sub_entry, service_entry, packet_entry, component_entry, component_entries, option_of}
-use Rattle.fib_codec.specs.Ranges.{IsWithin, IsComponentEntry}
-use Rattle.fib_codec.specs.Spelling.{SpellingIdentifies}
-use Rattle.fib_reader.specs.Raw.{Raw, raw_entry}
-use Rattle.fib_reader.specs.Listening.{identifier_of}
+use Rattle.mux_types.specs.declared.parts.Component.TheVariants.{Packet as InPackets}
 use Rattle.fib_reader.proofs.Components.{length_component_entries}
 
 few_options : (s : EepSet) → option_of s < 8

@@ -1,19 +1,12 @@
 -- Sets of entries, kept in ascending order of their identifiers.
-use Rattle.std.proofs.Common.{Bor, ◌≡◌, ◌≢◌, ℕ, zero, suc, ◌+◌, ◌-◌, ◌<◌, ◌≤◌, ◌==◌, ◌++◌, Bool, true, false, cond}
-use Rattle.std.proofs.Common.{nat_lt, List, [], ◌∷◌, length, take, slice_get, Option, Some, is_some, inl, inr, refl, ap}
-use Rattle.std.proofs.Common.{sym, ◌∙◌, subst, lt-ltb, arith}
-use Rattle.std.specs.Prelude.{◌||◌}
-use Rattle.std.specs.Option.{option_copied}
-use Rattle.std.specs.List.{AllByRecursion}
-use Rattle.std.proofs.lemmas.Bool.{cases_eq, cases_Bool, cond_both, eq-eqb, ne_eqb, or_left, or_right}
-use Rattle.std.proofs.lemmas.Option.{slice_get_within, get_or_from_slice_get}
-use Rattle.std.proofs.Math.Seq.{take-append_seam}
-use Rattle.mux_types.proofs.Tables.{each_weaker, each_with, each_changed, ascends_with, found_here}
-use Rattle.mux_config.specs.Configuration.{IsAscending}
-use Rattle.mux_config.specs.Tables.{entry_at, has_entry, with_entry, with_entry_changed}
-use Rattle.mux_config.proofs.Keeping.{absent_told, present, is_found_lent, length_with}
-use Rattle.fib_reader.specs.Raw.{Raw, IsRaw}
-use Rattle.fib_reader.specs.Listening.{identifier_of, is_known, kept, has_room}
+use Rattle.fib_reader.proofs.Words.{[], ◌++◌, ◌+◌, ◌-◌, ◌<◌, ◌==◌, ◌||◌, ◌∙◌, ◌∷◌, ◌≡◌, ◌≢◌, ◌≤◌, AllByRecursion, Bool}
+use Rattle.fib_reader.proofs.Words.{Bor, IsAscending, IsRaw, List, Option, Raw, Some, absent_told, ap, arith}
+use Rattle.fib_reader.proofs.Words.{ascends_with, cases_Bool, cases_eq, cond, cond_both, each_changed, each_weaker}
+use Rattle.fib_reader.proofs.Words.{each_with, entry_at, eq-eqb, false, found_here, get_or_from_slice_get, has_entry}
+use Rattle.fib_reader.proofs.Words.{has_room, identifier_of, inl, inr, is_found_lent, is_known, is_some, kept, length}
+use Rattle.fib_reader.proofs.Words.{length_with, lt-ltb, nat_lt, ne_eqb, option_copied, or_left, or_right, present}
+use Rattle.fib_reader.proofs.Words.{refl, slice_get, slice_get_within, subst, suc, sym, take, take-append_seam, true}
+use Rattle.fib_reader.proofs.Words.{with_entry, with_entry_changed, zero, ℕ}
 
 -- the list after a known entry is kept, and after a new one is
 pub kept-known : (raw : Raw) (raws : List Raw) → is_known raw raws ≡ true

@@ -1,10 +1,6 @@
 -- Hearing a known FIB, and what is still known after a FIB was heard.
-use Rattle.std.proofs.Common.{◌≡◌, List, ℕ, Ok, refl, ◌∙◌}
-use Rattle.fib_reader.specs.declared.basis.Basis.{Basis}
-use Rattle.fib_reader.specs.declared.basis.Basis.TheVariants.{Current, Pictures, All}
-use Rattle.fib_reader.specs.declared.known_fibs.KnownFibs.{KnownFibs}
-use Rattle.fib_reader.specs.Listening.{Listening, Hears}
-use Rattle.fib_reader.specs.Remembering.{Agrees, AddsNothing, Remembers, AreRemembered}
+use Rattle.fib_reader.proofs.Words.{◌∙◌, ◌≡◌, AddsNothing, Agrees, All, AreRemembered, Basis, Current, Hears, KnownFibs}
+use Rattle.fib_reader.proofs.Words.{List, Listening, Ok, Pictures, Remembers, refl, ℕ}
 
 agrees_self : (basis : Basis) (l : Listening) → Agrees basis l l
 agrees_self Current l = (refl, refl)

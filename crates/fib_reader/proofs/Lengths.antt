@@ -1,8 +1,8 @@
 -- The length of an entry is determined by its own bytes.
-use Rattle.std.proofs.Common.{◌≡◌, ℕ, ◌+◌, ◌*◌, ◌/◌, ◌%◌, ◌<◌, ◌≤◌, ◌==◌, ◌++◌, Bool, true, false, cond, List, length}
-use Rattle.std.proofs.Common.{get_or, take, drop, ap, sym, ◌∙◌, arith}
-use Rattle.std.proofs.lemmas.List.{get_or_append_left, take-append-drop, length-take-le}
-use Rattle.fib_codec.specs.Grammar.{entry_len, ensemble_len, sub_len, service_len, packet_len}
+use Rattle.fib_reader.proofs.Words.{◌%◌, ◌*◌, ◌++◌, ◌+◌, ◌/◌, ◌<◌, ◌==◌, ◌∙◌, ◌≡◌, ◌≤◌, Bool, List, ap, arith, cond}
+use Rattle.fib_reader.proofs.Words.{drop, ensemble_len, entry_len, false, get_or, get_or_append_left, length}
+use Rattle.fib_reader.proofs.Words.{length-take-le, packet_len, service_len, sub_len, sym, take, take-append-drop, true}
+use Rattle.fib_reader.proofs.Words.{ℕ}
 
 -- every entry has some bytes
 at_least : (b : Bool) (x y : ℕ) → 3 ≤ x → 3 ≤ y → 3 ≤ cond b x y

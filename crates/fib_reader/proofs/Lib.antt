@@ -15,3 +15,4 @@ pub mod Vectors
 mod KnownFibs
 mod Remembered
 mod Remembering
+mod Words

@@ -1,10 +1,7 @@
 -- Three ascending lists of entries, one after another.
-use Rattle.std.proofs.Common.{◌≡◌, ℕ, ◌<◌, ◌++◌, inl, inr, List, [], ◌∷◌, append_assoc, sym, ◌∙◌, subst, arith}
-use Rattle.mux_config.specs.Configuration.{IsAscending}
-use Rattle.std.specs.List.{AllByRecursion}
-use Rattle.fib_reader.specs.Raw.{Raw}
-use Rattle.fib_reader.specs.Listening.{Pictured, identifier_of, all_entries}
-use Rattle.fib_reader.specs.Picture.{IsSubOf, IsPictured, IsBefore, AreInOrder}
+use Rattle.fib_reader.proofs.Words.{[], ◌++◌, ◌<◌, ◌∙◌, ◌∷◌, ◌≡◌, AllByRecursion, AreInOrder, IsAscending, IsBefore}
+use Rattle.fib_reader.proofs.Words.{IsPictured, IsSubOf, List, Pictured, Raw, all_entries, append_assoc, arith}
+use Rattle.fib_reader.proofs.Words.{identifier_of, inl, inr, subst, sym, ℕ}
 
 each_and :
     (P Q R : Raw → Type 0) (xs : List Raw) → ((x : Raw) → P x → Q x → R x) → AllByRecursion P xs → AllByRecursion Q xs

@@ -1,6 +1,6 @@
 -- The FIGs of a FIB, one after another.
-use Rattle.std.proofs.Common.{◌≡◌, ℕ, ◌++◌, List, [], ◌∷◌, flat_map, append_assoc, refl, ap, sym, ◌∙◌}
-use Rattle.fib_codec.specs.Grammar.{Fig, AreFigs, fig_spelled}
+use Rattle.fib_reader.proofs.Words.{[], ◌++◌, ◌∙◌, ◌∷◌, ◌≡◌, AreFigs, Fig, List, ap, append_assoc, fig_spelled}
+use Rattle.fib_reader.proofs.Words.{flat_map, refl, sym, ℕ}
 use Rattle.fib_reader.proofs.FigLists.{spelled_fig}
 
 pub front_of_figs : (bytes : List ℕ) (fs : List Fig) → AreFigs bytes fs → (rest : List ℕ)

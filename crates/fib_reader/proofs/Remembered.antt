@@ -1,13 +1,8 @@
 -- Which FIBs are known after one more was put into its slot, and after some were forgotten.
-use Rattle.std.proofs.Common.{◌≡◌, ◌≢◌, ℕ, ◌<◌, ◌==◌, ◌⊎◌, Bool, true, false, List, [], length, get_or, inl, inr, refl}
-use Rattle.std.proofs.Common.{sym, ap, ◌∙◌, subst}
-use Rattle.std.proofs.lemmas.Bool.{eqb-true, eq-eqb}
-use Rattle.std.proofs.lemmas.List.{get_or-replicate, get_or-set_same, get_or-set_other}
+use Rattle.fib_reader.proofs.Words.{[], ◌<◌, ◌==◌, ◌∙◌, ◌≡◌, ◌≢◌, ◌⊎◌, All, Basis, Bool, Current, KnownFibs, List}
+use Rattle.fib_reader.proofs.Words.{Pictures, Remembers, ap, eq-eqb, eqb-true, false, get_or, get_or-replicate}
+use Rattle.fib_reader.proofs.Words.{get_or-set_other, get_or-set_same, inl, inr, length, refl, subst, sym, true, ℕ}
 use Rattle.std.proofs.Math.ListN.{replicate, set}
-use Rattle.fib_reader.specs.declared.basis.Basis.{Basis}
-use Rattle.fib_reader.specs.declared.basis.Basis.TheVariants.{Current, Pictures, All}
-use Rattle.fib_reader.specs.declared.known_fibs.KnownFibs.{KnownFibs}
-use Rattle.fib_reader.specs.Remembering.{Remembers}
 
 unset : (n place : ℕ) (flags : List Bool) → flags ≡ replicate n false → place < n → get_or flags place false ≡ true → ⊥
 unset n place flags e lt h =

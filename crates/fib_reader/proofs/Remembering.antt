@@ -1,15 +1,9 @@
 -- A FIG that is known to a listener is known to each that agrees in its basis.
-use Rattle.std.proofs.Common.{◌≡◌, ◌≢◌, ℕ, ◌%◌, ◌==◌, Bool, true, false, cond, List, [], ◌∷◌, map, Option, Some, None}
-use Rattle.std.proofs.Common.{refl, ap, sym, ◌∙◌, subst}
-use Rattle.std.specs.List.{AllByRecursion}
-use Rattle.std.proofs.lemmas.Bool.{ne_eqb}
-use Rattle.fib_codec.specs.Grammar.{Fig, Open, Other, is_next, is_long}
-use Rattle.fib_codec.specs.declared.head.Head.{Head}
-use Rattle.fib_reader.specs.Raw.{Raw, raw_of, entries_in, head_in}
-use Rattle.fib_reader.specs.Listening.{Pictured, Listening, pictured, into, picture_of, hear_entry, hear_entries}
-use Rattle.fib_reader.specs.Listening.{hear_fig, hear_figs, where_heard}
-use Rattle.fib_reader.specs.declared.basis.Basis.TheVariants.{Current, Pictures, All}
-use Rattle.fib_reader.specs.Remembering.{Agrees, basis_of, KeepsCurrent}
+use Rattle.fib_reader.proofs.Words.{[], ◌%◌, ◌==◌, ◌∙◌, ◌∷◌, ◌≡◌, ◌≢◌, Agrees, All, AllByRecursion, Bool, Current, Fig}
+use Rattle.fib_reader.proofs.Words.{Head, KeepsCurrent, List, Listening, None, Open, Option, Other, Pictured, Pictures}
+use Rattle.fib_reader.proofs.Words.{Raw, Some, ap, basis_of, cond, entries_in, false, head_in, hear_entries, hear_entry}
+use Rattle.fib_reader.proofs.Words.{hear_fig, hear_figs, into, is_long, is_next, map, ne_eqb, picture_of, pictured}
+use Rattle.fib_reader.proofs.Words.{raw_of, refl, subst, sym, true, where_heard, ℕ}
 
 -- ---- one entry
 

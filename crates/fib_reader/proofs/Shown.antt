@@ -1,18 +1,11 @@
 -- Pictures that show a configuration.
-use Rattle.std.proofs.Common.{◌≡◌, ◌≢◌, ℕ, ◌<◌, ◌≤◌, false, List, [], ◌∷◌, ◌++◌, length, map, append_assoc, refl, ap}
-use Rattle.std.proofs.Common.{sym, ◌∙◌, subst, arith}
-use Rattle.std.proofs.lemmas.List.{length-map, map-append}
+use Rattle.fib_reader.proofs.Words.{[], ◌++◌, ◌<◌, ◌∙◌, ◌∷◌, ◌≡◌, ◌≢◌, ◌≤◌, AllByRecursion, Configuration}
+use Rattle.fib_reader.proofs.Words.{FactsIdentify, IsAddressed, IsAscending, IsConfiguration, IsPictured, IsPlaced}
+use Rattle.fib_reader.proofs.Words.{IsService, IsSubOf, IsWithin, List, Pictured, Raw, Shows, SpellingIdentifies, ap}
+use Rattle.fib_reader.proofs.Words.{append_assoc, arith, false, identifier_of, length, length-map, map, map-append}
+use Rattle.fib_reader.proofs.Words.{marked, packet_entry, packet_key, raw_entry, refl, service_entries, service_entry}
+use Rattle.fib_reader.proofs.Words.{service_key, sub_entries, sub_entry, sub_key, subst, sym, ℕ}
 use Rattle.mux_types.specs.declared.entry.Entry.{Entry}
-use Rattle.mux_config.specs.Configuration.{Configuration, IsAscending, IsConfiguration, IsPlaced, IsService}
-use Rattle.mux_config.specs.Configuration.{IsAddressed, sub_key, service_key, packet_key}
-use Rattle.std.specs.List.{AllByRecursion}
-use Rattle.mux_types.specs.Facts.{FactsIdentify, marked, sub_entry, service_entry, packet_entry, sub_entries}
-use Rattle.mux_types.specs.Facts.{service_entries}
-use Rattle.fib_codec.specs.Ranges.{IsWithin}
-use Rattle.fib_codec.specs.Spelling.{SpellingIdentifies}
-use Rattle.fib_reader.specs.Raw.{Raw, raw_entry}
-use Rattle.fib_reader.specs.Listening.{Pictured, identifier_of}
-use Rattle.fib_reader.specs.Picture.{IsPictured, IsSubOf, Shows}
 use Rattle.fib_reader.proofs.FromEntries.{sub_within, service_within, packet_within, sub_identified, service_identified}
 use Rattle.fib_reader.proofs.FromEntries.{packet_identified}
 

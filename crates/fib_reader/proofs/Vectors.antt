@@ -1,13 +1,8 @@
 -- Examples of faults, ensemble information and order, computed by the checker from the definitions.
-use Rattle.std.proofs.Common.{◌≡◌, ℕ, ◌*◌, true, false, [], ◌∷◌, Some, None, inl, inr, refl, arith}
-use Rattle.mux_types.specs.Entries.{EnsembleInformation}
-use Rattle.fib_reader.specs.declared.fault.FibFault.TheVariants.{Overrun, Entry}
-use Rattle.fib_reader.specs.Faults.{IsOverrun, IsEntryFault}
+use Rattle.fib_reader.proofs.Words.{[], ◌*◌, ◌∷◌, ◌≡◌, AreInOrder, EnsembleInformation, Entry, IsEntryFault, IsKnownTo}
+use Rattle.fib_reader.proofs.Words.{IsOverrun, Listening, None, Overrun, Raw, Some, arith, at_ensemble, ensemble_in}
+use Rattle.fib_reader.proofs.Words.{false, identifier_of, inl, inr, is_made, refl, true, untuned, ℕ}
 use Rattle.fib_reader.specs.FirstFault.{entries_fault, figs_fault}
-use Rattle.fib_reader.specs.Raw.{Raw, ensemble_in}
-use Rattle.fib_reader.specs.Listening.{Listening, untuned, identifier_of, is_made, at_ensemble}
-use Rattle.fib_reader.specs.Picture.{AreInOrder}
-use Rattle.fib_reader.specs.Forecast.{IsKnownTo}
 use Rattle.fib_reader.proofs.FigFaults.{stands_first, data_given}
 
 -- ---- faults

@@ -1,35 +1,25 @@
 -- What a listener and the checker know of filled FIBs is what they know of the plan's.
-use Rattle.std.proofs.Common.{◌≡◌, ℕ, suc, ◌+◌, ◌%◌, ◌==◌, ◌&&◌, Bool, true, false, not, cond, ltb, List, [], ◌∷◌, ◌++◌}
-use Rattle.std.proofs.Common.{length, map, flat_map, Some, None, refl, sym, ap, ap₂, subst, ◌∙◌, arith, append_assoc}
-use Rattle.std.specs.Prelude.{Option}
-use Rattle.std.specs.List.{AllByRecursion, list_all}
-use Rattle.std.proofs.lemmas.Bool.{false≢true}
+use Rattle.fig_merge.proofs.Words.{[], ◌%◌, ◌&&◌, ◌++◌, ◌+◌, ◌==◌, ◌∙◌, ◌∷◌, ◌≡◌, AllAreFilled, AllByRecursion}
+use Rattle.fig_merge.proofs.Words.{AreFilled, AreFilledFrames, AreFrames, BeginsAnew, Bool, Ended, Fib, Fig, Fill}
+use Rattle.fig_merge.proofs.Words.{FilledIsFramedAlike, FilledIsHeardAlike, FilledIsRead, HoldsFirst, IsFib, IsMerging}
+use Rattle.fig_merge.proofs.Words.{IsOneFrame, Item, Judge, List, Merging, Moment, None, Open, Option, Other, Raw}
+use Rattle.fig_merge.proofs.Words.{Reading, Reads, Some, Step, Take, What, after_fill, after_step, after_take, agreeing}
+use Rattle.fig_merge.proofs.Words.{agrees_with, ap, append_assoc, ap₂, arith, at_ensemble, begins_with_ensemble}
+use Rattle.fig_merge.proofs.Words.{carried_by, carried_in, cond, count_due, count_in, count_of_frame, damaged_in, due}
+use Rattle.fig_merge.proofs.Words.{eid_in, ensemble_in, entries_in, false, false≢true, fib_items, fibs_in, fibs_items}
+use Rattle.fig_merge.proofs.Words.{fig_items, figs_items, filled_fib, first_in, first_in_figs, first_line}
+use Rattle.fig_merge.proofs.Words.{first_of_frame, first_opening, first_or, first_raw, flat_map, frame_findings}
+use Rattle.fig_merge.proofs.Words.{hear_entries, hear_fib, hear_fig, hear_figs, heard_or, hearing_fib, hearing_fibs}
+use Rattle.fig_merge.proofs.Words.{holds_ensemble, is_damaged, is_next, is_there, lacks_opening, length, limited}
+use Rattle.fig_merge.proofs.Words.{list_all, ltb, map, merged, most, not, nothing_taken, one_fib, opening}
+use Rattle.fig_merge.proofs.Words.{opening_in_figs, past_after_frame, placed_count, refl, room_of, said, sent_in, subst}
+use Rattle.fig_merge.proofs.Words.{suc, sym, taken_of, true, turns_in, untuned, waits, when, where_heard, with_carried}
+use Rattle.fig_merge.proofs.Words.{with_fig, with_figs, ℕ}
 use Rattle.mux_types.specs.Entries.{EnsembleInformation}
-use Rattle.fib_codec.specs.Grammar.{Fig, Open, Other, IsFib, is_next}
-use Rattle.fib_codec.proofs.Uniqueness.{one_fib}
-use Rattle.stream_check.specs.Listening.{Listening, untuned, at_ensemble, hear_entries, hear_fig, hear_figs}
-use Rattle.stream_check.specs.Listening.{where_heard}
-use Rattle.stream_check.specs.Raw.{Raw, entries_in, ensemble_in}
+use Rattle.stream_check.specs.Listening.{Listening}
 use Rattle.stream_check.specs.declared.finding.Fault.TheVariants as faults
 use Rattle.stream_check.specs.declared.finding.StreamEvent.TheVariants as events
-use Rattle.stream_check.specs.declared.finding.What.{What}
 use Rattle.stream_check.specs.declared.finding.What.TheVariants as whats
-use Rattle.stream_check.specs.Reporting.{when}
-use Rattle.stream_check.specs.Frames.{Fib, Reads, Reading, is_damaged, first_raw, first_or, first_in_figs, first_in}
-use Rattle.stream_check.specs.Frames.{opening, is_there, begins_with_ensemble, holds_ensemble, IsOneFrame, BeginsAnew}
-use Rattle.stream_check.specs.Frames.{AreFrames, HoldsFirst, damaged_in, first_of_frame, first_opening, lacks_opening}
-use Rattle.stream_check.specs.Frames.{opening_in_figs}
-use Rattle.stream_check.specs.History.{Item, Moment, Ended, said, due, fig_items, figs_items, fib_items, fibs_items}
-use Rattle.stream_check.specs.Stream.{count_in, eid_in, count_due, placed_count, count_of_frame, first_line}
-use Rattle.stream_check.specs.Stream.{frame_findings, past_after_frame}
-use Rattle.fig_merge.specs.Taking.{Merging, IsMerging, nothing_taken, most, limited, waits, with_fig, with_figs}
-use Rattle.fig_merge.specs.Taking.{taken_of, after_take}
-use Rattle.fig_merge.specs.Filling.{agrees_with, filled_fib, merged, carried_by, carried_in, turns_in, room_of}
-use Rattle.fig_merge.specs.Filling.{heard_or, after_fill}
-use Rattle.fig_merge.specs.Steps.{Step, Take, Fill, after_step}
-use Rattle.fig_merge.specs.Passing.{with_carried, FilledIsRead, hear_fib, FilledIsHeardAlike, Judge, agreeing}
-use Rattle.fig_merge.specs.Passing.{hearing_fib, hearing_fibs, AreFilled, fibs_in, sent_in, AllAreFilled}
-use Rattle.fig_merge.specs.Passing.{AreFilledFrames, FilledIsFramedAlike}
 use Rattle.fig_merge.proofs.Passing.{filled_is, all_agree}
 use Rattle.fig_merge.proofs.Carried.{merging_step}
 

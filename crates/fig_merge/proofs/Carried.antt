@@ -1,19 +1,14 @@
 -- No FIG waits for ever where each frame has a FIB without FIGs.
-use Rattle.std.proofs.Common.{◌≡◌, ℕ, zero, suc, ◌+◌, ◌≤◌, ◌<◌, leb, cond, Bool, true, false, ◌⊎◌, inl, inr, List, []}
-use Rattle.std.proofs.Common.{◌∷◌, ◌++◌, length, take, drop, ltb, refl, sym, ap, subst, subst₂, ◌∙◌, arith}
-use Rattle.std.proofs.Common.{append_assoc, append-nil, length-append, drop-cons, take-append-drop, length-take-le}
-use Rattle.std.proofs.lemmas.Bool.{ltb-true, le-leb, cond-true}
-use Rattle.std.proofs.lemmas.List.Elements.{Contains-append_left, Contains-append_right}
-use Rattle.std.specs.Prelude.{Some, None, Contains}
-use Rattle.std.specs.List.{AllByRecursion}
-use Rattle.fib_codec.specs.Grammar.{Fig, fig_spelled}
+use Rattle.fig_merge.proofs.Words.{[], ◌++◌, ◌+◌, ◌<◌, ◌∙◌, ◌∷◌, ◌≡◌, ◌≤◌, ◌⊎◌, AllAreCarried, AllByRecursion, Bool}
+use Rattle.fig_merge.proofs.Words.{Contains, Contains-append_left, Contains-append_right, Fib, Fig, Fill, FillsEmpty}
+use Rattle.fig_merge.proofs.Words.{HasEmpty, IsMerging, IsPassedOver, IsSendable, List, Merging, None, Reading, Reads}
+use Rattle.fig_merge.proofs.Words.{Some, Step, Take, after_fill, after_step, after_steps, after_take, agrees_with}
+use Rattle.fig_merge.proofs.Words.{all_turns, ap, append-nil, append_assoc, arith, cond, cond-true, drop, drop-cons}
+use Rattle.fig_merge.proofs.Words.{false, fig_spelled, inl, inr, is_left_out, joined, le-leb, leb, left_waiting, length}
+use Rattle.fig_merge.proofs.Words.{length-append, length-take-le, limited, ltb, ltb-true, most, refl, room_after}
+use Rattle.fig_merge.proofs.Words.{room_of, subst, subst₂, suc, sym, take, take-append-drop, taken_of, true, turns_at}
+use Rattle.fig_merge.proofs.Words.{turns_by, turns_in, waits, with_fig, with_figs, zero, ℕ}
 use Rattle.fib_codec.proofs.Lengths.{AllByRecursion-append}
-use Rattle.stream_check.specs.Frames.{Fib, Reads, Reading}
-use Rattle.fig_merge.specs.Taking.{Merging, IsMerging, IsPassedOver, IsSendable, is_left_out, most, limited, waits}
-use Rattle.fig_merge.specs.Taking.{with_fig, with_figs, taken_of, after_take}
-use Rattle.fig_merge.specs.Filling.{agrees_with, room_after, room_of, turns_in, left_waiting, turns_by, after_fill}
-use Rattle.fig_merge.specs.Steps.{Step, Take, Fill, after_step, after_steps, turns_at, all_turns, FillsEmpty, HasEmpty}
-use Rattle.fig_merge.specs.Steps.{joined, AllAreCarried}
 use Rattle.fig_merge.proofs.Passing.{all_left, few_left, sendable}
 
 -- ---- what holds of a merger stays so

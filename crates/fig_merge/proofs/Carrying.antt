@@ -1,14 +1,11 @@
 -- One pass over the FIGs that wait, and the end of a FIB.
-use Rattle.std.proofs.Common.{◌≡◌, ℕ, ◌+◌, ◌-◌, ◌≤◌, ◌<◌, leb, ltb, zero, suc, inl, inr, Bool, true, false, List, []}
-use Rattle.std.proofs.Common.{◌∷◌, ◌++◌, length, get_or, take, drop, replicate, refl, sym, ap, ap₂, ◌∙◌, arith}
-use Rattle.std.proofs.Common.{append_assoc, append-nil, length-append, take_at, length-take-le, length-drop, drop-cons}
-use Rattle.std.proofs.Common.{drop_at, subst, subst₂}
-use Rattle.std.proofs.lemmas.List.{length-replicate}
-use Rattle.std.proofs.lemmas.Bool.{cond-true, cond-false, lt-ltb, le-ltb, le-leb, lt-leb, cases_lt}
-use Rattle.std.proofs.lemmas.List.{take_more}
-use Rattle.std.specs.List.{concat}
-use Rattle.fib_codec.specs.Spelling.{filled}
-use Rattle.fig_merge.specs.Filling.{carried_in, carried_of, left_waiting, room_after, stale_in, stale_of, turns_in}
+use Rattle.fig_merge.proofs.Words.{[], ◌++◌, ◌+◌, ◌-◌, ◌<◌, ◌∙◌, ◌∷◌, ◌≡◌, ◌≤◌, Bool, List, ap, append-nil}
+use Rattle.fig_merge.proofs.Words.{append_assoc, ap₂, arith, carried_in, carried_of, cases_lt, concat, cond-false}
+use Rattle.fig_merge.proofs.Words.{cond-true, drop, drop-cons, drop_at, false, filled, get_or, inl, inr, le-leb, le-ltb}
+use Rattle.fig_merge.proofs.Words.{leb, left_waiting, length, length-append, length-drop, length-take-le, lt-leb}
+use Rattle.fig_merge.proofs.Words.{lt-ltb, ltb, refl, replicate, room_after, stale_in, stale_of, subst, subst₂, suc}
+use Rattle.fig_merge.proofs.Words.{sym, take, take_at, true, turns_in, zero, ℕ}
+use Rattle.std.proofs.lemmas.List.{length-replicate, take_more}
 
 -- ---- a FIG that waits on
 turns_over : (ok : List ℕ → Bool) (fig : List ℕ) (rest : List (List ℕ)) (room : ℕ) → leb (length fig) room ≡ false

@@ -1,36 +1,28 @@
 -- The checker finds in frames with FIGs carried behind their own what it finds in the frames, if those FIGs agree.
-use Rattle.std.proofs.Common.{◌≡◌, ℕ, ◌==◌, ◌&&◌, ◌||◌, nat_le, nat_lt, Bool, true, false, cond, List, [], ◌∷◌, ◌++◌}
-use Rattle.std.proofs.Common.{length, map, Some, None, refl, sym, ap, ap₂, ◌∙◌, append_assoc, append-nil}
-use Rattle.std.specs.Prelude.{Option}
-use Rattle.std.specs.List.{list_all}
-use Rattle.std.proofs.lemmas.Bool.{false≢true}
+use Rattle.fig_merge.proofs.Words.{[], ◌&&◌, ◌++◌, ◌==◌, ◌||◌, ◌∙◌, ◌∷◌, ◌≡◌, AreFilled, AreFilledFrames, Bool, Fib}
+use Rattle.fig_merge.proofs.Words.{Fig, FilledIsCheckedAlike, Item, List, Moment, None, Open, Option, Other, Pictured}
+use Rattle.fig_merge.proofs.Words.{Raw, Said, Some, What, agreeing, agrees_with, ap, append-nil, append_assoc, ap₂}
+use Rattle.fig_merge.proofs.Words.{at_ensemble, cond, due, ensemble_in, entries_in, false, false≢true, fibs_items}
+use Rattle.fig_merge.proofs.Words.{fig_agrees, fig_items, figs_items, findings_at_sent, findings_from, findings_in}
+use Rattle.fig_merge.proofs.Words.{frame_items, frames_ended, has_room, hear_entries, hear_entry, hear_figs, heard_or}
+use Rattle.fig_merge.proofs.Words.{hearing, hearing_fibs, identifier_of, in_frame, into, is_ensemble, is_next, items_of}
+use Rattle.fig_merge.proofs.Words.{kept, last_findings, length, list_all, listener, listener_after, listening, map}
+use Rattle.fig_merge.proofs.Words.{nat_le, nat_lt, noted_in, past_after_frame, picture_of, pictured, refl, runs_full}
+use Rattle.fig_merge.proofs.Words.{said, sym, true, untuned, where_heard, ℕ}
 use Rattle.mux_config.proofs.Keeping.{present, absent_found}
 use Rattle.mux_config.specs.Tables.{entry_at}
-use Rattle.fib_codec.specs.Grammar.{Fig, Open, Other, is_next}
-use Rattle.fig_mentions.specs.Agreeing.{fig_agrees}
-use Rattle.stream_check.specs.Listening.{Listening, Pictured, untuned, at_ensemble, has_room, hear_entry, hear_entries}
-use Rattle.stream_check.specs.Listening.{hear_figs, identifier_of, into, kept, pictured, picture_of, where_heard}
-use Rattle.stream_check.specs.Raw.{Raw, entries_in, ensemble_in}
+use Rattle.stream_check.specs.Listening.{Listening}
 use Rattle.stream_check.specs.declared.contradiction.Contradiction.{Contradiction}
 use Rattle.stream_check.specs.declared.finding.Finding.{Finding}
-use Rattle.stream_check.specs.declared.finding.What.{What}
 use Rattle.stream_check.specs.declared.heard_table.Lookup.TheVariants.{Absent, Full}
 use Rattle.stream_check.specs.Contradictions.{new_findings, noted_with}
-use Rattle.stream_check.specs.Frames.{Fib}
-use Rattle.stream_check.specs.History.{Item, Moment, Said, said, is_ensemble, items_of, fig_items, figs_items}
-use Rattle.stream_check.specs.History.{fibs_items, frame_items, listening, listener, listener_after, due, frames_ended}
 use Rattle.stream_check.specs.Lookup.{lookup, lookup_among, lookup_in}
-use Rattle.stream_check.specs.Reporting.{in_frame}
 use Rattle.stream_check.specs.Rules.{known_of, finds_no_room, has_no_room}
 use Rattle.stream_check.specs.Sent.{Sent, FigSent, fig_sent, figs_sent, fibs_sent, items_in, contradictions_at}
 use Rattle.stream_check.specs.Sent.{noted_after}
-use Rattle.stream_check.specs.Stream.{findings_at_sent, runs_full, last_findings, findings_in, noted_in}
-use Rattle.stream_check.specs.Stream.{past_after_frame, findings_from}
 use Rattle.stream_check.proofs.Agreement.{agreeing_none}
 use Rattle.stream_check.proofs.Saying.{said_append, full_append, full_stays}
 use Rattle.stream_check.proofs.Sending.{figs_have_items, findings_append, findings_stay, noted_append}
-use Rattle.fig_merge.specs.Filling.{agrees_with, hearing, heard_or}
-use Rattle.fig_merge.specs.Passing.{agreeing, hearing_fibs, AreFilled, AreFilledFrames, FilledIsCheckedAlike}
 use Rattle.fig_merge.proofs.Alike.{frame_alike, after_alike, count_alike, joined, whole_alike}
 
 -- ---- where there is room, a listener hears an entry

@@ -1,23 +1,14 @@
 -- The entries of a filled FIB are those of the plan's, and the checker has room for those of both or of neither.
-use Rattle.std.proofs.Common.{◌≡◌, ◌↔◌, ℕ, Bool, true, cond, inl, inr, List, [], ◌∷◌, ◌++◌, length, map, Some, None}
-use Rattle.std.proofs.Common.{refl, sym, ap, ap₂, subst, ◌∙◌}
-use Rattle.std.specs.Prelude.{Contains}
-use Rattle.std.specs.List.{AllByRecursion}
-use Rattle.std.proofs.lemmas.List.Elements.{Contains-append_left, Contains-append_cases}
+use Rattle.fig_merge.proofs.Words.{[], ◌++◌, ◌↔◌, ◌∙◌, ◌∷◌, ◌≡◌, AllByRecursion, AreFilledFrames, Bool, Contains}
+use Rattle.fig_merge.proofs.Words.{Contains-append_cases, Contains-append_left, Fib, Fig, FilledHasTheEntries}
+use Rattle.fig_merge.proofs.Words.{FilledIsAsLong, FilledIsFullAlike, IsFib, IsMerging, Judge, List, Listening, Merging}
+use Rattle.fig_merge.proofs.Words.{Moment, None, Other, Reads, Some, agrees_with, ap, ap₂, carried_in, cond, filled_fib}
+use Rattle.fig_merge.proofs.Words.{frames_full, hearing_fibs, inl, inr, length, map, merged, one_fib, past_after_frame}
+use Rattle.fig_merge.proofs.Words.{refl, room_of, runs_full, subst, sym, true, ℕ}
 use Rattle.mux_types.proofs.Elements.{each_contains}
 use Rattle.mux_types.specs.Facts.{Marked}
-use Rattle.fib_codec.specs.Grammar.{Fig, Other, IsFib}
 use Rattle.fib_codec.specs.Heard.{IsInFib, IsInFig}
 use Rattle.fib_codec.specs.Laws.{FibHas32Bytes}
-use Rattle.fib_codec.proofs.Uniqueness.{one_fib}
-use Rattle.fib_reader.specs.Listening.{Listening}
-use Rattle.stream_check.specs.Frames.{Fib, Reads}
-use Rattle.stream_check.specs.History.{Moment}
-use Rattle.stream_check.specs.Stream.{runs_full, frames_full, past_after_frame}
-use Rattle.fig_merge.specs.Taking.{Merging, IsMerging}
-use Rattle.fig_merge.specs.Filling.{agrees_with, filled_fib, merged, carried_in, room_of}
-use Rattle.fig_merge.specs.Passing.{FilledHasTheEntries, FilledIsAsLong, Judge, hearing_fibs, AreFilledFrames}
-use Rattle.fig_merge.specs.Passing.{FilledIsFullAlike}
 use Rattle.fig_merge.proofs.Passing.{filled_is}
 use Rattle.fig_merge.proofs.Alike.{frame_alike, after_alike}
 

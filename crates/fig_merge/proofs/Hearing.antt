@@ -1,12 +1,9 @@
 -- What the merger has heard of the plan after one more FIB, and what it is then.
-use Rattle.std.proofs.Common.{◌≡◌, ℕ, ◌+◌, ◌-◌, Bool, List, length, Option, Some, None, Result, ap, ◌∙◌}
-use Rattle.fib_codec.specs.Grammar.{Fig}
-use Rattle.fib_reader.specs.Listening.{Listening, Pictured, Heard}
+use Rattle.fig_merge.proofs.Words.{◌+◌, ◌-◌, ◌∙◌, ◌≡◌, Bool, Fig, Heard, List, Listening, Merging, None, Option, Result}
+use Rattle.fig_merge.proofs.Words.{Some, after_fill, agrees_with, ap, carried_in, data_of, fig_agrees, heard_or}
+use Rattle.fig_merge.proofs.Words.{hearing, left_waiting, length, limited, room_of, stale_in, ℕ}
+use Rattle.fib_reader.specs.Listening.{Pictured}
 use Rattle.fib_reader.specs.declared.fault.ListenFault.{ListenFault}
-use Rattle.fig_mentions.specs.Agreeing.{fig_agrees}
-use Rattle.fig_merge.specs.Taking.{Merging, limited}
-use Rattle.fig_merge.specs.Filling.{after_fill, agrees_with, carried_in, data_of, heard_or, hearing, left_waiting}
-use Rattle.fig_merge.specs.Filling.{room_of, stale_in}
 
 pub heard_is : (o : Option Listening) (old new : Listening) (answer : Result (Unit {0}) ListenFault)
     → Heard o old new answer → new ≡ heard_or old o

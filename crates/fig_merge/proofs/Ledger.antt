@@ -1,20 +1,16 @@
 -- What becomes of the FIGs that are taken.
-use Rattle.std.proofs.Common.{◌≡◌, ℕ, ◌+◌, ◌-◌, ◌^◌, ◌≤◌, ◌<◌, leb, ltb, cond, Bool, true, false, ◌||◌, inl, inr, List}
-use Rattle.std.proofs.Common.{[], ◌∷◌, ◌++◌, length, ◌⊎◌, refl, sym, ap, subst, subst₂, ◌∙◌, arith, append_assoc}
-use Rattle.std.proofs.Common.{append-nil, length-append}
-use Rattle.std.proofs.lemmas.Bool.{cond-true, cond-false, lt-ltb, le-ltb, ltb-true, leb-true, leb-false, cases_lt}
+use Rattle.fig_merge.proofs.Words.{[], ◌++◌, ◌+◌, ◌-◌, ◌<◌, ◌^◌, ◌||◌, ◌∙◌, ◌∷◌, ◌≡◌, ◌≤◌, ◌⊎◌, AllAreAccounted}
+use Rattle.fig_merge.proofs.Words.{AllByRecursion, AreDifferent, Bool, Fib, Fill, Go, List, Merging, None, Reading}
+use Rattle.fig_merge.proofs.Words.{Some, Step, Take, TheLongestWaitingGoes, after_fill, after_step, after_steps}
+use Rattle.fig_merge.proofs.Words.{after_take, agrees_with, all_carried, all_dropped, all_repeated, all_stale}
+use Rattle.fig_merge.proofs.Words.{all_taken, ap, append-nil, append_assoc, arith, carried_at, carried_by, carried_in}
+use Rattle.fig_merge.proofs.Words.{carried_of, cases_lt, cond, cond-false, cond-true, dropped_of, false, inl, inr}
+use Rattle.fig_merge.proofs.Words.{le-ltb, leb, leb-false, leb-true, left_waiting, length, length-append, limited}
+use Rattle.fig_merge.proofs.Words.{lt-ltb, ltb, ltb-true, most, nothing_taken, refl, repeated_of, room_after, room_of}
+use Rattle.fig_merge.proofs.Words.{stale_at, stale_by, stale_in, stale_of, subst, subst₂, sym, taken_at, taken_in}
+use Rattle.fig_merge.proofs.Words.{taken_of, times, true, turns_at, turns_by, turns_in, waits, with_fig, with_figs, ℕ}
 use Rattle.std.proofs.lemmas.Slice.Eq.{bytes_eq-Decides}
-use Rattle.std.specs.Prelude.{Some, None}
-use Rattle.std.specs.List.{AllByRecursion}
 use Rattle.std.specs.Str.{bytes_eq}
-use Rattle.stream_check.specs.Frames.{Fib, Reading}
-use Rattle.fig_merge.specs.Taking.{Merging, nothing_taken, most, limited, waits, with_fig, with_figs, taken_in}
-use Rattle.fig_merge.specs.Taking.{taken_of, after_take}
-use Rattle.fig_merge.specs.Filling.{agrees_with, room_after, room_of, turns_in, carried_of, stale_of, carried_in}
-use Rattle.fig_merge.specs.Filling.{stale_in, left_waiting, turns_by, carried_by, stale_by, after_fill}
-use Rattle.fig_merge.specs.Steps.{Step, Take, Fill, after_step, after_steps, taken_at, turns_at, carried_at, stale_at}
-use Rattle.fig_merge.specs.Steps.{repeated_of, dropped_of, all_taken, all_carried, all_stale, all_repeated, all_dropped}
-use Rattle.fig_merge.specs.Steps.{times, AreDifferent, AllAreAccounted, Go, TheLongestWaitingGoes}
 use Rattle.fig_merge.proofs.Passing.{few_left}
 
 -- ---- a measure of lists: how long they are, or how often they have some bytes

@@ -7,3 +7,4 @@ pub mod Checked
 pub mod Heard
 pub mod Hearing
 pub mod Vectors
+mod Words

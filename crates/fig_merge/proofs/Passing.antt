@@ -1,19 +1,14 @@
 -- A FIB of the plan with FIGs behind its own, in the grammar.
-use Rattle.std.proofs.Common.{◌≡◌, ℕ, ◌+◌, ◌-◌, ◌≤◌, leb, ltb, cond, Bool, true, false, suc, inl, inr, List, [], ◌∷◌}
-use Rattle.std.proofs.Common.{◌++◌, length, take, map, replicate, refl, sym, ap, subst, ◌∙◌, arith, append_assoc}
-use Rattle.std.proofs.Common.{append-nil, length-append, length-take, take_at, take-take}
-use Rattle.std.proofs.lemmas.Bool.{cond-true, cond-false, lt-ltb, le-ltb, leb-true, cases_lt}
-use Rattle.std.specs.List.{AllByRecursion, concat}
-use Rattle.fib_codec.specs.Grammar.{Fig, Open, Other, AreFigs, IsFig, IsFib, fig_spelled}
-use Rattle.fib_codec.specs.Spelling.{filled}
+use Rattle.fig_merge.proofs.Words.{[], ◌++◌, ◌+◌, ◌-◌, ◌∙◌, ◌∷◌, ◌≡◌, ◌≤◌, AllByRecursion, AreFigs, Bool, Fig, IsFib}
+use Rattle.fig_merge.proofs.Words.{IsFig, IsPassedOver, IsSendable, List, Listening, Open, Other, agrees_with, ap}
+use Rattle.fig_merge.proofs.Words.{append-nil, append_assoc, arith, carried_in, carried_of, cases_lt, checked_is}
+use Rattle.fig_merge.proofs.Words.{concat, cond, cond-false, cond-true, data_of, false, fig_spelled, filled, filled_fib}
+use Rattle.fig_merge.proofs.Words.{inl, inr, le-ltb, leb, leb-true, left_waiting, length, length-append, length-take}
+use Rattle.fig_merge.proofs.Words.{lt-ltb, ltb, map, refl, replicate, room_after, room_of, subst, suc, sym, take}
+use Rattle.fig_merge.proofs.Words.{take-take, take_at, true, turns_in, ℕ}
 use Rattle.fib_codec.proofs.Finished.{length-filled}
-use Rattle.fib_codec.proofs.U16.{checked_is}
 use Rattle.fib_reader.proofs.FigLists.{spelled_fig}
 use Rattle.fib_reader.proofs.Places.{front_of_figs}
-use Rattle.fig_merge.specs.Taking.{IsPassedOver, IsSendable}
-use Rattle.fib_reader.specs.Listening.{Listening}
-use Rattle.fig_merge.specs.Filling.{agrees_with, carried_of, data_of, room_after, room_of, turns_in, carried_in}
-use Rattle.fig_merge.specs.Filling.{left_waiting, filled_fib}
 
 -- ---- FIGs, and then others
 figs_then : (bytes tail : List ℕ) (figs more : List Fig) → AreFigs bytes figs → AreFigs tail more

@@ -1,15 +1,11 @@
 -- Small cases, computed by the checker from the definitions: for each definition one that holds and one that fails.
-use Rattle.std.proofs.Common.{◌≡◌, ℕ, ◌==◌, not, Bool, true, false, List, [], ◌∷◌, ◌++◌, length, replicate, Some, None}
-use Rattle.std.proofs.Common.{refl, arith}
-use Rattle.fib_codec.specs.Grammar.{Open, Other}
-use Rattle.fib_codec.specs.Spelling.{filled}
+use Rattle.fig_merge.proofs.Words.{[], ◌++◌, ◌==◌, ◌∷◌, ◌≡◌, AreDifferent, AreFilled, Bool, Go, List, Merging, None}
+use Rattle.fig_merge.proofs.Words.{Open, Other, Some, after_take, agreeing, any_carried, arith, carried_by, carried_in}
+use Rattle.fig_merge.proofs.Words.{dropped_of, false, filled, hearing_fibs, is_left_out, left_waiting, length, limited}
+use Rattle.fig_merge.proofs.Words.{not, nothing_taken, refl, repeated_of, replicate, room_of, stale_in, taken_in}
+use Rattle.fig_merge.proofs.Words.{taken_of, times, true, with_carried, with_fig, ℕ}
 use Rattle.fib_reader.specs.Listening.{untuned}
 use Rattle.fig_mentions.specs.Mentions.{mentions_in}
-use Rattle.fig_merge.specs.Taking.{Merging, nothing_taken, is_left_out, taken_of, taken_in, limited, with_fig}
-use Rattle.fig_merge.specs.Taking.{after_take}
-use Rattle.fig_merge.specs.Filling.{room_of, carried_in, stale_in, left_waiting, carried_by}
-use Rattle.fig_merge.specs.Steps.{Go, times, AreDifferent, repeated_of, dropped_of}
-use Rattle.fig_merge.specs.Passing.{with_carried, any_carried, agreeing, hearing_fibs, AreFilled}
 
 -- ---- which FIGs are taken: the header byte, then the second byte with C/N, OE, P/D and the extension
 

@@ -1,25 +1,15 @@
 -- Entries distinguish configurations: if the facts are the same, so are the configurations.
-
-use Rattle.std.proofs.Common.{◌≡◌, ℕ, ◌-◌, Bool, true, false, List, [], ◌∷◌, ◌++◌, map, refl, sym, ap, ◌∙◌, subst, None}
-use Rattle.std.proofs.Common.{arith}
-use Rattle.std.proofs.lemmas.Bool.{false≢true}
-use Rattle.mux_eep.specs.declared.sizes.EepSet.{EepSet}
-use Rattle.mux_eep.specs.declared.sizes.EepSet.TheVariants.{A, B}
-use Rattle.mux_eep.specs.Sizes.{Profile, OneRate, IsSize}
-use Rattle.mux_types.specs.declared.parts.Sub.{Sub}
-use Rattle.mux_types.specs.declared.parts.Service.{Service}
-use Rattle.mux_types.specs.declared.parts.Component.{Component}
-use Rattle.mux_types.specs.declared.parts.Component.TheVariants.{Sound, Stream, Packet as InPackets}
-use Rattle.mux_types.specs.declared.parts.Packet.{Packet}
-use Rattle.mux_types.specs.declared.entry.Entry.{Entry}
-use Rattle.mux_types.specs.declared.entry.Entry.TheVariants.{Sub as SubOf, Service as ServiceOf, Packet as PacketOf}
+use Rattle.mux_config.proofs.Words.{[], ◌++◌, ◌-◌, ◌∙◌, ◌∷◌, ◌≡◌, A, AllByRecursion, B, Bool, Component, Configuration}
+use Rattle.mux_config.proofs.Words.{EepSet, Entry, FactsIdentify, IsConfiguration, IsPlaced, IsSize, List, Marked, None}
+use Rattle.mux_config.proofs.Words.{OneRate, Packet, Profile, Service, Sound, Stream, Sub, ap, arith, component_entries}
+use Rattle.mux_config.proofs.Words.{component_entry, false, false≢true, map, marked, option_of, packet_entry, refl}
+use Rattle.mux_config.proofs.Words.{service_entries, service_entry, size_of_sub, sub_entries, sub_entry, subst, sym}
+use Rattle.mux_config.proofs.Words.{true, ℕ}
 use Rattle.mux_types.specs.declared.entry.SubEntry.{SubEntry}
 use Rattle.mux_types.specs.declared.entry.ServiceEntry.{ServiceEntry}
 use Rattle.mux_types.specs.declared.entry.PacketEntry.{PacketEntry}
-use Rattle.mux_types.specs.Configuration.{Configuration, IsConfiguration, IsPlaced, size_of_sub}
-use Rattle.std.specs.List.{AllByRecursion}
-use Rattle.mux_types.specs.Facts.{Marked, marked, option_of, sub_entry, component_entry, component_entries}
-use Rattle.mux_types.specs.Facts.{service_entry, packet_entry, sub_entries, service_entries, FactsIdentify}
+use Rattle.mux_types.specs.declared.parts.Component.TheVariants.{Packet as InPackets}
+use Rattle.mux_types.specs.declared.entry.Entry.TheVariants.{Sub as SubOf, Service as ServiceOf, Packet as PacketOf}
 
 -- ---- lists
 

@@ -1,23 +1,13 @@
 -- Examples of edits, soundness and change, computed by the checker from the definitions.
-use Rattle.std.proofs.Common.{◌≡◌, ℕ, false, List, [], ◌∷◌, map, Ok, Err, Some, None, refl}
-use Rattle.std.specs.List.{range_with_len}
-use Rattle.mux_eep.specs.declared.sizes.EepSet.TheVariants.{A}
-use Rattle.mux_types.specs.declared.parts.Sub.{Sub}
-use Rattle.mux_types.specs.declared.parts.Service.{Service}
-use Rattle.mux_types.specs.declared.parts.Component.{Component}
-use Rattle.mux_types.specs.declared.parts.Component.TheVariants.{Sound, Packet as InPackets}
+use Rattle.mux_config.proofs.Words.{[], ◌∷◌, ◌≡◌, A, AddComponent, AddPacket, AddService, AddSub, AddressUsed}
+use Rattle.mux_config.proofs.Words.{BadAddress, BadRate, Component, Configuration, DropComponent, DropService}
+use Rattle.mux_config.proofs.Words.{EmptyService, Err, IdAbsent, IdUsed, List, MoveSub, None, Ok, Orphan, Overlap}
+use Rattle.mux_config.proofs.Words.{Packet, PastEnd, RateSub, Service, Some, Sound, Sub, TableFull, TooManyComponents}
+use Rattle.mux_config.proofs.Words.{bits_of, change_of, edited, false, first_fault, map, nothing, range_with_len, refl}
+use Rattle.mux_config.proofs.Words.{ℕ}
+use Rattle.mux_types.specs.declared.parts.Component.TheVariants.{Packet as InPackets}
 use Rattle.mux_types.specs.declared.parts.Carrier.TheVariants.{Sub as BySub}
-use Rattle.mux_types.specs.declared.parts.Packet.{Packet}
 use Rattle.mux_types.specs.declared.numbers.Sid.TheVariants.{Short as ShortSid, Long as LongSid}
-use Rattle.mux_config.specs.declared.fault.EditFault.TheVariants.{IdUsed, IdAbsent, TooManyComponents, TableFull}
-use Rattle.mux_config.specs.declared.fault.EditFault.TheVariants.{PastEnd, BadRate, BadAddress}
-use Rattle.mux_config.specs.declared.fault.ConfigFault.TheVariants.{Overlap, Orphan, AddressUsed, EmptyService}
-use Rattle.mux_config.specs.declared.edit.Edit.TheVariants.{AddSub, MoveSub, RateSub, AddService, DropService}
-use Rattle.mux_config.specs.declared.edit.Edit.TheVariants.{AddComponent, DropComponent, AddPacket}
-use Rattle.mux_types.specs.Configuration.{Configuration, nothing}
-use Rattle.mux_config.specs.Edits.{edited}
-use Rattle.mux_config.specs.Sound.{first_fault}
-use Rattle.mux_config.specs.Change.{change_of, bits_of}
 
 -- sub-channels of 3-A
 abbrev sub : ℕ → ℕ → ℕ → Sub

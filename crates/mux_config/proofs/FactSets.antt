@@ -1,16 +1,10 @@
 -- Sets of entries identify a configuration: configurations with the same set are equal.
-use Rattle.std.proofs.Common.{◌≡◌, Bool, true, false, List, ◌++◌, map, Contains, refl, sym, ap, ◌∙◌, subst, inl, inr}
-use Rattle.std.proofs.lemmas.Bool.{false≢true}
+use Rattle.mux_config.proofs.Words.{◌++◌, ◌∙◌, ◌≡◌, AllByRecursion, Bool, Configuration, Contains, Entry}
+use Rattle.mux_config.proofs.Words.{FactSetsIdentify, HaveSameMembers, IsConfiguration, IsPlaced, List, Marked, OneRate}
+use Rattle.mux_config.proofs.Words.{Packet, Service, ap, each_contains, false, false≢true, inl, inr, map, marked}
+use Rattle.mux_config.proofs.Words.{packet_entry, packet_key, refl, service_entries, service_entry, service_key}
+use Rattle.mux_config.proofs.Words.{sub_entries, sub_entry, sub_key, subst, sym, true}
 use Rattle.std.proofs.lemmas.List.Elements.{Contains-append_left, Contains-append_right, Contains-append_cases}
-use Rattle.mux_eep.specs.Sizes.{OneRate}
-use Rattle.mux_types.specs.declared.parts.Service.{Service}
-use Rattle.mux_types.specs.declared.parts.Packet.{Packet}
-use Rattle.mux_types.specs.declared.entry.Entry.{Entry}
-use Rattle.mux_types.specs.Configuration.{Configuration, IsConfiguration, IsPlaced, sub_key, service_key, packet_key}
-use Rattle.std.specs.List.{AllByRecursion}
-use Rattle.mux_types.specs.Facts.{Marked, marked, sub_entry, service_entry, packet_entry, sub_entries, service_entries}
-use Rattle.mux_types.specs.Facts.{HaveSameMembers, FactSetsIdentify}
-use Rattle.mux_types.proofs.Elements.{each_contains}
 use Rattle.mux_types.proofs.Members.{one_list, mapped_to, mapped_from}
 use Rattle.mux_config.proofs.Distinguishing.{is_sub, is_service, each_holds, each_map, each_join, sub_told}
 use Rattle.mux_config.proofs.Distinguishing.{service_told, packet_told}

@@ -1,17 +1,12 @@
 -- The fault that soundness reports is the first condition that fails.
-use Rattle.std.proofs.Common.{◌≡◌, ℕ, ◌<◌, ◌≤◌, Bool, true, false, cond, List, [], ◌∷◌, Contains, Option, Some, None}
-use Rattle.std.proofs.Common.{Err, refl, sym, ap, ◌∙◌, subst, ◌⊎◌, inl, inr, arith}
-use Rattle.std.specs.List.{list_any, AllByRecursion}
-use Rattle.std.proofs.lemmas.Bool.{false≢true}
-use Rattle.mux_types.specs.declared.parts.Sub.{Sub}
-use Rattle.mux_config.specs.declared.fault.ConfigFault.{ConfigFault}
-use Rattle.mux_config.specs.declared.fault.ConfigFault.TheVariants.{Overlap, Orphan, AddressUsed, EmptyService}
-use Rattle.mux_types.specs.Configuration.{Configuration, IsConfiguration, IsAscending, IsPlaced, sub_key}
-use Rattle.mux_config.specs.Sound.{IsUnitOf, IsSound, overlaps, overlap_with, first_of_two, first_overlap, has_orphan}
-use Rattle.mux_config.specs.Sound.{has_address_twice, is_empty_service, other_fault, first_fault, sound_unless}
-use Rattle.mux_config.specs.Sound.{sound_or_fault}
-use Rattle.mux_config.specs.SoundFaults.{AreApart, AreCarried, AreAddressed, IsFirstOverlap, IsFault, FaultIsUnique}
-use Rattle.mux_types.proofs.Elements.{contains_cases, contains_first, contains_later, each_contains}
+use Rattle.mux_config.proofs.Words.{[], ◌<◌, ◌∙◌, ◌∷◌, ◌≡◌, ◌≤◌, ◌⊎◌, AddressUsed, AllByRecursion, AreAddressed}
+use Rattle.mux_config.proofs.Words.{AreApart, AreCarried, Bool, ConfigFault, Configuration, Contains, EmptyService, Err}
+use Rattle.mux_config.proofs.Words.{FaultIsUnique, IsAscending, IsConfiguration, IsFault, IsFirstOverlap, IsPlaced}
+use Rattle.mux_config.proofs.Words.{IsSound, IsUnitOf, List, None, Option, Orphan, Overlap, Some, Sub, ap, arith, cond}
+use Rattle.mux_config.proofs.Words.{contains_cases, contains_first, contains_later, each_contains, false, false≢true}
+use Rattle.mux_config.proofs.Words.{first_fault, first_of_two, first_overlap, has_address_twice, has_orphan, inl, inr}
+use Rattle.mux_config.proofs.Words.{is_empty_service, list_any, other_fault, overlap_with, overlaps, refl}
+use Rattle.mux_config.proofs.Words.{sound_or_fault, sound_unless, sub_key, subst, sym, true, ℕ}
 use Rattle.mux_config.proofs.Sounding.{apart_told, with_told, overlaps_told, overlaps_found, orphans_told}
 use Rattle.mux_config.proofs.Sounding.{orphans_found, twice_told, twice_none, filled_found, sound_told}
 

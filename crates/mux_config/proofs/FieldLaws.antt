@@ -1,26 +1,17 @@
 -- A field that is read is the field that was encoded, and what is encoded is read again.
-use Rattle.std.proofs.Common.{◌≡◌, ℕ, zero, suc, ◌+◌, ◌<◌, ◌≤◌, Bool, true, false, cond, ltb, eqb, List, [], ◌∷◌, ◌++◌}
-use Rattle.std.proofs.Common.{length, get_or, take, drop, Result, Ok, Err, refl, sym, ap, subst, ◌∙◌, append_assoc}
-use Rattle.std.proofs.Common.{arith, inl, inr}
-use Rattle.std.specs.Int.{Width, w16, w32, byte_len, from_be_bytes, to_be_bytes}
-use Rattle.std.proofs.lemmas.Bool.{cases_lt, ltb-false, le-ltb}
-use Rattle.std.proofs.lemmas.List.{take_at, drop_at, take-append-drop, length-append, length-take, get_or-drop}
-use Rattle.std.proofs.lemmas.List.{get_or-take, get_or_past}
+use Rattle.mux_config.proofs.Words.{[], ◌++◌, ◌+◌, ◌<◌, ◌>>=◌, ◌∙◌, ◌∷◌, ◌≡◌, ◌≤◌, A, B, Bool, Component, EepSet, Err}
+use Rattle.mux_config.proofs.Words.{Field, IsComponent, IsSid, List, Ok, Profile, RecordFault, Result, Short, Sid}
+use Rattle.mux_config.proofs.Words.{Sound, Stream, Width, ap, append_assoc, arith, byte_at, byte_len, byte_within}
+use Rattle.mux_config.proofs.Words.{cases_lt, component_bytes, cond, drop, drop_at, eqb, false, flag_at, flag_byte}
+use Rattle.mux_config.proofs.Words.{from_be_bytes, get_or, get_or-drop, get_or-take, get_or_past, inl, inr, judged}
+use Rattle.mux_config.proofs.Words.{le-ltb, length, length-append, length-take, ltb, ltb-false, number_at, place}
+use Rattle.mux_config.proofs.Words.{protection_bytes, refl, refuse, set_byte, set_of, sid_field, sid_of_kind, subst}
+use Rattle.mux_config.proofs.Words.{suc, sym, take, take-append-drop, take_at, to_be_bytes, true, u16_bytes}
+use Rattle.mux_config.proofs.Words.{u16_in_range, w16, w32, zero, ℕ}
 use Rattle.std.proofs.lemmas.Nat.{be_bytes_2, be_bytes_4, from_be_bytes-to_be_bytes_2, from_be_bytes-to_be_bytes_4}
-use Rattle.mux_eep.specs.Sizes.{Profile}
-use Rattle.mux_eep.specs.declared.sizes.EepSet.{EepSet}
-use Rattle.mux_eep.specs.declared.sizes.EepSet.TheVariants.{A, B}
-use Rattle.mux_types.specs.declared.parts.Component.{Component}
-use Rattle.mux_types.specs.declared.parts.Component.TheVariants.{Sound, Stream, Packet as InPackets}
-use Rattle.mux_types.specs.declared.numbers.Sid.{Sid}
+use Rattle.mux_types.specs.declared.parts.Component.TheVariants.{Packet as InPackets}
 use Rattle.mux_types.specs.declared.numbers.Sid.TheVariants.{Short as ShortSid, Long as LongSid}
-use Rattle.mux_config.specs.declared.record.RecordFault.{RecordFault}
-use Rattle.mux_config.specs.declared.record.RecordFault.TheVariants.{Short, Field}
-use Rattle.mux_types.specs.Configuration.{IsSid, IsComponent}
-use Rattle.mux_config.specs.FieldSpelling.{u16_bytes, set_byte, flag_byte, protection_bytes, sid_field, component_bytes}
-use Rattle.mux_config.specs.FieldReading.{◌>>=◌, refuse, place, byte_at, number_at, judged, byte_within, u16_in_range}
-use Rattle.mux_config.specs.FieldReading.{flag_at, set_of, protection_at, sid_of_kind, sid_at, component_of}
-use Rattle.mux_config.specs.FieldReading.{component_at}
+use Rattle.mux_config.specs.FieldReading.{protection_at, sid_at, component_of, component_at}
 
 abbrev pub IsBytes : List ℕ → Type 0
 IsBytes bytes = (i : ℕ) → get_or bytes i 0 < 256

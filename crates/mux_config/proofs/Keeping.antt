@@ -1,41 +1,28 @@
 -- An edit of a configuration without a fault results in a configuration.
-use Rattle.std.proofs.Common.{◌≡◌, ◌≢◌, ℕ, zero, suc, ◌+◌, ◌%◌, ◌<◌, ◌≤◌, ◌==◌, Bool, true, false, not, cond, ◌||◌, ltb}
-use Rattle.std.proofs.Common.{leb, List, [], ◌∷◌, ◌++◌, length, Option, Some, None, Ok, Err, refl, sym, ap, ◌∙◌, subst}
-use Rattle.std.proofs.Common.{inl, inr, arith, length-append, slice_get, is_some}
+use Rattle.mux_config.proofs.Words.{[], ◌%◌, ◌++◌, ◌+◌, ◌<◌, ◌==◌, ◌||◌, ◌∙◌, ◌∷◌, ◌≡◌, ◌≢◌, ◌≤◌, AddComponent}
+use Rattle.mux_config.proofs.Words.{AddPacket, AddService, AddSub, AllByRecursion, AreDifferent, BadAddress, BadRate}
+use Rattle.mux_config.proofs.Words.{Bool, Carrier, Component, Configuration, DropComponent, DropPacket, DropService}
+use Rattle.mux_config.proofs.Words.{DropSub, EditsKeep, Err, IdAbsent, IdUsed, IsAddressed, IsAscending, IsComponent}
+use Rattle.mux_config.proofs.Words.{IsConfiguration, IsPlaced, IsService, IsSid, IsSize, List, MoveSub, None}
+use Rattle.mux_config.proofs.Words.{NotMultiple, Ok, Option, Packet, PastEnd, PastMultiplex, Profile, RateSub, Service}
+use Rattle.mux_config.proofs.Words.{Sid, Some, Sub, TableFull, TooManyComponents, ZeroRate, absent_or}
+use Rattle.mux_config.proofs.Words.{add_component_fault, add_packet_fault, add_service_fault, add_sub_fault, ap, arith}
+use Rattle.mux_config.proofs.Words.{ascends_changed, ascends_with, ascends_without, at_rate, at_start, carrier_of}
+use Rattle.mux_config.proofs.Words.{cases_eq, cases_lt, changed_at, component_added, component_dropped, component_fault}
+use Rattle.mux_config.proofs.Words.{component_limit, cond, drop_component_fault, each_at, each_changed, each_pushed}
+use Rattle.mux_config.proofs.Words.{each_weaker, each_with, each_without, entry_at, eq-eqb, eqb-false, eqb-true, false}
+use Rattle.mux_config.proofs.Words.{false≢true, filter, has_bad_address, has_bad_rate, has_entry, inl, inr, is_past_end}
+use Rattle.mux_config.proofs.Words.{is_same_carrier, is_some, le-ltb, leb, leb-false, length, length-append, length-map}
+use Rattle.mux_config.proofs.Words.{list_any, lt-ltb, ltb, ltb-false, move_sub_fault, names, ne_eqb, not, packet_added}
+use Rattle.mux_config.proofs.Words.{packet_dropped, packet_key, placing_fault, rate_step, rate_sub_fault, refl, remove}
+use Rattle.mux_config.proofs.Words.{service_added, service_at, service_dropped, service_key, sid_key, size_of_sub}
+use Rattle.mux_config.proofs.Words.{size_or_fault, slice_get, sub_added, sub_at, sub_dropped, sub_key, sub_moved}
+use Rattle.mux_config.proofs.Words.{sub_rated, subst, suc, sym, table_size, true, with_component, with_entry}
+use Rattle.mux_config.proofs.Words.{with_entry_changed, without_carrier, without_entry, zero, ℕ}
 use Rattle.std.specs.Option.{option_map}
 use Rattle.std.specs.Result.{is_err}
-use Rattle.std.specs.List.{list_any, filter, remove, AllByRecursion}
-use Rattle.std.proofs.lemmas.Bool.{false≢true, cases_eq, cases_lt, lt-ltb, le-ltb, eq-eqb, ne_eqb, eqb-true, eqb-false}
-use Rattle.std.proofs.lemmas.Bool.{ltb-false, leb-false}
-use Rattle.std.proofs.lemmas.List.{length-map}
-use Rattle.mux_eep.specs.Sizes.{Profile, IsSize, size_or_fault, table_size, rate_step}
-use Rattle.mux_eep.specs.declared.fault.EepFault.TheVariants.{NotMultiple, ZeroRate, PastMultiplex}
-use Rattle.mux_types.specs.declared.parts.Sub.{Sub}
-use Rattle.mux_types.specs.declared.parts.Service.{Service}
-use Rattle.mux_types.specs.declared.parts.Component.{Component}
-use Rattle.mux_types.specs.declared.parts.Carrier.{Carrier}
-use Rattle.mux_types.specs.declared.parts.Carrier.TheVariants.{Sub as BySub, Packet as ByPacket}
-use Rattle.mux_types.specs.declared.parts.Packet.{Packet}
-use Rattle.mux_types.specs.declared.numbers.Sid.{Sid}
 use Rattle.mux_config.specs.declared.fault.EditFault.{EditFault}
-use Rattle.mux_config.specs.declared.fault.EditFault.TheVariants.{IdUsed, IdAbsent, TooManyComponents, TableFull}
-use Rattle.mux_config.specs.declared.fault.EditFault.TheVariants.{PastEnd, BadRate, BadAddress}
-use Rattle.mux_config.specs.declared.edit.Edit.TheVariants.{AddSub, DropSub, MoveSub, RateSub, AddService, DropService}
-use Rattle.mux_config.specs.declared.edit.Edit.TheVariants.{AddComponent, DropComponent, AddPacket, DropPacket}
-use Rattle.mux_types.specs.Configuration.{Configuration, IsConfiguration, IsAscending, IsPlaced, IsService, IsAddressed}
-use Rattle.mux_types.specs.Configuration.{IsSid, IsComponent, AreDifferent, size_of_sub, sub_key, sid_key, service_key}
-use Rattle.mux_types.specs.Configuration.{packet_key, carrier_of, component_limit}
-use Rattle.mux_types.specs.Tables.{entry_at, with_entry, without_entry, with_entry_changed, has_entry, changed_at}
-use Rattle.mux_config.specs.Edits.{absent_or, sub_at, service_at, at_start, at_rate, has_bad_rate, is_past_end}
-use Rattle.mux_config.specs.Edits.{placing_fault, component_fault, with_component, without_carrier, has_bad_address}
-use Rattle.mux_config.specs.Edits.{add_sub_fault, sub_added, sub_dropped, move_sub_fault, sub_moved, rate_sub_fault}
-use Rattle.mux_config.specs.Edits.{sub_rated, add_service_fault, service_added, service_dropped, add_component_fault}
-use Rattle.mux_config.specs.Edits.{component_added, drop_component_fault, component_dropped, add_packet_fault}
-use Rattle.mux_config.specs.Edits.{packet_added, packet_dropped, EditsKeep}
-use Rattle.mux_types.specs.Sameness.{names, is_same_carrier}
-use Rattle.mux_types.proofs.Walking.{each_at}
-use Rattle.mux_types.proofs.Tables.{each_weaker, each_pushed, each_with, each_without, each_changed, ascends_with}
-use Rattle.mux_types.proofs.Tables.{ascends_without, ascends_changed}
+use Rattle.mux_types.specs.declared.parts.Carrier.TheVariants.{Sub as BySub, Packet as ByPacket}
 
 -- ---- tests
 

@@ -16,3 +16,4 @@ pub mod FactSets
 pub mod Same
 mod EditVectors
 mod Vectors
+mod Words

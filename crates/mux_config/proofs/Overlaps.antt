@@ -1,20 +1,11 @@
 -- The searches of sub-channels for the first overlap, and of packet components for an address used twice.
-
-use Rattle.std.proofs.Common.{◌≡◌, ℕ, zero, suc, ◌+◌, ◌==◌, ◌&&◌, Bool, true, false, cond, ◌||◌, List, [], ◌∷◌, drop}
-use Rattle.std.proofs.Common.{Option, Some, None, is_some, refl, sym, ap, ◌∙◌, slice_get, slice_index_or, slice_set}
-use Rattle.std.proofs.Common.{replicate, length, ◌<◌, inl, inr, arith}
-use Rattle.std.specs.List.{list_any}
-use Rattle.std.proofs.lemmas.Bool.{false≢true}
+use Rattle.mux_config.proofs.Words.{[], ◌&&◌, ◌+◌, ◌<◌, ◌==◌, ◌||◌, ◌∙◌, ◌∷◌, ◌≡◌, Bool, ConfigFault, List, None}
+use Rattle.mux_config.proofs.Words.{Option, Overlap, Packet, Some, Sub, ap, arith, cond, cut, drop, false, false≢true}
+use Rattle.mux_config.proofs.Words.{first_of_two, first_overlap, get_or-replicate, get_or-set_other, has_address_twice}
+use Rattle.mux_config.proofs.Words.{has_same_address, inl, inr, is_some, length, list_any, overlap_with, overlaps, refl}
+use Rattle.mux_config.proofs.Words.{replicate, slice_get, slice_index_or, slice_set, suc, sym, true, zero, ℕ}
 use Rattle.std.proofs.lemmas.Bool.Decides.{eqb_tells}
-use Rattle.std.proofs.lemmas.List.{get_or-replicate, get_or-set_other}
 use Rattle.std.proofs.lemmas.Grind.{get_or-set_at}
-use Rattle.mux_types.specs.declared.parts.Sub.{Sub}
-use Rattle.mux_types.specs.declared.parts.Packet.{Packet}
-use Rattle.mux_config.specs.declared.fault.ConfigFault.{ConfigFault}
-use Rattle.mux_config.specs.declared.fault.ConfigFault.TheVariants.{Overlap}
-use Rattle.mux_config.specs.Sound.{overlaps, overlap_with, first_overlap, first_of_two, has_same_address}
-use Rattle.mux_config.specs.Sound.{has_address_twice}
-use Rattle.mux_types.proofs.Walking.{cut}
 
 -- ---- the search for the first overlap
 

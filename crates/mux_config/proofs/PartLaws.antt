@@ -1,34 +1,18 @@
 -- A sub-channel, a service or a packet component that is read is the one that was encoded, and what is encoded is read
 -- again.
-use Rattle.std.proofs.Common.{◌≡◌, ◌≢◌, ℕ, zero, suc, ◌+◌, ◌*◌, ◌/◌, ◌%◌, ◌<◌, ◌≤◌, Bool, true, false, cond, ltb, eqb}
-use Rattle.std.proofs.Common.{◌||◌, List, [], ◌∷◌, ◌++◌, length, Result, Ok, Err, refl, sym, ap, subst, ◌∙◌}
-use Rattle.std.proofs.Common.{append_assoc, arith}
-use Rattle.std.specs.Int.{w16}
-use Rattle.std.specs.List.{flat_map, list_any, AllByRecursion}
-use Rattle.std.proofs.lemmas.Bool.{ltb-false, le-ltb, eqb-false, ne_eqb}
-use Rattle.std.proofs.lemmas.List.{append-nil, length-append, flat_map_more}
-use Rattle.std.proofs.Math.Nat.{le-mul_of_pos_right}
-use Rattle.mux_eep.specs.Sizes.{Profile, IsSize, units_of_step, rate_step, table_size, size_or_fault}
-use Rattle.mux_eep.specs.declared.fault.EepFault.{EepFault}
-use Rattle.mux_eep.specs.declared.fault.EepFault.TheVariants.{NotMultiple, ZeroRate, PastMultiplex}
-use Rattle.mux_eep.specs.declared.sizes.EepSet.{EepSet}
-use Rattle.mux_eep.specs.declared.sizes.EepSet.TheVariants.{A, B}
-use Rattle.mux_types.specs.declared.parts.Sub.{Sub}
-use Rattle.mux_types.specs.declared.parts.Service.{Service}
-use Rattle.mux_types.specs.declared.parts.Component.{Component}
-use Rattle.mux_types.specs.declared.parts.Carrier.{Carrier}
+use Rattle.mux_config.proofs.Words.{[], ◌%◌, ◌*◌, ◌++◌, ◌+◌, ◌/◌, ◌<◌, ◌||◌, ◌∙◌, ◌∷◌, ◌≡◌, ◌≢◌, ◌≤◌, A, AllByRecursion}
+use Rattle.mux_config.proofs.Words.{AreDifferent, B, Bool, Carrier, Component, EepFault, EepSet, Err, IsAddressed}
+use Rattle.mux_config.proofs.Words.{IsComponent, IsPlaced, IsService, IsSize, List, NotMultiple, Ok, Order, Packet}
+use Rattle.mux_config.proofs.Words.{PastMultiplex, Profile, Result, Service, Sub, ZeroRate, ap, append-nil}
+use Rattle.mux_config.proofs.Words.{append_assoc, arith, byte_within, carrier_of, component_at, component_bytes}
+use Rattle.mux_config.proofs.Words.{component_limit, cond, each_pushed, eqb, eqb-false, false, flag_at, flag_byte}
+use Rattle.mux_config.proofs.Words.{flat_map, flat_map_more, is_same_carrier, le-ltb, le-mul_of_pos_right, length}
+use Rattle.mux_config.proofs.Words.{length-append, list_any, ltb, ltb-false, names, ne_eqb, number_at, packet_record}
+use Rattle.mux_config.proofs.Words.{place, protection_at, protection_bytes, rate_step, refl, service_record, sid_at}
+use Rattle.mux_config.proofs.Words.{sid_field, sid_key, size_or_fault, size_or_field, sub_record, subst, suc, sym}
+use Rattle.mux_config.proofs.Words.{table_size, true, u16_bytes, u16_in_range, units_of_step, w16, zero, ℕ}
 use Rattle.mux_types.specs.declared.parts.Carrier.TheVariants.{Sub as BySub, Packet as ByPacket}
-use Rattle.mux_types.specs.declared.parts.Packet.{Packet}
-use Rattle.mux_config.specs.declared.record.RecordFault.TheVariants.{Order}
-use Rattle.mux_types.specs.Configuration.{IsPlaced, IsComponent, IsService, IsAddressed, AreDifferent, carrier_of}
-use Rattle.mux_types.specs.Configuration.{component_limit, sid_key}
-use Rattle.mux_types.specs.Sameness.{is_same_carrier, names}
-use Rattle.mux_config.specs.FieldSpelling.{u16_bytes, protection_bytes, sid_field, component_bytes, flag_byte}
-use Rattle.mux_config.specs.Spelling.{sub_record, service_record, packet_record}
-use Rattle.mux_config.specs.FieldReading.{place, byte_within, u16_in_range, number_at, flag_at, protection_at, sid_at}
-use Rattle.mux_config.specs.FieldReading.{component_at}
-use Rattle.mux_config.specs.Reading.{size_or_field, read_sub, components_at, read_service, read_packet}
-use Rattle.mux_types.proofs.Tables.{each_pushed}
+use Rattle.mux_config.specs.Reading.{read_sub, components_at, read_service, read_packet}
 use Rattle.mux_config.proofs.FieldLaws.{IsBytes, Front, front_then, bind_ok, refuse_ok, ok_is, word_front, word_again}
 use Rattle.mux_config.proofs.FieldLaws.{byte_within_front, byte_within_again, word_within_front, word_within_again}
 use Rattle.mux_config.proofs.FieldLaws.{flag_front, flag_again, protection_front, protection_again, sid_front}

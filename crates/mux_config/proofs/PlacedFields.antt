@@ -1,13 +1,9 @@
 -- The offset of a field at fault is that of one of the bytes read.
-use Rattle.std.proofs.Common.{ℕ, zero, suc, ◌<◌, ◌≤◌, Bool, true, false, cond, ltb, List, [], ◌∷◌, length, take, drop}
-use Rattle.std.proofs.Common.{Ok, Err, arith}
-use Rattle.std.specs.Int.{Width, w16, w32, byte_len, from_be_bytes}
-use Rattle.std.proofs.lemmas.List.{length-drop}
-use Rattle.mux_config.specs.declared.record.RecordFault.{RecordFault}
-use Rattle.mux_config.specs.declared.record.RecordFault.TheVariants.{Short, Field, Order}
-use Rattle.mux_config.specs.FieldReading.{Reads, ◌>>=◌, refuse, place, byte_at, number_at, judged, byte_within}
-use Rattle.mux_config.specs.FieldReading.{u16_in_range, flag_at, protection_at, sid_of_kind, sid_at, component_of}
-use Rattle.mux_config.specs.FieldReading.{component_at}
+use Rattle.mux_config.proofs.Words.{[], ◌<◌, ◌>>=◌, ◌∷◌, ◌≤◌, Bool, Err, Field, List, Ok, Order, Reads, RecordFault}
+use Rattle.mux_config.proofs.Words.{Short, Width, arith, byte_at, byte_len, byte_within, cond, drop, false, flag_at}
+use Rattle.mux_config.proofs.Words.{from_be_bytes, judged, length, length-drop, ltb, number_at, place, refuse}
+use Rattle.mux_config.proofs.Words.{sid_of_kind, suc, take, true, u16_in_range, w16, w32, zero, ℕ}
+use Rattle.mux_config.specs.FieldReading.{protection_at, sid_at, component_of, component_at}
 
 -- the offset in a fault is below `total`
 abbrev pub IsPlacedIn : ℕ → RecordFault → Type 0

@@ -1,19 +1,11 @@
 -- The offset of a field at fault is that of one of the bytes read, and the bytes before it are short.
-use Rattle.std.proofs.Common.{◌≡◌, ℕ, zero, suc, ◌+◌, ◌<◌, ◌≤◌, ltb, List, [], ◌∷◌, ◌++◌, length, take, Result, Ok, Err}
-use Rattle.std.proofs.Common.{subst, ◌⊎◌, inl, inr, arith}
-use Rattle.std.specs.List.{list_any}
-use Rattle.std.proofs.lemmas.List.{length-take-le}
-use Rattle.mux_eep.specs.Sizes.{size_or_fault}
-use Rattle.mux_eep.specs.declared.fault.EepFault.{EepFault}
-use Rattle.mux_types.specs.declared.parts.Component.{Component}
-use Rattle.mux_config.specs.declared.record.RecordFault.TheVariants.{Short, Field, Order}
-use Rattle.mux_types.specs.Configuration.{Configuration, sub_key, sid_key, service_key, packet_key, carrier_of}
-use Rattle.mux_types.specs.Configuration.{component_limit}
-use Rattle.mux_types.specs.Sameness.{names}
-use Rattle.mux_config.specs.FieldReading.{Reads, ◌>>=◌, place, component_at}
-use Rattle.mux_config.specs.Reading.{size_or_field, read_sub, components_at, read_service, read_packet, members_at}
-use Rattle.mux_config.specs.Reading.{record_at, config_at}
-use Rattle.mux_config.specs.RecordFaults.{HasFault, ShortBeforePlaces}
+use Rattle.mux_config.proofs.Words.{[], ◌++◌, ◌+◌, ◌<◌, ◌>>=◌, ◌∷◌, ◌≡◌, ◌≤◌, ◌⊎◌, Component, Configuration, EepFault}
+use Rattle.mux_config.proofs.Words.{Err, Field, HasFault, List, Ok, Order, Reads, Result, Short, ShortBeforePlaces}
+use Rattle.mux_config.proofs.Words.{arith, carrier_of, component_limit, config_at, inl, inr, length, length-take-le}
+use Rattle.mux_config.proofs.Words.{list_any, ltb, names, packet_key, place, service_key, sid_key, size_or_fault}
+use Rattle.mux_config.proofs.Words.{size_or_field, sub_key, subst, suc, take, zero, ℕ}
+use Rattle.mux_config.specs.FieldReading.{component_at}
+use Rattle.mux_config.specs.Reading.{read_sub, components_at, read_service, read_packet, members_at, record_at}
 use Rattle.mux_config.proofs.Steady.{faults_are_first}
 use Rattle.mux_config.proofs.PlacedFields.{Placed, placed_bind, placed_refuse, placed_word, placed_byte_within}
 use Rattle.mux_config.proofs.PlacedFields.{placed_word_within, placed_flag, placed_protection, placed_sid}

@@ -1,10 +1,6 @@
 -- Each bit rate has capacity units, and a size in capacity units belongs to one bit rate.
-
-use Rattle.std.proofs.Common.{◌≡◌, ℕ, ◌*◌, ◌/◌, ◌%◌, ◌<◌, Bool, true, false, cond, eqb, sym, ap, ◌∙◌, arith}
-use Rattle.std.proofs.Math.Nat.{mul-div_cancel_left}
-use Rattle.mux_eep.specs.declared.sizes.EepSet.{EepSet}
-use Rattle.mux_eep.specs.declared.sizes.EepSet.TheVariants.{A, B}
-use Rattle.mux_eep.specs.Sizes.{OneRate, units_of_step, rate_step}
+use Rattle.mux_config.proofs.Words.{◌%◌, ◌*◌, ◌/◌, ◌<◌, ◌∙◌, ◌≡◌, A, B, Bool, EepSet, OneRate, ap, arith, cond, eqb}
+use Rattle.mux_config.proofs.Words.{false, mul-div_cancel_left, rate_step, sym, true, units_of_step, ℕ}
 
 chosen : (a b c : Bool) (k l m n : ℕ) → 0 < k → 0 < l → 0 < m → 0 < n → 0 < cond a k (cond b l (cond c m n))
 chosen true b c k l m n h i j g = h

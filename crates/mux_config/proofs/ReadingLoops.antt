@@ -1,13 +1,7 @@
 -- One iteration of the loops that read `count` components or members: the rest gives the same result as all of it.
-use Rattle.std.proofs.Common.{◌≡◌, ℕ, suc, ◌+◌, ◌-◌, ◌<◌, ◌≤◌, true, false, List, [], ◌∷◌, ◌++◌, Ok, Err, refl, sym}
-use Rattle.std.proofs.Common.{◌∙◌, arith}
-use Rattle.std.specs.List.{list_any}
-use Rattle.mux_types.specs.declared.parts.Component.{Component}
-use Rattle.mux_config.specs.declared.record.RecordFault.{RecordFault}
-use Rattle.mux_config.specs.declared.record.RecordFault.TheVariants.{Field}
-use Rattle.mux_types.specs.Configuration.{carrier_of}
-use Rattle.mux_types.specs.Sameness.{names}
-use Rattle.mux_config.specs.FieldReading.{Reads, place, component_at}
+use Rattle.mux_config.proofs.Words.{[], ◌++◌, ◌+◌, ◌-◌, ◌<◌, ◌∙◌, ◌∷◌, ◌≡◌, ◌≤◌, Component, Err, Field, List, Ok, Reads}
+use Rattle.mux_config.proofs.Words.{RecordFault, arith, carrier_of, component_at, false, list_any, names, place, refl}
+use Rattle.mux_config.proofs.Words.{suc, sym, true, ℕ}
 use Rattle.mux_config.specs.Reading.{components_at, members_at}
 
 -- ---- components

@@ -1,16 +1,13 @@
 -- A configuration record that is read is the one that was encoded, and what is encoded is read again, whatever follows
 -- it.
-use Rattle.std.proofs.Common.{◌≡◌, ℕ, zero, suc, ◌+◌, ◌-◌, ◌<◌, ◌≤◌, List, [], ◌∷◌, ◌++◌, length, drop, Result, Ok, Err}
-use Rattle.std.proofs.Common.{IfOk, IfErr, refl, sym, ap, subst, ◌∙◌, append_assoc, arith}
-use Rattle.std.specs.List.{flat_map, AllByRecursion}
-use Rattle.std.proofs.lemmas.List.{append-nil, length-append, drop_at}
-use Rattle.mux_config.specs.declared.record.RecordFault.{RecordFault}
-use Rattle.mux_types.specs.Configuration.{Configuration, IsAscending, IsPlaced, IsService, IsAddressed, IsConfiguration}
-use Rattle.mux_types.specs.Configuration.{sub_key, service_key, packet_key}
-use Rattle.mux_config.specs.Spelling.{sub_record, service_record, packet_record, config_bytes}
-use Rattle.mux_config.specs.FieldReading.{Reads, byte_within}
-use Rattle.mux_config.specs.Reading.{read_sub, read_service, read_packet, members_at, record_at, config_at}
-use Rattle.mux_types.proofs.Tables.{each_weaker, each_pushed, ascends_pushed}
+use Rattle.mux_config.proofs.Words.{[], ◌++◌, ◌+◌, ◌-◌, ◌<◌, ◌∙◌, ◌∷◌, ◌≡◌, ◌≤◌, AllByRecursion, Configuration, Err}
+use Rattle.mux_config.proofs.Words.{IfErr, IfOk, IsAddressed, IsAscending, IsConfiguration, IsPlaced, IsService, List}
+use Rattle.mux_config.proofs.Words.{Ok, Reads, RecordFault, Result, ap, append-nil, append_assoc, arith, ascends_pushed}
+use Rattle.mux_config.proofs.Words.{byte_within, config_at, config_bytes, drop, drop_at, each_pushed, each_weaker}
+use Rattle.mux_config.proofs.Words.{flat_map, length, length-append, packet_key, packet_record, read_packet}
+use Rattle.mux_config.proofs.Words.{read_service, read_sub, refl, service_key, service_record, sub_key, sub_record}
+use Rattle.mux_config.proofs.Words.{subst, suc, sym, zero, ℕ}
+use Rattle.mux_config.specs.Reading.{members_at, record_at}
 use Rattle.mux_config.proofs.FieldLaws.{IsBytes, Front, front_then, bind_ok, ok_is, byte_within_front}
 use Rattle.mux_config.proofs.FieldLaws.{byte_within_again}
 use Rattle.mux_config.proofs.PartLaws.{flat_pushed, sub_front, sub_again, service_front, service_again, packet_front}

@@ -1,23 +1,13 @@
 -- Parts that the tests of equality find the same are equal, and so are lists of them and whole configurations.
-
-use Rattle.std.proofs.Common.{◌≡◌, ℕ, ◌↔◌, Bool, true, false, not, ◌&&◌, eqb, List, [], ◌∷◌, map, refl, sym, ap, subst}
-use Rattle.std.proofs.lemmas.Bool.{false≢true, eqb-true, eq-eqb}
-use Rattle.mux_eep.specs.declared.sizes.EepSet.{EepSet}
-use Rattle.mux_eep.specs.declared.sizes.EepSet.TheVariants.{A, B}
-use Rattle.mux_eep.specs.Sizes.{OneRate}
-use Rattle.mux_types.specs.declared.parts.Sub.{Sub}
-use Rattle.mux_types.specs.declared.parts.Service.{Service}
-use Rattle.mux_types.specs.declared.parts.Component.{Component}
-use Rattle.mux_types.specs.declared.parts.Component.TheVariants.{Sound, Stream, Packet as InPackets}
-use Rattle.mux_types.specs.declared.parts.Packet.{Packet}
-use Rattle.mux_types.specs.declared.numbers.Sid.{Sid}
+use Rattle.mux_config.proofs.Words.{[], ◌&&◌, ◌↔◌, ◌∷◌, ◌≡◌, A, B, Bool, ChangeIsUnique, Component, Configuration}
+use Rattle.mux_config.proofs.Words.{EepSet, HaveSameMembers, List, OneRate, Packet, Service, Sid, Sound, Stream, Sub}
+use Rattle.mux_config.proofs.Words.{ap, eq-eqb, eqb, eqb-true, false, false≢true, has_same_services, has_same_subs}
+use Rattle.mux_config.proofs.Words.{is_same_component, is_same_flag, is_same_list, is_same_packet, is_same_service}
+use Rattle.mux_config.proofs.Words.{is_same_set, is_same_sid, is_same_sub, map, not, refl, service_entries, sub_entries}
+use Rattle.mux_config.proofs.Words.{sub_entry, subst, sym, true, ℕ}
 use Rattle.mux_types.specs.declared.numbers.Sid.TheVariants.{Short, Long}
 use Rattle.mux_config.specs.declared.flags.Change.{Change}
-use Rattle.mux_types.specs.Configuration.{Configuration}
-use Rattle.mux_types.specs.Facts.{sub_entries, service_entries, sub_entry, HaveSameMembers}
-use Rattle.mux_config.specs.Change.{ChangeIsUnique, has_same_subs, has_same_services}
-use Rattle.mux_types.specs.Sameness.{is_same_flag, is_same_list, is_same_set, is_same_sub, is_same_sid}
-use Rattle.mux_types.specs.Sameness.{is_same_component, is_same_service, is_same_packet}
+use Rattle.mux_types.specs.declared.parts.Component.TheVariants.{Packet as InPackets}
 use Rattle.mux_config.proofs.FactSets.{same_members, subs_of_sets, services_of_sets}
 
 -- ---- tests

@@ -1,30 +1,18 @@
 -- A configuration is sound exactly if no fault is found.
-use Rattle.std.proofs.Common.{◌≡◌, ◌≢◌, ℕ, ◌+◌, ◌/◌, ◌%◌, ◌<◌, ◌==◌, Bool, true, false, not, cond, ◌&&◌, ◌||◌, ltb}
-use Rattle.std.proofs.Common.{List, [], ◌∷◌, length, Contains, Option, Some, None, is_some, refl, sym, ap, ◌∙◌, subst}
-use Rattle.std.proofs.Common.{◌⊎◌, inl, inr, arith}
-use Rattle.std.specs.List.{list_any, AllByRecursion}
-use Rattle.std.proofs.lemmas.Bool.{false≢true, eqb-true, eq-eqb, ne_eqb, ltb-true, lt-ltb, cases_lt}
-use Rattle.std.proofs.Math.Nat.{le-mul_of_pos_right}
-use Rattle.mux_eep.specs.Sizes.{rate_step, units_of_step}
-use Rattle.mux_eep.specs.declared.sizes.EepSet.{EepSet}
-use Rattle.mux_eep.specs.declared.sizes.EepSet.TheVariants.{A, B}
-use Rattle.mux_types.specs.declared.parts.Sub.{Sub}
-use Rattle.mux_types.specs.declared.parts.Service.{Service}
-use Rattle.mux_types.specs.declared.parts.Component.{Component}
-use Rattle.mux_types.specs.declared.parts.Carrier.{Carrier}
+use Rattle.mux_config.proofs.Words.{[], ◌%◌, ◌&&◌, ◌+◌, ◌/◌, ◌<◌, ◌==◌, ◌||◌, ◌∙◌, ◌∷◌, ◌≡◌, ◌≢◌, ◌⊎◌, A, AddressUsed}
+use Rattle.mux_config.proofs.Words.{AllByRecursion, AreCarried, AreFilled, B, Bool, Carrier, Component, ConfigFault}
+use Rattle.mux_config.proofs.Words.{Configuration, Contains, EepSet, EmptyService, IsAscending, IsConfiguration}
+use Rattle.mux_config.proofs.Words.{IsCrowded, IsPlaced, IsSound, IsThere, IsUnitOf, List, None, Option, Orphan}
+use Rattle.mux_config.proofs.Words.{Overlap, Packet, Service, Some, Sub, ap, arith, carrier_of, cases_lt, cond}
+use Rattle.mux_config.proofs.Words.{contains_cases, contains_first, contains_later, contains_none, each_contains}
+use Rattle.mux_config.proofs.Words.{entry_at, eq-eqb, eqb-true, false, false≢true, first_fault, first_of_two}
+use Rattle.mux_config.proofs.Words.{first_overlap, has_address_twice, has_entry, has_orphan, has_same_address, inl, inr}
+use Rattle.mux_config.proofs.Words.{is_crowded, is_empty_service, is_missing, is_some, le-mul_of_pos_right, length}
+use Rattle.mux_config.proofs.Words.{list_any, lt-ltb, ltb, ltb-true, ne_eqb, not, other_fault, overlap_with, overlaps}
+use Rattle.mux_config.proofs.Words.{packet_key, rate_step, refl, size_of_sub, sub_key, subst, sym, true, units_of_step}
+use Rattle.mux_config.proofs.Words.{ℕ}
 use Rattle.mux_types.specs.declared.parts.Carrier.TheVariants.{Sub as BySub, Packet as ByPacket}
-use Rattle.mux_types.specs.declared.parts.Packet.{Packet}
-use Rattle.mux_config.specs.declared.fault.ConfigFault.{ConfigFault}
-use Rattle.mux_config.specs.declared.fault.ConfigFault.TheVariants.{Overlap, Orphan, AddressUsed, EmptyService}
-use Rattle.mux_types.specs.Configuration.{Configuration, IsConfiguration, IsAscending, IsPlaced, size_of_sub, sub_key}
-use Rattle.mux_types.specs.Configuration.{packet_key, carrier_of}
-use Rattle.mux_types.specs.Tables.{has_entry, entry_at}
-use Rattle.mux_config.specs.Sound.{IsUnitOf, IsThere, IsSound, IsCrowded, overlaps, overlap_with, first_of_two}
-use Rattle.mux_config.specs.Sound.{first_overlap, is_crowded, is_missing, has_orphan, has_same_address}
-use Rattle.mux_config.specs.Sound.{has_address_twice, is_empty_service, other_fault, first_fault}
-use Rattle.mux_config.specs.SoundFaults.{AreCarried, AreFilled}
 use Rattle.mux_config.proofs.Rates.{units_positive}
-use Rattle.mux_types.proofs.Elements.{contains_cases, contains_first, contains_later, contains_none, each_contains}
 
 -- ---- members of a list
 

@@ -1,22 +1,12 @@
 -- Reading is stable: what is read, and any fault but missing bytes, is the same whatever bytes follow.
-use Rattle.std.proofs.Common.{◌≡◌, ◌≢◌, ℕ, zero, suc, ◌+◌, ltb, List, [], ◌∷◌, ◌++◌, length, take, drop, Result, Ok}
-use Rattle.std.proofs.Common.{Err, refl, sym, ap, ◌∙◌, subst, ◌⊎◌, inl, inr, arith}
-use Rattle.std.specs.List.{list_any}
-use Rattle.std.specs.Int.{w16}
-use Rattle.std.proofs.lemmas.List.{length-append, take-append-drop, append-nil, length-take-le}
-use Rattle.mux_eep.specs.Sizes.{size_or_fault}
-use Rattle.mux_eep.specs.declared.fault.EepFault.{EepFault}
-use Rattle.mux_types.specs.declared.parts.Component.{Component}
-use Rattle.mux_config.specs.declared.record.RecordFault.{RecordFault}
-use Rattle.mux_config.specs.declared.record.RecordFault.TheVariants.{Short, Field, Order}
-use Rattle.mux_types.specs.Configuration.{Configuration, IsConfiguration, sub_key, sid_key, service_key, packet_key}
-use Rattle.mux_types.specs.Configuration.{carrier_of, component_limit}
-use Rattle.mux_types.specs.Sameness.{names}
-use Rattle.mux_config.specs.Spelling.{config_bytes}
-use Rattle.mux_config.specs.FieldReading.{Reads, ◌>>=◌}
-use Rattle.mux_config.specs.Reading.{size_or_field, read_sub, components_at, read_service, read_packet, members_at}
-use Rattle.mux_config.specs.Reading.{record_at, config_at}
-use Rattle.mux_config.specs.RecordFaults.{CutsAreShort, FaultsStay, FaultsAreFirst}
+use Rattle.mux_config.proofs.Words.{[], ◌++◌, ◌+◌, ◌>>=◌, ◌∙◌, ◌∷◌, ◌≡◌, ◌≢◌, ◌⊎◌, Component, Configuration}
+use Rattle.mux_config.proofs.Words.{CutsAreShort, EepFault, Err, FaultsAreFirst, FaultsStay, Field, IsConfiguration}
+use Rattle.mux_config.proofs.Words.{List, Ok, Order, Reads, RecordFault, Result, Short, ap, append-nil, arith}
+use Rattle.mux_config.proofs.Words.{carrier_of, component_limit, config_at, config_bytes, drop, inl, inr, length}
+use Rattle.mux_config.proofs.Words.{length-append, length-take-le, list_any, ltb, names, packet_key, refl, service_key}
+use Rattle.mux_config.proofs.Words.{sid_key, size_or_fault, size_or_field, sub_key, subst, suc, sym, take}
+use Rattle.mux_config.proofs.Words.{take-append-drop, w16, zero, ℕ}
+use Rattle.mux_config.specs.Reading.{read_sub, components_at, read_service, read_packet, members_at, record_at}
 use Rattle.mux_config.proofs.FieldLaws.{ok_is}
 use Rattle.mux_config.proofs.RecordLaws.{record_again}
 use Rattle.mux_config.proofs.SteadyFields.{Goes, goes_bind, goes_fault, goes_refuse, place_same, field_same}

@@ -1,14 +1,10 @@
 -- Reading a field is stable: what is read, and any fault but missing bytes, is the same whatever bytes follow.
-use Rattle.std.proofs.Common.{◌≡◌, ℕ, zero, suc, ◌+◌, ◌≤◌, Bool, true, false, cond, ltb, List, [], ◌∷◌, ◌++◌, length}
-use Rattle.std.proofs.Common.{take, drop, Ok, Err, refl, sym, ap, ◌∙◌, subst, arith}
-use Rattle.std.specs.Int.{Width, w16, w32, byte_len, from_be_bytes}
-use Rattle.std.proofs.lemmas.Bool.{ltb-false, le-ltb}
-use Rattle.std.proofs.lemmas.List.{length-append, take-append-le, drop-append-le}
-use Rattle.mux_config.specs.declared.record.RecordFault.{RecordFault}
-use Rattle.mux_config.specs.declared.record.RecordFault.TheVariants.{Short, Field, Order}
-use Rattle.mux_config.specs.FieldReading.{Reads, ◌>>=◌, refuse, place, byte_at, number_at, judged, byte_within}
-use Rattle.mux_config.specs.FieldReading.{u16_in_range, flag_at, protection_at, sid_of_kind, sid_at, component_of}
-use Rattle.mux_config.specs.FieldReading.{component_at}
+use Rattle.mux_config.proofs.Words.{[], ◌++◌, ◌+◌, ◌>>=◌, ◌∙◌, ◌∷◌, ◌≡◌, ◌≤◌, Bool, Err, Field, List, Ok, Order, Reads}
+use Rattle.mux_config.proofs.Words.{RecordFault, Short, Width, ap, arith, byte_at, byte_len, byte_within, cond, drop}
+use Rattle.mux_config.proofs.Words.{drop-append-le, false, flag_at, from_be_bytes, judged, le-ltb, length}
+use Rattle.mux_config.proofs.Words.{length-append, ltb, ltb-false, number_at, place, refl, refuse, sid_of_kind, subst}
+use Rattle.mux_config.proofs.Words.{suc, sym, take, take-append-le, true, u16_in_range, w16, w32, zero, ℕ}
+use Rattle.mux_config.specs.FieldReading.{protection_at, sid_at, component_of, component_at}
 
 -- ---- readings of more bytes
 

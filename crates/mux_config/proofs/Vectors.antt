@@ -1,12 +1,8 @@
 -- Examples of records, computed by the checker from the definitions.
-use Rattle.std.proofs.Common.{◌≡◌, ℕ, List, [], ◌∷◌, ◌++◌, Ok, Err, refl}
-use Rattle.mux_eep.specs.declared.sizes.EepSet.TheVariants.{A}
-use Rattle.mux_types.specs.declared.parts.Component.TheVariants.{Sound}
+use Rattle.mux_config.proofs.Words.{[], ◌++◌, ◌∷◌, ◌≡◌, A, Configuration, Err, Field, List, Ok, Sound, config_at}
+use Rattle.mux_config.proofs.Words.{config_bytes, refl, ℕ}
 use Rattle.mux_types.specs.declared.numbers.Sid.TheVariants.{Short as ShortSid}
-use Rattle.mux_config.specs.declared.record.RecordFault.TheVariants.{Field}
-use Rattle.mux_types.specs.Configuration.{Configuration}
-use Rattle.mux_config.specs.Spelling.{config_bytes}
-use Rattle.mux_config.specs.Reading.{config_at, record_at, members_at, read_sub, read_service, components_at}
+use Rattle.mux_config.specs.Reading.{record_at, members_at, read_sub, read_service, components_at}
 use Rattle.mux_config.specs.FieldReading.{protection_at, sid_at, component_at, component_of}
 
 -- one programme of 128 kbit/s at 3-A

@@ -1,11 +1,6 @@
 -- A lane above 1 is two sub-channels that share a capacity unit.
-use Rattle.std.proofs.Common.{◌≡◌, ℕ, ◌<◌, ◌≤◌, List, Bool, true, false, refl, arith}
-use Rattle.std.proofs.lemmas.Bool.{false≢true}
-use Rattle.mux_config.specs.Configuration.{Configuration, IsConfiguration, IsPlaced}
-use Rattle.mux_config.specs.Sound.{IsCrowded}
-use Rattle.mux_types.proofs.Elements.{each_contains}
-use Rattle.mux_tables.specs.declared.unit_map.Block.{Block}
-use Rattle.mux_tables.specs.Units.{users, Counts}
+use Rattle.mux_tables.proofs.Words.{◌<◌, ◌≡◌, ◌≤◌, Block, Bool, Configuration, Counts, IsConfiguration, IsCrowded}
+use Rattle.mux_tables.proofs.Words.{IsPlaced, List, arith, each_contains, false, false≢true, refl, true, users, ℕ}
 use Rattle.mux_tables.proofs.Users.{sharing_told, two_found}
 
 crowded_told : (c : Configuration) → IsConfiguration c → ((u : ℕ) × (1 < users c.subs u)) → IsCrowded c

@@ -1,14 +1,10 @@
 -- Sub-channels are added one after another, and removed again.
-use Rattle.std.proofs.Common.{◌≡◌, ℕ, zero, suc, ◌+◌, ◌%◌, ◌<◌, ◌==◌, false, ltb, List, [], ◌∷◌, take, Option, Some}
-use Rattle.std.proofs.Common.{None, IfSome, slice_get, refl, sym, ap, ◌∙◌, subst, add-one, arith}
-use Rattle.std.proofs.lemmas.Bool.{le-ltb, ne_eqb}
-use Rattle.mux_types.specs.declared.parts.Sub.{Sub}
-use Rattle.mux_config.specs.Configuration.{Configuration, IsAscending, IsPlaced, sub_key, size_of_sub}
-use Rattle.std.specs.List.{AllByRecursion}
+use Rattle.mux_tables.proofs.Words.{[], ◌%◌, ◌+◌, ◌<◌, ◌==◌, ◌∙◌, ◌∷◌, ◌≡◌, AllByRecursion, Configuration, IfSome}
+use Rattle.mux_tables.proofs.Words.{IsAscending, IsPlaced, List, None, Option, Some, Sub, absent_found, add-one}
+use Rattle.mux_tables.proofs.Words.{add_sub_fault, ap, arith, entry_at, entry_holds, false, le-ltb, ltb, ne_eqb}
+use Rattle.mux_tables.proofs.Words.{placing_fault, refl, size_of_sub, slice_get, sub_added, sub_key, subst, suc, sym}
+use Rattle.mux_tables.proofs.Words.{take, with_entry, zero, ℕ}
 use Rattle.mux_eep.specs.Sizes.{rate_step}
-use Rattle.mux_config.specs.Tables.{entry_at, with_entry}
-use Rattle.mux_config.specs.Edits.{placing_fault, add_sub_fault, sub_added}
-use Rattle.mux_config.proofs.Keeping.{entry_holds, absent_found}
 
 pub placed_if : (id : ℕ) (xs : List Sub) (o : Option Sub) → AllByRecursion IsPlaced xs → o ≡ entry_at sub_key id xs
     → IfSome o (λ s. IsPlaced s)

@@ -1,18 +1,14 @@
 -- The lanes of the unit map: a span is added and removed, and a lane above 1 is found.
-use Rattle.std.proofs.Common.{◌⊎◌, ◌≡◌, ℕ, zero, suc, ◌+◌, ◌-◌, ◌*◌, ◌%◌, ◌<◌, ◌≤◌, Bool, true, false, cond, ltb, ◌^◌}
-use Rattle.std.proofs.Common.{◌/◌, inl, inr, subst, add-one, List, [], ◌∷◌, map, length, get_or, set, ◌≢◌, below_more}
-use Rattle.std.proofs.Common.{get_or-set_same, get_or-set_other, refl, sym, ap, ◌∙◌, arith}
-use Rattle.std.specs.List.{range_with_len}
+use Rattle.mux_tables.proofs.Words.{[], ◌%◌, ◌*◌, ◌+◌, ◌-◌, ◌/◌, ◌<◌, ◌^◌, ◌∙◌, ◌∷◌, ◌≡◌, ◌≢◌, ◌≤◌, ◌⊎◌, Block, Bool}
+use Rattle.mux_tables.proofs.Words.{Counts, List, Span, add-one, ap, arith, below_more, cases_lt, cond, false, get_or}
+use Rattle.mux_tables.proofs.Words.{get_or-set_other, get_or-set_same, inl, inr, le-ltb, length, length-map, lt-ltb}
+use Rattle.mux_tables.proofs.Words.{ltb, map, nat_tests, no_units, range_with_len, refl, set, share, subst, suc, sym}
+use Rattle.mux_tables.proofs.Words.{true, units_at, zero, ℕ}
 use Rattle.std.specs.Simd.Lanes.{zip2, top, mask_l}
 use Rattle.std.specs.Prelude.{replicate}
-use Rattle.std.proofs.lemmas.Bool.{lt-ltb, le-ltb, cases_lt}
-use Rattle.std.proofs.lemmas.Bool.Decides.{nat_tests}
 use Rattle.std.proofs.lemmas.Simd.{zip2-map, zip2_splat_left, mask_l-mod, get_or-replicate}
-use Rattle.std.proofs.lemmas.List.{length-map}
 use Rattle.std.proofs.lemmas.List.FromFn.{get_or-map-range_with_len, length-map-range_with_len}
-use Rattle.mux_tables.specs.declared.span.Span.{Span}
-use Rattle.mux_tables.specs.declared.unit_map.Block.{Block}
-use Rattle.mux_tables.specs.Units.{share, counts_of_block, units_at, no_units, Counts}
+use Rattle.mux_tables.specs.Units.{counts_of_block}
 
 -- functions that agree on a range
 pub map_agree : {X : Type 0} (f g : ℕ → X) (a n : ℕ) → ((j : ℕ) → a ≤ j → j < a + n → f j ≡ g j)

@@ -6,3 +6,4 @@ mod Others
 mod Replacing
 mod SubTables
 mod Users
+mod Words

@@ -1,11 +1,9 @@
 -- A table by keys is a set: the value at an index is the member with that key, and writing it edits the set.
-use Rattle.std.proofs.Common.{◌≡◌, ℕ, zero, suc, ◌+◌, ◌<◌, ◌≤◌, ◌==◌, true, false, not, cond, ltb, Bool, map, List, []}
-use Rattle.std.proofs.Common.{◌∷◌, length, get_or, set, Option, Some, None, slice_get, refl, sym, ap, ◌∙◌, arith}
-use Rattle.std.specs.List.{find, filter, AllByRecursion}
-use Rattle.std.proofs.lemmas.Bool.{lt-ltb, le-ltb, ne_eqb, eq-eqb, eqb-true}
-use Rattle.mux_config.specs.Configuration.{IsAscending}
-use Rattle.mux_config.specs.Tables.{entry_at, with_entry, without_entry, with_entry_changed}
-use Rattle.mux_tables.specs.Members.{members, InPlace}
+use Rattle.mux_tables.proofs.Words.{[], ◌+◌, ◌<◌, ◌==◌, ◌∙◌, ◌∷◌, ◌≡◌, ◌≤◌, AllByRecursion, Bool, InPlace, IsAscending}
+use Rattle.mux_tables.proofs.Words.{List, None, Option, Some, ap, arith, cond, entry_at, eq-eqb, eqb-true, false}
+use Rattle.mux_tables.proofs.Words.{filter, find, get_or, le-ltb, length, lt-ltb, ltb, map, members, ne_eqb, not, refl}
+use Rattle.mux_tables.proofs.Words.{set, slice_get, suc, sym, true, with_entry, with_entry_changed, without_entry, zero}
+use Rattle.mux_tables.proofs.Words.{ℕ}
 
 module _ {T : Type 0} (key : T → ℕ) where
   weaker : (P Q : T → Type 0) (xs : List T) → ((x : T) → P x → Q x) → AllByRecursion P xs → AllByRecursion Q xs

@@ -1,14 +1,10 @@
 -- Edits of services and packet components are those of a configuration without sub-channels.
-use Rattle.std.proofs.Common.{◌≡◌, List, [], Option, Some, None, Ok, refl, sym, ap, ◌∙◌, subst}
-use Rattle.mux_types.specs.declared.parts.Sub.{Sub}
+use Rattle.mux_tables.proofs.Words.{[], ◌∙◌, ◌≡◌, AddComponent, AddPacket, AddService, AddSub, Configuration}
+use Rattle.mux_tables.proofs.Words.{DropComponent, DropPacket, DropService, DropSub, IsConfiguration, IsInRange, List}
+use Rattle.mux_tables.proofs.Words.{MoveSub, None, Ok, Option, RateSub, Some, Sub, ap, changed, edit_fault, edits_keep}
+use Rattle.mux_tables.proofs.Words.{outcome, refl, subst, sym, with_sub_channels}
 use Rattle.mux_config.specs.declared.edit.Edit.{Edit}
-use Rattle.mux_config.specs.declared.edit.Edit.TheVariants.{AddSub, DropSub, MoveSub, RateSub, AddService, DropService}
-use Rattle.mux_config.specs.declared.edit.Edit.TheVariants.{AddComponent, DropComponent, AddPacket, DropPacket}
 use Rattle.mux_config.specs.declared.fault.EditFault.{EditFault}
-use Rattle.mux_config.specs.Configuration.{Configuration, IsConfiguration}
-use Rattle.mux_config.specs.Edits.{outcome, edit_fault, changed, IsInRange}
-use Rattle.mux_config.proofs.Keeping.{edits_keep}
-use Rattle.mux_tables.specs.Units.{with_sub_channels}
 
 abbrev pub IsOfOthers : Edit → Type 0
 IsOfOthers (AddSub s) = ⊥

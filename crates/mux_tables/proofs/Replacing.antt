@@ -1,10 +1,6 @@
 -- Replacing a sub-channel of a configuration with a placed one results in a configuration.
-use Rattle.std.proofs.lemmas.List.{length-map}
-use Rattle.mux_types.specs.declared.parts.Sub.{Sub}
-use Rattle.mux_config.specs.Configuration.{Configuration, IsConfiguration, IsPlaced, sub_key}
-use Rattle.mux_config.specs.Tables.{with_entry_changed}
-use Rattle.mux_types.proofs.Tables.{each_changed, ascends_changed}
-use Rattle.mux_config.proofs.Keeping.{subs_keep}
+use Rattle.mux_tables.proofs.Words.{Configuration, IsConfiguration, IsPlaced, Sub, ascends_changed, each_changed}
+use Rattle.mux_tables.proofs.Words.{length-map, sub_key, subs_keep, with_entry_changed}
 
 pub replaced_keeps : (y : Sub) (c : Configuration) → IsConfiguration c → IsPlaced y
     → IsConfiguration (record c { subs = with_entry_changed sub_key y c.subs })

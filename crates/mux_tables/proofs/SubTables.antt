@@ -1,13 +1,9 @@
 -- A table of sub-channels and the list of their identifiers stay consistent.
-use Rattle.std.proofs.Common.{◌≡◌, ℕ, zero, suc, ◌<◌, List, [], ◌∷◌, map, length, get_or, set, Option, Some, None}
-use Rattle.std.proofs.Common.{slice_get, refl, sym, ap, ◌∙◌, arith}
-use Rattle.std.proofs.lemmas.List.{length-map}
-use Rattle.mux_types.specs.declared.parts.Sub.{Sub}
-use Rattle.mux_config.specs.Configuration.{sub_key}
-use Rattle.mux_config.specs.Tables.{entry_at, with_entry, without_entry, with_entry_changed}
+use Rattle.mux_tables.proofs.Words.{[], ◌<◌, ◌∙◌, ◌∷◌, ◌≡◌, InPlace, List, None, Option, Some, Sub, ap, arith, entry_at}
+use Rattle.mux_tables.proofs.Words.{get_or, length, length-map, map, members, refl, set, slice_get, sub_key, suc, sym}
+use Rattle.mux_tables.proofs.Words.{with_entry, with_entry_changed, without_entry, zero, ℕ}
 use Rattle.mux_tables.specs.declared.sub_table.ListedId.{ListedId}
 use Rattle.mux_tables.specs.Listed.{listed}
-use Rattle.mux_tables.specs.Members.{members, InPlace}
 use Rattle.mux_tables.proofs.Members.{is_found, is_added, is_removed, is_changed, stays_in_place, in_place_none, room}
 use Rattle.mux_tables.proofs.Members.{stands, found_mapped, with_mapped, without_mapped, changed_mapped}
 

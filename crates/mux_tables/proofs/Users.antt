@@ -1,17 +1,10 @@
 -- The number of sub-channels that cover a unit: how edits change it, and that two share the unit if it is above 1.
-use Rattle.std.proofs.Common.{◌≡◌, ◌≢◌, ℕ, ◌+◌, ◌*◌, ◌<◌, ◌≤◌, ◌==◌, Bool, true, false, not, cond, ltb, List, [], ◌∷◌}
-use Rattle.std.proofs.Common.{length, filter, Contains, Option, Some, refl, sym, ap, ◌∙◌, subst, inl, inr, arith}
-use Rattle.std.proofs.lemmas.Bool.{cases_lt, eqb-true}
-use Rattle.std.proofs.lemmas.Bool.Decides.{nat_tests}
-use Rattle.mux_types.specs.declared.parts.Sub.{Sub}
-use Rattle.mux_config.specs.Configuration.{IsAscending, sub_key}
-use Rattle.std.specs.List.{AllByRecursion}
-use Rattle.mux_config.specs.Tables.{entry_at, with_entry, without_entry, with_entry_changed}
-use Rattle.mux_config.specs.Sound.{IsUnitOf}
-use Rattle.mux_types.proofs.Elements.{contains_cases, contains_first, contains_later, contains_none, each_contains}
-use Rattle.mux_tables.specs.declared.span.Span.{Span}
-use Rattle.mux_tables.specs.declared.unit_map.Block.{Block}
-use Rattle.mux_tables.specs.Units.{span_of, has_unit, share, users, Counts, CountsIn, CountsOut}
+use Rattle.mux_tables.proofs.Words.{[], ◌*◌, ◌+◌, ◌<◌, ◌==◌, ◌∙◌, ◌∷◌, ◌≡◌, ◌≢◌, ◌≤◌, AllByRecursion, Block, Bool}
+use Rattle.mux_tables.proofs.Words.{Contains, Counts, CountsIn, CountsOut, IsAscending, IsUnitOf, List, Option, Some}
+use Rattle.mux_tables.proofs.Words.{Span, Sub, ap, arith, cases_lt, cond, contains_cases, contains_first}
+use Rattle.mux_tables.proofs.Words.{contains_later, contains_none, each_contains, entry_at, eqb-true, false, filter}
+use Rattle.mux_tables.proofs.Words.{has_unit, inl, inr, length, ltb, nat_tests, not, refl, share, span_of, sub_key}
+use Rattle.mux_tables.proofs.Words.{subst, sym, true, users, with_entry, with_entry_changed, without_entry, ℕ}
 use Rattle.mux_tables.proofs.Lanes.{block_agree}
 use Rattle.mux_tables.proofs.Members.{without_below, unchanged}
 

@@ -1,10 +1,7 @@
 -- Entries that agree are equal.
-use Rattle.std.proofs.Common.{◌≡◌, ◌↔◌, ℕ, Bool, true, false, ◌&&◌, ◌==◌, List, refl, sym, ap, ◌∙◌}
-use Rattle.std.specs.Prelude.{IsTrue, bytes_eq}
-use Rattle.std.proofs.lemmas.Bool.{eq-eqb, eqb-true, false≢true}
+use Rattle.stream_check.proofs.Words.{◌&&◌, ◌==◌, ◌↔◌, ◌∙◌, ◌≡◌, Bool, IsTrue, List, Raw, agree, ap, bool_eq, bytes_eq}
+use Rattle.stream_check.proofs.Words.{eq-eqb, eqb-true, false, false≢true, refl, sym, true, ℕ}
 use Rattle.std.proofs.lemmas.Slice.Eq.{bytes_eq-Decides}
-use Rattle.fib_reader.specs.Raw.{Raw}
-use Rattle.stream_check.specs.Lookup.{agree, bool_eq}
 
 both : (a b : Bool) → (a && b) ≡ true → (a ≡ true) × (b ≡ true)
 both true b h = (refl, h)

@@ -1,16 +1,9 @@
 -- A FIG agrees with a configuration exactly if it has no contradictions to it.
-use Rattle.std.proofs.Common.{◌≡◌, ℕ, Bool, true, false, cond, List, [], ◌∷◌, ◌++◌, length, nat_lt, lt-ltb, ◌<◌, arith}
-use Rattle.std.proofs.Common.{Option, Some, None, refl, sym, ap, ◌∙◌, ◌&&◌}
-use Rattle.std.specs.Prelude.{get_or, drop, flat_map, ◌/◌, ◌%◌, ◌==◌}
-use Rattle.std.specs.List.{list_all}
-use Rattle.std.proofs.lemmas.Bool.{false≢true}
-use Rattle.fib_reader.specs.Listening.{Pictured}
-use Rattle.fig_mentions.specs.declared.mention.Mention.{Mention}
-use Rattle.fig_mentions.specs.Agreeing.{are_there, entries_agree, fig_agrees, is_judged, is_present}
-use Rattle.fig_mentions.specs.Mentions.{mentions_of}
-use Rattle.stream_check.specs.declared.contradiction.Contradiction.TheVariants.{NotThere}
-use Rattle.stream_check.specs.Contradictions.{absent, absent_among, contradictions_among, contradictions_in}
-use Rattle.stream_check.specs.Contradictions.{AgreeingHasNone}
+use Rattle.stream_check.proofs.Words.{[], ◌%◌, ◌&&◌, ◌++◌, ◌/◌, ◌<◌, ◌==◌, ◌∙◌, ◌∷◌, ◌≡◌, AgreeingHasNone, Bool, List}
+use Rattle.stream_check.proofs.Words.{Mention, None, NotThere, Option, Pictured, Some, absent, absent_among, ap}
+use Rattle.stream_check.proofs.Words.{are_there, arith, cond, contradictions_among, contradictions_in, drop}
+use Rattle.stream_check.proofs.Words.{entries_agree, false, false≢true, fig_agrees, flat_map, get_or, is_judged}
+use Rattle.stream_check.proofs.Words.{is_present, length, list_all, lt-ltb, mentions_of, nat_lt, refl, sym, true, ℕ}
 
 none_of : (k : Pictured) (ext : ℕ) (ms : List Mention) → list_all (is_present k) ms ≡ true
     → flat_map (absent k ext) ms ≡ []

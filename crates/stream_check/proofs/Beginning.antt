@@ -1,8 +1,5 @@
 -- The state before the first FIB.
-use Rattle.std.proofs.Common.{ℕ, false, [], None, refl, arith}
-use Rattle.stream_check.specs.declared.checker_state.CheckerState.{CheckerState}
-use Rattle.stream_check.specs.Pictures.{empty_picture}
-use Rattle.stream_check.specs.CheckerState.{Knows}
+use Rattle.stream_check.proofs.Words.{[], CheckerState, Knows, None, arith, empty_picture, false, refl, ℕ}
 use Rattle.stream_check.proofs.Notice.{notice_none}
 
 abbrev pub at_first : (step period : ℕ) → CheckerState

@@ -1,22 +1,12 @@
 -- Hearing what is sent, one after the other.
-use Rattle.std.proofs.Common.{◌≡◌, ◌≤◌, ℕ, nat_le, length, arith, Bool, true, false, cond, List, [], ◌∷◌, ◌++◌, map}
-use Rattle.std.proofs.Common.{refl, sym, ap, ◌∙◌, subst}
-use Rattle.std.proofs.lemmas.Bool.{false≢true, leb-false, lt-leb}
-use Rattle.std.proofs.lemmas.List.{append_assoc, append-nil, map-append, length-append}
+use Rattle.stream_check.proofs.Words.{[], ◌++◌, ◌∙◌, ◌∷◌, ◌≡◌, ◌≤◌, All, AtMost, Bool, CheckerState, Contradiction}
+use Rattle.stream_check.proofs.Words.{FrameAt, Hears, IsHeard, Knows, List, Moment, Reported, Sent, Unknown, What, ap}
+use Rattle.stream_check.proofs.Words.{append-nil, append_assoc, arith, cond, false, false≢true, findings_at_sent}
+use Rattle.stream_check.proofs.Words.{in_frame, items_in, kept_findings, leb-false, length, length-append, lt-leb, map}
+use Rattle.stream_check.proofs.Words.{map-append, nat_le, noted_after, refl, said, subst, sym, true, with_more, ℕ}
 use Rattle.stream_check.specs.declared.finding.Finding.{Finding}
-use Rattle.stream_check.specs.declared.finding.What.{What}
-use Rattle.stream_check.specs.declared.reporting.FrameAt.{FrameAt}
-use Rattle.stream_check.specs.declared.checker_state.CheckerState.{CheckerState}
-use Rattle.stream_check.specs.Reporting.{in_frame}
-use Rattle.stream_check.specs.declared.contradiction.Contradiction.{Contradiction}
-use Rattle.stream_check.specs.History.{Moment, said}
-use Rattle.stream_check.specs.Sent.{Sent, items_in, noted_after}
-use Rattle.stream_check.specs.Stream.{findings_at_sent}
-use Rattle.stream_check.specs.CheckerState.{Knows}
-use Rattle.stream_check.specs.Hearing.{IsHeard, Hears}
 use Rattle.stream_check.proofs.Sending.{noted_append, said_sent, full_sent, full_sent_stays, findings_append}
 use Rattle.stream_check.proofs.Sending.{findings_stay}
-use Rattle.stream_check.specs.Reported.{Reported, Unknown, All, AtMost, kept_findings, with_more}
 
 -- more findings than are kept stay more
 kept_twice : (most : ℕ) (xs ys zs : List Finding) → length xs ≤ length ys → nat_le (length xs) most ≡ false → ys ≡ zs

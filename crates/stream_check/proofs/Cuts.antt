@@ -1,10 +1,7 @@
 -- A cut with one part more or less at its end.
-use Rattle.std.proofs.Common.{◌≡◌, ℕ, suc, ◌+◌, List, [], ◌∷◌, ◌++◌, length, Contains, flat_map, refl, sym, ap, ◌∙◌}
-use Rattle.std.proofs.Common.{arith}
-use Rattle.std.specs.List.{AllByRecursion}
-use Rattle.std.proofs.lemmas.List.{append_assoc, append-nil, length-append}
-use Rattle.std.proofs.lemmas.List.Concat.{flat_map-append}
-use Rattle.stream_check.specs.Cutting.{HasAll, IsPart, IsCutInto}
+use Rattle.stream_check.proofs.Words.{[], ◌++◌, ◌+◌, ◌∙◌, ◌∷◌, ◌≡◌, AllByRecursion, Contains, HasAll, IsCutInto, IsPart}
+use Rattle.stream_check.proofs.Words.{List, ap, append-nil, append_assoc, arith, flat_map, flat_map-append, length}
+use Rattle.stream_check.proofs.Words.{length-append, refl, suc, sym, ℕ}
 use Rattle.stream_check.proofs.Rows.{heard_left, heard_right}
 
 -- the last part of a cut

@@ -1,20 +1,14 @@
 -- After a FIG 0/0 the state still agrees with the past of the stream.
-use Rattle.std.proofs.Common.{◌≡◌, ℕ, ◌+◌, ◌%◌, ◌≤◌, ◌==◌, ◌&&◌, ◌||◌, Bool, true, false, cond, not, List, [], ◌∷◌}
-use Rattle.std.proofs.Common.{◌++◌, length, Option, Some, None, refl, sym, ap, ◌∙◌, arith, inl, inr, subst, lt-ltb}
-use Rattle.std.proofs.Common.{le-ltb}
-use Rattle.std.proofs.lemmas.Bool.{cases_lt, false≢true}
-use Rattle.std.proofs.lemmas.List.{append-nil}
-use Rattle.mux_types.specs.Entries.{EnsembleInformation}
-use Rattle.fib_reader.specs.Listening.{Listening, is_made, swapped, awaiting, at_ensemble}
-use Rattle.stream_check.specs.declared.checker_state.CheckerState.{CheckerState}
-use Rattle.stream_check.specs.Pictures.{empty_picture, Each, key_of}
-use Rattle.stream_check.specs.Rules.{at_most, has_flags, makes_swap}
-use Rattle.stream_check.specs.History.{Item, Moment, Said, is_ensemble, ensemble_of_item, is_flagged, is_swap}
-use Rattle.stream_check.specs.History.{is_member, frames_ended, listening, listener_after, eid_of, last_eid}
-use Rattle.stream_check.specs.History.{has_ensemble, begins_notice, has_begun, began_early, flag_count, times_announced}
-use Rattle.stream_check.specs.History.{last_flags, is_cut_off, next_key, settles_at, row_at_hand, rows, last_heard}
-use Rattle.stream_check.specs.CheckerState.{listener_in, known_in, with_swap, with_ensemble, eid_after, IsLastHeard}
-use Rattle.stream_check.specs.CheckerState.{IsStamped, HasNotice, Knows}
+use Rattle.stream_check.proofs.Words.{[], ◌%◌, ◌&&◌, ◌++◌, ◌+◌, ◌==◌, ◌||◌, ◌∙◌, ◌∷◌, ◌≡◌, ◌≤◌, Bool, CheckerState}
+use Rattle.stream_check.proofs.Words.{Each, EnsembleInformation, HasNotice, IsLastHeard, IsStamped, Item, Knows, List}
+use Rattle.stream_check.proofs.Words.{Listening, Moment, None, Option, Said, Some, ap, append-nil, arith, at_ensemble}
+use Rattle.stream_check.proofs.Words.{at_most, awaiting, began_early, begins_notice, cases_lt, cond, eid_after, eid_of}
+use Rattle.stream_check.proofs.Words.{empty_picture, ensemble_of_item, false, false≢true, flag_count, frames_ended}
+use Rattle.stream_check.proofs.Words.{has_begun, has_ensemble, has_flags, inl, inr, is_cut_off, is_ensemble, is_flagged}
+use Rattle.stream_check.proofs.Words.{is_made, is_member, is_swap, key_of, known_in, last_eid, last_flags, last_heard}
+use Rattle.stream_check.proofs.Words.{le-ltb, length, listener_after, listener_in, listening, lt-ltb, makes_swap}
+use Rattle.stream_check.proofs.Words.{next_key, not, refl, row_at_hand, rows, settles_at, subst, swapped, sym}
+use Rattle.stream_check.proofs.Words.{times_announced, true, with_ensemble, with_swap, ℕ}
 use Rattle.stream_check.proofs.Notice.{notice_none, notice_begins, each_in}
 use Rattle.stream_check.proofs.Members.{or_false, or_true, ensemble_swap, ensemble_flagged, ensemble_placed}
 use Rattle.stream_check.proofs.Members.{ensemble_no_member, ensemble_heard, after_is}

@@ -1,27 +1,20 @@
 -- What the checker knows and has reported after one more FIB.
-use Rattle.std.proofs.Common.{◌≡◌, ◌≢◌, ℕ, ◌+◌, ◌<◌, ◌≤◌, ◌&&◌, ◌||◌, nat_lt, lt-ltb, Bool, true, false, not, List, []}
-use Rattle.std.proofs.Common.{◌∷◌, ◌++◌, length, map, Option, refl, sym, ap, ◌∙◌, arith, inl, inr, ◌⊎◌, subst}
-use Rattle.std.proofs.lemmas.Bool.{false≢true, cases_lt}
-use Rattle.std.proofs.lemmas.List.{append-nil, length-append, length-map, map-append}
-use Rattle.std.proofs.lemmas.List.Concat.{flat_map-append}
-use Rattle.fib_codec.specs.Modes.{fib_count, count_step}
+use Rattle.stream_check.proofs.Words.{[], ◌&&◌, ◌++◌, ◌+◌, ◌<◌, ◌||◌, ◌∙◌, ◌∷◌, ◌≡◌, ◌≢◌, ◌≤◌, ◌⊎◌, Adds, AreFrames}
+use Rattle.stream_check.proofs.Words.{Bool, CheckerState, Checking, Contradiction, EndsFull, EnsembleInformation, Fib}
+use Rattle.stream_check.proofs.Words.{Follows, FollowsFib, HearsFrame, HoldsFirst, IsFrameHeard, IsFramed, IsOneFrame}
+use Rattle.stream_check.proofs.Words.{IsSummary, Item, Knows, List, Moment, Option, Reading, Reported, Said, Unknown}
+use Rattle.stream_check.proofs.Words.{after_frames, ap, append-nil, arith, begins_with_ensemble, cases_lt, count_step}
+use Rattle.stream_check.proofs.Words.{damaged_in, false, false≢true, fib_count, findings_in, findings_of, first_in}
+use Rattle.stream_check.proofs.Words.{flat_map-append, frame_items, frames_ended, holds_ensemble, inl, inr, is_begun}
+use Rattle.stream_check.proofs.Words.{is_empty, is_there, length, length-append, length-map, lt-ltb, map, map-append}
+use Rattle.stream_check.proofs.Words.{nat_lt, not, noted_in_frames, opening, past_after_frame, refl, said, subst, sym}
+use Rattle.stream_check.proofs.Words.{true, with_more, ℕ}
 use Rattle.fib_codec.specs.declared.modes.Mode.{Mode}
 use Rattle.fib_codec.specs.declared.modes.Mode.TheVariants.{I, II, III, IV}
-use Rattle.stream_check.specs.declared.checker_state.CheckerState.{CheckerState}
-use Rattle.stream_check.specs.declared.contradiction.Contradiction.{Contradiction}
-use Rattle.stream_check.specs.Frames.{Fib, Reading, first_in, opening, is_there, begins_with_ensemble, holds_ensemble}
-use Rattle.stream_check.specs.Frames.{IsOneFrame, AreFrames, HoldsFirst, IsFramed, damaged_in}
-use Rattle.stream_check.specs.History.{Item, Moment, Said, said, frame_items, frames_ended}
-use Rattle.stream_check.specs.Stream.{findings_in, past_after_frame, findings_of, noted_in_frames, after_frames}
-use Rattle.stream_check.specs.CheckerState.{Knows}
-use Rattle.stream_check.specs.Hearing.{IsFrameHeard, HearsFrame}
-use Rattle.mux_types.specs.Entries.{EnsembleInformation}
 use Rattle.stream_check.specs.declared.checker.Summary.{Summary}
-use Rattle.stream_check.specs.Following.{Checking, Follows, EndsFull, Adds, FollowsFib, IsSummary, is_begun, is_empty}
 use Rattle.stream_check.proofs.Chain.{more_twice, more_none}
 use Rattle.stream_check.proofs.Framing.{flat, one_more, held_of, skips_more, goes_on, after_more, full_more, noted_more}
 use Rattle.stream_check.proofs.Framing.{findings_more, damaged_append}
-use Rattle.stream_check.specs.Reported.{Reported, Unknown, with_more}
 
 -- ---- the number of frames
 

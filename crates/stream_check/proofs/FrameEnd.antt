@@ -1,32 +1,19 @@
 -- After the end of a frame the state still agrees with the past of the stream.
-use Rattle.std.proofs.Common.{◌≡◌, ℕ, ◌+◌, ◌%◌, ◌≤◌, ◌==◌, Bool, true, false, cond, List, [], ◌∷◌, ◌++◌, length, map}
-use Rattle.std.proofs.Common.{Option, Some, refl, sym, ap, ◌∙◌, arith, subst}
-use Rattle.std.specs.List.{AllByRecursion, filter}
-use Rattle.std.proofs.lemmas.Bool.{false≢true}
-use Rattle.std.proofs.lemmas.List.{append_assoc, append-nil, length-append, map-append}
-use Rattle.fib_reader.specs.Raw.{Raw}
-use Rattle.fib_reader.specs.Listening.{Listening, all_entries}
-use Rattle.stream_check.specs.declared.finding.What.{What}
+use Rattle.stream_check.proofs.Words.{[], ◌%◌, ◌++◌, ◌+◌, ◌==◌, ◌∙◌, ◌∷◌, ◌≡◌, ◌≤◌, AllByRecursion, Bool, CheckerState}
+use Rattle.stream_check.proofs.Words.{Ended, Fib, FrameAt, HasNotice, Heard, Hears, HearsFrame, IsLastHeard, IsLater}
+use Rattle.stream_check.proofs.Words.{Item, Knows, List, Listening, Moment, Option, Raw, Reported, Some, What}
+use Rattle.stream_check.proofs.Words.{all_entries, ap, append-nil, append_assoc, arith, cond, count_of_frame, due}
+use Rattle.stream_check.proofs.Words.{false, false≢true, filter, findings_at_sent, frame_at, frame_findings}
+use Rattle.stream_check.proofs.Words.{frame_items, frame_sent, frames_ended, has_begun, heard_since, in_frame, is_quiet}
+use Rattle.stream_check.proofs.Words.{is_silent, key_of, last_findings, last_heard, length, length-append, listener_in}
+use Rattle.stream_check.proofs.Words.{map, map-append, name_of, quiet_findings, raws, refl, row_at_hand, rows}
+use Rattle.stream_check.proofs.Words.{runs_full, said, silence, silent_findings, silent_in, subst, sym, true, when}
+use Rattle.stream_check.proofs.Words.{with_frame, with_more, with_row, ℕ}
 use Rattle.stream_check.specs.declared.finding.Fault.TheVariants as faults
-use Rattle.stream_check.specs.declared.reporting.FrameAt.{FrameAt}
-use Rattle.stream_check.specs.declared.checker_state.CheckerState.{CheckerState}
-use Rattle.stream_check.specs.Reporting.{in_frame, when}
-use Rattle.stream_check.specs.Pictures.{Heard, heard_since, raws, key_of}
-use Rattle.stream_check.specs.Frames.{Fib}
-use Rattle.stream_check.specs.History.{Item, Moment, Ended, said, frame_items, frames_ended, due, has_begun}
-use Rattle.stream_check.specs.History.{row_at_hand, rows, last_heard}
-use Rattle.stream_check.specs.Sent.{frame_sent}
-use Rattle.stream_check.specs.Rules.{name_of, is_silent, silence, silent_findings}
-use Rattle.stream_check.specs.Stream.{frame_findings, findings_at_sent, runs_full, frame_at, last_findings}
-use Rattle.stream_check.specs.Stream.{count_of_frame}
-use Rattle.stream_check.specs.CheckerState.{listener_in, with_row, with_frame, IsLastHeard, HasNotice, Knows, is_quiet}
-use Rattle.stream_check.specs.CheckerState.{quiet_findings, silent_in}
-use Rattle.stream_check.specs.Hearing.{IsLater, Hears, HearsFrame}
 use Rattle.stream_check.proofs.Notice.{notice_closed, notice_open}
 use Rattle.stream_check.proofs.Members.{after_is}
 use Rattle.stream_check.proofs.Chain.{more_twice}
 use Rattle.stream_check.proofs.Sending.{frame_has_items}
-use Rattle.stream_check.specs.Reported.{Reported, with_more}
 
 -- ---- the frames of the notice
 

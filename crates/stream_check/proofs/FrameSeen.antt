@@ -1,12 +1,8 @@
 -- What is known of the FIBs of a frame with one more FIB.
-use Rattle.std.proofs.Common.{◌≡◌, ℕ, ◌+◌, ◌≤◌, ◌&&◌, Bool, true, false, cond, not, List, [], ◌∷◌, ◌++◌, map, Option}
-use Rattle.std.proofs.Common.{sym, ap, ◌∙◌, arith}
-use Rattle.std.proofs.lemmas.List.{map-append}
-use Rattle.mux_types.specs.Entries.{EnsembleInformation}
+use Rattle.stream_check.proofs.Words.{[], ◌&&◌, ◌++◌, ◌+◌, ◌∙◌, ◌∷◌, ◌≡◌, ◌≤◌, AreSeen, Bool, EnsembleInformation, Fib}
+use Rattle.stream_check.proofs.Words.{IsSeen, List, Option, Reading, ap, arith, cond, damaged_in, false, first_opening}
+use Rattle.stream_check.proofs.Words.{is_damaged, is_empty, is_there, lacks_opening, map, map-append, not, sym, true, ℕ}
 use Rattle.stream_check.specs.declared.frame.FibSummary.{FibSummary}
-use Rattle.stream_check.specs.Following.{is_empty}
-use Rattle.stream_check.specs.Frames.{Fib, Reading, AreSeen, IsSeen, is_damaged, is_there, damaged_in, first_opening}
-use Rattle.stream_check.specs.Frames.{lacks_opening}
 
 pub damaged_more : (frame : List Fib) (fib : Fib) → damaged_in (frame ++ fib ∷ []) ≡ damaged_in frame
     + cond (is_damaged fib) 1 0

@@ -1,16 +1,10 @@
 -- A stream cut into frames, with one more FIB.
-use Rattle.std.proofs.Common.{◌≡◌, ◌≢◌, ℕ, ◌+◌, Bool, true, false, cond, List, [], ◌∷◌, ◌++◌, flat_map, refl, sym, ap}
-use Rattle.std.proofs.Common.{◌∙◌, arith, inl, inr, ◌⊎◌, subst}
-use Rattle.std.specs.List.{AllByRecursion}
-use Rattle.std.proofs.lemmas.Bool.{false≢true}
-use Rattle.std.proofs.lemmas.List.{append_assoc, append-nil}
-use Rattle.std.proofs.lemmas.List.Concat.{flat_map-append}
-use Rattle.stream_check.specs.declared.contradiction.Contradiction.{Contradiction}
-use Rattle.stream_check.specs.Frames.{Fib, begins_with_ensemble, holds_ensemble, IsOneFrame, BeginsAnew, AreFrames}
-use Rattle.stream_check.specs.Frames.{HoldsFirst, IsFramed, damaged_in}
-use Rattle.stream_check.specs.History.{Moment, frame_items}
-use Rattle.stream_check.specs.Stream.{runs_full, findings_in, noted_in, past_after_frame, findings_from}
-use Rattle.stream_check.specs.Stream.{noted_in_frames, after_frames, frames_full}
+use Rattle.stream_check.proofs.Words.{[], ◌++◌, ◌+◌, ◌∙◌, ◌∷◌, ◌≡◌, ◌≢◌, ◌⊎◌, AllByRecursion, AreFrames, BeginsAnew}
+use Rattle.stream_check.proofs.Words.{Bool, Contradiction, Fib, HoldsFirst, IsFramed, IsOneFrame, List, Moment}
+use Rattle.stream_check.proofs.Words.{after_frames, ap, append-nil, append_assoc, arith, begins_with_ensemble, cond}
+use Rattle.stream_check.proofs.Words.{damaged_in, false, false≢true, findings_from, findings_in, flat_map}
+use Rattle.stream_check.proofs.Words.{flat_map-append, frame_items, frames_full, holds_ensemble, inl, inr, noted_in}
+use Rattle.stream_check.proofs.Words.{noted_in_frames, past_after_frame, refl, runs_full, subst, sym, true, ℕ}
 
 abbrev pub flat : List (List Fib) → List Fib
 flat frames = flat_map (λ f. f) frames

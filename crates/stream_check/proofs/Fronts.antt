@@ -1,13 +1,9 @@
 -- A stream is cut into frames in one way, and in the same way as far as any front of it goes.
-use Rattle.std.proofs.Common.{◌≡◌, ℕ, suc, ◌+◌, ◌<◌, ◌≤◌, Bool, true, false, cond, List, [], ◌∷◌, ◌++◌, length, refl}
-use Rattle.std.proofs.Common.{sym, ap, ◌∙◌, arith, subst}
-use Rattle.std.specs.List.{AllByRecursion}
-use Rattle.std.proofs.lemmas.Bool.{false≢true}
-use Rattle.std.proofs.lemmas.List.{append_assoc, append-nil, length-append}
-use Rattle.stream_check.specs.Frames.{Fib, begins_with_ensemble, holds_ensemble, IsOneFrame, BeginsAnew, AreFrames}
-use Rattle.stream_check.specs.Frames.{HoldsFirst, IsFramed}
-use Rattle.stream_check.specs.History.{Moment, frame_items}
-use Rattle.stream_check.specs.Stream.{runs_full, past_after_frame, frames_full}
+use Rattle.stream_check.proofs.Words.{[], ◌++◌, ◌+◌, ◌<◌, ◌∙◌, ◌∷◌, ◌≡◌, ◌≤◌, AllByRecursion, AreFrames, BeginsAnew}
+use Rattle.stream_check.proofs.Words.{Bool, Fib, HoldsFirst, IsFramed, IsOneFrame, List, Moment, ap, append-nil}
+use Rattle.stream_check.proofs.Words.{append_assoc, arith, begins_with_ensemble, cond, false, false≢true, frame_items}
+use Rattle.stream_check.proofs.Words.{frames_full, holds_ensemble, length, length-append, past_after_frame, refl}
+use Rattle.stream_check.proofs.Words.{runs_full, subst, suc, sym, true, ℕ}
 use Rattle.stream_check.proofs.Framing.{flat, begins_more}
 
 -- later FIBs of a frame

@@ -1,11 +1,8 @@
 -- A greedy cut gives the maximum number of parts; a new identifier restarts it.
-use Rattle.std.proofs.Common.{◌≡◌, ◌≢◌, ℕ, zero, suc, ◌+◌, ◌<◌, ◌≤◌, List, [], ◌∷◌, ◌++◌, length, Contains, refl, sym}
-use Rattle.std.proofs.Common.{ap, ◌∙◌, arith, inl, inr, subst}
-use Rattle.std.proofs.lemmas.Bool.{cases_lt}
-use Rattle.std.specs.List.{concat}
-use Rattle.std.proofs.lemmas.List.{append_assoc, append-nil, length-append}
-use Rattle.stream_check.specs.Cutting.{HasAll, IsPart, IsCutInto, IsMostParts, IsGreedy, GreedyCloses, GreedyStays}
-use Rattle.stream_check.specs.Cutting.{GreedyIsMost, MostIsOne, ThreeOrMore, IsCutInThree, NewBeginsAnew}
+use Rattle.stream_check.proofs.Words.{[], ◌++◌, ◌+◌, ◌<◌, ◌∙◌, ◌∷◌, ◌≡◌, ◌≢◌, ◌≤◌, Contains, GreedyCloses, GreedyIsMost}
+use Rattle.stream_check.proofs.Words.{GreedyStays, HasAll, IsCutInThree, IsCutInto, IsGreedy, IsMostParts, IsPart, List}
+use Rattle.stream_check.proofs.Words.{MostIsOne, NewBeginsAnew, ThreeOrMore, ap, append-nil, append_assoc, arith}
+use Rattle.stream_check.proofs.Words.{cases_lt, concat, inl, inr, length, length-append, refl, subst, suc, sym, zero, ℕ}
 use Rattle.stream_check.proofs.Rows.{shorter, behind, front}
 use Rattle.stream_check.proofs.Cuts.{last, more, none, has_left, has_right}
 

@@ -1,21 +1,13 @@
 -- The identifiers of a picture, and properties of each of its entries, with one more entry.
-use Rattle.std.proofs.Common.{◌≡◌, ◌≢◌, ℕ, ◌<◌, ◌==◌, Bool, true, false, cond, nat_lt, List, [], ◌∷◌, ◌++◌, length}
-use Rattle.std.proofs.Common.{Contains, Option, Some, None, is_some, refl, sym, ap, ◌∙◌, arith, inl, inr, ◌⊎◌, subst}
-use Rattle.std.specs.Prelude.{◌||◌}
-use Rattle.std.specs.List.{AllByRecursion}
-use Rattle.std.proofs.Common.{not}
-use Rattle.std.proofs.lemmas.Bool.{cases_lt, false≢true, eq-eqb, eqb-true}
-use Rattle.std.proofs.lemmas.List.Elements.{Contains-append_left, Contains-append_right, Contains-append_cases}
-use Rattle.mux_types.proofs.Tables.{each_weaker}
-use Rattle.mux_config.proofs.Keeping.{is_found}
-use Rattle.mux_config.specs.Tables.{entry_at, with_entry, with_entry_changed, has_entry}
-use Rattle.fib_reader.specs.Raw.{Raw}
-use Rattle.fib_reader.specs.Listening.{identifier_of}
+use Rattle.stream_check.proofs.Words.{[], ◌++◌, ◌<◌, ◌==◌, ◌||◌, ◌∙◌, ◌∷◌, ◌≡◌, ◌≢◌, ◌⊎◌, AllByRecursion, Bool}
+use Rattle.stream_check.proofs.Words.{Contains, Contains-append_cases, Contains-append_left, Contains-append_right}
+use Rattle.stream_check.proofs.Words.{Each, HasKinds, Heard, HeardPicture, List, None, Option, Raw, Some, agree, ap}
+use Rattle.stream_check.proofs.Words.{arith, cases_lt, cond, each_weaker, entry_at, eq-eqb, eqb-true, false, false≢true}
+use Rattle.stream_check.proofs.Words.{finds_no_room, has_entry, heard_kept, heard_key, identifier_of, inl, inr}
+use Rattle.stream_check.proofs.Words.{is_absent, is_found, is_some, key_of, keys, keys_of, length, lookup, lookup_among}
+use Rattle.stream_check.proofs.Words.{lookup_in, nat_lt, not, picture_kept, picture_of_heard, raws, refl, subst, sym}
+use Rattle.stream_check.proofs.Words.{true, with_entry, with_entry_changed, ℕ}
 use Rattle.stream_check.specs.declared.heard_table.Lookup.TheVariants as standings
-use Rattle.stream_check.specs.Pictures.{Heard, HeardPicture, heard_key, raws, heard_kept, picture_of_heard}
-use Rattle.stream_check.specs.Pictures.{picture_kept, Each, HasKinds, key_of, keys, keys_of}
-use Rattle.stream_check.specs.Lookup.{agree, lookup_among, lookup, lookup_in}
-use Rattle.stream_check.specs.Rules.{finds_no_room, is_absent}
 use Rattle.stream_check.proofs.PartCount.{here, there, one_of, in_none}
 use Rattle.stream_check.proofs.Tables.{raw_in, standing_found, each_kept}
 

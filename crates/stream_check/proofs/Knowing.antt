@@ -1,16 +1,12 @@
 -- After an entry of FIG 0/1 to 0/3 the state still agrees with the past of the stream.
-use Rattle.std.proofs.Common.{◌≡◌, ℕ, ◌+◌, ◌<◌, ◌≤◌, ◌==◌, ◌&&◌, ◌||◌, Bool, true, false, cond, not, List, [], ◌∷◌}
-use Rattle.std.proofs.Common.{◌++◌, length, Some, refl, sym, ap, ◌∙◌, arith, inl, inr, subst, lt-ltb, le-ltb}
-use Rattle.std.proofs.lemmas.Bool.{cases_lt, false≢true, eq-eqb, ne_eqb}
-use Rattle.std.proofs.lemmas.List.{append-nil}
-use Rattle.fib_reader.specs.Listening.{Listening, into, pictured, picture_of}
-use Rattle.stream_check.specs.declared.checker_state.CheckerState.{CheckerState}
-use Rattle.stream_check.specs.Pictures.{Heard, picture_kept, key_of, picture_of_heard}
-use Rattle.stream_check.specs.Lookup.{lookup_in}
-use Rattle.stream_check.specs.Rules.{finds_no_room, is_absent, at_most}
-use Rattle.stream_check.specs.History.{Item, Moment, Said, is_ensemble, frames_ended, listener_after, has_ensemble}
-use Rattle.stream_check.specs.History.{has_begun, began_early, row_at_hand, rows, last_heard}
-use Rattle.stream_check.specs.CheckerState.{listener_in, with_current, with_next, later, IsLastHeard, HasNotice, Knows}
+use Rattle.stream_check.proofs.Words.{[], ◌&&◌, ◌++◌, ◌+◌, ◌<◌, ◌==◌, ◌||◌, ◌∙◌, ◌∷◌, ◌≡◌, ◌≤◌, Bool, CheckerState}
+use Rattle.stream_check.proofs.Words.{HasNotice, Heard, IsLastHeard, Item, Knows, List, Listening, Moment, Said, Some}
+use Rattle.stream_check.proofs.Words.{ap, append-nil, arith, at_most, began_early, cases_lt, cond, eq-eqb, false}
+use Rattle.stream_check.proofs.Words.{false≢true, finds_no_room, frames_ended, has_begun, has_ensemble, inl, inr, into}
+use Rattle.stream_check.proofs.Words.{is_absent, is_ensemble, key_of, last_heard, later, le-ltb, length, listener_after}
+use Rattle.stream_check.proofs.Words.{listener_in, lookup_in, lt-ltb, ne_eqb, not, picture_kept, picture_of}
+use Rattle.stream_check.proofs.Words.{picture_of_heard, pictured, refl, row_at_hand, rows, subst, sym, true}
+use Rattle.stream_check.proofs.Words.{with_current, with_next, ℕ}
 use Rattle.stream_check.proofs.Tables.{pictured_kept}
 use Rattle.stream_check.proofs.Keys.{picture_each, kinds_kept, known_has}
 use Rattle.stream_check.proofs.Notice.{notice_known, notice_new, each_in}

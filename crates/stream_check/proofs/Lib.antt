@@ -28,3 +28,4 @@ pub mod Waiting
 pub mod FrameSeen
 mod Vectors
 mod VectorsOfMentions
+mod Words

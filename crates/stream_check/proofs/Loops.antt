@@ -1,14 +1,8 @@
 -- Hearing what is sent in a loop: what was heard so far, and the rest.
-use Rattle.std.proofs.Common.{◌≡◌, true, false, List, [], ◌++◌, refl, sym, ap, ◌∙◌, subst}
-use Rattle.std.proofs.lemmas.List.{append_assoc, append-nil}
-use Rattle.stream_check.specs.declared.reporting.FrameAt.{FrameAt}
-use Rattle.stream_check.specs.declared.checker_state.CheckerState.{CheckerState}
-use Rattle.stream_check.specs.Sent.{Sent}
-use Rattle.stream_check.specs.CheckerState.{IsSane}
-use Rattle.stream_check.specs.Hearing.{IsLater, Hears}
+use Rattle.stream_check.proofs.Words.{[], ◌++◌, ◌∙◌, ◌≡◌, CheckerState, FrameAt, Hears, IsLater, IsSane, List, Reported}
+use Rattle.stream_check.proofs.Words.{Sent, ap, append-nil, append_assoc, false, refl, subst, sym, true}
 use Rattle.stream_check.proofs.Chain.{hears_nothing, hears_more, hears_full}
 use Rattle.stream_check.proofs.Steps.{later_itself, later_twice}
-use Rattle.stream_check.specs.Reported.{Reported}
 
 -- of all that is sent, this remains
 pub record IsOnItsWay (at : FrameAt) (all left : List Sent) (old : CheckerState) (before : Reported)

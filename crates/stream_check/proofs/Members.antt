@@ -1,15 +1,12 @@
 -- How an entry of FIG 0/1 to 0/3 affects the past of a stream.
-use Rattle.std.proofs.Common.{◌≡◌, ℕ, ◌+◌, ◌%◌, ◌==◌, ◌&&◌, ◌||◌, Bool, true, false, cond, not, List, [], ◌∷◌, ◌++◌}
-use Rattle.std.proofs.Common.{Option, Some, None, refl, sym, ap, ◌∙◌, arith}
-use Rattle.fib_reader.specs.Raw.{Raw, ensemble_in}
-use Rattle.fib_reader.specs.Listening.{Listening, hear_entry, is_made, where_heard, at_ensemble, into, pictured}
-use Rattle.fib_reader.specs.Listening.{picture_of}
-use Rattle.stream_check.specs.Pictures.{key_of}
-use Rattle.stream_check.specs.History.{Item, Moment, Said, is_ensemble, ensemble_of_item, is_flagged, is_in_place}
-use Rattle.stream_check.specs.History.{frames_ended, listening, listener, listener_after, is_swap, is_member, eid_of}
-use Rattle.stream_check.specs.History.{last_eid, has_ensemble, begins_notice, has_begun, began_early, flag_count}
-use Rattle.stream_check.specs.History.{times_announced, last_flags, is_cut_off, next_key, row_at_hand, rows, settles_at}
-use Rattle.stream_check.specs.History.{last_heard}
+use Rattle.stream_check.proofs.Words.{[], ◌%◌, ◌&&◌, ◌++◌, ◌+◌, ◌==◌, ◌||◌, ◌∙◌, ◌∷◌, ◌≡◌, Bool, Item, List, Listening}
+use Rattle.stream_check.proofs.Words.{Moment, None, Option, Raw, Said, Some, ap, arith, at_ensemble, began_early}
+use Rattle.stream_check.proofs.Words.{begins_notice, cond, eid_of, ensemble_in, ensemble_of_item, false, flag_count}
+use Rattle.stream_check.proofs.Words.{frames_ended, has_begun, has_ensemble, hear_entry, into, is_cut_off, is_ensemble}
+use Rattle.stream_check.proofs.Words.{is_flagged, is_in_place, is_made, is_member, is_swap, key_of, last_eid}
+use Rattle.stream_check.proofs.Words.{last_flags, last_heard, listener, listener_after, listening, next_key, not}
+use Rattle.stream_check.proofs.Words.{picture_of, pictured, refl, row_at_hand, rows, settles_at, sym, times_announced}
+use Rattle.stream_check.proofs.Words.{true, where_heard, ℕ}
 
 pub and_false : (a : Bool) → (a && false) ≡ false
 and_false true = refl

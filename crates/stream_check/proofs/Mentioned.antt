@@ -1,18 +1,11 @@
 -- The contradictions of a FIG, entry by entry, and what is reported of them.
-use Rattle.std.proofs.Common.{◌≡◌, ℕ, ◌<◌, ◌≤◌, ◌-◌, Bool, true, false, List, [], ◌++◌, length, drop, take, map, Option}
-use Rattle.std.proofs.Common.{Some, None, refl, sym, ap, ◌∙◌, subst, arith, inl, inr}
-use Rattle.std.proofs.lemmas.Bool.{cases_lt, false≢true}
-use Rattle.std.proofs.lemmas.List.{append-nil, map-append, length-drop, take_all}
-use Rattle.fib_reader.specs.Listening.{Pictured}
-use Rattle.fig_mentions.specs.declared.mention.Mention.{Mention}
-use Rattle.fig_mentions.specs.Mentions.{entry_mention, first_entry_length, mentions_of, with_mention}
+use Rattle.stream_check.proofs.Words.{[], ◌++◌, ◌-◌, ◌<◌, ◌∙◌, ◌≡◌, ◌≤◌, AreNoted, Bool, Contradiction, FrameAt, List}
+use Rattle.stream_check.proofs.Words.{Mention, None, Option, Pictured, Reported, Some, absent, absent_among, ap}
+use Rattle.stream_check.proofs.Words.{append-nil, are_whole, arith, cases_lt, drop, entry_mention, false, false≢true}
+use Rattle.stream_check.proofs.Words.{first_entry_length, in_frame, inl, inr, length, length-drop, map, map-append}
+use Rattle.stream_check.proofs.Words.{mentions_of, new_findings, noted_with, refl, subst, sym, take, take_all, true}
+use Rattle.stream_check.proofs.Words.{with_mention, with_more, ℕ}
 use Rattle.fig_mentions.proofs.Whole.{of_none, of_cut, of_more}
-use Rattle.stream_check.specs.declared.contradiction.Contradiction.{Contradiction}
-use Rattle.stream_check.specs.declared.reporting.FrameAt.{FrameAt}
-use Rattle.stream_check.specs.Reporting.{in_frame}
-use Rattle.stream_check.specs.Reported.{Reported, with_more}
-use Rattle.stream_check.specs.Contradictions.{absent, absent_among, are_whole, new_findings, noted_with}
-use Rattle.stream_check.specs.Hearing.{AreNoted}
 use Rattle.stream_check.proofs.Chain.{more_twice, more_none}
 use Rattle.stream_check.proofs.Sending.{noted_twice, found_twice}
 

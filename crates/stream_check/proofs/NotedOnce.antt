@@ -1,16 +1,11 @@
 -- Each contradiction is reported once between two swaps, as long as fewer than 64 are.
-use Rattle.std.proofs.Common.{◌≡◌, ◌⊎◌, ℕ, ◌+◌, ◌<◌, ◌≤◌, ◌==◌, ◌&&◌, ◌||◌, nat_lt, not, Bool, true, false, cond, List}
-use Rattle.std.proofs.Common.{[], ◌∷◌, ◌++◌, length, inl, inr, refl, sym, ap, ap₂, ◌∙◌, subst, arith}
-use Rattle.std.specs.List.{list_any}
-use Rattle.std.proofs.lemmas.Bool.{false≢true, eq-eqb, ltb-true, ltb-false}
-use Rattle.std.proofs.lemmas.List.{append-nil, append_assoc, length-append}
+use Rattle.stream_check.proofs.Words.{[], ◌&&◌, ◌++◌, ◌+◌, ◌<◌, ◌==◌, ◌||◌, ◌∙◌, ◌∷◌, ◌≡◌, ◌≤◌, ◌⊎◌, AreNew}
+use Rattle.stream_check.proofs.Words.{AreReportedOnce, Bool, ByPacket, Contradiction, List, Mention, NoneIsLeftOut}
+use Rattle.stream_check.proofs.Words.{NotThere, NotWhole, Nothing, OnSub, Packet, Sub, ap, append-nil, append_assoc}
+use Rattle.stream_check.proofs.Words.{ap₂, arith, cond, eq-eqb, false, false≢true, inl, inr, is_new, is_noted, is_same}
+use Rattle.stream_check.proofs.Words.{is_same_mention, length, length-append, list_any, ltb-false, ltb-true, most_noted}
+use Rattle.stream_check.proofs.Words.{nat_lt, new_among, not, noted_with, refl, subst, sym, true, ℕ}
 use Rattle.mux_types.proofs.Elements.{contains_cases, contains_none}
-use Rattle.fig_mentions.specs.declared.mention.Mention.{Mention}
-use Rattle.fig_mentions.specs.declared.mention.Mention.TheVariants.{Nothing, Sub, Packet, OnSub, ByPacket}
-use Rattle.stream_check.specs.declared.contradiction.Contradiction.{Contradiction}
-use Rattle.stream_check.specs.declared.contradiction.Contradiction.TheVariants.{NotThere, NotWhole}
-use Rattle.stream_check.specs.Contradictions.{is_same_mention, is_same, most_noted, is_noted, is_new, new_among}
-use Rattle.stream_check.specs.Contradictions.{noted_with, AreNew, AreReportedOnce, NoneIsLeftOut}
 
 -- ---- the same
 

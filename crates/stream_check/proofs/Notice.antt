@@ -1,22 +1,16 @@
 -- The frames of a notice, with one more entry and with one more frame.
-use Rattle.std.proofs.Common.{◌≡◌, ◌≢◌, ◌↔◌, ℕ, ◌+◌, ◌<◌, ◌≤◌, ◌&&◌, Bool, true, false, nat_lt, List, [], ◌∷◌, ◌++◌}
-use Rattle.std.proofs.Common.{length, take, drop, Contains, refl, sym, ap, ◌∙◌, arith, inl, inr, ◌⊎◌, subst, lt-ltb}
-use Rattle.std.specs.List.{AllByRecursion, concat, list_all}
-use Rattle.std.proofs.lemmas.Bool.{cases_lt, false≢true}
+use Rattle.stream_check.proofs.Words.{[], ◌&&◌, ◌++◌, ◌+◌, ◌<◌, ◌↔◌, ◌∙◌, ◌∷◌, ◌≡◌, ◌≢◌, ◌≤◌, ◌⊎◌, AllByRecursion, Bool}
+use Rattle.stream_check.proofs.Words.{Contains, Contains-append_cases, Contains-append_left, Contains-append_right}
+use Rattle.stream_check.proofs.Words.{Each, HasAll, HasKinds, HasNotice, Heard, HeardPicture, IsGreedy, IsStamped, List}
+use Rattle.stream_check.proofs.Words.{ap, append-nil, append_assoc, arith, cases_lt, concat, drop, drop-append-le}
+use Rattle.stream_check.proofs.Words.{drop_all, each_weaker, empty_picture, false, false≢true, finds_no_room}
+use Rattle.stream_check.proofs.Words.{heard_since, inl, inr, is_absent, key_of, keys, keys_of, length, length-append}
+use Rattle.stream_check.proofs.Words.{list_all, lookup_in, lt-ltb, nat_lt, picture_kept, picture_of_heard, refl, subst}
+use Rattle.stream_check.proofs.Words.{sym, take, take-append-drop, take-append-le, take_all, true, ℕ}
 use Rattle.std.proofs.lemmas.Bool.Decides.{Decides-ltb}
-use Rattle.std.proofs.lemmas.List.{append_assoc, append-nil, length-append, take-append-drop, take-append-le}
-use Rattle.std.proofs.lemmas.List.{drop-append-le, take_all, drop_all}
-use Rattle.std.proofs.lemmas.List.Elements.{Contains-append_left, Contains-append_right, Contains-append_cases}
-use Rattle.stream_check.specs.Cutting.{HasAll, IsGreedy}
-use Rattle.stream_check.specs.Pictures.{Heard, HeardPicture, empty_picture, picture_kept, heard_since, Each, HasKinds}
-use Rattle.stream_check.specs.Pictures.{key_of, keys, keys_of, picture_of_heard}
-use Rattle.stream_check.specs.Lookup.{lookup_in}
-use Rattle.stream_check.specs.Rules.{finds_no_room, is_absent}
-use Rattle.stream_check.specs.CheckerState.{IsStamped, HasNotice}
 use Rattle.stream_check.proofs.Rows.{concat-more}
 use Rattle.stream_check.proofs.Greedily.{greedy_closes, greedy_stays, new_begins_anew}
 use Rattle.stream_check.proofs.PartCount.{here, there, one_of, in_none, greedy_at_first}
-use Rattle.mux_types.proofs.Tables.{each_weaker}
 use Rattle.stream_check.proofs.Keys.{picture_each, known_keys, new_keys}
 
 -- ---- one more entry

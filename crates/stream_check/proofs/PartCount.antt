@@ -1,12 +1,9 @@
 -- Ending each part as early as possible gives the maximum number of parts, counted frame by frame.
-use Rattle.std.proofs.Common.{◌≡◌, ℕ, zero, suc, ◌+◌, ◌≤◌, ◌==◌, ◌&&◌, ◌||◌, Bool, true, false, cond, List, [], ◌∷◌}
-use Rattle.std.proofs.Common.{◌++◌, Contains, refl, sym, ap, ◌∙◌, arith, inl, inr, subst}
-use Rattle.std.specs.List.{concat, list_all}
-use Rattle.std.proofs.lemmas.Bool.{eq-eqb, eqb-true, false≢true}
-use Rattle.std.proofs.lemmas.List.{append_assoc, append-nil}
-use Rattle.std.proofs.lemmas.List.Elements.{Contains-append_right, Contains-append_cases}
-use Rattle.stream_check.specs.Cutting.{HasAll, IsCutInto, IsMostParts, IsGreedy}
-use Rattle.stream_check.specs.Parts.{contains, has_all, parts_from, most_parts, IsTheMost}
+use Rattle.stream_check.proofs.Words.{[], ◌&&◌, ◌++◌, ◌+◌, ◌==◌, ◌||◌, ◌∙◌, ◌∷◌, ◌≡◌, ◌≤◌, Bool, Contains}
+use Rattle.stream_check.proofs.Words.{Contains-append_cases, Contains-append_right, HasAll, IsCutInto, IsGreedy}
+use Rattle.stream_check.proofs.Words.{IsMostParts, IsTheMost, List, ap, append-nil, append_assoc, arith, concat, cond}
+use Rattle.stream_check.proofs.Words.{contains, eq-eqb, eqb-true, false, false≢true, has_all, inl, inr, list_all}
+use Rattle.stream_check.proofs.Words.{most_parts, parts_from, refl, subst, suc, sym, true, zero, ℕ}
 use Rattle.stream_check.proofs.Cuts.{last, none}
 use Rattle.stream_check.proofs.Greedily.{greedy_closes, greedy_stays, greedy_is_most, most_is_one}
 

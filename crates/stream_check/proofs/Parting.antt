@@ -1,18 +1,9 @@
 -- Hearing one entry or one other FIG: the contradictions that were reported since the last swap.
-use Rattle.std.proofs.Common.{◌≡◌, ◌≢◌, ◌+◌, ◌==◌, ◌&&◌, ◌||◌, Bool, true, false, cond, not, List, [], ◌∷◌, refl, sym}
-use Rattle.std.proofs.Common.{ap, ◌∙◌}
-use Rattle.std.proofs.lemmas.Bool.{ne_eqb}
-use Rattle.mux_types.specs.Entries.{EnsembleInformation}
-use Rattle.fib_reader.specs.Raw.{Raw, ensemble_in}
-use Rattle.fib_reader.specs.Listening.{is_made}
-use Rattle.stream_check.specs.declared.reporting.FrameAt.{FrameAt}
-use Rattle.stream_check.specs.declared.checker_state.CheckerState.{CheckerState}
-use Rattle.stream_check.specs.Reported.{Reported}
-use Rattle.stream_check.specs.History.{Item, Moment, items_of, listener_after}
-use Rattle.stream_check.specs.Sent.{EntrySent, entries_sent, noted_at}
-use Rattle.stream_check.specs.Rules.{KnownBefore, at_most, has_flags, makes_swap}
-use Rattle.stream_check.specs.CheckerState.{known_in, with_swap, with_flags, with_ensemble, Knows}
-use Rattle.stream_check.specs.Hearing.{HearsItems, Hears}
+use Rattle.stream_check.proofs.Words.{[], ◌&&◌, ◌+◌, ◌==◌, ◌||◌, ◌∙◌, ◌∷◌, ◌≡◌, ◌≢◌, Bool, CheckerState}
+use Rattle.stream_check.proofs.Words.{EnsembleInformation, EntrySent, FrameAt, Hears, HearsItems, Item, KnownBefore}
+use Rattle.stream_check.proofs.Words.{Knows, List, Moment, Raw, Reported, ap, at_most, cond, ensemble_in, entries_sent}
+use Rattle.stream_check.proofs.Words.{false, has_flags, is_made, items_of, known_in, listener_after, makes_swap, ne_eqb}
+use Rattle.stream_check.proofs.Words.{not, noted_at, refl, sym, true, with_ensemble, with_flags, with_swap}
 use Rattle.stream_check.proofs.Steps.{known_same}
 
 -- ---- an entry

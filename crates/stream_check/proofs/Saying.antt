@@ -1,9 +1,6 @@
 -- Entries one after the other: the past after them, and whether there is room.
-use Rattle.std.proofs.Common.{◌≡◌, ℕ, true, false, cond, List, [], ◌∷◌, ◌++◌, refl, sym}
-use Rattle.std.proofs.lemmas.Bool.{false≢true}
-use Rattle.stream_check.specs.History.{Item, Moment, Said, said}
-use Rattle.stream_check.specs.Rules.{known_of, has_no_room}
-use Rattle.stream_check.specs.Stream.{runs_full}
+use Rattle.stream_check.proofs.Words.{[], ◌++◌, ◌∷◌, ◌≡◌, Item, List, Moment, Said, cond, false, false≢true}
+use Rattle.stream_check.proofs.Words.{has_no_room, known_of, refl, runs_full, said, sym, true, ℕ}
 
 pub said_append : (xs ys : List Item) (past : List Moment) → said (xs ++ ys) past ≡ said ys (said xs past)
 said_append [] ys past = refl

@@ -1,11 +1,9 @@
 -- Each FIB has exactly one reading.
-use Rattle.std.proofs.Common.{◌≡◌, ◌⊎◌, inl, inr, ℕ, List, Some, None, Ok, Err, refl}
-use Rattle.std.specs.Prelude.{Result}
-use Rattle.fib_codec.specs.Grammar.{Fig, IsFib}
+use Rattle.stream_check.proofs.Words.{◌≡◌, ◌⊎◌, Err, Fib, Fig, IsFib, List, None, Ok, Reading, Reads, Result, Some, inl}
+use Rattle.stream_check.proofs.Words.{inr, refl, ℕ}
 use Rattle.fib_reader.specs.declared.fault.FibFault.{FibFault}
 use Rattle.fib_reader.specs.Faults.{IsFibFault}
 use Rattle.fib_reader.specs.Laws.{FaultOrFigs, FigsOrFault}
-use Rattle.stream_check.specs.Frames.{Fib, Reads, Reading}
 
 abbrev whole : List Fig → Result (List Fig) FibFault
 whole figs = Ok figs

@@ -1,18 +1,12 @@
 -- What is sent, one after the other: entries, and what FIGs contradict.
-use Rattle.std.proofs.Common.{◌≡◌, ℕ, Bool, true, false, cond, List, [], ◌∷◌, ◌++◌, map, Some, None, refl, sym, ap, ◌∙◌}
-use Rattle.std.proofs.lemmas.Bool.{false≢true}
-use Rattle.std.proofs.lemmas.List.{append_assoc, append-nil, map-append}
-use Rattle.fib_codec.specs.Grammar.{Fig, Open, Other, is_next}
-use Rattle.fib_reader.specs.Raw.{Raw, entries_in}
-use Rattle.stream_check.specs.declared.contradiction.Contradiction.{Contradiction}
-use Rattle.stream_check.specs.Frames.{Fib}
-use Rattle.stream_check.specs.History.{Moment, Said, said, items_of, fig_items, figs_items, fib_items, fibs_items}
-use Rattle.stream_check.specs.History.{frame_items}
-use Rattle.stream_check.specs.Contradictions.{contradicts, is_new, new_among, new_findings, noted_with}
-use Rattle.stream_check.specs.Sent.{Sent, EntrySent, FigSent, entries_sent, fig_sent, figs_sent, fib_sent, fibs_sent}
-use Rattle.stream_check.specs.Sent.{frame_sent, items_in, contradictions_at, noted_at, noted_after}
-use Rattle.stream_check.specs.Rules.{known_of, findings_at, has_no_room}
-use Rattle.stream_check.specs.Stream.{findings_at_sent, runs_full}
+use Rattle.stream_check.proofs.Words.{[], ◌++◌, ◌∙◌, ◌∷◌, ◌≡◌, Bool, Contradiction, EntrySent, Fib, Fig, FigSent, List}
+use Rattle.stream_check.proofs.Words.{Moment, None, Open, Other, Raw, Said, Sent, Some, ap, append-nil, append_assoc}
+use Rattle.stream_check.proofs.Words.{cond, contradictions_at, contradicts, entries_in, entries_sent, false, false≢true}
+use Rattle.stream_check.proofs.Words.{fib_items, fib_sent, fibs_items, fibs_sent, fig_items, fig_sent, figs_items}
+use Rattle.stream_check.proofs.Words.{figs_sent, findings_at, findings_at_sent, frame_items, frame_sent, has_no_room}
+use Rattle.stream_check.proofs.Words.{is_new, is_next, items_in, items_of, known_of, map, map-append, new_among}
+use Rattle.stream_check.proofs.Words.{new_findings, noted_after, noted_at, noted_with, refl, runs_full, said, sym, true}
+use Rattle.stream_check.proofs.Words.{ℕ}
 use Rattle.stream_check.proofs.Saying.{said_append, full_append, full_stays}
 
 -- ---- the entries among what is sent

@@ -1,33 +1,21 @@
 -- Hearing one entry: what is reported, and what is known afterwards.
-use Rattle.std.proofs.Common.{◌≡◌, ◌≢◌, ℕ, ◌+◌, ◌<◌, ◌≤◌, ◌==◌, ◌&&◌, ◌||◌, Bool, true, false, cond, not, List, [], ◌∷◌}
-use Rattle.std.proofs.Common.{◌++◌, map, take, drop, Option, refl, sym, ap, ◌∙◌, arith, inl, inr, subst, lt-ltb, le-ltb}
-use Rattle.std.proofs.lemmas.Bool.{cases_lt, false≢true, ne_eqb}
-use Rattle.std.proofs.lemmas.List.{append-nil, append_assoc, map-append, take-append-drop}
-use Rattle.mux_types.specs.Entries.{EnsembleInformation}
-use Rattle.fib_reader.specs.Raw.{Raw, ensemble_in}
-use Rattle.fib_reader.specs.Listening.{Listening, all_entries}
-use Rattle.stream_check.specs.declared.finding.What.{What}
-use Rattle.stream_check.specs.declared.reporting.FrameAt.{FrameAt}
-use Rattle.stream_check.specs.declared.checker_state.CheckerState.{CheckerState}
-use Rattle.stream_check.specs.Reporting.{in_frame}
-use Rattle.stream_check.specs.Pictures.{Heard, HeardPicture, key_of, keys, keys_of, raws, picture_of_heard}
-use Rattle.stream_check.specs.Lookup.{lookup_in}
-use Rattle.stream_check.specs.Parts.{most_parts}
-use Rattle.stream_check.specs.History.{Item, Moment, Said, items_of, frames_ended, listener_after, due, last_eid}
-use Rattle.stream_check.specs.History.{has_ensemble, has_begun, began_early, times_announced, last_flags, is_cut_off}
-use Rattle.stream_check.specs.History.{rows}
-use Rattle.stream_check.specs.Rules.{KnownBefore, known_of, times_heard, at_most, has_flags, makes_swap, findings_at}
-use Rattle.stream_check.specs.Rules.{ensemble_findings, member_findings, current_findings, next_findings, has_no_room}
-use Rattle.stream_check.specs.Rules.{finds_no_room}
-use Rattle.stream_check.specs.CheckerState.{listener_in, known_in, with_swap, with_flags, with_ensemble, with_current}
-use Rattle.stream_check.specs.CheckerState.{with_next, Knows, IsSane}
-use Rattle.stream_check.specs.Hearing.{IsLater, HearsItems}
+use Rattle.stream_check.proofs.Words.{[], ◌&&◌, ◌++◌, ◌+◌, ◌<◌, ◌==◌, ◌||◌, ◌∙◌, ◌∷◌, ◌≡◌, ◌≢◌, ◌≤◌, Bool, CheckerState}
+use Rattle.stream_check.proofs.Words.{EnsembleInformation, FrameAt, Heard, HeardPicture, HearsItems, IsLater, IsSane}
+use Rattle.stream_check.proofs.Words.{Item, KnownBefore, Knows, List, Listening, Moment, Option, Raw, Reported, Said}
+use Rattle.stream_check.proofs.Words.{What, all_entries, ap, append-nil, append_assoc, arith, at_most, began_early}
+use Rattle.stream_check.proofs.Words.{cases_lt, cond, current_findings, drop, due, ensemble_findings, ensemble_in}
+use Rattle.stream_check.proofs.Words.{false, false≢true, findings_at, finds_no_room, frames_ended, has_begun}
+use Rattle.stream_check.proofs.Words.{has_ensemble, has_flags, has_no_room, in_frame, inl, inr, is_cut_off, items_of}
+use Rattle.stream_check.proofs.Words.{key_of, keys, keys_of, known_in, known_of, last_eid, last_flags, le-ltb}
+use Rattle.stream_check.proofs.Words.{listener_after, listener_in, lookup_in, lt-ltb, makes_swap, map, map-append}
+use Rattle.stream_check.proofs.Words.{member_findings, most_parts, ne_eqb, next_findings, not, picture_of_heard, raws}
+use Rattle.stream_check.proofs.Words.{refl, rows, subst, sym, take, take-append-drop, times_announced, times_heard}
+use Rattle.stream_check.proofs.Words.{true, with_current, with_ensemble, with_flags, with_more, with_next, with_swap, ℕ}
 use Rattle.stream_check.proofs.PartCount.{parts_counted}
 use Rattle.stream_check.proofs.Members.{after_is}
 use Rattle.stream_check.proofs.Knowing.{knows_passed, knows_current, knows_next}
 use Rattle.stream_check.proofs.Ensembles.{knows_ensemble}
 use Rattle.stream_check.proofs.Chain.{more_none}
-use Rattle.stream_check.specs.Reported.{Reported, with_more}
 
 -- ---- the state knows what was sent before
 

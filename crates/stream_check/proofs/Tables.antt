@@ -1,20 +1,13 @@
 -- Tables of entries with times, and of the entries alone.
-use Rattle.std.proofs.Common.{◌≡◌, ◌≢◌, ℕ, ◌<◌, ◌≤◌, ◌==◌, Bool, true, false, not, cond, nat_lt, List, [], ◌∷◌, length}
-use Rattle.std.proofs.Common.{Option, Some, None, refl, sym, ap, subst, ◌∙◌, lt-ltb, le-ltb}
-use Rattle.std.specs.Prelude.{◌||◌}
-use Rattle.std.specs.List.{AllByRecursion}
-use Rattle.std.proofs.lemmas.Bool.{false≢true, or_parts}
-use Rattle.std.proofs.lemmas.List.{length-map}
-use Rattle.mux_config.specs.Tables.{entry_at, with_entry, with_entry_changed, has_entry}
-use Rattle.mux_config.proofs.Keeping.{present, absent_found}
-use Rattle.fib_reader.specs.Raw.{Raw}
-use Rattle.fib_reader.specs.Listening.{identifier_of, is_known, kept, has_room, pictured}
+use Rattle.stream_check.proofs.Words.{[], ◌<◌, ◌==◌, ◌||◌, ◌∙◌, ◌∷◌, ◌≡◌, ◌≢◌, ◌≤◌, AllByRecursion, Bool, Heard}
+use Rattle.stream_check.proofs.Words.{HeardPicture, List, None, Option, Raw, Some, absent_found, agree, ap, cond}
+use Rattle.stream_check.proofs.Words.{entry_at, false, false≢true, finds_no_room, has_entry, has_room, heard_kept}
+use Rattle.stream_check.proofs.Words.{heard_key, identifier_of, is_known, kept, le-ltb, length, length-map, lookup}
+use Rattle.stream_check.proofs.Words.{lookup_among, lookup_in, lt-ltb, nat_lt, not, or_parts, picture_kept}
+use Rattle.stream_check.proofs.Words.{picture_of_heard, pictured, present, raws, refl, subst, sym, true, with_entry}
+use Rattle.stream_check.proofs.Words.{with_entry_changed, ℕ}
 use Rattle.stream_check.specs.declared.heard_table.Lookup.{Lookup}
 use Rattle.stream_check.specs.declared.heard_table.Lookup.TheVariants as standings
-use Rattle.stream_check.specs.Pictures.{Heard, HeardPicture, heard_key, raws, heard_kept, picture_of_heard}
-use Rattle.stream_check.specs.Pictures.{picture_kept}
-use Rattle.stream_check.specs.Lookup.{agree, lookup_among, lookup, lookup_in}
-use Rattle.stream_check.specs.Rules.{finds_no_room}
 
 abbrev pub raw_in : Option Heard → Option Raw
 raw_in None = None

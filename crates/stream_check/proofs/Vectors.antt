@@ -1,13 +1,11 @@
 -- The rules in small cases, computed by the checker from the definitions: for each, one that holds and one that fails.
-use Rattle.std.proofs.Common.{◌≡◌, ℕ, true, false, List, [], ◌∷◌, Some, None, refl}
-use Rattle.fib_reader.specs.Raw.{Raw}
+use Rattle.stream_check.proofs.Words.{[], ◌∷◌, ◌≡◌, Ended, Item, List, Moment, None, Raw, Said, Some, can_fall_at, due}
+use Rattle.stream_check.proofs.Words.{false, findings_at, has_begun, is_cut_off, known_of, most_parts, overlap}
+use Rattle.stream_check.proofs.Words.{past_end, refl, share_unit, silent_findings, true, ℕ}
 use Rattle.stream_check.specs.declared.finding.EntryName.TheVariants as names
 use Rattle.stream_check.specs.declared.finding.Fault.TheVariants as faults
 use Rattle.stream_check.specs.declared.finding.StreamEvent.TheVariants as events
 use Rattle.stream_check.specs.declared.finding.What.TheVariants as whats
-use Rattle.stream_check.specs.Parts.{most_parts}
-use Rattle.stream_check.specs.History.{Item, Moment, Said, Ended, due, has_begun, is_cut_off}
-use Rattle.stream_check.specs.Rules.{known_of, can_fall_at, share_unit, overlap, past_end, findings_at, silent_findings}
 
 -- ---- parts
 

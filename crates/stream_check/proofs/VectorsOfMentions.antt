@@ -1,21 +1,14 @@
 -- Contradictions in small cases, computed by the checker from the definitions: for each definition one that holds and
 -- one that fails.
-use Rattle.std.proofs.Common.{◌≡◌, ℕ, true, false, List, [], ◌∷◌, replicate, Some, None, refl}
-use Rattle.fib_codec.specs.Grammar.{Open, Other}
-use Rattle.fib_reader.specs.Raw.{Raw}
-use Rattle.fib_reader.specs.Listening.{Pictured}
-use Rattle.fig_mentions.specs.declared.mention.Mention.TheVariants.{Nothing, Sub, Packet, OnSub}
+use Rattle.stream_check.proofs.Words.{[], ◌∷◌, ◌≡◌, AreNew, Contradiction, Ended, EntrySent, FigSent, Item, List}
+use Rattle.stream_check.proofs.Words.{Moment, None, NotThere, NotWhole, Nothing, OnSub, Open, Other, Packet, Pictured}
+use Rattle.stream_check.proofs.Words.{Raw, Said, Some, Sub, absent, absent_among, are_whole, contradictions_at}
+use Rattle.stream_check.proofs.Words.{contradictions_in, false, fib_sent, fig_sent, findings_at_sent, is_new, is_noted}
+use Rattle.stream_check.proofs.Words.{is_same, is_same_mention, items_in, new_among, noted_after, noted_at}
+use Rattle.stream_check.proofs.Words.{noted_in_frames, noted_with, refl, replicate, true, ℕ}
 use Rattle.fig_mentions.specs.Mentions.{mentions_in}
-use Rattle.stream_check.specs.declared.contradiction.Contradiction.{Contradiction}
-use Rattle.stream_check.specs.declared.contradiction.Contradiction.TheVariants.{NotThere, NotWhole}
 use Rattle.stream_check.specs.declared.finding.Fault.TheVariants as faults
 use Rattle.stream_check.specs.declared.finding.What.TheVariants as whats
-use Rattle.stream_check.specs.History.{Item, Moment, Said, Ended}
-use Rattle.stream_check.specs.Contradictions.{absent, absent_among, are_whole, contradictions_in, is_same_mention}
-use Rattle.stream_check.specs.Contradictions.{is_same, is_noted, is_new, new_among, noted_with, AreNew}
-use Rattle.stream_check.specs.Sent.{EntrySent, FigSent, fig_sent, fib_sent, items_in, contradictions_at, noted_at}
-use Rattle.stream_check.specs.Sent.{noted_after}
-use Rattle.stream_check.specs.Stream.{findings_at_sent, noted_in_frames}
 
 -- sub-channel 1, and service C221 on it
 abbrev sub : Raw

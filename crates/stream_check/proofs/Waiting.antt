@@ -1,12 +1,8 @@
 -- Where every entry was last heard late enough, none is silent yet.
-use Rattle.std.proofs.Common.{◌≡◌, ℕ, ◌+◌, ◌<◌, ◌≤◌, false, List, [], ◌∷◌, ◌++◌, length, refl, ap, ◌∙◌, arith, inl, inr}
-use Rattle.std.specs.List.{AllByRecursion}
-use Rattle.std.proofs.lemmas.Bool.{cases_lt, ne_eqb}
+use Rattle.stream_check.proofs.Words.{[], ◌++◌, ◌+◌, ◌<◌, ◌∙◌, ◌∷◌, ◌≡◌, ◌≤◌, AllByRecursion, Heard, List, ap, arith}
+use Rattle.stream_check.proofs.Words.{cases_lt, false, heard_kept, inl, inr, is_quiet, later, length, name_of, ne_eqb}
+use Rattle.stream_check.proofs.Words.{quiet_findings, refl, when, ℕ}
 use Rattle.stream_check.specs.declared.finding.Fault.TheVariants as faults
-use Rattle.stream_check.specs.Reporting.{when}
-use Rattle.stream_check.specs.Pictures.{Heard, heard_kept}
-use Rattle.stream_check.specs.Rules.{name_of}
-use Rattle.stream_check.specs.CheckerState.{later, is_quiet, quiet_findings}
 use Rattle.stream_check.proofs.Tables.{each_kept}
 use Rattle.stream_check.proofs.Knowing.{later_first, later_second}
 

@@ -1,58 +1,30 @@
 -- In the frames of a run no entry of the current configuration is silent, or appears once it is settled.
-use Rattle.std.proofs.Common.{◌≡◌, ℕ, ◌+◌, ◌<◌, ◌≤◌, Bool, true, false, List, Contains, Some, refl, sym, ap, ◌∙◌, arith}
-use Rattle.std.proofs.Common.{inl, inr, ◌⊎◌, ◌++◌, subst, ◌-◌, ◌*◌, ◌%◌, cond, []}
-use Rattle.mux_types.specs.Facts.{Marked, facts_of, marked, sub_entry, sub_entries, service_entry, service_entries}
-use Rattle.mux_types.specs.Facts.{packet_entry}
-use Rattle.fib_codec.specs.Heard.{IsHeardInRow}
-use Rattle.fib_carousel.specs.Pages.{page_entries, page_after}
-use Rattle.fib_reader.specs.Raw.{raw_entry, Raw}
-use Rattle.fib_reader.specs.Listening.{Listening, Pictured, all_entries}
-use Rattle.stream_check.specs.Frames.{Reading}
-use Rattle.stream_check.specs.Pictures.{key_of}
-use Rattle.stream_check.specs.History.{Item, Moment, said, frames_ended, listening, last_heard, listener_after}
-use Rattle.stream_check.specs.History.{settles_at, is_cut_off}
-use Rattle.plan_code.specs.declared.plan.Plan.{Plan}
-use Rattle.plan_code.specs.Program.{Program}
-use Rattle.plan_code.specs.Machine.{State}
-use Rattle.plan_verifier.specs.Typing.{Known}
-use Rattle.plan_runs.specs.Frames.{shown, shown_bytes, ensemble_sent, sent_entries, sent_rounds, after_frame, is_due}
-use Rattle.plan_runs.specs.Frames.{is_first_noticed, frame_bytes}
-use Rattle.plan_runs.proofs.Tracked.{turn_is_page}
-use Rattle.plan_runs.proofs.Periods.{sent_period}
-use Rattle.plan_runs.proofs.Right.{pageable}
-use Rattle.plan_runs.proofs.Facts.{Holds, IsCode, airs}
-use Rattle.plan_runs.proofs.Pictures.{entries_of, contains_in, fact_in, whole_of, IsPartial, in_append, in_contains}
-use Rattle.plan_runs.proofs.Pictures.{in_fact, in_first, in_second, said_by, HasAll}
+use Rattle.stream_laws.proofs.Words.{[], ◌%◌, ◌*◌, ◌++◌, ◌+◌, ◌-◌, ◌<◌, ◌∙◌, ◌≡◌, ◌≤◌, ◌⊎◌, Bool, Configuration}
+use Rattle.stream_laws.proofs.Words.{Contact, Contains, Entry, HasAll, Holds, In, IsCode, IsHeardInRow, IsLongFor}
+use Rattle.stream_laws.proofs.Words.{IsPart, IsPartial, Item, Known, List, Listening, Marked, Moment, Nothing, Pictured}
+use Rattle.stream_laws.proofs.Words.{Plan, Program, Raw, Reading, Some, State, Still, after_frame, after_is, airs}
+use Rattle.stream_laws.proofs.Words.{all_entries, ap, arith, cond, contains_in, count_step, current_part, current_shown}
+use Rattle.stream_laws.proofs.Words.{due_current, ensemble_sent, entries_of, fact_in, facts_of, false, frame_bytes}
+use Rattle.stream_laws.proofs.Words.{frames_ended, happens, headed, in_append, in_contains, in_fact, in_first}
+use Rattle.stream_laws.proofs.Words.{in_second, inl, inr, is_cut_off, is_due, is_first_noticed, is_silent, key_of}
+use Rattle.stream_laws.proofs.Words.{last_heard, layout_mode, leb-true, links, listener_after, listening, map, marked}
+use Rattle.stream_laws.proofs.Words.{ne_eqb, packet_entry, page_after, page_entries, pageable, raw_entry, refl, said}
+use Rattle.stream_laws.proofs.Words.{said_by, sent_entries, sent_period, sent_rounds, service_entries, service_entry}
+use Rattle.stream_laws.proofs.Words.{settles_at, shown, shown_bytes, sub_entries, sub_entry, subst, sym, true}
+use Rattle.stream_laws.proofs.Words.{turn_is_page, whole_of, ℕ}
 use Rattle.stream_laws.proofs.LastHeard.{last_grows, last_stays, some_before, last_member}
 use Rattle.stream_laws.proofs.Clean.{said_ended}
-use Rattle.plan_runs.proofs.Hearing.{headed}
 use Rattle.stream_laws.proofs.Opening.{FrameLaws, items_at, past_after, IsOpened, entry_at_frame, next_opened}
 use Rattle.stream_laws.proofs.Opening.{first_opened, opened_settles, Knows, Enters, enters_first, enters_due}
 use Rattle.stream_laws.proofs.Opening.{enters_still, knows_later}
 use Rattle.stream_laws.proofs.Turning.{Comes, comes_now, Turns, IsBound, turns_by, comes_some, some_period, new_bound}
 use Rattle.stream_laws.proofs.Turning.{turns_contact, Turned, turned}
-use Rattle.std.specs.Prelude.{map}
-use Rattle.std.proofs.lemmas.Bool.{ne_eqb, leb-true}
-use Rattle.mux_config.specs.Configuration.{Configuration}
-use Rattle.mux_types.specs.declared.entry.Entry.{Entry}
-use Rattle.stream_check.specs.Rules.{is_silent}
-use Rattle.stream_check.proofs.Members.{after_is}
-use Rattle.plan_runs.proofs.Parts.{In, IsPart}
-use Rattle.plan_runs.proofs.HeardFrames.{Nothing, current_part}
-use Rattle.stream_laws.specs.Sorts.{IsLongFor}
 use Rattle.stream_laws.proofs.Agreeing.{in_full}
 use Rattle.stream_laws.proofs.AgreeingRuns.{IsBetween}
-use Rattle.fib_codec.specs.Layouts.{layout_mode}
-use Rattle.fib_codec.specs.Modes.{count_step}
-use Rattle.plan_runs.proofs.Notice.{links}
-use Rattle.plan_runs.proofs.HeardFrame.{current_shown, due_current}
 use Rattle.stream_laws.proofs.Framing.{read_frame}
 use Rattle.stream_laws.proofs.AgreeingFrames.{agrees_by, SinceFirst, before_of, FrameAgrees}
 use Rattle.stream_laws.proofs.NoticeFrames.{next_whole}
-use Rattle.plan_runs.proofs.Knowing.{Still}
 use Rattle.stream_laws.proofs.Findings.{Each, IsKnown}
-use Rattle.plan_runs.specs.declared.event.Event.TheVariants.{Contact}
-use Rattle.plan_runs.specs.Runs.{happens}
 use Rattle.stream_laws.proofs.Following.{Had, Follows}
 use Rattle.stream_laws.proofs.Settling.{frame_settled}
 

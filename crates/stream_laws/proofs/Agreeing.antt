@@ -1,30 +1,17 @@
 -- The entries of a frame of a run compare with the pictures as the checker requires.
-use Rattle.std.proofs.Common.{◌≡◌, ℕ, ◌<◌, ◌≤◌, ◌==◌, ◌||◌, Bool, true, false, cond, nat_lt, List, [], ◌∷◌, length}
-use Rattle.std.proofs.Common.{Option, Some, None, refl, sym, ap, ◌∙◌, subst, arith, inl, inr, ◌&&◌, not, ◌⊎◌}
-use Rattle.mux_config.specs.Configuration.{Configuration, IsConfiguration, IsAscending}
-use Rattle.mux_config.specs.Tables.{entry_at}
-use Rattle.mux_config.proofs.Keeping.{entry_key, absent_found}
-use Rattle.fib_reader.specs.Raw.{Raw, raw_entry}
-use Rattle.fib_reader.specs.Listening.{Pictured, identifier_of, is_known, has_room, Listening, hear_entry, where_heard}
+use Rattle.stream_laws.proofs.Words.{[], ◌&&◌, ◌<◌, ◌==◌, ◌||◌, ◌∙◌, ◌∷◌, ◌≡◌, ◌≤◌, ◌⊎◌, AllByRecursion, Bool}
+use Rattle.stream_laws.proofs.Words.{Configuration, In, IsAscending, IsConfiguration, IsOf, IsPart, IsPartial, IsSentOf}
+use Rattle.stream_laws.proofs.Words.{Item, List, Listening, Marked, Moment, NextBy, None, Nothing, Option, Or, Pictured}
+use Rattle.stream_laws.proofs.Words.{Plan, Raw, Said, SaidIn, Some, State, Tuned, absent_found, after_is, agree}
+use Rattle.stream_laws.proofs.Words.{agree_self, ap, arith, began_early, bits_of, change_of, cond, each_in, entry_at}
+use Rattle.stream_laws.proofs.Words.{entry_is_of, entry_key, false, false≢true, finds_no_room, has_begun, has_ensemble}
+use Rattle.stream_laws.proofs.Words.{has_room, hear_entry, hear_marked, hears_entries, identifier_of, inl, inr}
+use Rattle.stream_laws.proofs.Words.{is_ensemble, is_known, is_noticed, is_other_one, last_flags, length}
+use Rattle.stream_laws.proofs.Words.{listener_after, listening, lookup, lookup_among, lookup_in, member_began_early}
+use Rattle.stream_laws.proofs.Words.{member_flags, member_has_begun, member_heard, nat_lt, not, or_left, part_takes}
+use Rattle.stream_laws.proofs.Words.{partly, raw_entry, refl, said, subst, sym, true, tuned_weaker, where_heard}
+use Rattle.stream_laws.proofs.Words.{whole_is_set, whole_of, ℕ}
 use Rattle.stream_check.specs.declared.heard_table.Lookup.TheVariants as standings
-use Rattle.stream_check.specs.Lookup.{agree, lookup_among, lookup, lookup_in}
-use Rattle.stream_check.specs.Rules.{is_other_one, finds_no_room}
-use Rattle.stream_check.proofs.Agreeing.{agree_self}
-use Rattle.plan_runs.proofs.Parts.{In, each_in, partly, IsPart, part_takes}
-use Rattle.plan_runs.proofs.Pictures.{whole_of, IsOf, IsPartial, whole_is_set, entry_is_of}
-use Rattle.std.specs.List.{AllByRecursion}
-use Rattle.std.proofs.lemmas.Bool.{false≢true, or_left}
-use Rattle.mux_config.specs.Change.{change_of, bits_of}
-use Rattle.mux_types.specs.Facts.{Marked}
-use Rattle.stream_check.specs.History.{Item, Moment, Said, said, is_ensemble, listening, listener_after, has_ensemble}
-use Rattle.stream_check.specs.History.{has_begun, began_early, last_flags}
-use Rattle.stream_check.proofs.Members.{member_heard, member_has_begun, member_began_early, member_flags, after_is}
-use Rattle.plan_code.specs.declared.plan.Plan.{Plan}
-use Rattle.plan_code.specs.Machine.{State}
-use Rattle.plan_runs.specs.Frames.{is_noticed}
-use Rattle.plan_runs.proofs.Hearing.{hear_marked}
-use Rattle.plan_runs.proofs.Tuned.{Tuned, NextBy, IsSentOf, SaidIn, Or, tuned_weaker, hears_entries}
-use Rattle.plan_runs.proofs.HeardFrames.{Nothing}
 use Rattle.stream_laws.proofs.Kept.{second_holds, member_room}
 use Rattle.stream_laws.proofs.Sending.{IsSentItem}
 use Rattle.stream_laws.proofs.Findings.{quiet_early, Each, Agrees, not_both}

@@ -1,40 +1,18 @@
 -- The frames of a run, one after another, agree with the past of the stream.
-use Rattle.std.proofs.Common.{◌≡◌, ◌≢◌, ℕ, ◌+◌, ◌-◌, ◌≤◌, ◌%◌, ◌==◌, ◌&&◌, ◌||◌, Bool, true, false, cond, not, List, []}
-use Rattle.std.proofs.Common.{◌∷◌, Option, Some, refl, sym, ap, ◌∙◌, subst, arith, inl, inr, ◌⊎◌}
-use Rattle.std.specs.Prelude.{unwrap_or}
-use Rattle.std.proofs.lemmas.Bool.{false≢true}
-use Rattle.fib_codec.specs.Layouts.{layout_mode}
-use Rattle.mux_config.specs.Change.{change_of, bits_of}
-use Rattle.mux_types.specs.Entries.{EnsembleInformation}
-use Rattle.fib_codec.specs.Grammar.{OneList}
-use Rattle.fib_codec.specs.Modes.{count_step}
-use Rattle.fib_reader.specs.Listening.{Listening, untuned, is_made}
-use Rattle.stream_check.specs.Frames.{Fib, Reading}
-use Rattle.stream_check.specs.Lookup.{lookup_in}
-use Rattle.stream_check.specs.History.{Item, Moment, Said, Ended, said, frame_items, is_ensemble}
-use Rattle.stream_check.specs.History.{ensemble_of_item as said_ensemble, is_flagged, is_swap, listening}
-use Rattle.stream_check.specs.History.{listener_after, has_ensemble, has_begun, began_early, begins_notice, last_flags}
-use Rattle.stream_check.specs.Rules.{KnownBefore as Knowledge, known_of, overlap, past_end, occurrence_of, has_low}
-use Rattle.stream_check.specs.Rules.{has_flags, finds_no_room}
+use Rattle.stream_laws.proofs.Words.{[], ◌%◌, ◌&&◌, ◌+◌, ◌-◌, ◌==◌, ◌||◌, ◌∙◌, ◌∷◌, ◌≡◌, ◌≢◌, ◌≤◌, ◌⊎◌, Airs, Bool}
+use Rattle.stream_laws.proofs.Words.{Contact, Ended, EnsembleInformation, Fib, Holds, InFrame, IsCode, Item, Known}
+use Rattle.stream_laws.proofs.Words.{Laws, Links, List, Listening, Moment, Nothing, OneList, Option, Plan, Program}
+use Rattle.stream_laws.proofs.Words.{Reading, Said, Some, State, SwapsOn, after_frame, after_is, airs, ap, arith}
+use Rattle.stream_laws.proofs.Words.{began_early, begins_notice, bits_of, change_of, cond, count_step, ensemble_of}
+use Rattle.stream_laws.proofs.Words.{ensemble_sent, enters_known, enters_untuned, false, false≢true, finds_no_room}
+use Rattle.stream_laws.proofs.Words.{frame_bytes, frame_items, happens, has_begun, has_ensemble, has_flags, has_low}
+use Rattle.stream_laws.proofs.Words.{headed, inl, inr, is_due, is_ensemble, is_flagged, is_made, is_noticed, is_swap}
+use Rattle.stream_laws.proofs.Words.{known_of, knows_after, last_flags, layout_mode, left_after_frame, links}
+use Rattle.stream_laws.proofs.Words.{listener_after, listening, lookup_in, not, noticed_information, occurrence_of}
+use Rattle.stream_laws.proofs.Words.{overlap, past_end, refl, said, shown, subst, sym, true, untuned, unwrap_or, ℕ}
+use Rattle.stream_check.specs.History.{ensemble_of_item as said_ensemble}
+use Rattle.stream_check.specs.Rules.{KnownBefore as Knowledge}
 use Rattle.stream_check.specs.Stream.{past_after_frame as after_read}
-use Rattle.stream_check.proofs.Members.{after_is}
-use Rattle.plan_code.specs.declared.plan.Plan.{Plan}
-use Rattle.plan_code.specs.Program.{Program}
-use Rattle.plan_code.specs.Machine.{State}
-use Rattle.plan_verifier.specs.Typing.{Known}
-use Rattle.plan_runs.specs.declared.event.Event.TheVariants.{Contact}
-use Rattle.plan_runs.specs.Frames.{is_noticed, shown, frame_bytes, ensemble_of, ensemble_sent, left_after_frame}
-use Rattle.plan_runs.specs.Frames.{after_frame, is_due}
-use Rattle.plan_runs.specs.Runs.{happens}
-use Rattle.plan_runs.proofs.Tracked.{Airs, SwapsOn}
-use Rattle.plan_runs.proofs.Facts.{Holds, IsCode, airs}
-use Rattle.plan_runs.proofs.Notice.{Links, links}
-use Rattle.plan_runs.proofs.Announcing.{noticed_information}
-use Rattle.plan_runs.proofs.Hearing.{headed}
-use Rattle.plan_runs.proofs.Contents.{Laws}
-use Rattle.plan_runs.proofs.Knowing.{InFrame, knows_after}
-use Rattle.plan_runs.proofs.HeardFrame.{enters_untuned}
-use Rattle.plan_runs.proofs.HeardFrames.{Nothing, enters_known}
 use Rattle.stream_laws.proofs.Kept.{ensemble_flags, flags_are, begun_flagged}
 use Rattle.stream_laws.proofs.Framing.{read_frame}
 use Rattle.stream_laws.proofs.Sending.{not_sent}

@@ -1,40 +1,18 @@
 -- The entries and the announcements of a run are as the checker requires, frame by frame.
-use Rattle.std.proofs.Common.{◌≡◌, ℕ, zero, suc, ◌+◌, ◌-◌, ◌<◌, ◌≤◌, ◌%◌, ◌==◌, ◌&&◌, ◌||◌, Bool, true, false, not}
-use Rattle.std.proofs.Common.{List, Option, Some, None, is_some, refl, sym, ap, ◌∙◌, subst, arith, inl, inr, ◌⊎◌}
-use Rattle.std.proofs.Common.{lt-ltb, ◌≢◌}
-use Rattle.std.specs.Prelude.{unwrap_or}
-use Rattle.std.proofs.lemmas.Bool.{false≢true, eq-eqb, ne_eqb, or_right, eqb-true}
-use Rattle.fib_codec.specs.Layouts.{layout_mode}
-use Rattle.mux_config.specs.Configuration.{Configuration}
-use Rattle.mux_config.specs.Change.{change_of, bits_of}
-use Rattle.mux_config.specs.Sound.{IsSound}
-use Rattle.mux_types.specs.Entries.{EnsembleInformation}
-use Rattle.fib_codec.specs.declared.modes.Mode.{Mode}
-use Rattle.fib_codec.specs.declared.modes.Mode.TheVariants.{I, II, III, IV}
-use Rattle.fib_codec.specs.Modes.{count_step}
-use Rattle.fib_reader.specs.Listening.{Listening, is_made}
-use Rattle.stream_check.specs.History.{Moment, listening, has_ensemble, has_begun, began_early, last_flags}
-use Rattle.stream_check.specs.Rules.{overlap, past_end, occurrence_of, has_low, can_fall_at, has_flags}
-use Rattle.plan_code.specs.declared.plan.Plan.{Plan}
-use Rattle.plan_code.specs.Program.{Program}
-use Rattle.plan_code.specs.Machine.{State}
-use Rattle.plan_verifier.specs.Typing.{Known}
-use Rattle.plan_runs.specs.Frames.{is_due, is_noticed, shown, ensemble_of, low_of_swap}
-use Rattle.plan_runs.proofs.Knowledge.{IsAhead, CommittedBy}
-use Rattle.plan_runs.proofs.Tracked.{Airs, SwapsOn, noticed, noticed_from, split_le}
-use Rattle.plan_runs.proofs.Facts.{Holds, IsCode, airs}
-use Rattle.plan_runs.proofs.Notice.{Links, links}
-use Rattle.plan_runs.proofs.Carries.{LeftBy}
-use Rattle.plan_runs.proofs.Right.{ensemble_right, ensemble_within}
-use Rattle.plan_runs.proofs.Announcing.{noticed_information}
-use Rattle.plan_runs.proofs.Pictures.{whole_of, IsPartial}
-use Rattle.plan_runs.proofs.Knowing.{Waits, KnowsBy, WaitsBy}
-use Rattle.plan_runs.proofs.HeardFrames.{KnowsAt, Nothing}
+use Rattle.stream_laws.proofs.Words.{◌%◌, ◌&&◌, ◌+◌, ◌-◌, ◌<◌, ◌==◌, ◌||◌, ◌∙◌, ◌≡◌, ◌≢◌, ◌≤◌, ◌⊎◌, Airs, Bool}
+use Rattle.stream_laws.proofs.Words.{CommittedBy, Configuration, EnsembleInformation, Holds, I, II, III, IV, IsAhead}
+use Rattle.stream_laws.proofs.Words.{IsCode, IsPartial, IsSound, Known, KnowsAt, KnowsBy, LeftBy, Links, List}
+use Rattle.stream_laws.proofs.Words.{Listening, Mode, Moment, None, Nothing, Option, Plan, Program, Some, State}
+use Rattle.stream_laws.proofs.Words.{SwapsOn, Waits, WaitsBy, airs, ap, arith, began_early, bits_of, can_fall_at}
+use Rattle.stream_laws.proofs.Words.{change_of, count_step, due_is, ensemble_of, ensemble_right, ensemble_within}
+use Rattle.stream_laws.proofs.Words.{eq-eqb, eqb-true, false, false≢true, has_begun, has_ensemble, has_flags, has_low}
+use Rattle.stream_laws.proofs.Words.{inl, inr, is_due, is_made, is_noticed, is_some, last_flags, layout_mode, links}
+use Rattle.stream_laws.proofs.Words.{listening, low_of_swap, lt-ltb, ne_eqb, not, noticed, noticed_from}
+use Rattle.stream_laws.proofs.Words.{noticed_information, occurrence_of, or_right, or_true, overlap, past_end, refl}
+use Rattle.stream_laws.proofs.Words.{shown, some_is, split_le, subst, suc, sym, true, unwrap_or, whole_of, zero, ℕ}
 use Rattle.stream_laws.proofs.Units.{units_fine}
 use Rattle.stream_laws.proofs.Agreeing.{none_or_some}
 use Rattle.stream_laws.proofs.Tracking.{no_some}
-use Rattle.stream_check.proofs.Members.{or_true}
-use Rattle.plan_runs.proofs.Passing.{some_is, due_is}
 
 -- ---- between two frames
 

@@ -1,25 +1,21 @@
 -- The bytes of a notice's frames announce its swap, and the change of pictures.
-use Rattle.std.proofs.Common.{◌≡◌, ℕ, zero, suc, ◌+◌, ◌-◌, ◌<◌, ◌≤◌, ◌==◌, ◌||◌, true, false, cond, List, [], ◌∷◌, ◌++◌}
-use Rattle.std.proofs.Common.{length, take, drop, Contains, Option, Some, refl, sym, ap, ◌∙◌, subst, arith, ◌%◌, Bool}
-use Rattle.std.proofs.Common.{◌&&◌}
-use Rattle.std.specs.Prelude.{map, slice_get}
-use Rattle.std.specs.List.{AllByRecursion, list_any}
-use Rattle.std.proofs.lemmas.Bool.{false≢true, eqb-true, eq-eqb}
-use Rattle.std.proofs.lemmas.List.{map-append, length-map, length-append, take-map, drop-map}
-use Rattle.std.proofs.Math.Seq.{take-append_seam, drop-append_seam}
-use Rattle.mux_types.proofs.Elements.{contains_first, contains_later, each_contains}
-use Rattle.mux_config.specs.Tables.{entry_at}
-use Rattle.fib_reader.specs.Raw.{Raw, raw_of, entries_in, raw_entry}
-use Rattle.fib_reader.specs.Listening.{Pictured, identifier_of, all_entries}
-use Rattle.stream_check.specs.Frames.{Fib, Reading}
-use Rattle.stream_check.specs.Pictures.{key_of}
-use Rattle.stream_check.specs.History.{Item, Moment, said, frame_items, frames_ended, is_ensemble, ensemble_of_item}
-use Rattle.stream_check.specs.History.{is_flagged, rows, Said, listener_after, last_flags}
-use Rattle.stream_check.specs.Stream.{past_after_frame, after_frames}
-use Rattle.plan_runs.specs.Announced.{IsHeaded, HasThreeHeaders, IsHeardWhole}
-use Rattle.stream_laws.specs.Faultless.{IsSaidIn}
-use Rattle.stream_laws.specs.Keeping.{entry_like}
-use Rattle.stream_laws.specs.Notices.{AreFibBytes, read_frames, row_of, last_of}
+use Rattle.stream_laws.proofs.Words.{[], ◌%◌, ◌&&◌, ◌++◌, ◌+◌, ◌-◌, ◌<◌, ◌==◌, ◌||◌, ◌∙◌, ◌∷◌, ◌≡◌, ◌≤◌, AllByRecursion}
+use Rattle.stream_laws.proofs.Words.{AnnouncesChange, AreFibBytes, Bool, ChangeIsUnique, ChangesAreAnnounced}
+use Rattle.stream_laws.proofs.Words.{Configuration, Contains, Contains-append_left, Contains-append_right}
+use Rattle.stream_laws.proofs.Words.{EnsembleInformation, Fib, HasThreeHeaders, IsConfiguration, IsEnsembleHeardInRow}
+use Rattle.stream_laws.proofs.Words.{IsFib, IsHeaded, IsHeardInRow, IsHeardWhole, IsSaid, IsSaidIn, IsSent, IsSentWhole}
+use Rattle.stream_laws.proofs.Words.{IsTheMost, IsWithin, Item, List, Marked, Moment, Open, Option, Pictured, Raw}
+use Rattle.stream_laws.proofs.Words.{Reading, Said, ShowsEach, Some, SpellingIdentifies, SwapsAreAnnounced}
+use Rattle.stream_laws.proofs.Words.{after_frames, all_entries, ap, arith, cond, contains_first, contains_later, drop}
+use Rattle.stream_laws.proofs.Words.{drop-append_seam, drop-map, each_contains, ensemble_of_item, entries_in, entry_at}
+use Rattle.stream_laws.proofs.Words.{entry_like, eq-eqb, eqb-true, ext_of, false, false≢true, fib_at, frame_items}
+use Rattle.stream_laws.proofs.Words.{frames_ended, identifier_of, is_ensemble, is_flagged, is_long, is_next, key_of}
+use Rattle.stream_laws.proofs.Words.{last_flags, last_of, length, length-append, length-map, list_any, listener_after}
+use Rattle.stream_laws.proofs.Words.{map, map-append, mapped_from, mapped_to, marked, past_after_frame, raw_entry}
+use Rattle.stream_laws.proofs.Words.{raw_of, read_frames, refl, row_of, rows, said, service_entries, slice_get}
+use Rattle.stream_laws.proofs.Words.{sub_entries, subst, suc, sym, take, take-append_seam, take-map, true, zero, ℕ}
+use Rattle.mux_types.proofs.Walking.{each_at}
+use Rattle.stream_check.specs.Cutting.{HasAll}
 use Rattle.stream_laws.proofs.Clean.{IsHanded, said_ended, all_left, all_right, after_entry, entry_clean}
 use Rattle.stream_laws.proofs.Kept.{first_holds}
 use Rattle.stream_laws.proofs.Rows.{at_hand, notice_rows, hand_after, as_many, EndsWith, ends_with, none_between}
@@ -27,24 +23,8 @@ use Rattle.stream_laws.proofs.Tracking.{IsFormed, flagged_rows, AllAnnounce}
 use Rattle.stream_laws.proofs.Bytes.{FibLaws, header_heard, at_place, item_from, read_fib, each_take, header_said}
 use Rattle.stream_laws.proofs.Swapping.{flagged_at, get_later, get_map, IsSaidAmong, RowsAreSaid, IsNoticed}
 use Rattle.stream_laws.proofs.Swapping.{swap_noticed, split_rows, in_part}
-use Rattle.mux_types.proofs.Walking.{each_at}
-use Rattle.std.proofs.lemmas.List.Elements.{Contains-append_left, Contains-append_right}
-use Rattle.mux_types.specs.Entries.{EnsembleInformation}
-use Rattle.fib_codec.specs.Grammar.{Open, IsFib, is_long, is_next}
-use Rattle.fib_codec.specs.Heard.{fib_at, IsEnsembleHeardInRow, IsHeardInRow, IsSaid}
-use Rattle.stream_check.specs.Cutting.{HasAll}
-use Rattle.stream_check.specs.Parts.{IsTheMost}
-use Rattle.stream_laws.specs.Entries.{IsSent, IsSentWhole, AnnouncesChange, ChangesAreAnnounced}
 use Rattle.stream_laws.proofs.Formed.{all_formed}
 use Rattle.stream_laws.proofs.Shown.{HasKinds, all_kinds, shows_kinds, entry_shown, flags_of_change}
-use Rattle.mux_types.proofs.Members.{mapped_from, mapped_to}
-use Rattle.mux_config.specs.Configuration.{Configuration, IsConfiguration}
-use Rattle.mux_config.specs.Change.{ChangeIsUnique}
-use Rattle.mux_types.specs.Facts.{marked, sub_entries, service_entries, Marked}
-use Rattle.fib_codec.specs.Spelling.{SpellingIdentifies, ext_of}
-use Rattle.fib_reader.proofs.Shown.{ShowsEach}
-use Rattle.stream_laws.specs.Announcing.{SwapsAreAnnounced}
-use Rattle.fib_codec.specs.Ranges.{IsWithin}
 
 -- the entries of a frame
 abbrev pub items_in : Reading → List (List ℕ) → List Item

@@ -1,33 +1,20 @@
 -- FIG 0/0 and other entries, in the bytes of a frame and among its entries.
-use Rattle.std.proofs.Common.{◌≡◌, ℕ, zero, suc, ◌+◌, ◌*◌, ◌<◌, ◌≤◌, ◌%◌, Bool, true, false, List, [], ◌∷◌, ◌++◌}
-use Rattle.std.proofs.Common.{length, take, drop, get_or, Contains, Some, None, refl, sym, ap, ◌∙◌, subst, arith, inl}
-use Rattle.std.proofs.Common.{inr}
-use Rattle.std.specs.Prelude.{map}
-use Rattle.std.specs.List.{AllByRecursion}
-use Rattle.std.proofs.lemmas.Bool.{cases_lt, eqb-true, eq-eqb}
-use Rattle.std.proofs.Math.Seq.{take-append_seam, drop-append-add}
-use Rattle.std.proofs.lemmas.List.{drop_all, length-append}
-use Rattle.std.proofs.lemmas.List.Elements.{Contains-append_left, Contains-append_right, Contains-append_cases}
-use Rattle.mux_types.proofs.Elements.{contains_cases, contains_first, contains_later, contains_none, each_contains}
-use Rattle.fib_codec.specs.Grammar.{Fig, Open, Other, IsFib, IsFig, AreFigs, AreEntries, IsEntry, IsCounted, OneList}
-use Rattle.fib_codec.specs.Grammar.{is_next, is_long}
-use Rattle.fib_codec.specs.Heard.{fib_at, IsSaid, IsInFig, IsEnsembleHeardInRow}
-use Rattle.fib_codec.specs.Laws.{IsByte, FibHas32Bytes, EntryIsSpelled}
-use Rattle.fib_reader.specs.Raw.{Raw, raw_of, entries_in, ensemble_in}
-use Rattle.stream_check.specs.Frames.{Fib, Reads, Reading}
-use Rattle.stream_check.specs.History.{Item, items_of, fig_items, figs_items, fib_items, fibs_items, frame_items}
-use Rattle.stream_check.specs.History.{is_ensemble, ensemble_of_item}
-use Rattle.stream_laws.specs.Notices.{IsFibBytes, AreFibBytes, row_of}
-use Rattle.stream_laws.proofs.Clean.{all_left, all_right}
-use Rattle.mux_types.proofs.Members.{mapped_from, mapped_to}
-use Rattle.mux_types.specs.Entries.{EnsembleInformation}
-use Rattle.mux_types.specs.declared.entry.Entry.{Entry}
+use Rattle.stream_laws.proofs.Words.{[], ◌%◌, ◌*◌, ◌++◌, ◌+◌, ◌<◌, ◌∙◌, ◌∷◌, ◌≡◌, ◌≤◌, AllByRecursion, AreEntries}
+use Rattle.stream_laws.proofs.Words.{AreFibBytes, AreFigs, Bool, Contains, Contains-append_cases, Contains-append_left}
+use Rattle.stream_laws.proofs.Words.{Contains-append_right, EnsembleInformation, EnsembleIsHeard, Entry, EntryIsSpelled}
+use Rattle.stream_laws.proofs.Words.{Fib, FibHas32Bytes, Fig, Head, IsByte, IsCounted, IsEnsembleHeardInRow}
+use Rattle.stream_laws.proofs.Words.{IsEnsembleInformation, IsEntry, IsFib, IsFibBytes, IsFig, IsInFig, IsSaid, IsUnder}
+use Rattle.stream_laws.proofs.Words.{IsWithin, Item, List, None, OneList, Open, Other, Raw, Reading, Reads, Some, ap}
+use Rattle.stream_laws.proofs.Words.{arith, cases_lt, contains_cases, contains_first, contains_later, contains_none}
+use Rattle.stream_laws.proofs.Words.{drop, drop-append-add, drop_all, each_contains, ensemble_bytes, ensemble_in}
+use Rattle.stream_laws.proofs.Words.{ensemble_of_item, entries_in, entry_bytes, eq-eqb, eqb-true, false, fib_at}
+use Rattle.stream_laws.proofs.Words.{fib_items, fibs_items, fig_items, figs_items, frame_items, get_or, inl, inr}
+use Rattle.stream_laws.proofs.Words.{is_ensemble, is_long, is_next, items_of, length, length-append, map, mapped_from}
+use Rattle.stream_laws.proofs.Words.{mapped_to, raw_of, refl, row_of, subst, suc, sym, take, take-append_seam, true}
+use Rattle.stream_laws.proofs.Words.{zero, ℕ}
 use Rattle.mux_types.specs.declared.entry.Entry.TheVariants.{Ensemble as EnsembleOf, Sub as SubOf, Short as ShortOf}
 use Rattle.mux_types.specs.declared.entry.Entry.TheVariants.{Service as ServiceOf, Packet as PacketOf}
-use Rattle.fib_codec.specs.declared.head.Head.{Head}
-use Rattle.fib_codec.specs.Spelling.{entry_bytes, ensemble_bytes, IsUnder}
-use Rattle.fib_codec.specs.Ranges.{IsWithin, IsEnsembleInformation}
-use Rattle.fib_reader.specs.Laws.{EnsembleIsHeard}
+use Rattle.stream_laws.proofs.Clean.{all_left, all_right}
 
 -- ---- the FIBs of a row
 

@@ -1,25 +1,13 @@
 -- Streams without a fault, entry by entry.
-use Rattle.std.proofs.Common.{ℕ, true, false, cond, List, [], ◌∷◌, ◌++◌, subst, ◌≡◌, map, refl, sym, ◌+◌, Bool}
-use Rattle.std.specs.List.{AllByRecursion}
-use Rattle.stream_check.specs.declared.contradiction.Contradiction.{Contradiction}
-use Rattle.stream_check.specs.declared.finding.What.{What}
-use Rattle.stream_check.specs.Contradictions.{new_findings, noted_with}
-use Rattle.stream_check.specs.Frames.{Fib}
-use Rattle.stream_check.specs.History.{Item, Moment, Said, frame_items, Ended, said, due, frames_ended}
-use Rattle.stream_check.specs.Rules.{known_of, findings_at, has_no_room, silent_findings}
-use Rattle.stream_check.specs.Sent.{Sent, EntrySent, FigSent, frame_sent, items_in, contradictions_at, noted_at}
-use Rattle.stream_check.specs.Stream.{findings_at_items, findings_at_sent, runs_full, frame_findings, frame_at}
-use Rattle.stream_check.specs.Stream.{findings_in, noted_in, past_after_frame, findings_from, after_frames, frames_full}
-use Rattle.stream_check.specs.Stream.{last_findings}
-use Rattle.stream_check.proofs.Sending.{frame_has_items}
-use Rattle.stream_check.proofs.Framing.{all_append}
-use Rattle.std.proofs.lemmas.Bool.{false≢true}
-use Rattle.stream_check.specs.declared.finding.Finding.{Finding}
-use Rattle.stream_check.specs.declared.reporting.FrameAt.{FrameAt}
-use Rattle.stream_check.specs.Reporting.{in_frame}
-use Rattle.stream_laws.specs.Faultless.{IsNoFault, IsFaultless, IsSaidIn}
-use Rattle.stream_check.proofs.Saying.{said_append}
-use Rattle.stream_check.proofs.Fronts.{room_before}
+use Rattle.stream_laws.proofs.Words.{[], ◌++◌, ◌+◌, ◌∷◌, ◌≡◌, AllByRecursion, Bool, Contradiction, Ended, EntrySent}
+use Rattle.stream_laws.proofs.Words.{Fib, FigSent, Finding, FrameAt, IsFaultless, IsNoFault, IsSaidIn, Item, List}
+use Rattle.stream_laws.proofs.Words.{Moment, Said, Sent, What, after_frames, all_append, cond, contradictions_at, due}
+use Rattle.stream_laws.proofs.Words.{false, false≢true, findings_at, findings_at_items, findings_at_sent, findings_from}
+use Rattle.stream_laws.proofs.Words.{findings_in, frame_at, frame_findings, frame_has_items, frame_items, frame_sent}
+use Rattle.stream_laws.proofs.Words.{frames_ended, frames_full, has_no_room, in_frame, items_in, known_of}
+use Rattle.stream_laws.proofs.Words.{last_findings, map, new_findings, noted_at, noted_in, noted_with, past_after_frame}
+use Rattle.stream_laws.proofs.Words.{refl, room_before, runs_full, said, said_append, silent_findings, subst, sym, true}
+use Rattle.stream_laws.proofs.Words.{ℕ}
 
 pub all_left : {X : Type 0} (P : X → Type 0) (xs ys : List X) → AllByRecursion P (xs ++ ys) → AllByRecursion P xs
 all_left P [] ys all = tt

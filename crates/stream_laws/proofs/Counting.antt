@@ -1,25 +1,13 @@
 -- The counts of a run run on, and FIG 0/0 is heard at each multiple of the step.
-use Rattle.std.proofs.Common.{◌≡◌, ℕ, ◌+◌, ◌%◌, ◌==◌, Bool, true, false, cond, List, [], ◌∷◌, Some, None, refl, sym, ap}
-use Rattle.std.proofs.Common.{◌∙◌, subst}
-use Rattle.std.proofs.lemmas.Bool.{eq-eqb, eqb-true}
-use Rattle.mux_types.specs.Entries.{EnsembleInformation}
+use Rattle.stream_laws.proofs.Words.{[], ◌%◌, ◌+◌, ◌==◌, ◌∙◌, ◌∷◌, ◌≡◌, AreCounted, Bool, Contact, EnsembleInformation}
+use Rattle.stream_laws.proofs.Words.{Event, Frame, Holds, IsCode, IsFrameOfCount, Known, List, None, PageLaws, Plan}
+use Rattle.stream_laws.proofs.Words.{Program, RunsAreCounted, Some, State, after_frame, airs, ap, code_of, cond}
+use Rattle.stream_laws.proofs.Words.{count_step, ensemble_of, ensemble_sent, eq-eqb, eqb-true, false, frame_bytes}
+use Rattle.stream_laws.proofs.Words.{frame_holds, happens, happens_holds, is_noticed, layout_mode, pageable}
+use Rattle.stream_laws.proofs.Words.{played_holds, refl, run_frames, sent_entries, shown, shown_count, subst, sym, true}
+use Rattle.stream_laws.proofs.Words.{ℕ}
 use Rattle.mux_types.specs.declared.limits.TheConstants.{COUNTS}
-use Rattle.fib_codec.specs.Layouts.{layout_mode}
-use Rattle.fib_codec.specs.Modes.{count_step}
-use Rattle.plan_code.specs.declared.plan.Plan.{Plan}
-use Rattle.plan_code.specs.Program.{Program}
-use Rattle.plan_code.specs.Machine.{State}
-use Rattle.plan_verifier.specs.Typing.{Known}
-use Rattle.plan_runs.specs.declared.event.Event.{Event}
-use Rattle.plan_runs.specs.declared.event.Event.TheVariants.{Contact, Frame}
-use Rattle.plan_runs.specs.Frames.{is_noticed, ensemble_of, ensemble_sent, sent_entries, shown, frame_bytes}
-use Rattle.plan_runs.specs.Frames.{after_frame}
-use Rattle.plan_runs.specs.Runs.{happens, run_frames}
 use Rattle.plan_runs.specs.SentHeaders.{HasHeaderOf}
-use Rattle.plan_runs.proofs.Clock.{shown_count}
-use Rattle.plan_runs.proofs.Facts.{Holds, IsCode, airs, frame_holds, happens_holds, code_of, played_holds}
-use Rattle.plan_runs.proofs.Right.{PageLaws, pageable}
-use Rattle.stream_laws.specs.Counting.{IsFrameOfCount, AreCounted, RunsAreCounted}
 use Rattle.stream_laws.proofs.InPlace.{shown_eid}
 
 -- what is sent, if anything is

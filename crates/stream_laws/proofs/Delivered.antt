@@ -1,46 +1,22 @@
 -- What is reported in the bytes of a run, and in any piece of them.
-use Rattle.std.proofs.Common.{◌≡◌, ℕ, zero, suc, ◌+◌, ◌-◌, ◌*◌, ◌/◌, ◌%◌, List, [], ◌∷◌, ◌++◌, length, drop, refl, sym}
-use Rattle.std.proofs.Common.{ap, ◌∙◌, arith, ◌≢◌, ◌≤◌, flat_map, subst, inl, inr, ◌⊎◌, Bool, false, cond}
-use Rattle.std.specs.List.{AllByRecursion, concat}
-use Rattle.std.proofs.lemmas.List.{append_assoc, append-nil, length-append, drop-append-le, drop_all, length-take-le}
-use Rattle.std.proofs.lemmas.List.{take-append-drop, length-drop, map-append, append_cancel_left, append_cancel_right}
-use Rattle.std.proofs.lemmas.List.{length-map}
-use Rattle.std.proofs.lemmas.List.Folds.{concat-append}
-use Rattle.std.proofs.Math.Seq.{drop-append_seam, drop-nil}
-use Rattle.fib_codec.specs.Heard.{fib_at}
-use Rattle.fib_codec.specs.Layouts.{frame_fibs, layout_mode}
+use Rattle.stream_laws.proofs.Words.{[], ◌%◌, ◌*◌, ◌++◌, ◌+◌, ◌-◌, ◌/◌, ◌∙◌, ◌∷◌, ◌≡◌, ◌≢◌, ◌≤◌, ◌⊎◌, All}
+use Rattle.stream_laws.proofs.Words.{AllByRecursion, Bool, Contact, EnsembleIsHeard, Event, Fib, Finding, Frame}
+use Rattle.stream_laws.proofs.Words.{FramesAreRight, HeadlineHolds, IsFaultless, IsFramed, IsNoFault, IsPieceOf}
+use Rattle.stream_laws.proofs.Words.{IsRight, List, OneList, Plan, Program, Reading, RunsAreCleared, RunsAreFaultless}
+use Rattle.stream_laws.proofs.Words.{RunsAreFramed, RunsAreHeardOut, State, after_frame, all_append, ap, append-nil}
+use Rattle.stream_laws.proofs.Words.{append_assoc, append_cancel_left, append_cancel_right, arith, concat}
+use Rattle.stream_laws.proofs.Words.{concat-append, cond, count_step, damaged_in, drop, drop-append-le}
+use Rattle.stream_laws.proofs.Words.{drop-append_seam, drop-nil, drop_all, eqb_tells, false, false≢true, fib_at}
+use Rattle.stream_laws.proofs.Words.{fibs_from, fibs_of, flat_map, frame_bytes, frame_fibs, frames_of, front_framing}
+use Rattle.stream_laws.proofs.Words.{happens, inl, inr, is_damaged, layout_mode, length, length-append, length-drop}
+use Rattle.stream_laws.proofs.Words.{length-map, length-take-le, map, map-append, none_more, read_frames, refl, run}
+use Rattle.stream_laws.proofs.Words.{run_frames, same_skipped, shown, shown_count, subst, suc, sym, take-append-drop}
+use Rattle.stream_laws.proofs.Words.{zero, ℕ}
 use Rattle.fib_codec.proofs.Uniqueness.{same_front}
-use Rattle.plan_code.specs.Program.{Program}
-use Rattle.plan_code.specs.Machine.{State}
-use Rattle.plan_runs.specs.declared.event.Event.{Event}
-use Rattle.plan_runs.specs.declared.event.Event.TheVariants.{Contact, Frame}
-use Rattle.plan_runs.specs.Frames.{frame_bytes, after_frame, shown}
-use Rattle.plan_runs.specs.Runs.{happens, run_frames, run}
-use Rattle.plan_runs.specs.RightBytes.{FramesAreRight, IsRight}
-use Rattle.plan_runs.specs.Listening.{fibs_from, fibs_of}
-use Rattle.stream_laws.specs.Delivered.{IsPieceOf, RunsAreCleared, RunsAreHeardOut}
-use Rattle.stream_check.proofs.Fronts.{none_more, front_framing, same_skipped}
-use Rattle.stream_check.proofs.Framing.{all_append}
-use Rattle.std.specs.Prelude.{map}
-use Rattle.std.proofs.lemmas.Bool.{false≢true}
-use Rattle.std.proofs.lemmas.Bool.Decides.{eqb_tells}
-use Rattle.fib_codec.specs.Grammar.{OneList}
-use Rattle.fib_codec.specs.Modes.{count_step}
-use Rattle.fib_reader.specs.Laws.{EnsembleIsHeard}
-use Rattle.stream_check.specs.declared.finding.Finding.{Finding}
-use Rattle.stream_check.specs.Frames.{Fib, Reading, IsFramed, is_damaged, damaged_in}
-use Rattle.stream_check.specs.Reported.{All}
 use Rattle.plan_runs.specs.TypedRuns.{IsPlayed}
-use Rattle.plan_runs.specs.Headline.{HeadlineHolds}
-use Rattle.plan_runs.proofs.Clock.{shown_count}
-use Rattle.stream_laws.specs.Faultless.{IsNoFault, IsFaultless}
-use Rattle.stream_laws.specs.Faults.{RunsAreFaultless}
-use Rattle.stream_laws.specs.Framing.{frames_of, RunsAreFramed}
-use Rattle.stream_laws.specs.Notices.{read_frames}
 use Rattle.stream_laws.proofs.Clean.{all_right, faultless_before}
 use Rattle.stream_laws.proofs.Framing.{IsQuiet, later_fibs, first_of_fibs, later_quiet, all_quiet, none_held}
 use Rattle.stream_laws.proofs.Framing.{are_frames, begins, flat_read, read_frame, quiet_fib, heading_fib, right_after}
-use Rattle.plan_code.specs.declared.plan.Plan.{Plan}
 use Rattle.stream_laws.proofs.InPlace.{none_damaged}
 
 abbrev AreWhole : List (List ℕ) → Type 0

@@ -1,41 +1,24 @@
 -- The findings in a frame, test by test: where no test is met, none of them is a fault.
-use Rattle.std.proofs.Common.{◌≡◌, ℕ, ◌%◌, ◌==◌, ◌&&◌, Bool, true, false, cond, not, nat_lt, List, [], ◌∷◌, ◌++◌}
-use Rattle.std.proofs.Common.{length, Option, Some, None, refl, sym, ap, ◌∙◌, subst, inl, inr}
-use Rattle.std.specs.Prelude.{map, unwrap_or}
-use Rattle.std.specs.List.{AllByRecursion, filter}
-use Rattle.std.proofs.lemmas.Bool.{false≢true}
-use Rattle.mux_types.specs.Entries.{EnsembleInformation}
-use Rattle.fib_reader.specs.Raw.{Raw}
-use Rattle.fib_reader.specs.Listening.{all_entries}
-use Rattle.stream_check.specs.declared.contradiction.Contradiction.{Contradiction}
-use Rattle.stream_check.specs.declared.finding.Fault.{Fault}
+use Rattle.stream_laws.proofs.Words.{[], ◌%◌, ◌&&◌, ◌++◌, ◌==◌, ◌∙◌, ◌∷◌, ◌≡◌, AllByRecursion, Bool, Contradiction}
+use Rattle.stream_laws.proofs.Words.{EnsembleInformation, Fault, Fib, Finding, FrameAt, In, IsFreeUnlessShort, Item}
+use Rattle.stream_laws.proofs.Words.{KnownBefore, List, Moment, None, Option, Raw, Said, Some, What, all_append}
+use Rattle.stream_laws.proofs.Words.{all_entries, announcement, announces_another, announces_first, ap, as_list}
+use Rattle.stream_laws.proofs.Words.{awaited_low, can_fall_at, changes, cond, count_due, current_findings, damaged_in}
+use Rattle.stream_laws.proofs.Words.{due, ensemble_findings, ensemble_of_item, false, false≢true, filter, findings_at}
+use Rattle.stream_laws.proofs.Words.{findings_at_items, findings_at_sent, findings_in, first_line, frame_at}
+use Rattle.stream_laws.proofs.Words.{frame_findings, frame_items, frame_sent, has_flags, has_no_room, has_other_count}
+use Rattle.stream_laws.proofs.Words.{in_frame, inl, inr, is_absent, is_ensemble, is_of_other_ensemble, is_of_period}
+use Rattle.stream_laws.proofs.Words.{is_other_one, is_placed, is_settled, is_silent, known_of, lacks_opening, length}
+use Rattle.stream_laws.proofs.Words.{listener_after, lookup_in, makes_swap, map, member_findings, name_of, nat_lt}
+use Rattle.stream_laws.proofs.Words.{next_findings, not, notice_faults, occurrence_of, overlap, past_end, place_faults}
+use Rattle.stream_laws.proofs.Words.{refl, runs_full, said, silence, silent_findings, subst, swap_findings}
+use Rattle.stream_laws.proofs.Words.{swap_or_another, sym, true, unit_faults, unwrap_or, when, ℕ}
 use Rattle.stream_check.specs.declared.finding.Fault.TheVariants as faults
 use Rattle.stream_check.specs.declared.finding.StreamEvent.TheVariants as events
-use Rattle.stream_check.specs.declared.finding.What.{What}
 use Rattle.stream_check.specs.declared.finding.What.TheVariants as whats
-use Rattle.stream_check.specs.declared.finding.Finding.{Finding}
-use Rattle.stream_check.specs.declared.reporting.FrameAt.{FrameAt}
-use Rattle.stream_check.specs.Reporting.{when, as_list, in_frame}
-use Rattle.stream_check.specs.Frames.{Fib, damaged_in, lacks_opening}
-use Rattle.stream_check.specs.Lookup.{lookup_in}
-use Rattle.stream_check.specs.History.{Item, Moment, Said, said, frame_items, is_ensemble, ensemble_of_item}
-use Rattle.stream_check.specs.History.{listener_after, due}
-use Rattle.stream_check.specs.Sent.{frame_sent}
-use Rattle.stream_check.specs.Rules.{KnownBefore, known_of, name_of, overlap, past_end, place_faults}
-use Rattle.stream_check.specs.Rules.{is_of_other_ensemble, has_other_count, is_placed, makes_swap, notice_faults}
-use Rattle.stream_check.specs.Rules.{unit_faults, swap_findings, swap_or_another, announces_another, occurrence_of}
-use Rattle.stream_check.specs.Rules.{announces_first, announcement, can_fall_at, has_flags, ensemble_findings}
-use Rattle.stream_check.specs.Rules.{is_settled, current_findings, next_findings, member_findings, is_other_one}
-use Rattle.stream_check.specs.Rules.{is_absent, has_no_room, findings_at, silence, is_silent, silent_findings}
-use Rattle.stream_check.specs.Rules.{awaited_low, changes}
-use Rattle.stream_check.specs.Stream.{count_due, first_line, frame_findings, findings_at_items, findings_at_sent}
-use Rattle.stream_check.specs.Stream.{runs_full, frame_at, findings_in}
-use Rattle.plan_runs.proofs.Parts.{In}
-use Rattle.stream_laws.specs.Sorts.{is_of_period, IsFreeUnlessShort}
 use Rattle.stream_laws.proofs.Kept.{first_holds}
 use Rattle.stream_laws.proofs.Sending.{IsOpenFib, found_open}
 use Rattle.stream_laws.proofs.Rows.{HasNone}
-use Rattle.stream_check.proofs.Framing.{all_append}
 
 abbrev pub AreFree : (IsLong : Type 0) → List What → Type 0
 AreFree L ws = AllByRecursion (IsFreeUnlessShort L) ws

@@ -1,55 +1,22 @@
 -- The notice of a run: how often it is announced, what is heard of it, and its flags at the swap.
-use Rattle.std.proofs.Common.{◌≡◌, ◌≢◌, ℕ, ◌+◌, ◌-◌, ◌/◌, ◌<◌, ◌≤◌, ◌%◌, ◌&&◌, Bool, true, false, cond, not, nat_lt}
-use Rattle.std.proofs.Common.{List, [], Option, Some, None, refl, sym, ap, ◌∙◌, subst, arith, inl, inr, le-ltb, zero}
-use Rattle.std.proofs.Common.{suc, ◌∷◌, ◌++◌, ◌⊎◌, ◌==◌}
-use Rattle.std.proofs.lemmas.Bool.{false≢true, eqb-true, eq-eqb}
-use Rattle.fib_codec.specs.Layouts.{layout_mode}
-use Rattle.fib_codec.specs.Grammar.{OneList}
-use Rattle.fib_codec.specs.declared.modes.Mode.{Mode}
-use Rattle.fib_codec.specs.declared.modes.Mode.TheVariants.{I}
-use Rattle.fib_codec.specs.Modes.{count_step}
-use Rattle.stream_check.specs.Frames.{Reading}
-use Rattle.stream_check.specs.History.{Item, Moment, said, times_announced, is_cut_off, listener_after, last_flags}
-use Rattle.stream_check.specs.Rules.{at_most, change_between}
-use Rattle.plan_code.specs.declared.plan.Plan.{Plan}
-use Rattle.plan_code.specs.Program.{Program}
-use Rattle.plan_code.specs.Machine.{State}
-use Rattle.plan_verifier.specs.Typing.{Known}
-use Rattle.plan_runs.specs.Frames.{is_due, is_noticed, shown, left_after_frame, after_frame, is_first_noticed}
-use Rattle.plan_runs.specs.Frames.{frame_bytes, with_next_counts}
-use Rattle.plan_runs.proofs.Knowledge.{IsAhead}
-use Rattle.plan_runs.proofs.Tracked.{Airs, SwapsOn, noticed, split_le}
-use Rattle.plan_runs.proofs.Carries.{IsNewly, LeftBy}
-use Rattle.plan_runs.proofs.Facts.{Holds, IsCode, airs}
-use Rattle.plan_runs.proofs.Notice.{links, heard_frame}
-use Rattle.plan_runs.proofs.Contents.{Laws}
+use Rattle.stream_laws.proofs.Words.{[], ◌%◌, ◌&&◌, ◌++◌, ◌+◌, ◌-◌, ◌/◌, ◌<◌, ◌==◌, ◌∙◌, ◌∷◌, ◌≡◌, ◌≢◌, ◌≤◌, ◌⊎◌, Airs}
+use Rattle.stream_laws.proofs.Words.{Bool, ChangeIsUnique, Configuration, Contact, Contains-append_cases}
+use Rattle.stream_laws.proofs.Words.{EnsembleInformation, Holds, I, IsAhead, IsCode, IsHeardInRow, IsNewly, Item, Known}
+use Rattle.stream_laws.proofs.Words.{KnowsAt, KnowsBy, KnowsPending, Laws, LeftBy, List, Listening, Mode, Moment, None}
+use Rattle.stream_laws.proofs.Words.{Nothing, OneList, Option, Or, Plan, Program, Raw, Reading, RowSaid, ShowsEach}
+use Rattle.stream_laws.proofs.Words.{Some, SomeSaid, SpellingIdentifies, State, Still, SwapsOn, after_frame, after_is}
+use Rattle.stream_laws.proofs.Words.{airs, ap, arith, at_most, bits_of, change_between, change_of, cond, count_step}
+use Rattle.stream_laws.proofs.Words.{each_whole, eq-eqb, eqb-true, false, false≢true, frame_bytes, happens}
+use Rattle.stream_laws.proofs.Words.{heard_contacts, heard_frame, heard_left, heard_of, inl, inr, is_cut_off, is_due}
+use Rattle.stream_laws.proofs.Words.{is_first_noticed, is_made, is_noticed, last_flags, layout_mode, le-ltb}
+use Rattle.stream_laws.proofs.Words.{left_after_frame, links, listener_after, marked, nat_lt, none_said, not}
+use Rattle.stream_laws.proofs.Words.{notice_begin, notice_frames, noticed, refl, said, shown, some_is, split_le, subst}
+use Rattle.stream_laws.proofs.Words.{suc, sym, times_announced, true, with_next_counts, zero, ℕ}
 use Rattle.stream_laws.proofs.AgreeingRuns.{on_air, IsBetween, due_left}
 use Rattle.stream_laws.proofs.AgreeingFrames.{SinceFirst}
-use Rattle.plan_runs.proofs.Passing.{some_is}
 use Rattle.stream_laws.proofs.Opening.{IsOpened, opened_cut, past_after, items_at, first_opened, next_opened, cut_still}
 use Rattle.stream_laws.proofs.Opening.{said_times, Knows, knows_later, enters_first, enters_due, enters_still}
 use Rattle.stream_laws.proofs.Opening.{none_made}
-use Rattle.std.proofs.lemmas.List.Elements.{Contains-append_cases}
-use Rattle.mux_config.specs.Configuration.{Configuration}
-use Rattle.mux_types.specs.Facts.{marked}
-use Rattle.fib_codec.specs.Heard.{IsHeardInRow}
-use Rattle.fib_reader.specs.Raw.{Raw}
-use Rattle.plan_runs.specs.Announced.{notice_frames, notice_begin, heard_left, heard_of}
-use Rattle.plan_runs.proofs.Tuned.{Or}
-use Rattle.plan_runs.proofs.Knowing.{Still, KnowsPending, KnowsBy}
-use Rattle.plan_runs.proofs.HeardFrame.{RowSaid}
-use Rattle.plan_runs.proofs.HeardFrames.{Nothing, KnowsAt}
-use Rattle.plan_runs.proofs.CurrentKnown.{SomeSaid, none_said}
-use Rattle.mux_config.specs.Change.{ChangeIsUnique, change_of, bits_of}
-use Rattle.mux_types.specs.Entries.{EnsembleInformation}
-use Rattle.fib_codec.specs.Spelling.{SpellingIdentifies}
-use Rattle.fib_reader.specs.Listening.{Listening, is_made}
-use Rattle.fib_reader.proofs.Shown.{ShowsEach}
-use Rattle.stream_check.proofs.Members.{after_is}
-use Rattle.plan_runs.specs.declared.event.Event.TheVariants.{Contact}
-use Rattle.plan_runs.specs.Runs.{happens}
-use Rattle.plan_runs.proofs.Announcing.{heard_contacts}
-use Rattle.plan_runs.proofs.Pictures.{each_whole}
 use Rattle.stream_laws.proofs.Shown.{flags_of_change}
 use Rattle.stream_laws.proofs.Agreeing.{none_or_some}
 use Rattle.stream_laws.proofs.NoticeFrames.{current_whole, next_whole}

@@ -1,19 +1,12 @@
 -- The form of entries in FIBs.
-use Rattle.std.proofs.Common.{◌≡◌, ℕ, ◌<◌, ◌%◌, ◌/◌, ◌==◌, ◌&&◌, Bool, true, false, nat_lt, List, [], ◌∷◌, ◌++◌, Some}
-use Rattle.std.proofs.Common.{None, refl, sym, ◌∙◌, subst, inl, inr}
-use Rattle.std.specs.Prelude.{map}
-use Rattle.std.specs.List.{AllByRecursion}
-use Rattle.std.proofs.lemmas.Bool.{false≢true, ltb-true, and_right}
-use Rattle.std.proofs.lemmas.Bool.Decides.{eqb_tells}
-use Rattle.fib_codec.specs.Grammar.{Fig, Open, Other, IsFig, AreFigs, is_next, is_open, is_long}
-use Rattle.fib_reader.specs.Raw.{raw_of}
-use Rattle.stream_check.specs.Frames.{Fib, Reads, Reading}
-use Rattle.stream_check.specs.History.{Item, Moment, Said, said, items_of, fig_items, figs_items, fibs_items}
-use Rattle.stream_check.specs.History.{frame_items, is_ensemble}
-use Rattle.stream_check.specs.Stream.{past_after_frame, after_frames}
+use Rattle.stream_laws.proofs.Words.{[], ◌%◌, ◌&&◌, ◌++◌, ◌/◌, ◌<◌, ◌==◌, ◌∙◌, ◌∷◌, ◌≡◌, AllByRecursion, AreFigs, Bool}
+use Rattle.stream_laws.proofs.Words.{Fib, Fig, IsFig, Item, List, Moment, None, Open, Other, Reading, Reads, Said, Some}
+use Rattle.stream_laws.proofs.Words.{after_frames, all_append, and_right, eqb_tells, false, false≢true, fibs_items}
+use Rattle.stream_laws.proofs.Words.{fig_items, figs_items, frame_items, inl, inr, is_ensemble, is_long, is_next}
+use Rattle.stream_laws.proofs.Words.{is_open, items_of, ltb-true, map, nat_lt, past_after_frame, raw_of, refl, said}
+use Rattle.stream_laws.proofs.Words.{subst, sym, true, ℕ}
 use Rattle.stream_laws.proofs.Rows.{at_hand}
 use Rattle.stream_laws.proofs.Tracking.{IsFormed}
-use Rattle.stream_check.proofs.Framing.{all_append}
 use Rattle.stream_laws.proofs.Kept.{second_holds}
 
 -- an entry outside of the first FIG, or other than FIG 0/0

@@ -1,44 +1,21 @@
 -- The frames of a run, as the checker cuts them; and the frames into which a stream is cut, as bytes.
-use Rattle.std.proofs.Common.{◌≡◌, ℕ, List, [], ◌∷◌, ◌++◌, flat_map, refl, sym, ap, ◌∙◌, ◌≢◌, zero, suc, ◌+◌, ◌-◌, ◌<◌}
-use Rattle.std.proofs.Common.{◌≤◌, ◌%◌, Bool, false, cond, length, Contains, Some, None, subst, arith, inl, inr}
-use Rattle.std.specs.Prelude.{map}
-use Rattle.std.proofs.lemmas.List.{append_assoc, append-nil, map-append, length-map}
-use Rattle.stream_check.specs.Frames.{Fib, Reading, is_damaged, first_raw, first_or, first_in_figs, first_in}
-use Rattle.stream_check.specs.Frames.{opening_in_figs, opening, is_there, begins_with_ensemble, holds_ensemble}
-use Rattle.stream_check.specs.Frames.{IsOneFrame, AreFrames, HoldsFirst}
-use Rattle.stream_laws.specs.Notices.{read_frames, FramesAreOfBytes}
-use Rattle.std.specs.List.{AllByRecursion}
-use Rattle.std.proofs.lemmas.Bool.{eq-eqb, ne_eqb}
+use Rattle.stream_laws.proofs.Words.{[], ◌%◌, ◌++◌, ◌+◌, ◌-◌, ◌<◌, ◌∙◌, ◌∷◌, ◌≡◌, ◌≢◌, ◌≤◌, AllByRecursion, AreFrames}
+use Rattle.stream_laws.proofs.Words.{Bool, Contact, Contains, EnsembleInformation, EnsembleIsHeard, Event, Fib, Fig}
+use Rattle.stream_laws.proofs.Words.{Frame, FrameLayout, FramesAreOfBytes, FramesAreRight, HasCount, HeadlineHolds}
+use Rattle.stream_laws.proofs.Words.{HoldsFirst, I, IsFig, IsHeadedBy, IsInFig, IsNoHeader, IsOneFrame, IsRight}
+use Rattle.stream_laws.proofs.Words.{IsUnheaded, Item, List, Mode, None, OneList, Open, Other, Plan, Program, Reading}
+use Rattle.stream_laws.proofs.Words.{RunsAreFramed, RunsJoin, Some, State, after_frame, all_append, ap, append-nil}
+use Rattle.stream_laws.proofs.Words.{append_assoc, arith, begins_with_ensemble, cond, contains_cases, contains_none}
+use Rattle.stream_laws.proofs.Words.{count_step, ensemble_in, entries_in, eq-eqb, false, fib_at, fib_count, fib_items}
+use Rattle.stream_laws.proofs.Words.{fibs_from, fibs_items, fibs_of, fig_items, figs_items, first_in, first_in_figs}
+use Rattle.stream_laws.proofs.Words.{first_or, first_raw, flat_map, frame_bytes, frame_fibs, frames_of, happens}
+use Rattle.stream_laws.proofs.Words.{holds_ensemble, inl, inr, is_damaged, is_long, is_next, is_there, items_of}
+use Rattle.stream_laws.proofs.Words.{layout_mode, length, length-map, map, map-append, marked, ne_eqb, opening}
+use Rattle.stream_laws.proofs.Words.{opening_in_figs, raw_of, read_frames, refl, run, run_frames, shown, shown_count}
+use Rattle.stream_laws.proofs.Words.{subst, suc, sym, zero, ℕ}
 use Rattle.std.proofs.lemmas.List.Concat.{flat_map-append}
-use Rattle.fib_codec.specs.Layouts.{layout_mode, frame_fibs}
-use Rattle.fib_codec.specs.declared.frame_layout.FrameLayout.{FrameLayout}
-use Rattle.mux_types.proofs.Elements.{contains_cases, contains_none}
-use Rattle.mux_types.specs.Entries.{EnsembleInformation}
-use Rattle.mux_types.specs.Facts.{marked}
 use Rattle.mux_types.specs.declared.entry.Entry.TheVariants.{Ensemble as EnsembleOf}
-use Rattle.fib_codec.specs.Grammar.{Fig, Open, Other, IsFig, OneList, is_next, is_long}
-use Rattle.fib_codec.specs.Heard.{IsInFig, fib_at}
-use Rattle.fib_codec.specs.declared.modes.Mode.{Mode}
-use Rattle.fib_codec.specs.declared.modes.Mode.TheVariants.{I}
-use Rattle.fib_codec.specs.Modes.{fib_count, count_step}
-use Rattle.fib_reader.specs.Raw.{raw_of, entries_in, ensemble_in}
-use Rattle.fib_reader.specs.Laws.{EnsembleIsHeard}
-use Rattle.stream_check.specs.History.{Item, items_of, fig_items, figs_items, fib_items, fibs_items}
-use Rattle.plan_code.specs.declared.plan.Plan.{Plan}
-use Rattle.plan_code.specs.Program.{Program}
-use Rattle.plan_code.specs.Machine.{State}
-use Rattle.plan_runs.specs.declared.event.Event.{Event}
-use Rattle.plan_runs.specs.declared.event.Event.TheVariants.{Contact, Frame}
-use Rattle.plan_runs.specs.Frames.{shown, frame_bytes, after_frame}
-use Rattle.plan_runs.specs.Runs.{happens, run, run_frames}
-use Rattle.plan_runs.specs.RightBytes.{IsNoHeader, IsHeadedBy, IsUnheaded, IsRight, FramesAreRight}
-use Rattle.plan_runs.specs.Headline.{HeadlineHolds}
-use Rattle.plan_runs.specs.Listening.{fibs_from, fibs_of, HasCount}
-use Rattle.plan_runs.proofs.Clock.{shown_count}
-use Rattle.plan_runs.specs.Announced.{RunsJoin}
-use Rattle.stream_laws.specs.Framing.{frames_of, RunsAreFramed}
 use Rattle.stream_laws.proofs.Rows.{HasNone}
-use Rattle.stream_check.proofs.Framing.{all_append}
 use Rattle.stream_laws.proofs.Bytes.{is_read}
 
 record IsPair {X Y : Type 0} (f : X → Y) (xs : List X) (ys zs : List Y) : Type 0 where

@@ -1,29 +1,18 @@
 -- Without a fault, each swap comes as announced; and the notice of each was heard from its beginning, except for the
 -- first one of a stream whose first FIG 0/0 is flagged.
-use Rattle.std.proofs.Common.{◌≡◌, ℕ, ◌+◌, ◌<◌, ◌%◌, ◌==◌, ◌&&◌, Bool, true, false, cond, not, List, [], ◌∷◌, ◌++◌}
-use Rattle.std.proofs.Common.{length, take, flat_map, Option, Some, None, refl, sym, ap, ◌∙◌, subst, arith, inl, inr}
-use Rattle.std.proofs.Common.{◌⊎◌}
-use Rattle.std.specs.Prelude.{map}
-use Rattle.std.specs.List.{AllByRecursion}
-use Rattle.std.proofs.lemmas.Bool.{false≢true, eqb-true, eq-eqb, not-false, not-true}
-use Rattle.mux_types.specs.Entries.{EnsembleInformation}
-use Rattle.fib_codec.specs.Grammar.{Fig, Open, Other, is_next}
-use Rattle.fib_reader.specs.Raw.{Raw, entries_in, ensemble_in}
-use Rattle.fib_reader.specs.Listening.{Listening, is_made}
+use Rattle.stream_laws.proofs.Words.{[], ◌%◌, ◌&&◌, ◌++◌, ◌+◌, ◌<◌, ◌==◌, ◌∙◌, ◌∷◌, ◌≡◌, ◌⊎◌, AllByRecursion}
+use Rattle.stream_laws.proofs.Words.{AreFibBytes, BeginsUnflagged, Bool, CountsAreHeld, Ended, EnsembleInformation, Fib}
+use Rattle.stream_laws.proofs.Words.{Fig, IsSaidIn, IsTheMost, Item, KnownBefore, List, Listening, Moment, None, Open}
+use Rattle.stream_laws.proofs.Words.{Option, Other, Raw, Said, Some, WholeNoticesAreHeld, after_frames, ap, arith}
+use Rattle.stream_laws.proofs.Words.{awaited_low, cond, ensemble_in, ensemble_of_item, entries_in, eq-eqb, eqb-true}
+use Rattle.stream_laws.proofs.Words.{false, false≢true, fib_items, fibs_items, fig_items, figs_items, first_in}
+use Rattle.stream_laws.proofs.Words.{first_in_figs, first_of_frame, first_or, first_raw, flat_map, frame_items}
+use Rattle.stream_laws.proofs.Words.{frames_ended, heard_as, inl, inr, is_cut_off, is_ensemble, is_flagged, is_made}
+use Rattle.stream_laws.proofs.Words.{is_next, is_swap, items_of, known_of, last_flags, last_of, last_swap, length}
+use Rattle.stream_laws.proofs.Words.{listener_after, map, no_swap, not, not-false, not-true, notice_faults}
+use Rattle.stream_laws.proofs.Words.{past_after_frame, read_frames, refl, rows, said, said_append, subst, sym, take}
+use Rattle.stream_laws.proofs.Words.{true, unit_faults, ℕ}
 use Rattle.stream_check.specs.declared.finding.Fault.TheVariants as faults
-use Rattle.stream_check.specs.Frames.{Fib, first_raw, first_or, first_in_figs, first_in, first_of_frame}
-use Rattle.stream_check.specs.Parts.{IsTheMost}
-use Rattle.stream_check.specs.History.{Item, Moment, Said, Ended, said, items_of, fig_items, figs_items, fib_items}
-use Rattle.stream_check.specs.History.{fibs_items, frame_items, is_ensemble, ensemble_of_item, is_flagged, is_swap}
-use Rattle.stream_check.specs.History.{listener_after, last_flags, is_cut_off, frames_ended, rows}
-use Rattle.stream_check.specs.Rules.{KnownBefore, known_of, awaited_low, notice_faults, unit_faults}
-use Rattle.stream_check.specs.Stream.{past_after_frame, after_frames}
-use Rattle.stream_check.proofs.Ensembles.{heard_as}
-use Rattle.stream_check.proofs.Members.{no_swap}
-use Rattle.stream_laws.specs.Notices.{AreFibBytes, read_frames, last_of}
-use Rattle.stream_laws.specs.Faultless.{IsSaidIn}
-use Rattle.stream_laws.specs.Staying.{last_swap}
-use Rattle.stream_laws.specs.Held.{BeginsUnflagged, WholeNoticesAreHeld, CountsAreHeld}
 use Rattle.stream_laws.proofs.Clean.{IsClean, entry_clean, after_entry, frames_twice}
 use Rattle.stream_laws.proofs.Kept.{first_holds, second_holds, first_fine, with_member, after_member, after_heard}
 use Rattle.stream_laws.proofs.Kept.{ensemble_made, plain_ensemble}
@@ -34,7 +23,6 @@ use Rattle.stream_laws.proofs.Bytes.{FibLaws, each_take}
 use Rattle.stream_laws.proofs.Swapping.{awaited_is}
 use Rattle.stream_laws.proofs.Announced.{items_in, notice_is, each_drop, formed_handed, changes_are_announced}
 use Rattle.stream_laws.proofs.Announced.{notice_header}
-use Rattle.stream_check.proofs.Saying.{said_append}
 
 -- ---- the first FIG 0/0 of all that was sent
 

@@ -1,38 +1,23 @@
 -- The frames of a run and the FIG 0/0 in them are as the checker requires.
-use Rattle.std.proofs.Common.{◌≡◌, ◌≢◌, ℕ, zero, suc, ◌+◌, ◌%◌, ◌==◌, ◌&&◌, Bool, true, false, cond, not, List, [], ◌∷◌}
-use Rattle.std.proofs.Common.{length, Option, Some, None, refl, sym, ap, ◌∙◌, subst, arith, inl, inr, ◌⊎◌}
-use Rattle.std.specs.Prelude.{map}
-use Rattle.std.specs.List.{AllByRecursion}
-use Rattle.std.proofs.lemmas.Bool.{false≢true, eq-eqb, ne_eqb, le-ltb, and_right}
-use Rattle.std.proofs.lemmas.Bool.Decides.{eqb_tells}
-use Rattle.fib_codec.specs.Layouts.{layout_mode, frame_fibs}
-use Rattle.mux_types.specs.Entries.{EnsembleInformation}
-use Rattle.fib_codec.specs.Grammar.{Open, OneList, is_next, is_long}
-use Rattle.fib_codec.specs.Heard.{fib_at}
-use Rattle.fib_codec.specs.Modes.{count_step}
-use Rattle.fib_reader.specs.Raw.{raw_of}
-use Rattle.fib_reader.specs.Laws.{EnsembleIsHeard}
-use Rattle.stream_check.specs.Frames.{Fib, Reading, damaged_in, first_opening, is_there, begins_with_ensemble}
-use Rattle.stream_check.specs.Frames.{lacks_opening}
-use Rattle.stream_check.specs.History.{Item, Moment, Said, said, fibs_items, frame_items, is_ensemble, ensemble_of_item}
-use Rattle.stream_check.specs.History.{due, eid_of, last_eid, is_in_place}
-use Rattle.stream_check.specs.Rules.{KnownBefore, known_of, is_other, is_placed}
-use Rattle.stream_check.specs.Stream.{count_due, placed_count, count_of_frame, past_after_frame as after_read}
-use Rattle.stream_check.proofs.Members.{member_eid}
-use Rattle.plan_code.specs.declared.plan.Plan.{Plan}
+use Rattle.stream_laws.proofs.Words.{[], ◌%◌, ◌&&◌, ◌+◌, ◌==◌, ◌∙◌, ◌∷◌, ◌≡◌, ◌≢◌, ◌⊎◌, AllByRecursion, Bool}
+use Rattle.stream_laws.proofs.Words.{EnsembleInformation, EnsembleIsHeard, Fib, IsHeadedBy, IsRight, Item, KnownBefore}
+use Rattle.stream_laws.proofs.Words.{List, Moment, None, OneList, Open, Option, Plan, Program, Reading, Said, Some}
+use Rattle.stream_laws.proofs.Words.{State, after_burst, after_frame, all_append, and_right, ap, arith}
+use Rattle.stream_laws.proofs.Words.{begins_with_ensemble, burst, cond, count_due, count_of_frame, count_step}
+use Rattle.stream_laws.proofs.Words.{damaged_in, due, effect, effect_of, eid_of, ensemble_of_item, eq-eqb, eqb_tells}
+use Rattle.stream_laws.proofs.Words.{false, false≢true, fib_at, fibs_items, first_opening, frame_bytes, frame_fibs}
+use Rattle.stream_laws.proofs.Words.{frame_items, inl, inr, instr_at, is_due, is_ensemble, is_first_noticed, is_here}
+use Rattle.stream_laws.proofs.Words.{is_in_place, is_long, is_next, is_other, is_placed, is_running, is_there, known_of}
+use Rattle.stream_laws.proofs.Words.{lacks_opening, last_eid, layout_mode, le-ltb, length, map, member_eid, ne_eqb, not}
+use Rattle.stream_laws.proofs.Words.{placed_count, raw_of, ready, refl, said, settle, shown, shown_count, step, subst}
+use Rattle.stream_laws.proofs.Words.{suc, sym, true, with_due_swap, with_swap, zero, ℕ}
 use Rattle.plan_code.specs.declared.instr.Instr.{Instr}
 use Rattle.plan_code.specs.declared.instr.Instr.TheVariants.{Settle}
-use Rattle.plan_code.specs.Program.{Program, instr_at}
-use Rattle.plan_code.specs.Machine.{State, step, settle, effect, effect_of}
-use Rattle.plan_runs.specs.Frames.{is_due, with_swap, with_due_swap, is_running, is_here, burst, ready, after_burst}
-use Rattle.plan_runs.specs.Frames.{is_first_noticed, shown, frame_bytes, after_frame}
-use Rattle.plan_runs.specs.RightBytes.{IsHeadedBy, IsRight}
-use Rattle.plan_runs.proofs.Clock.{shown_count}
+use Rattle.stream_check.specs.Stream.{past_after_frame as after_read}
 use Rattle.stream_laws.proofs.Rows.{HasNone}
 use Rattle.stream_laws.proofs.Findings.{IsFrameFine, IsPlaceFine, Each, each_other, IsWellPlaced}
 use Rattle.stream_laws.proofs.Framing.{IsQuiet, header_of, heading_fib, figs_none, fibs_none, later_fibs, first_of_fibs}
 use Rattle.stream_laws.proofs.Framing.{later_quiet, read_frame, frame_size, all_quiet}
-use Rattle.stream_check.proofs.Framing.{all_append}
 use Rattle.stream_laws.proofs.Bytes.{is_read}
 
 -- ---- the EId of a run does not change

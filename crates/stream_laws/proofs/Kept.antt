@@ -1,36 +1,23 @@
 -- Where nothing is at fault: entries agree with the picture, and what holds after one more entry.
-use Rattle.std.proofs.Common.{◌≡◌, ℕ, ◌&&◌, Bool, true, false, cond, not, nat_lt, List, [], ◌∷◌, length, Option, Some}
-use Rattle.std.proofs.Common.{None, refl, sym, ap, ◌∙◌, subst, ◌++◌, zero, suc, ◌+◌, ◌%◌, ◌<◌, ◌==◌, ◌||◌, arith}
-use Rattle.std.specs.List.{AllByRecursion}
-use Rattle.std.proofs.lemmas.Bool.{false≢true, le-leb, not-true, eqb-true, not-false, or_parts}
-use Rattle.fib_reader.specs.Raw.{Raw}
-use Rattle.fib_reader.specs.Listening.{Pictured, Listening, untuned, is_made, at_ensemble, into, pictured, picture_of}
-use Rattle.stream_check.specs.declared.finding.Fault.{Fault}
+use Rattle.stream_laws.proofs.Words.{[], ◌%◌, ◌&&◌, ◌++◌, ◌+◌, ◌<◌, ◌==◌, ◌||◌, ◌∙◌, ◌∷◌, ◌≡◌, AllByRecursion, Bool}
+use Rattle.stream_laws.proofs.Words.{CurrentIsKept, Ended, EnsembleInformation, Fault, IsKept, IsNoFault, Item}
+use Rattle.stream_laws.proofs.Words.{KnownBefore, List, Listening, Moment, None, Option, Pictured, Raw, Said, Some}
+use Rattle.stream_laws.proofs.Words.{What, after_is, agree, agree_same, announcement, announces_another, ap, append-nil}
+use Rattle.stream_laws.proofs.Words.{arith, at_ensemble, begins_notice, cond, current_findings, ensemble_findings}
+use Rattle.stream_laws.proofs.Words.{ensemble_heard, ensemble_no_member, ensemble_of_item, entry_like, eqb-true, false}
+use Rattle.stream_laws.proofs.Words.{false≢true, findings_at, finds_no_room, flag_count, frames_ended, get_or}
+use Rattle.stream_laws.proofs.Words.{has_begun, has_ensemble, has_flags, has_low, has_no_room, has_other_count}
+use Rattle.stream_laws.proofs.Words.{heard_as, heard_is, into, is_absent, is_ensemble, is_flagged, is_made, is_member}
+use Rattle.stream_laws.proofs.Words.{is_of_other_ensemble, is_other, is_other_one, is_placed, is_settled, is_swap}
+use Rattle.stream_laws.proofs.Words.{key_of, known_of, last_flags, le-leb, length, list_for, listener_after, listening}
+use Rattle.stream_laws.proofs.Words.{lookup_among, lookup_in, makes_swap, member_entry, member_findings, member_heard}
+use Rattle.stream_laws.proofs.Words.{name_of, nat_lt, next_findings, next_key, not, not-false, not-true, occurrence_of}
+use Rattle.stream_laws.proofs.Words.{or_false, or_parts, or_true, picture_of, pictured, place_faults, refl, row_at_hand}
+use Rattle.stream_laws.proofs.Words.{rows, settles_at, subst, suc, swap_findings, swap_or_another, sym, times_announced}
+use Rattle.stream_laws.proofs.Words.{true, untuned, unwrap_or, when, zero, ℕ}
 use Rattle.stream_check.specs.declared.finding.Fault.TheVariants as faults
 use Rattle.stream_check.specs.declared.heard_table.Lookup.TheVariants as standings
-use Rattle.stream_check.specs.Reporting.{when}
-use Rattle.stream_check.specs.Lookup.{agree, lookup_among, lookup_in, list_for}
-use Rattle.stream_check.specs.History.{Item, Moment, Said, is_ensemble, ensemble_of_item, frames_ended, listener_after}
-use Rattle.stream_check.specs.History.{is_member, settles_at, has_ensemble, has_begun, Ended, is_flagged, is_swap}
-use Rattle.stream_check.specs.History.{listening, begins_notice, flag_count, times_announced, last_flags, next_key}
-use Rattle.stream_check.specs.History.{row_at_hand, rows}
-use Rattle.stream_check.specs.Rules.{known_of, name_of, findings_at, has_no_room, finds_no_room, is_absent}
-use Rattle.stream_check.specs.Rules.{is_other_one, is_settled, current_findings, next_findings, member_findings}
-use Rattle.stream_check.specs.Rules.{ensemble_findings, KnownBefore, place_faults, is_placed, is_of_other_ensemble}
-use Rattle.stream_check.specs.Rules.{has_other_count, swap_or_another, announces_another, announcement, swap_findings}
-use Rattle.stream_check.specs.Rules.{occurrence_of, has_low, has_flags, makes_swap, is_other}
-use Rattle.stream_check.proofs.Agreeing.{agree_same}
-use Rattle.stream_laws.specs.Faultless.{IsNoFault}
-use Rattle.stream_laws.specs.Keeping.{entry_like, IsKept, CurrentIsKept}
 use Rattle.stream_laws.proofs.Clean.{IsClean, entry_clean, all_left, all_right}
-use Rattle.stream_check.specs.declared.finding.What.{What}
-use Rattle.std.specs.Prelude.{unwrap_or, get_or}
-use Rattle.std.proofs.lemmas.List.{append-nil}
-use Rattle.mux_types.specs.Entries.{EnsembleInformation}
-use Rattle.stream_check.specs.Pictures.{key_of}
-use Rattle.stream_check.proofs.Ensembles.{heard_as, heard_is}
-use Rattle.stream_check.proofs.Members.{or_false, ensemble_no_member, ensemble_heard, member_heard, member_entry}
-use Rattle.stream_check.proofs.Members.{after_is, or_true}
 use Rattle.stream_laws.proofs.Pictures.{picture_with, taken_in}
 
 pub no_fault : (b : Bool) (fault : Fault) → AllByRecursion IsNoFault (when b fault) → b ≡ false

@@ -1,34 +1,19 @@
 -- When an entry was last heard, along the entries of a frame.
-use Rattle.std.proofs.Common.{◌≡◌, ℕ, zero, suc, ◌+◌, ◌*◌, ◌<◌, ◌≤◌, ◌%◌, ◌==◌, ◌&&◌, ◌||◌, Bool, true, false, cond}
-use Rattle.std.proofs.Common.{not, List, [], ◌∷◌, length, Contains, Option, Some, None, refl, sym, ap, ◌∙◌, subst}
-use Rattle.std.proofs.Common.{arith, inl, inr}
-use Rattle.std.specs.Prelude.{take}
-use Rattle.std.proofs.lemmas.Bool.{cases_lt, eq-eqb, eqb-true}
-use Rattle.std.proofs.lemmas.List.{drop_all}
-use Rattle.fib_codec.specs.Layouts.{frame_fibs}
-use Rattle.fib_codec.specs.declared.frame_layout.FrameLayout.{FrameLayout}
-use Rattle.mux_types.proofs.Elements.{contains_cases, contains_first, contains_later, contains_none}
-use Rattle.mux_types.specs.Entries.{EnsembleInformation}
-use Rattle.mux_types.specs.Facts.{Marked}
-use Rattle.mux_types.specs.declared.entry.Entry.{Entry}
+use Rattle.stream_laws.proofs.Words.{[], ◌%◌, ◌&&◌, ◌*◌, ◌+◌, ◌<◌, ◌==◌, ◌||◌, ◌∙◌, ◌∷◌, ◌≡◌, ◌≤◌, Bool, Contains}
+use Rattle.stream_laws.proofs.Words.{Ended, EnsembleInformation, Entry, FibHas32Bytes, Fig, FrameLayout, IsFib}
+use Rattle.stream_laws.proofs.Words.{IsHeardInRow, IsInFig, IsSaid, Item, List, Listening, Marked, Moment, None}
+use Rattle.stream_laws.proofs.Words.{OneList, Open, Option, Other, Pictured, Raw, Reading, Said, Some, after_is, ap}
+use Rattle.stream_laws.proofs.Words.{arith, at_ensemble, cases_lt, cond, contains_cases, contains_first, contains_later}
+use Rattle.stream_laws.proofs.Words.{contains_none, drop_all, ensemble_in, entry_bytes, eq-eqb, eqb-true, ext_of, false}
+use Rattle.stream_laws.proofs.Words.{fib_at, fibs_from, frame_fibs, frame_items, frames_ended, hear_entry, inl, inr}
+use Rattle.stream_laws.proofs.Words.{into, is_ensemble, is_long, is_long_entry, is_made, is_member, is_next, is_swap}
+use Rattle.stream_laws.proofs.Words.{key_of, last_heard, length, listener_after, listening, member_heard, member_last}
+use Rattle.stream_laws.proofs.Words.{not, picture_of, pictured, raw_entry, raw_of, refl, said, some_is, subst, suc}
+use Rattle.stream_laws.proofs.Words.{swapped, sym, take, true, where_heard, zero, ℕ}
 use Rattle.mux_types.specs.declared.entry.Entry.TheVariants.{Ensemble as EnsembleOf, Sub as SubOf, Short as ShortOf}
 use Rattle.mux_types.specs.declared.entry.Entry.TheVariants.{Service as ServiceOf, Packet as PacketOf}
-use Rattle.fib_codec.specs.Grammar.{Fig, Open, Other, IsFib, OneList, is_next, is_long}
-use Rattle.fib_codec.specs.Heard.{fib_at, IsSaid, IsInFig, IsHeardInRow}
-use Rattle.fib_codec.specs.Laws.{FibHas32Bytes}
-use Rattle.fib_codec.specs.Spelling.{entry_bytes, ext_of, is_long_entry}
-use Rattle.fib_reader.specs.Raw.{Raw, raw_of, raw_entry, ensemble_in}
-use Rattle.fib_reader.specs.Listening.{Pictured, Listening, pictured, picture_of, into, is_made, swapped, at_ensemble}
-use Rattle.fib_reader.specs.Listening.{hear_entry, where_heard}
-use Rattle.stream_check.specs.Frames.{Reading}
-use Rattle.stream_check.specs.Pictures.{key_of}
-use Rattle.stream_check.specs.History.{Item, Moment, Said, Ended, said, frame_items, is_ensemble, is_swap, is_member}
-use Rattle.stream_check.specs.History.{frames_ended, listening, listener_after, last_heard}
-use Rattle.stream_check.proofs.Members.{after_is, member_heard, member_last}
-use Rattle.plan_runs.specs.Listening.{fibs_from}
 use Rattle.stream_laws.proofs.Framing.{read_frame}
 use Rattle.stream_laws.proofs.Bytes.{fibs_said, is_read}
-use Rattle.plan_runs.proofs.Passing.{some_is}
 use Rattle.stream_laws.proofs.Clean.{said_ended}
 
 -- ---- the time never decreases, and is at most the current frame

@@ -35,3 +35,4 @@ pub mod Delivered
 pub mod Merging
 mod Vectors
 mod VectorsOfLaws
+mod Words

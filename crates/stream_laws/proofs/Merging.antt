@@ -1,14 +1,10 @@
 -- Merged FIBs are heard and checked as the plan's.
-use Rattle.std.proofs.Common.{◌≡◌, ◌↔◌, ℕ, List, [], ◌∷◌, ◌++◌, map, flat_map, refl, sym, ap, subst, ◌∙◌, arith}
-use Rattle.std.specs.Prelude.{Some, None}
-use Rattle.std.specs.List.{AllByRecursion}
-use Rattle.fib_codec.specs.Grammar.{Fig, Other, OneList}
-use Rattle.fib_codec.specs.Layouts.{layout_mode, frame_fibs}
-use Rattle.fib_codec.specs.Modes.{count_step}
-use Rattle.fib_reader.specs.Listening.{Listening, untuned, hear_figs}
-use Rattle.stream_check.specs.Frames.{Fib, Reads, Reading, IsFramed}
-use Rattle.stream_check.specs.Stream.{findings_of}
-use Rattle.stream_check.specs.declared.finding.Finding.{Finding}
+use Rattle.stream_laws.proofs.Words.{[], ◌++◌, ◌↔◌, ◌∙◌, ◌∷◌, ◌≡◌, AllByRecursion, AreFibBytes, Fib, Fig, Finding}
+use Rattle.stream_laws.proofs.Words.{FramesAreOfBytes, HearsAll, HearsFib, IsFaultless, IsFibBytes, IsFramed, IsNoFault}
+use Rattle.stream_laws.proofs.Words.{IsSaidIn, List, ListenersAreRight, Listening, None, OneList, Other, Reading, Reads}
+use Rattle.stream_laws.proofs.Words.{RunsAreFaultless, RunsAreFramed, Some, SwapsAreAnnounced, ap, arith, count_step}
+use Rattle.stream_laws.proofs.Words.{fibs_of, findings_of, flat_map, frame_fibs, frames_of, hear_figs, layout_mode, map}
+use Rattle.stream_laws.proofs.Words.{read_frames, refl, run, run_frames, subst, sym, untuned, ℕ}
 use Rattle.fig_merge.specs.Taking.{Merging, IsMerging, nothing_taken, after_take}
 use Rattle.fig_merge.specs.Filling.{merged, carried_by, after_fill}
 use Rattle.fig_merge.specs.Steps.{Step, Take, Fill}
@@ -16,15 +12,8 @@ use Rattle.fig_merge.specs.Passing.{with_carried, FilledIsRead, hear_fib, Filled
 use Rattle.fig_merge.specs.Passing.{FilledIsAsLong, agreeing, AreFilled, fibs_in, sent_in, AllAreFilled}
 use Rattle.fig_merge.specs.Passing.{FilledIsCheckedAlike, FilledIsFullAlike, FilledIsFramedAlike}
 use Rattle.fig_merge.proofs.Carried.{merging_step}
-use Rattle.plan_runs.specs.Runs.{run, run_frames}
-use Rattle.plan_runs.specs.Listening.{fibs_of, HearsFib, HearsAll, ListenersAreRight}
-use Rattle.stream_laws.specs.Announcing.{SwapsAreAnnounced}
-use Rattle.stream_laws.specs.Faultless.{IsNoFault, IsFaultless, IsSaidIn}
-use Rattle.stream_laws.specs.Faults.{RunsAreFaultless}
-use Rattle.stream_laws.specs.Framing.{frames_of, RunsAreFramed}
 use Rattle.stream_laws.specs.Merging.{filled_in, IsMergedOf, HaveSameEntries, MergedHaveTheEntries, MergedAreHeardAlike}
 use Rattle.stream_laws.specs.Merging.{MergedListenersAreRight, MergedRunsAreFaultless, MergedSwapsAreAnnounced}
-use Rattle.stream_laws.specs.Notices.{IsFibBytes, AreFibBytes, read_frames, FramesAreOfBytes}
 use Rattle.stream_laws.proofs.Bytes.{is_read}
 
 -- ---- one FIB

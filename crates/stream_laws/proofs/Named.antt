@@ -1,58 +1,32 @@
 -- The swaps that are reported in the frames of a run are those of the run.
-use Rattle.std.proofs.Common.{◌≡◌, ℕ, ◌+◌, ◌%◌, ◌==◌, ◌&&◌, Bool, true, false, cond, not, List, [], ◌∷◌, ◌++◌, Option}
-use Rattle.std.proofs.Common.{Some, None, refl, sym, ap, ◌∙◌, subst, inl, inr}
-use Rattle.std.specs.Prelude.{map}
-use Rattle.std.specs.List.{AllByRecursion}
-use Rattle.std.proofs.lemmas.List.{append-nil}
-use Rattle.fib_codec.specs.Layouts.{layout_mode, frame_fibs}
-use Rattle.mux_types.specs.Entries.{EnsembleInformation}
-use Rattle.fib_codec.specs.Grammar.{OneList}
-use Rattle.fib_codec.specs.Modes.{count_step}
-use Rattle.fib_reader.specs.Raw.{Raw}
-use Rattle.fib_reader.specs.Listening.{is_made}
-use Rattle.stream_check.specs.declared.contradiction.Contradiction.{Contradiction}
-use Rattle.stream_check.specs.Contradictions.{contradicts, new_among, new_findings, noted_with}
-use Rattle.stream_check.specs.Sent.{Sent, EntrySent, FigSent, frame_sent, items_in, contradictions_at, noted_at}
-use Rattle.stream_check.proofs.Sending.{frame_has_items}
-use Rattle.stream_check.specs.declared.finding.Fault.{Fault}
+use Rattle.stream_laws.proofs.Words.{[], ◌%◌, ◌&&◌, ◌++◌, ◌+◌, ◌==◌, ◌∙◌, ◌∷◌, ◌≡◌, AllByRecursion, Bool, Contact}
+use Rattle.stream_laws.proofs.Words.{Contradiction, EnsembleInformation, EntrySent, Event, Fault, Fib, FigSent, Finding}
+use Rattle.stream_laws.proofs.Words.{Frame, FrameAt, Holds, IsCode, Item, Known, Laws, List, Moment, None, OneList}
+use Rattle.stream_laws.proofs.Words.{Option, Plan, Program, Raw, Reading, Said, Sent, Some, State, SwapsAreNamed, What}
+use Rattle.stream_laws.proofs.Words.{after_frame, all_append, announcement, announces_another, announces_first, ap}
+use Rattle.stream_laws.proofs.Words.{append-nil, as_list, awaited_low, can_fall_at, code_of, cond, contradictions_at}
+use Rattle.stream_laws.proofs.Words.{contradicts, count_step, current_findings, due, due_after_first, due_frames}
+use Rattle.stream_laws.proofs.Words.{ensemble_findings, false, findings_at, findings_at_items, findings_at_sent}
+use Rattle.stream_laws.proofs.Words.{findings_from, findings_in, findings_of, finds_no_room, frame_at, frame_bytes}
+use Rattle.stream_laws.proofs.Words.{frame_fibs, frame_findings, frame_has_items, frame_holds, frame_items, frame_sent}
+use Rattle.stream_laws.proofs.Words.{frames_ended, frames_of, happens, happens_holds, has_flags, has_no_room, in_frame}
+use Rattle.stream_laws.proofs.Words.{inl, inr, is_absent, is_due, is_ensemble, is_made, is_other_one, is_settled}
+use Rattle.stream_laws.proofs.Words.{items_in, known_of, last_findings, layout_mode, listener_after, lookup_in}
+use Rattle.stream_laws.proofs.Words.{makes_swap, map, member_findings, name_of, names_swap, new_among, new_findings}
+use Rattle.stream_laws.proofs.Words.{next_findings, not, noted_at, noted_in, noted_with, notice_faults, occurrence_of}
+use Rattle.stream_laws.proofs.Words.{overlap, past_end, place_faults, played_holds, read_frames, refl, run, run_frames}
+use Rattle.stream_laws.proofs.Words.{run_holds, runs_full, said, shown, silence, silent_findings, subst, swap_findings}
+use Rattle.stream_laws.proofs.Words.{swap_frames, swap_or_another, sym, true, unit_faults, when, ℕ}
+use Rattle.stream_check.specs.History.{ensemble_of_item as said_ensemble}
+use Rattle.stream_check.specs.Rules.{KnownBefore as Knowledge}
+use Rattle.stream_check.specs.Stream.{past_after_frame as after_read}
 use Rattle.stream_check.specs.declared.finding.Fault.TheVariants as faults
-use Rattle.stream_check.specs.declared.finding.What.{What}
-use Rattle.stream_check.specs.declared.finding.Finding.{Finding}
-use Rattle.stream_check.specs.declared.reporting.FrameAt.{FrameAt}
-use Rattle.stream_check.specs.Reporting.{when, as_list, in_frame}
-use Rattle.stream_check.specs.Frames.{Fib, Reading}
-use Rattle.stream_check.specs.Lookup.{lookup_in}
-use Rattle.stream_check.specs.History.{Item, Moment, Said, said, frame_items, is_ensemble}
-use Rattle.stream_check.specs.History.{ensemble_of_item as said_ensemble, frames_ended, listener_after, due}
-use Rattle.stream_check.specs.Rules.{KnownBefore as Knowledge, known_of, name_of, overlap, past_end, place_faults}
-use Rattle.stream_check.specs.Rules.{makes_swap, notice_faults, unit_faults, swap_findings, swap_or_another}
-use Rattle.stream_check.specs.Rules.{announces_another, occurrence_of, announces_first, announcement, ensemble_findings}
-use Rattle.stream_check.specs.Rules.{current_findings, next_findings, member_findings, is_other_one, finds_no_room}
-use Rattle.stream_check.specs.Rules.{has_no_room, findings_at, silence, silent_findings, awaited_low, can_fall_at}
-use Rattle.stream_check.specs.Rules.{has_flags, is_absent, is_settled}
-use Rattle.stream_check.specs.Stream.{frame_findings, findings_at_items, findings_at_sent, runs_full, frame_at}
-use Rattle.stream_check.specs.Stream.{last_findings, findings_in, noted_in, past_after_frame as after_read}
-use Rattle.stream_check.specs.Stream.{findings_from, findings_of}
-use Rattle.plan_code.specs.declared.plan.Plan.{Plan}
-use Rattle.plan_code.specs.Program.{Program}
-use Rattle.plan_code.specs.Machine.{State}
-use Rattle.plan_verifier.specs.Typing.{Known}
-use Rattle.plan_runs.specs.declared.event.Event.{Event}
-use Rattle.plan_runs.specs.declared.event.Event.TheVariants.{Contact, Frame}
-use Rattle.plan_runs.specs.Frames.{is_due, shown, frame_bytes, after_frame}
-use Rattle.plan_runs.specs.Runs.{happens, run, run_frames}
-use Rattle.plan_runs.proofs.Facts.{Holds, IsCode, frame_holds, happens_holds, run_holds, code_of, played_holds}
-use Rattle.plan_runs.proofs.Contents.{Laws}
-use Rattle.stream_laws.specs.Notices.{read_frames}
-use Rattle.stream_laws.specs.Framing.{frames_of}
-use Rattle.stream_laws.specs.Naming.{names_swap, swap_frames, due_frames, due_after_first, SwapsAreNamed}
 use Rattle.stream_laws.proofs.Rows.{HasNone}
 use Rattle.stream_laws.proofs.Framing.{read_frame}
 use Rattle.stream_laws.proofs.AgreeingRuns.{IsBetween}
 use Rattle.stream_laws.proofs.AgreeingFrames.{agrees_by, before_contact}
 use Rattle.stream_laws.proofs.Findings.{items_room, when_each, when_then, either_each, frame_each, place_each}
 use Rattle.stream_laws.proofs.Findings.{notice_each}
-use Rattle.stream_check.proofs.Framing.{all_append}
 use Rattle.stream_laws.proofs.Clean.{said_ended}
 use Rattle.stream_laws.proofs.Opening.{IsOpened, next_opened, first_opened}
 use Rattle.stream_laws.proofs.Kept.{ensemble_made}

@@ -1,33 +1,21 @@
 -- What the checker hears of the next configuration in the frames of a run: a row for each frame, three times in all.
-use Rattle.std.proofs.Common.{◌≡◌, ℕ, ◌&&◌, ◌||◌, true, false, cond, List, [], ◌∷◌, ◌++◌, Contains, Some, refl, sym, ap}
-use Rattle.std.proofs.Common.{◌∙◌, subst, inl, inr, ◌≢◌, ◌%◌, Bool, None, ◌≤◌, not, nat_lt, Option, arith, le-ltb}
-use Rattle.std.specs.List.{AllByRecursion}
-use Rattle.std.proofs.lemmas.Bool.{or_parts, false≢true}
-use Rattle.std.proofs.lemmas.List.Elements.{Contains-append_left, Contains-append_right}
-use Rattle.mux_types.proofs.Elements.{contains_cases, contains_first, contains_none}
-use Rattle.fib_reader.specs.Listening.{Listening, hear_entry, all_entries}
-use Rattle.stream_check.specs.Pictures.{key_of}
-use Rattle.stream_check.specs.History.{Item, Moment, Said, Ended, said, is_flagged, is_swap, listening, listener_after}
-use Rattle.stream_check.specs.History.{begins_notice, has_begun, row_at_hand, rows, frame_items, is_cut_off}
-use Rattle.stream_check.proofs.Members.{and_false, or_false, or_true, member_has_begun, member_rows, member_row}
-use Rattle.stream_check.proofs.Members.{member_heard, after_is}
+use Rattle.stream_laws.proofs.Words.{[], ◌%◌, ◌&&◌, ◌++◌, ◌||◌, ◌∙◌, ◌∷◌, ◌≡◌, ◌≢◌, ◌≤◌, Airs, AllByRecursion, Bool}
+use Rattle.stream_laws.proofs.Words.{Configuration, Contact, Contains, Contains-append_left, Contains-append_right}
+use Rattle.stream_laws.proofs.Words.{Ended, EnsembleInformation, Frame, HasHeader, Holds, IsAnnounced, IsCode}
+use Rattle.stream_laws.proofs.Words.{IsHeardInRow, IsPartial, IsTheMost, Item, Known, KnowsBy, KnowsPending, List}
+use Rattle.stream_laws.proofs.Words.{Listening, Marked, Moment, None, Nothing, Option, Plan, Program, Reading, Said}
+use Rattle.stream_laws.proofs.Words.{Some, State, after_frame, after_is, airs, all_entries, and_false, ap, arith}
+use Rattle.stream_laws.proofs.Words.{begins_notice, cond, contains_cases, contains_first, contains_in, contains_none}
+use Rattle.stream_laws.proofs.Words.{count_step, ensemble_sent, entries_of, fact_in, facts_of, false, false≢true}
+use Rattle.stream_laws.proofs.Words.{frame_bytes, frame_items, happens, has_begun, headed, hear_entry, heard_contacts}
+use Rattle.stream_laws.proofs.Words.{heard_of, in_contains, in_fact, inl, inr, is_cut_off, is_due, is_flagged, is_swap}
+use Rattle.stream_laws.proofs.Words.{key_of, layout_mode, le-ltb, listener_after, listening, map, mapped_to, marked}
+use Rattle.stream_laws.proofs.Words.{member_has_begun, member_heard, member_row, member_rows, nat_lt, not, or_false}
+use Rattle.stream_laws.proofs.Words.{or_parts, or_true, pageable, raw_entry, refl, row_at_hand, rows, said}
+use Rattle.stream_laws.proofs.Words.{sent_entries, shown, shown_bytes, subst, swaps_run, sym, three_or_more}
+use Rattle.stream_laws.proofs.Words.{times_heard, true, wanted, whole_of, zero_or_not, ℕ}
 use Rattle.stream_laws.proofs.Rows.{HasNone}
 use Rattle.stream_laws.proofs.LastHeard.{some_before, stays_tuned}
-use Rattle.fib_codec.specs.Layouts.{layout_mode}
-use Rattle.mux_types.specs.Entries.{EnsembleInformation}
-use Rattle.mux_types.specs.Facts.{Marked, marked, facts_of}
-use Rattle.mux_config.specs.Configuration.{Configuration}
-use Rattle.fib_codec.specs.Heard.{IsHeardInRow}
-use Rattle.fib_codec.specs.Modes.{count_step}
-use Rattle.fib_reader.specs.Raw.{raw_entry}
-use Rattle.stream_check.specs.Frames.{Reading}
-use Rattle.plan_code.specs.declared.plan.Plan.{Plan}
-use Rattle.plan_code.specs.Machine.{State}
-use Rattle.plan_runs.specs.Frames.{shown_bytes, ensemble_sent, sent_entries, is_due, shown, frame_bytes, after_frame}
-use Rattle.plan_runs.specs.Announced.{HasHeader, heard_of, IsAnnounced}
-use Rattle.plan_runs.proofs.Tracked.{Airs}
-use Rattle.plan_runs.proofs.Right.{pageable}
-use Rattle.plan_runs.proofs.HeardFrame.{zero_or_not}
 use Rattle.stream_laws.proofs.Framing.{read_frame}
 use Rattle.stream_laws.proofs.Sending.{IsSentItem, not_sent}
 use Rattle.stream_laws.proofs.AgreeingRuns.{on_air, IsBetween, due_left}
@@ -36,23 +24,8 @@ use Rattle.stream_laws.proofs.NoticeFrames.{SaysNothing, HasNext, IsRowed, IsNot
 use Rattle.stream_laws.proofs.NoticeFrames.{rowed_more, rowed_silent, AreKeysOf, announced_thrice}
 use Rattle.stream_laws.proofs.Opening.{FrameLaws, IsOpened, entry_at_frame, items_at, past_after, next_opened}
 use Rattle.stream_laws.proofs.Opening.{first_opened, cut_still}
-use Rattle.plan_runs.proofs.Hearing.{headed}
-use Rattle.plan_code.specs.Program.{Program}
-use Rattle.plan_verifier.specs.Typing.{Known}
-use Rattle.plan_runs.specs.declared.event.Event.TheVariants.{Contact, Frame}
-use Rattle.plan_runs.specs.Runs.{happens}
-use Rattle.plan_runs.proofs.Facts.{Holds, IsCode, airs}
-use Rattle.plan_runs.proofs.Announcing.{heard_contacts, swaps_run}
 use Rattle.stream_laws.proofs.Following.{more_heard, heard_then, quiet_heard, cut_first}
-use Rattle.std.specs.Prelude.{map}
-use Rattle.stream_check.specs.Parts.{IsTheMost}
-use Rattle.stream_check.specs.Rules.{wanted, times_heard}
-use Rattle.stream_check.proofs.Greedily.{three_or_more}
-use Rattle.plan_runs.proofs.Pictures.{whole_of, IsPartial, entries_of, contains_in, in_contains, fact_in, in_fact}
-use Rattle.plan_runs.proofs.Knowing.{KnowsPending, KnowsBy}
-use Rattle.plan_runs.proofs.HeardFrames.{Nothing}
 use Rattle.stream_laws.proofs.Ages.{entry_of}
-use Rattle.mux_types.proofs.Members.{mapped_to}
 
 -- ---- a notice that has not begun
 

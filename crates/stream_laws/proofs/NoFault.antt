@@ -1,39 +1,20 @@
 -- No fault is found in the frames of a run, since what the checker has noted is what the run did.
-use Rattle.std.proofs.Common.{◌≡◌, ℕ, ◌%◌, Bool, true, false, cond, List, [], ◌∷◌, ◌++◌, Some, refl, sym, ap, ◌∙◌}
-use Rattle.std.proofs.Common.{subst, inl, inr, ◌⊎◌, None}
-use Rattle.std.specs.List.{AllByRecursion}
-use Rattle.std.proofs.lemmas.Bool.{false≢true}
-use Rattle.fib_codec.specs.Layouts.{frame_fibs}
-use Rattle.mux_types.specs.Entries.{EnsembleInformation}
-use Rattle.stream_check.specs.declared.contradiction.Contradiction.{Contradiction}
+use Rattle.stream_laws.proofs.Words.{[], ◌%◌, ◌++◌, ◌∙◌, ◌∷◌, ◌≡◌, ◌⊎◌, AllByRecursion, Bool, Contact, Contradiction}
+use Rattle.stream_laws.proofs.Words.{EnsembleInformation, Event, Fault, Fib, Finding, Frame, FrameIsRight}
+use Rattle.stream_laws.proofs.Words.{FramesAreRight, HeadlineHolds, Holds, HoldsOfRuns, IsCode, IsFreeOf}
+use Rattle.stream_laws.proofs.Words.{IsFreeUnlessShort, IsLongFor, IsNoFault, IsTheMost, Item, Known, List, Moment}
+use Rattle.stream_laws.proofs.Words.{None, Plan, Program, Reading, RunIsFreeOf, RunsAgree, RunsAreFaultless}
+use Rattle.stream_laws.proofs.Words.{RunsAreFree, Some, State, What, after_frame, airs, all_append, ap, code_of, cond}
+use Rattle.stream_laws.proofs.Words.{due, ensemble_of, false, false≢true, findings_from, findings_in, frame_bytes}
+use Rattle.stream_laws.proofs.Words.{frame_fibs, frame_holds, frame_items, frames_full, happens, happens_holds, inl}
+use Rattle.stream_laws.proofs.Words.{inr, is_due, is_of_period, is_of_word, known_of, last_eid, makes_swap, noted_in}
+use Rattle.stream_laws.proofs.Words.{played_holds, refl, run, run_holds, run_read, runs_full, said, shown, step_of}
+use Rattle.stream_laws.proofs.Words.{subst, sym, true, ℕ}
 use Rattle.stream_check.specs.declared.finding.EntryName.{EntryName}
-use Rattle.stream_check.specs.declared.finding.Fault.{Fault}
+use Rattle.stream_check.specs.History.{ensemble_of_item as said_ensemble}
+use Rattle.stream_check.specs.Stream.{past_after_frame as after_read}
 use Rattle.stream_check.specs.declared.finding.Fault.TheVariants as faults
-use Rattle.stream_check.specs.declared.finding.What.{What}
 use Rattle.stream_check.specs.declared.finding.What.TheVariants as whats
-use Rattle.stream_check.specs.declared.finding.Finding.{Finding}
-use Rattle.stream_check.specs.Parts.{IsTheMost}
-use Rattle.stream_check.specs.Frames.{Fib, Reading}
-use Rattle.stream_check.specs.History.{Item, Moment, frame_items, ensemble_of_item as said_ensemble, due, last_eid}
-use Rattle.stream_check.specs.History.{said}
-use Rattle.stream_check.specs.Rules.{known_of, makes_swap}
-use Rattle.stream_check.specs.Stream.{runs_full, findings_in, noted_in, past_after_frame as after_read, findings_from}
-use Rattle.stream_check.specs.Stream.{frames_full}
-use Rattle.plan_code.specs.declared.plan.Plan.{Plan}
-use Rattle.plan_code.specs.Program.{Program}
-use Rattle.plan_code.specs.Machine.{State}
-use Rattle.plan_verifier.specs.Typing.{Known}
-use Rattle.plan_runs.specs.declared.event.Event.{Event}
-use Rattle.plan_runs.specs.declared.event.Event.TheVariants.{Contact, Frame}
-use Rattle.plan_runs.specs.Frames.{shown, frame_bytes, ensemble_of, after_frame, is_due}
-use Rattle.plan_runs.specs.Runs.{happens, run}
-use Rattle.plan_runs.specs.RightBytes.{FrameIsRight, FramesAreRight}
-use Rattle.plan_runs.specs.Headline.{HeadlineHolds}
-use Rattle.plan_runs.proofs.Facts.{Holds, IsCode, airs, frame_holds, happens_holds, run_holds, code_of, played_holds}
-use Rattle.stream_laws.specs.Sorts.{is_of_word, is_of_period, IsFreeOf, IsFreeUnlessShort, step_of, run_read}
-use Rattle.stream_laws.specs.Sorts.{RunIsFreeOf, IsLongFor, HoldsOfRuns, RunsAreFree, RunsAgree}
-use Rattle.stream_laws.specs.Faultless.{IsNoFault}
-use Rattle.stream_laws.specs.Faults.{RunsAreFaultless}
 use Rattle.stream_laws.proofs.Rows.{HasNone}
 use Rattle.stream_laws.proofs.Framing.{read_frame, right_after}
 use Rattle.stream_laws.proofs.Sending.{frame_open}
@@ -46,7 +27,6 @@ use Rattle.stream_laws.proofs.Following.{SwapLaws, follows_contact, flags_change
 use Rattle.stream_laws.proofs.Following.{counted_after, Follows, follows}
 use Rattle.stream_laws.proofs.NoticeFrames.{IsNoticing}
 use Rattle.stream_laws.proofs.NextRows.{noticing, noticing_contact, repeated}
-use Rattle.stream_check.proofs.Framing.{all_append}
 use Rattle.stream_laws.proofs.Opening.{FrameLaws, items_at, made_due, none_made, IsOpened, next_opened, first_opened}
 use Rattle.stream_laws.proofs.Opening.{each_opened}
 use Rattle.stream_laws.proofs.Ages.{IsTurning, turning_contact, turning, none_silent}

@@ -1,39 +1,22 @@
 -- The frames of a notice: each entry is heard in them, and the rows of identifiers heard are cut into three parts.
-use Rattle.std.proofs.Common.{◌≡◌, ℕ, zero, suc, ◌+◌, ◌-◌, ◌%◌, ◌<◌, Bool, true, false, cond, List, Contains, Option}
-use Rattle.std.proofs.Common.{Some, None, refl, sym, ap, ◌∙◌, subst, arith, [], ◌∷◌, ◌++◌, ◌≤◌, length, inl, inr, ◌⊎◌}
-use Rattle.std.proofs.lemmas.Bool.{lt-ltb}
-use Rattle.std.proofs.lemmas.List.Elements.{Contains-append_left, Contains-append_right, Contains-append_cases}
-use Rattle.fib_codec.specs.Layouts.{layout_mode}
-use Rattle.mux_config.specs.Configuration.{Configuration}
-use Rattle.mux_types.specs.Facts.{Marked, marked, facts_of}
-use Rattle.fib_codec.specs.Modes.{count_step}
-use Rattle.fib_codec.specs.Heard.{IsHeardInRow}
-use Rattle.fib_carousel.specs.Pages.{page_set, page_after, page_entries}
-use Rattle.plan_code.specs.declared.plan.Plan.{Plan}
-use Rattle.plan_code.specs.Program.{Program}
-use Rattle.plan_code.specs.Machine.{State}
-use Rattle.plan_verifier.specs.Typing.{Known}
-use Rattle.plan_runs.specs.Frames.{is_due, shown_bytes, ensemble_sent, sent_entries}
-use Rattle.plan_runs.specs.Announced.{heard_of, IsHeardInSome, HasHeader, IsHeardWhole, HasThreeHeaders, IsAnnounced}
-use Rattle.plan_runs.proofs.Knowledge.{CommittedBy}
-use Rattle.plan_runs.proofs.Tracked.{SwapsOn, page_of, page_of_first, page_of_next, noticed}
-use Rattle.plan_runs.proofs.Facts.{Holds, IsCode}
-use Rattle.plan_runs.proofs.Right.{PageLaws, pageable}
-use Rattle.plan_runs.proofs.Notice.{frames_from, contains_frame, noticed_state, both_rounds, notice_at, notice_at_is}
-use Rattle.plan_runs.proofs.Notice.{base_of, heard_is}
-use Rattle.plan_runs.proofs.Announcing.{IsDue, notice_airs}
-use Rattle.plan_runs.proofs.Pictures.{HasAll as KnowsAll, entries_of, in_contains, in_fact}
-use Rattle.plan_runs.proofs.CurrentKnown.{SomeSaid}
-use Rattle.std.specs.List.{AllByRecursion, concat}
-use Rattle.fib_reader.specs.Raw.{raw_entry}
-use Rattle.stream_check.specs.Pictures.{key_of}
-use Rattle.stream_check.specs.History.{Moment, has_begun, is_cut_off, rows}
-use Rattle.stream_laws.proofs.AgreeingFrames.{SinceFirst}
-use Rattle.std.specs.Prelude.{slice_get}
-use Rattle.std.proofs.lemmas.List.{append_assoc, length-append}
-use Rattle.mux_types.proofs.Elements.{contains_cases, contains_none, each_contains, contains_first}
-use Rattle.stream_check.specs.Cutting.{HasAll, IsPart, IsCutInThree}
+use Rattle.stream_laws.proofs.Words.{[], ◌%◌, ◌++◌, ◌+◌, ◌-◌, ◌<◌, ◌∙◌, ◌∷◌, ◌≡◌, ◌≤◌, ◌⊎◌, AllByRecursion, Bool}
+use Rattle.stream_laws.proofs.Words.{CommittedBy, Configuration, Contains, Contains-append_cases, Contains-append_left}
+use Rattle.stream_laws.proofs.Words.{Contains-append_right, HasHeader, HasThreeHeaders, Holds, IsAnnounced, IsCode}
+use Rattle.stream_laws.proofs.Words.{IsCutInThree, IsDue, IsHeardInRow, IsHeardInSome, IsHeardWhole, Known, List}
+use Rattle.stream_laws.proofs.Words.{Marked, Moment, None, Option, PageLaws, Plan, Program, Some, SomeSaid, State}
+use Rattle.stream_laws.proofs.Words.{SwapsOn, ap, append_assoc, arith, base_of, both_rounds, concat, cond}
+use Rattle.stream_laws.proofs.Words.{contains_cases, contains_first, contains_frame, contains_none, count_step}
+use Rattle.stream_laws.proofs.Words.{each_contains, ensemble_sent, entries_of, facts_of, false, frames_from, has_begun}
+use Rattle.stream_laws.proofs.Words.{heard_of, in_contains, in_fact, inl, inr, is_cut_off, is_due, key_of, layout_mode}
+use Rattle.stream_laws.proofs.Words.{length, length-append, lt-ltb, marked, notice_airs, notice_at, notice_at_is}
+use Rattle.stream_laws.proofs.Words.{noticed, noticed_state, page_after, page_entries, page_of, page_of_first}
+use Rattle.stream_laws.proofs.Words.{page_of_next, page_set, pageable, raw_entry, refl, rows, sent_entries, shown_bytes}
+use Rattle.stream_laws.proofs.Words.{slice_get, subst, suc, sym, true, zero, ℕ}
+use Rattle.plan_runs.proofs.Notice.{heard_is}
+use Rattle.stream_check.specs.Cutting.{HasAll, IsPart}
 use Rattle.plan_runs.proofs.Lookups.{get_below}
+use Rattle.plan_runs.proofs.Pictures.{HasAll as KnowsAll}
+use Rattle.stream_laws.proofs.AgreeingFrames.{SinceFirst}
 use Rattle.stream_laws.proofs.AgreeingRuns.{due_left}
 
 -- ---- each entry is heard in the frames

@@ -1,54 +1,29 @@
 -- A frame of a run: its FIG 0/0, the entries after it, and what is known after them.
-use Rattle.std.proofs.Common.{◌≡◌, ◌≢◌, ℕ, ◌+◌, ◌≤◌, ◌%◌, ◌==◌, ◌||◌, Bool, true, false, cond, not, List, [], ◌∷◌, ◌++◌}
-use Rattle.std.proofs.Common.{Contains, Option, Some, None, refl, sym, ap, ◌∙◌, subst, arith, inl, inr, ◌&&◌, ◌⊎◌, ◌-◌}
-use Rattle.std.specs.List.{AllByRecursion}
-use Rattle.std.proofs.lemmas.Bool.{false≢true, eq-eqb, ne_eqb}
-use Rattle.fib_codec.specs.Layouts.{layout_mode}
-use Rattle.mux_types.proofs.Elements.{contains_cases}
-use Rattle.mux_types.specs.Entries.{EnsembleInformation}
-use Rattle.mux_config.specs.Configuration.{Configuration}
-use Rattle.fib_codec.specs.Modes.{count_step}
-use Rattle.fib_reader.specs.Raw.{Raw}
-use Rattle.fib_reader.specs.Listening.{Listening, untuned, is_made, at_ensemble}
-use Rattle.stream_check.specs.Frames.{Reading}
-use Rattle.stream_check.specs.Pictures.{key_of}
-use Rattle.stream_check.specs.History.{Item, Moment, Said, said, frame_items, is_ensemble}
-use Rattle.stream_check.specs.History.{ensemble_of_item as said_ensemble, is_flagged, is_swap, listening}
-use Rattle.stream_check.specs.History.{listener_after, has_begun, rows, frames_ended, times_announced, is_cut_off}
-use Rattle.stream_check.specs.History.{settles_at, is_member, last_heard}
-use Rattle.stream_check.specs.Rules.{has_flags}
-use Rattle.stream_check.proofs.Members.{or_false, ensemble_heard, after_is, member_times, member_cut_off}
-use Rattle.stream_check.proofs.Members.{member_settles}
-use Rattle.plan_code.specs.declared.plan.Plan.{Plan}
-use Rattle.plan_code.specs.Program.{Program}
-use Rattle.plan_code.specs.Machine.{State}
-use Rattle.plan_verifier.specs.Typing.{Known}
-use Rattle.plan_runs.specs.Frames.{is_due, shown, frame_bytes, ensemble_of, ensemble_sent, after_frame, shown_bytes}
-use Rattle.plan_runs.specs.Frames.{sent_entries}
-use Rattle.plan_runs.proofs.Tracked.{Airs, SwapsOn, split_le}
-use Rattle.plan_runs.proofs.Right.{ensemble_right, pageable}
-use Rattle.plan_runs.proofs.Facts.{Holds, IsCode, airs}
-use Rattle.plan_runs.proofs.Notice.{links}
-use Rattle.plan_runs.proofs.HeardFrame.{zero_or_not, RowSaid, fibs_in, frame_heard, enters, enters_swap, enters_untuned}
+use Rattle.stream_laws.proofs.Words.{[], ◌%◌, ◌&&◌, ◌++◌, ◌+◌, ◌-◌, ◌==◌, ◌||◌, ◌∙◌, ◌∷◌, ◌≡◌, ◌≢◌, ◌≤◌, ◌⊎◌, Airs}
+use Rattle.stream_laws.proofs.Words.{AllByRecursion, Bool, Configuration, Contains, EnsembleInformation, FibHas32Bytes}
+use Rattle.stream_laws.proofs.Words.{Holds, InFrame, IsCode, IsHeardInRow, Item, Known, KnowsAt, KnowsBy, Laws, List}
+use Rattle.stream_laws.proofs.Words.{Listening, Marked, Moment, None, Nothing, OneList, Option, Or, Plan, Program, Raw}
+use Rattle.stream_laws.proofs.Words.{Reading, RowSaid, Said, Some, State, Still, SwapsOn, after_frame, after_is, airs}
+use Rattle.stream_laws.proofs.Words.{ap, arith, at_ensemble, cond, contains_cases, count_step, ensemble_heard}
+use Rattle.stream_laws.proofs.Words.{ensemble_of, ensemble_right, ensemble_sent, enters, enters_swap, enters_untuned}
+use Rattle.stream_laws.proofs.Words.{eq-eqb, ext_of, false, false≢true, frame_bytes, frame_heard, frame_items}
+use Rattle.stream_laws.proofs.Words.{frames_ended, has_begun, has_flags, headed, inl, inr, is_cut_off, is_due}
+use Rattle.stream_laws.proofs.Words.{is_ensemble, is_flagged, is_made, is_member, is_swap, key_of, knows_after}
+use Rattle.stream_laws.proofs.Words.{knows_weaker, last_heard, layout_mode, links, listener_after, listening}
+use Rattle.stream_laws.proofs.Words.{member_cut_off, member_settles, member_times, ne_eqb, not, or_false, pageable}
+use Rattle.stream_laws.proofs.Words.{refl, rows, said, sent_entries, settles_at, shown, shown_bytes, split_le, subst}
+use Rattle.stream_laws.proofs.Words.{sym, times_announced, true, untuned, zero_or_not, ℕ}
+use Rattle.plan_runs.proofs.HeardFrame.{fibs_in}
+use Rattle.stream_check.specs.History.{ensemble_of_item as said_ensemble}
+use Rattle.stream_check.specs.Stream.{past_after_frame as after_read}
 use Rattle.stream_laws.proofs.Kept.{ensemble_made, ensemble_flags, begun_is, rows_are, times_are, begun_flagged}
 use Rattle.stream_laws.proofs.Rows.{HasNone}
 use Rattle.stream_laws.proofs.Framing.{read_frame}
 use Rattle.stream_laws.proofs.Sending.{IsSentItem, IsHeadOf, frame_said, fibs_heard, is_sent, not_sent}
 use Rattle.stream_laws.proofs.AgreeingRuns.{IsBetween, on_air, flags_on, made_where_due, due_left}
 use Rattle.stream_laws.proofs.LastHeard.{at_tuned, row_said, IsSaidOf}
-use Rattle.fib_codec.specs.Grammar.{OneList}
-use Rattle.stream_check.specs.Stream.{past_after_frame as after_read}
-use Rattle.plan_runs.proofs.Contents.{Laws}
 use Rattle.stream_laws.proofs.Agreeing.{sent_ext}
 use Rattle.stream_laws.proofs.Findings.{Each}
-use Rattle.plan_runs.proofs.Knowing.{KnowsBy, InFrame, Still, knows_after}
-use Rattle.plan_runs.proofs.HeardFrames.{Nothing, KnowsAt, knows_weaker}
-use Rattle.plan_runs.proofs.Hearing.{headed}
-use Rattle.plan_runs.proofs.Tuned.{Or}
-use Rattle.mux_types.specs.Facts.{Marked}
-use Rattle.fib_codec.specs.Heard.{IsHeardInRow}
-use Rattle.fib_codec.specs.Laws.{FibHas32Bytes}
-use Rattle.fib_codec.specs.Spelling.{ext_of}
 
 -- the laws of FIBs and pages that are used
 pub record FrameLaws : Type 0 where

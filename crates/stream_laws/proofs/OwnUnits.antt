@@ -1,32 +1,19 @@
 -- Without a fault, no capacity unit is one of two sub-channels after a swap, and the units stay so.
-use Rattle.std.proofs.Common.{◌≡◌, ℕ, zero, suc, ◌<◌, ◌%◌, ◌==◌, ◌&&◌, Bool, true, false, cond, not, nat_lt, List, []}
-use Rattle.std.proofs.Common.{◌∷◌, ◌++◌, Option, Some, None, refl, sym, ap, ◌∙◌, subst, arith, inl, inr, ◌+◌, ◌≤◌}
-use Rattle.std.specs.Prelude.{slice_get}
-use Rattle.std.specs.List.{AllByRecursion}
-use Rattle.std.proofs.lemmas.Bool.{false≢true, lt-ltb, cases_lt, and_from, not-true}
-use Rattle.mux_types.proofs.Elements.{each_contains}
-use Rattle.fib_reader.specs.Raw.{Raw}
-use Rattle.fib_reader.specs.Listening.{Listening, is_made, identifier_of, Pictured, is_known, kept}
-use Rattle.stream_check.specs.declared.finding.Fault.{Fault}
+use Rattle.stream_laws.proofs.Words.{[], ◌%◌, ◌&&◌, ◌++◌, ◌+◌, ◌<◌, ◌==◌, ◌∙◌, ◌∷◌, ◌≡◌, ◌≤◌, AllByRecursion, Bool}
+use Rattle.stream_laws.proofs.Words.{Ended, Fault, HaveOwnUnits, IsAscending, IsNoFault, IsUnitOf, Item, KnownBefore}
+use Rattle.stream_laws.proofs.Words.{List, Listening, Moment, None, Option, Pictured, Raw, Said, Some, SwapsKeepUnits}
+use Rattle.stream_laws.proofs.Words.{UnitsStayOwn, and_from, ap, arith, as_list, ascends_changed, ascends_with}
+use Rattle.stream_laws.proofs.Words.{awaited_low, cases_lt, cond, each_contains, end_unit, ends_past, ensemble_of_item}
+use Rattle.stream_laws.proofs.Words.{entry_at, entry_like, false, false≢true, first_unit, frames_ended, heard_as}
+use Rattle.stream_laws.proofs.Words.{identifier_of, inl, inr, is_cut_off, is_ensemble, is_flagged, is_known}
+use Rattle.stream_laws.proofs.Words.{is_long_form, is_made, is_swap, kept, kept_where_found, known_of, listener_after}
+use Rattle.stream_laws.proofs.Words.{lt-ltb, member_settles, nat_lt, not, not-true, notice_faults, overlap, overlap_or}
+use Rattle.stream_laws.proofs.Words.{partner, past_end, present, refl, settles_at, share_unit, slice_get, subst, suc}
+use Rattle.stream_laws.proofs.Words.{sym, true, when, with_entry, with_entry_changed, zero, ℕ}
 use Rattle.stream_check.specs.declared.finding.Fault.TheVariants as faults
-use Rattle.stream_check.specs.Reporting.{when, as_list}
-use Rattle.stream_check.specs.History.{Item, Moment, Said, is_ensemble, ensemble_of_item, is_flagged, is_swap}
-use Rattle.stream_check.specs.History.{listener_after, Ended, is_cut_off, frames_ended, settles_at}
-use Rattle.stream_check.specs.Rules.{KnownBefore, known_of, awaited_low, notice_faults, is_long_form, first_unit}
-use Rattle.stream_check.specs.Rules.{end_unit, share_unit, partner, overlap_or, overlap, ends_past, past_end}
-use Rattle.stream_check.proofs.Ensembles.{heard_as}
-use Rattle.stream_laws.specs.Faultless.{IsNoFault}
-use Rattle.stream_laws.specs.Units.{IsUnitOf, HaveOwnUnits, SwapsKeepUnits, UnitsStayOwn}
 use Rattle.stream_laws.proofs.Clean.{all_left, all_right, IsClean, entry_clean}
 use Rattle.stream_laws.proofs.Kept.{first_holds, after_heard, ensemble_made, plain_ensemble, current_kept, second_holds}
 use Rattle.stream_laws.proofs.Kept.{with_member, after_member}
-use Rattle.mux_config.specs.Configuration.{IsAscending}
-use Rattle.mux_config.specs.Tables.{entry_at, with_entry, with_entry_changed}
-use Rattle.mux_config.proofs.Keeping.{present}
-use Rattle.mux_types.proofs.Tables.{ascends_with, ascends_changed}
-use Rattle.fib_reader.proofs.Keeping.{kept_where_found}
-use Rattle.stream_check.proofs.Members.{member_settles}
-use Rattle.stream_laws.specs.Keeping.{entry_like}
 use Rattle.stream_laws.proofs.Pictures.{picture_with}
 use Rattle.stream_laws.proofs.Staying.{no_current, a_current, after_ensemble_is}
 

@@ -1,15 +1,10 @@
 -- Lookup in a picture with one more entry.
-use Rattle.std.proofs.Common.{◌≡◌, ℕ, ◌==◌, ◌||◌, true, false, cond, nat_lt, List, [], ◌∷◌, length, Option, Some, None}
-use Rattle.std.proofs.Common.{refl, sym, ap, ◌∙◌, Bool}
-use Rattle.std.proofs.lemmas.Bool.{false≢true, eq-eqb, eqb-true, or_right}
-use Rattle.mux_config.specs.Tables.{entry_at, with_entry, with_entry_changed, has_entry}
-use Rattle.mux_config.proofs.Keeping.{present}
-use Rattle.fib_reader.specs.Raw.{Raw}
-use Rattle.fib_reader.specs.Listening.{Pictured, identifier_of, is_known, kept, has_room, pictured}
+use Rattle.stream_laws.proofs.Words.{[], ◌==◌, ◌||◌, ◌∙◌, ◌∷◌, ◌≡◌, Bool, List, None, Option, Pictured, Raw, Some, ap}
+use Rattle.stream_laws.proofs.Words.{cond, entry_at, entry_like, eq-eqb, eqb-true, false, false≢true, finds_no_room}
+use Rattle.stream_laws.proofs.Words.{has_entry, has_room, identifier_of, is_known, kept, length, lookup, lookup_among}
+use Rattle.stream_laws.proofs.Words.{lookup_in, nat_lt, or_right, pictured, present, refl, sym, true, with_entry}
+use Rattle.stream_laws.proofs.Words.{with_entry_changed, ℕ}
 use Rattle.stream_check.specs.declared.heard_table.Lookup.TheVariants as standings
-use Rattle.stream_check.specs.Lookup.{lookup_among, lookup, lookup_in}
-use Rattle.stream_check.specs.Rules.{finds_no_room}
-use Rattle.stream_laws.specs.Keeping.{entry_like}
 
 -- ---- one list
 

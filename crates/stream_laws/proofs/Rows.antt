@@ -1,15 +1,9 @@
 -- The entries of the frames of a notice.
-use Rattle.std.proofs.Common.{◌≡◌, ℕ, ◌+◌, Bool, true, false, cond, List, [], ◌∷◌, ◌++◌, length, refl, sym, ap, ◌∙◌}
-use Rattle.std.proofs.Common.{subst, inl, inr, ◌⊎◌}
-use Rattle.std.specs.Prelude.{map}
-use Rattle.std.specs.List.{AllByRecursion}
-use Rattle.std.proofs.lemmas.Bool.{or_parts}
-use Rattle.std.proofs.lemmas.List.{append_assoc, append-nil, length-append, map-append}
-use Rattle.stream_check.specs.Frames.{Fib}
-use Rattle.stream_check.specs.History.{Item, Moment, Said, Ended, said, frame_items, is_ensemble, is_swap, has_ensemble}
-use Rattle.stream_check.specs.History.{has_begun, rows, row_at_hand}
-use Rattle.stream_check.specs.Stream.{past_after_frame, after_frames}
-use Rattle.mux_types.proofs.Tables.{each_pushed}
+use Rattle.stream_laws.proofs.Words.{[], ◌++◌, ◌+◌, ◌∙◌, ◌∷◌, ◌≡◌, ◌⊎◌, AllByRecursion, Bool, Ended, Fib, Item, List}
+use Rattle.stream_laws.proofs.Words.{Moment, Said, after_frames, ap, append-nil, append_assoc, cond, each_pushed, false}
+use Rattle.stream_laws.proofs.Words.{frame_items, has_begun, has_ensemble, inl, inr, is_ensemble, is_swap, length}
+use Rattle.stream_laws.proofs.Words.{length-append, map, map-append, or_parts, past_after_frame, refl, row_at_hand}
+use Rattle.stream_laws.proofs.Words.{rows, said, subst, sym, true, ℕ}
 
 -- the entries of the current frame
 abbrev pub at_hand : List Moment → List Item

@@ -1,28 +1,19 @@
 -- The counts of a stream without a fault run on.
-use Rattle.std.specs.Prelude.{nat_lt, ◌&&◌}
-use Rattle.std.proofs.Common.{◌≡◌, ℕ, ◌+◌, ◌%◌, ◌≤◌, ◌==◌, Bool, true, false, cond, not, List, [], ◌∷◌, ◌++◌, map}
-use Rattle.std.proofs.Common.{length, Contains, Option, Some, None, refl, sym, ap, ◌∙◌, arith, inl, inr}
-use Rattle.std.specs.List.{AllByRecursion}
-use Rattle.std.proofs.lemmas.Bool.{false≢true, eqb-true, eq-eqb, ltb-false, not-false}
-use Rattle.std.proofs.lemmas.List.Elements.{Contains-append_left, Contains-append_right}
-use Rattle.mux_types.proofs.Elements.{contains_first, contains_cases, contains_none, each_contains}
-use Rattle.mux_types.specs.Entries.{EnsembleInformation}
-use Rattle.fib_codec.specs.Grammar.{Fig, Open, Other, is_next}
-use Rattle.fib_reader.specs.Raw.{Raw, entries_in, ensemble_in}
-use Rattle.stream_check.specs.declared.contradiction.Contradiction.{Contradiction}
+use Rattle.stream_laws.proofs.Words.{[], ◌%◌, ◌&&◌, ◌++◌, ◌+◌, ◌==◌, ◌∙◌, ◌∷◌, ◌≡◌, ◌≤◌, AllByRecursion, AreFibBytes}
+use Rattle.stream_laws.proofs.Words.{Bool, Contains, Contains-append_left, Contains-append_right, Contradiction}
+use Rattle.stream_laws.proofs.Words.{CountsRunOn, EnsembleInformation, Fib, Fig, Finding, IsAtCount, IsNoFault, Item}
+use Rattle.stream_laws.proofs.Words.{List, Moment, None, Open, Option, Other, Raw, Reading, RunOn, Said, Some}
+use Rattle.stream_laws.proofs.Words.{after_frames, ap, arith, cond, contains_cases, contains_first, contains_none}
+use Rattle.stream_laws.proofs.Words.{count_due, count_in, count_of_frame, damaged_findings, damaged_in, due}
+use Rattle.stream_laws.proofs.Words.{each_contains, eid_of, ensemble_in, ensemble_of_item, entries_in, eq-eqb, eqb-true}
+use Rattle.stream_laws.proofs.Words.{false, false≢true, fib_items, fibs_items, fig_items, figs_items, findings_from}
+use Rattle.stream_laws.proofs.Words.{first_in, first_in_figs, first_line, first_of_frame, first_opening, first_or}
+use Rattle.stream_laws.proofs.Words.{first_raw, frame_findings, frame_items, frames_full, inl, inr, is_ensemble}
+use Rattle.stream_laws.proofs.Words.{is_in_place, is_next, is_other, is_there, items_of, lacks_opening, last_eid}
+use Rattle.stream_laws.proofs.Words.{length, ltb-false, map, nat_lt, not, not-false, noted_in, opening}
+use Rattle.stream_laws.proofs.Words.{past_after_frame, placed_count, read_frames, refl, row_of, said, size_findings}
+use Rattle.stream_laws.proofs.Words.{some_is, sym, true, ℕ}
 use Rattle.stream_check.specs.declared.finding.Fault.TheVariants as faults
-use Rattle.stream_check.specs.declared.finding.Finding.{Finding}
-use Rattle.stream_check.specs.Frames.{Fib, Reading, first_raw, first_or, first_in_figs, first_in, opening, is_there}
-use Rattle.stream_check.specs.Frames.{first_of_frame, first_opening, lacks_opening, damaged_in}
-use Rattle.stream_check.specs.History.{Item, Moment, Said, said, items_of, fig_items, figs_items, fib_items, fibs_items}
-use Rattle.stream_check.specs.History.{frame_items, is_ensemble, ensemble_of_item, is_in_place, due, eid_of, last_eid}
-use Rattle.stream_check.specs.Rules.{is_other}
-use Rattle.stream_check.specs.Stream.{count_in, count_due, placed_count, count_of_frame, first_line, size_findings}
-use Rattle.stream_check.specs.Stream.{damaged_findings, frame_findings, noted_in, past_after_frame, after_frames}
-use Rattle.stream_check.specs.Stream.{findings_from, frames_full}
-use Rattle.stream_laws.specs.Faultless.{IsNoFault}
-use Rattle.stream_laws.specs.Notices.{AreFibBytes, read_frames, row_of}
-use Rattle.stream_laws.specs.RunningOn.{IsAtCount, RunOn, CountsRunOn}
 use Rattle.stream_laws.proofs.Clean.{all_left, all_right, IsClean, all_clean, before_said, before_frames, clean_handed}
 use Rattle.stream_laws.proofs.Clean.{frame_free}
 use Rattle.stream_laws.proofs.Kept.{no_fault, first_holds, second_holds, second_false, plain_ensemble}
@@ -31,7 +22,6 @@ use Rattle.stream_laws.proofs.Tracking.{IsFormed, alone_first}
 use Rattle.stream_laws.proofs.Formed.{all_formed}
 use Rattle.stream_laws.proofs.Bytes.{FibLaws, header_heard, header_said}
 use Rattle.stream_laws.proofs.Announced.{formed_handed}
-use Rattle.plan_runs.proofs.Passing.{some_is}
 
 clean_here : (step period : ℕ) (i : Item) (is : List Item) (past : List Moment)
     → IsClean step period (said (i ∷ is) past) → IsClean step period (Said i ∷ past)

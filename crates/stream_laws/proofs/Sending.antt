@@ -1,54 +1,28 @@
 -- The entries of a frame of a run, as the checker hears them: those of FIG 0/0 to 0/3 of its own ensemble alone.
-use Rattle.std.proofs.Common.{◌≡◌, ℕ, ◌+◌, ◌-◌, ◌*◌, ◌%◌, ◌==◌, Bool, true, false, cond, List, [], ◌∷◌, ◌++◌, length}
-use Rattle.std.proofs.Common.{drop, Option, Some, None, refl, sym, ap, ◌∙◌, subst, arith, replicate, zero, suc, map}
-use Rattle.std.proofs.Common.{◌≢◌}
-use Rattle.std.specs.Prelude.{IfSome}
-use Rattle.std.specs.List.{AllByRecursion}
-use Rattle.std.proofs.lemmas.List.{append_assoc, drop-drop, map-append}
-use Rattle.fib_codec.specs.Layouts.{frame_fibs, reserved_fibs, layout_mode}
-use Rattle.fib_codec.specs.declared.frame_layout.FrameLayout.{FrameLayout}
-use Rattle.fib_codec.specs.declared.frame_layout.FrameLayout.TheVariants.{Whole, ReserveOne}
-use Rattle.mux_config.specs.Configuration.{Configuration}
-use Rattle.mux_types.specs.Entries.{EnsembleInformation}
-use Rattle.mux_types.specs.Facts.{Marked, marked}
-use Rattle.mux_types.specs.declared.entry.Entry.{Entry}
-use Rattle.mux_types.specs.declared.entry.Entry.TheVariants.{Ensemble as EnsembleOf}
-use Rattle.fib_codec.specs.declared.head.Head.{Head}
-use Rattle.fib_codec.specs.declared.modes.Mode.TheVariants.{I}
-use Rattle.fib_codec.specs.Ranges.{IsEnsembleInformation}
-use Rattle.fib_codec.specs.Spelling.{Written, head_of, head_byte, entry_bytes}
-use Rattle.fib_codec.specs.Grammar.{OneList, fig_of, is_next, is_long, Fig, Open, Other, IsOpen}
-use Rattle.fib_codec.specs.Heard.{fib_at}
+use Rattle.stream_laws.proofs.Words.{[], ◌%◌, ◌*◌, ◌++◌, ◌+◌, ◌-◌, ◌==◌, ◌∙◌, ◌∷◌, ◌≡◌, ◌≢◌, Airs, AllByRecursion, Bool}
+use Rattle.stream_laws.proofs.Words.{Configuration, Contradiction, EnsembleInformation, EnsembleIsHeard, Entry}
+use Rattle.stream_laws.proofs.Words.{EntrySent, Fib, Fig, FrameLayout, Head, HearsAll, I, IfSome, IsEnsembleInformation}
+use Rattle.stream_laws.proofs.Words.{IsOpen, IsSentOf, Item, Laws, List, Listening, Marked, Moment, None, OneList, Open}
+use Rattle.stream_laws.proofs.Words.{Option, Other, Plan, Raw, Reading, ReserveOne, Said, Some, State, Whole, Written}
+use Rattle.stream_laws.proofs.Words.{all_append, ap, append_assoc, arith, cond, count_step, drop, drop-drop}
+use Rattle.stream_laws.proofs.Words.{ensemble_in, ensemble_of, ensemble_sent, entries_in, entries_sent, entry_bytes}
+use Rattle.stream_laws.proofs.Words.{eq-eqb, false, fib_at, fib_entries, fib_items, fib_sent, fibs_from, fibs_items}
+use Rattle.stream_laws.proofs.Words.{fibs_sent, fig_items, fig_of, fig_sent, figs_items, figs_sent, findings_at}
+use Rattle.stream_laws.proofs.Words.{findings_at_items, findings_at_sent, first_fib, frame_fibs, frame_items}
+use Rattle.stream_laws.proofs.Words.{frame_sent, has_no_room, head_byte, head_of, hear_entries, hear_entry, hear_fig}
+use Rattle.stream_laws.proofs.Words.{hear_figs, is_ensemble, is_long, is_next, is_noticed, items_of, known_of}
+use Rattle.stream_laws.proofs.Words.{later_fibs, layout_mode, length, listening, map, map-append, marked, ne_eqb}
+use Rattle.stream_laws.proofs.Words.{noted_at, pageable, raw_entry, raw_is, raw_of, refl, replicate, reserved_fibs}
+use Rattle.stream_laws.proofs.Words.{said, said_append, second_next, sent_entries, sent_within, shown_bytes, subst, suc}
+use Rattle.stream_laws.proofs.Words.{sym, true, where_heard, zero, ℕ}
 use Rattle.fib_carousel.specs.Packing.{same_head}
-use Rattle.fib_carousel.specs.Pages.{fib_entries, first_fib, later_fibs}
 use Rattle.fib_carousel.specs.Bytes.{AreFibs, with_entry_first, figs_of, ensemble_figs}
 use Rattle.fib_carousel.proofs.Sharing.{same_head_is}
-use Rattle.fib_reader.specs.Raw.{Raw, raw_of, raw_entry, ensemble_in, entries_in}
-use Rattle.fib_reader.specs.Laws.{EnsembleIsHeard}
-use Rattle.stream_check.specs.Frames.{Fib, Reading}
-use Rattle.stream_check.specs.History.{Item, fig_items, figs_items, fib_items, fibs_items, frame_items, is_ensemble}
-use Rattle.stream_check.specs.History.{ensemble_of_item as said_ensemble, Moment, Said, said, items_of, listening}
-use Rattle.plan_code.specs.declared.plan.Plan.{Plan}
-use Rattle.plan_code.specs.Machine.{State}
-use Rattle.plan_runs.specs.Frames.{is_noticed, sent_entries, ensemble_sent, shown_bytes, ensemble_of}
-use Rattle.plan_runs.specs.Listening.{fibs_from, HearsAll}
-use Rattle.plan_runs.proofs.Tracked.{Airs}
-use Rattle.plan_runs.proofs.Right.{pageable, sent_within}
-use Rattle.plan_runs.proofs.Tuned.{IsSentOf}
-use Rattle.plan_runs.proofs.Hearing.{second_next, raw_is}
-use Rattle.plan_runs.proofs.Contents.{Laws, fib_sent as page_sent}
+use Rattle.mux_types.specs.declared.entry.Entry.TheVariants.{Ensemble as EnsembleOf}
+use Rattle.stream_check.specs.History.{ensemble_of_item as said_ensemble}
+use Rattle.plan_runs.proofs.Contents.{fib_sent as page_sent}
 use Rattle.stream_laws.proofs.Framing.{first_of_fibs, read_frame}
-use Rattle.stream_check.proofs.Framing.{all_append}
 use Rattle.stream_laws.proofs.Bytes.{is_read}
-use Rattle.fib_reader.specs.Listening.{Listening, where_heard, hear_entry, hear_entries, hear_fig, hear_figs}
-use Rattle.stream_check.proofs.Saying.{said_append}
-use Rattle.stream_check.specs.declared.contradiction.Contradiction.{Contradiction}
-use Rattle.stream_check.specs.Rules.{known_of, findings_at, has_no_room}
-use Rattle.stream_check.specs.Sent.{EntrySent, entries_sent, fig_sent, figs_sent, fib_sent, fibs_sent, frame_sent}
-use Rattle.stream_check.specs.Sent.{noted_at}
-use Rattle.stream_check.specs.Stream.{findings_at_items, findings_at_sent}
-use Rattle.std.proofs.lemmas.Bool.{eq-eqb, ne_eqb}
-use Rattle.fib_codec.specs.Modes.{count_step}
 
 -- an entry that is sent of these configurations
 pub record IsSentItem (noticed : Bool) (c n : Configuration) (i : Item) : Type 0 where

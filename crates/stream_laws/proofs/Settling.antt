@@ -1,31 +1,15 @@
 -- Once the current configuration is settled, all its entries are known.
-use Rattle.std.proofs.Common.{◌≡◌, ℕ, ◌==◌, ◌&&◌, Bool, true, false, cond, nat_le, List, [], ◌∷◌, length, Option, Some}
-use Rattle.std.proofs.Common.{None, refl, sym, ap, ◌∙◌, subst, inl, inr}
-use Rattle.std.specs.List.{AllByRecursion}
-use Rattle.std.proofs.lemmas.Bool.{false≢true, eq-eqb, and_right}
-use Rattle.fib_codec.specs.Layouts.{layout_mode}
-use Rattle.mux_config.specs.Configuration.{Configuration, IsConfiguration}
-use Rattle.mux_config.specs.Tables.{entry_at}
-use Rattle.fib_codec.specs.Modes.{count_step}
-use Rattle.fib_reader.specs.Raw.{Raw, raw_entry}
-use Rattle.fib_reader.specs.Listening.{Pictured, Listening, identifier_of, hear_entry}
+use Rattle.stream_laws.proofs.Words.{[], ◌&&◌, ◌==◌, ◌∙◌, ◌∷◌, ◌≡◌, AllByRecursion, Bool, Configuration, HasAll, Holds}
+use Rattle.stream_laws.proofs.Words.{In, IsCode, IsConfiguration, IsOf, IsPart, IsPartial, Item, Known, List, Listening}
+use Rattle.stream_laws.proofs.Words.{Moment, None, Nothing, Option, Or, Pictured, Plan, Program, Raw, Said, SaidIn}
+use Rattle.stream_laws.proofs.Words.{Some, State, Tuned, after_is, agree, airs, and_right, ap, cond, count_step}
+use Rattle.stream_laws.proofs.Words.{ensemble_sent, entry_at, entry_is_of, eq-eqb, false, false≢true, frames_ended}
+use Rattle.stream_laws.proofs.Words.{headed, hear_entry, hears_entries, identifier_of, inl, inr, is_absent, is_ensemble}
+use Rattle.stream_laws.proofs.Words.{is_settled, known_of, layout_mode, length, listener_after, listening, lookup}
+use Rattle.stream_laws.proofs.Words.{lookup_among, lookup_in, member_heard, member_settles, nat_le, partly, raw_entry}
+use Rattle.stream_laws.proofs.Words.{refl, said, settles_at, shown, subst, sym, true, tuned_weaker, whole_is_set}
+use Rattle.stream_laws.proofs.Words.{whole_of, ℕ}
 use Rattle.stream_check.specs.declared.heard_table.Lookup.TheVariants as standings
-use Rattle.stream_check.specs.Lookup.{agree, lookup_among, lookup, lookup_in}
-use Rattle.stream_check.specs.History.{Item, Moment, Said, said, is_ensemble, frames_ended, listening, listener_after}
-use Rattle.stream_check.specs.History.{settles_at}
-use Rattle.stream_check.specs.Rules.{known_of, is_absent, is_settled}
-use Rattle.stream_check.proofs.Members.{after_is, member_heard, member_settles}
-use Rattle.plan_code.specs.declared.plan.Plan.{Plan}
-use Rattle.plan_code.specs.Program.{Program}
-use Rattle.plan_code.specs.Machine.{State}
-use Rattle.plan_verifier.specs.Typing.{Known}
-use Rattle.plan_runs.specs.Frames.{shown, ensemble_sent}
-use Rattle.plan_runs.proofs.Facts.{Holds, IsCode, airs}
-use Rattle.plan_runs.proofs.Hearing.{headed}
-use Rattle.plan_runs.proofs.Parts.{In, partly, IsPart}
-use Rattle.plan_runs.proofs.Pictures.{whole_of, IsOf, IsPartial, HasAll, entry_is_of, whole_is_set}
-use Rattle.plan_runs.proofs.Tuned.{Tuned, Or, SaidIn, hears_entries, tuned_weaker}
-use Rattle.plan_runs.proofs.HeardFrames.{Nothing}
 use Rattle.stream_laws.proofs.Sending.{IsSentItem}
 use Rattle.stream_laws.proofs.Agreeing.{sent_ext, one_heard}
 use Rattle.stream_laws.proofs.AgreeingRuns.{on_air}

@@ -1,46 +1,28 @@
 -- Pictures that show configurations; their lists have entries of their kinds.
-use Rattle.std.proofs.Common.{◌≡◌, ℕ, ◌<◌, ◌==◌, Bool, true, false, cond, List, [], ◌∷◌, refl, sym, subst, arith, ◌+◌}
-use Rattle.std.proofs.Common.{◌≤◌, ◌&&◌, not, ◌++◌, Contains, Some, ap, ◌∙◌, inl, inr}
-use Rattle.std.specs.List.{AllByRecursion}
-use Rattle.std.proofs.lemmas.Bool.{eqb-true, eqb-false, false≢true, eq-eqb, ne_eqb, and_from}
-use Rattle.fib_reader.specs.Raw.{Raw, raw_entry}
-use Rattle.fib_reader.specs.Listening.{Pictured, Listening, blank, kept, identifier_of}
-use Rattle.fib_reader.proofs.Keeping.{each_kept}
-use Rattle.stream_check.specs.History.{Item, Moment, Said, Ended, is_ensemble, ensemble_of_item, is_flagged, is_swap}
-use Rattle.stream_check.specs.History.{listener_after}
-use Rattle.stream_check.proofs.Ensembles.{heard_as}
+use Rattle.stream_laws.proofs.Words.{[], ◌&&◌, ◌++◌, ◌+◌, ◌<◌, ◌==◌, ◌∙◌, ◌∷◌, ◌≡◌, ◌≤◌, AllByRecursion, Bool}
+use Rattle.stream_laws.proofs.Words.{ChangeIsUnique, Configuration, Contains, Contains-append_cases, Ended, Entry}
+use Rattle.stream_laws.proofs.Words.{HaveSameMembers, IsAddressed, IsAscending, IsChange, IsConfiguration, IsPlaced}
+use Rattle.stream_laws.proofs.Words.{IsService, IsTrue, IsWithin, Item, List, Listening, Moment, Pictured, Raw, Said}
+use Rattle.stream_laws.proofs.Words.{ShowsEach, Some, SpellingIdentifies, Sub, agree, agree_same, agree_self}
+use Rattle.stream_laws.proofs.Words.{all_append, and_from, ap, append_assoc, are_same, arith, bits_of, blank}
+use Rattle.stream_laws.proofs.Words.{change_between, change_of, cond, contains_cases, contains_none, each_contains}
+use Rattle.stream_laws.proofs.Words.{each_kept, ensemble_of_item, entry_at, entry_like, eq-eqb, eqb-false, eqb-true}
+use Rattle.stream_laws.proofs.Words.{ext_of, false, false≢true, has_same_services, has_same_subs, heard_as}
+use Rattle.stream_laws.proofs.Words.{identifier_of, inl, inr, is_ensemble, is_flagged, is_swap, kept, listener_after}
+use Rattle.stream_laws.proofs.Words.{map, mapped_to, ne_eqb, not, packet_entry, packet_identified, packet_key}
+use Rattle.stream_laws.proofs.Words.{packet_within, raw_entry, refl, service_entries, service_entry, service_identified}
+use Rattle.stream_laws.proofs.Words.{service_key, service_within, shows_each, sub_entries, sub_entry, sub_identified}
+use Rattle.stream_laws.proofs.Words.{sub_key, sub_within, subst, sym, true, ℕ}
+use Rattle.mux_types.specs.declared.parts.Service.{Service}
+use Rattle.mux_types.specs.declared.parts.Packet.{Packet}
+use Rattle.mux_types.specs.Sameness.{is_same_list, is_same_sub, is_same_service, is_same_packet}
+use Rattle.mux_config.proofs.Same.{list_same, sub_same, service_same, packet_same}
+use Rattle.mux_config.proofs.FactSets.{same_members}
+use Rattle.fib_reader.specs.Picture.{IsPictured, IsSubOf, Shows}
 use Rattle.stream_laws.proofs.Clean.{IsClean, all_left}
 use Rattle.stream_laws.proofs.Pictures.{picture_with}
 use Rattle.stream_laws.proofs.Kept.{with_member, after_member, after_heard, first_holds, second_holds}
 use Rattle.stream_laws.proofs.Tracking.{IsFormed}
-use Rattle.std.specs.Prelude.{map, IsTrue}
-use Rattle.std.proofs.lemmas.List.{append_assoc}
-use Rattle.std.proofs.lemmas.List.Elements.{Contains-append_cases}
-use Rattle.mux_types.proofs.Elements.{contains_cases, contains_none, each_contains}
-use Rattle.mux_types.specs.declared.parts.Sub.{Sub}
-use Rattle.mux_types.specs.declared.parts.Service.{Service}
-use Rattle.mux_types.specs.declared.parts.Packet.{Packet}
-use Rattle.mux_types.specs.Sameness.{is_same_list, is_same_sub, is_same_service, is_same_packet}
-use Rattle.mux_config.specs.Tables.{entry_at}
-use Rattle.mux_config.specs.Configuration.{Configuration, IsConfiguration, IsAscending, IsPlaced, IsService}
-use Rattle.mux_config.specs.Configuration.{IsAddressed, sub_key, service_key, packet_key}
-use Rattle.mux_config.specs.Change.{ChangeIsUnique, IsChange, change_of, bits_of, has_same_subs, has_same_services}
-use Rattle.mux_config.proofs.Same.{list_same, sub_same, service_same, packet_same}
-use Rattle.mux_config.proofs.FactSets.{same_members}
-use Rattle.mux_types.specs.declared.entry.Entry.{Entry}
-use Rattle.mux_types.specs.Facts.{sub_entry, service_entry, packet_entry, sub_entries, service_entries, HaveSameMembers}
-use Rattle.fib_codec.specs.Ranges.{IsWithin}
-use Rattle.fib_codec.specs.Spelling.{SpellingIdentifies, ext_of}
-use Rattle.fib_reader.specs.Picture.{IsPictured, IsSubOf, Shows}
-use Rattle.fib_reader.proofs.FromEntries.{sub_within, service_within, packet_within, sub_identified, service_identified}
-use Rattle.fib_reader.proofs.FromEntries.{packet_identified}
-use Rattle.fib_reader.proofs.Shown.{ShowsEach, shows_each}
-use Rattle.stream_check.specs.Lookup.{agree}
-use Rattle.stream_check.specs.Rules.{are_same, change_between}
-use Rattle.stream_check.proofs.Agreeing.{agree_self, agree_same}
-use Rattle.stream_laws.specs.Keeping.{entry_like}
-use Rattle.stream_check.proofs.Framing.{all_append}
-use Rattle.mux_types.proofs.Members.{mapped_to}
 
 -- ---- the lists of a picture have entries of their kinds
 

@@ -1,29 +1,16 @@
 -- Without a fault, entries of the current configuration stay, and are sent in any N frames.
-use Rattle.std.proofs.Common.{◌≡◌, ℕ, ◌+◌, ◌<◌, ◌≤◌, ◌==◌, ◌&&◌, ◌||◌, Bool, true, false, cond, not, List, [], ◌∷◌}
-use Rattle.std.proofs.Common.{◌++◌, length, Contains, Some, refl, sym, ap, ◌∙◌, subst, arith, inl, inr, ◌⊎◌}
-use Rattle.std.specs.Prelude.{map}
-use Rattle.std.specs.List.{AllByRecursion, filter}
-use Rattle.std.proofs.lemmas.Bool.{false≢true, eq-eqb, eqb-true, eqb-false, not-true}
-use Rattle.std.proofs.lemmas.List.{append_assoc, map-append, length-map}
-use Rattle.mux_types.proofs.Elements.{contains_cases, contains_none, contains_first, contains_later, each_contains}
-use Rattle.fib_reader.specs.Raw.{Raw}
-use Rattle.fib_reader.specs.Listening.{Pictured, Listening, kept, all_entries}
-use Rattle.fib_reader.proofs.Keeping.{each_kept}
-use Rattle.stream_check.specs.declared.contradiction.Contradiction.{Contradiction}
-use Rattle.stream_check.specs.declared.finding.Finding.{Finding}
-use Rattle.stream_check.specs.Pictures.{key_of}
-use Rattle.stream_check.specs.Frames.{Fib, Reading}
-use Rattle.stream_check.specs.History.{Item, Moment, Said, Ended, said, frame_items, is_ensemble, ensemble_of_item}
-use Rattle.stream_check.specs.History.{is_flagged, is_swap, is_member, frames_ended, listener_after, last_heard}
-use Rattle.stream_check.specs.Rules.{is_silent, silence, silent_findings}
-use Rattle.stream_check.specs.Stream.{noted_in, past_after_frame, findings_from, after_frames, frames_full}
-use Rattle.stream_check.proofs.Ensembles.{heard_as}
-use Rattle.stream_check.proofs.Members.{member_last}
-use Rattle.stream_laws.specs.Faultless.{IsNoFault, IsFaultless}
-use Rattle.stream_laws.specs.Keeping.{entry_like}
-use Rattle.stream_laws.specs.Notices.{AreFibBytes, read_frames, row_of}
-use Rattle.stream_laws.specs.Entries.{IsSent}
-use Rattle.stream_laws.specs.Staying.{last_swap, CurrentStays, CurrentIsSent}
+use Rattle.stream_laws.proofs.Words.{[], ◌&&◌, ◌++◌, ◌+◌, ◌<◌, ◌==◌, ◌||◌, ◌∙◌, ◌∷◌, ◌≡◌, ◌≤◌, ◌⊎◌, AllByRecursion}
+use Rattle.stream_laws.proofs.Words.{AreFibBytes, Bool, Contains, Contradiction, CurrentIsSent, CurrentStays, Ended}
+use Rattle.stream_laws.proofs.Words.{Fib, Finding, IsFaultless, IsNoFault, IsSent, Item, List, Listening, Moment}
+use Rattle.stream_laws.proofs.Words.{Pictured, Raw, Reading, Said, Some, after_frames, all_append, all_entries, ap}
+use Rattle.stream_laws.proofs.Words.{append_assoc, arith, cond, contains_cases, contains_first, contains_later}
+use Rattle.stream_laws.proofs.Words.{contains_none, each_contains, each_kept, ensemble_of_item, entry_like, eq-eqb}
+use Rattle.stream_laws.proofs.Words.{eqb-false, eqb-true, false, false≢true, filter, findings_from, frame_items}
+use Rattle.stream_laws.proofs.Words.{frames_ended, frames_full, heard_as, inl, inr, is_ensemble, is_flagged, is_member}
+use Rattle.stream_laws.proofs.Words.{is_silent, is_swap, kept, key_of, last_heard, last_swap, length, length-map}
+use Rattle.stream_laws.proofs.Words.{listener_after, map, map-append, mapped_from, mapped_to, member_last, not}
+use Rattle.stream_laws.proofs.Words.{not-true, noted_in, past_after_frame, read_frames, refl, row_of, said, silence}
+use Rattle.stream_laws.proofs.Words.{silent_findings, subst, sym, true, ℕ}
 use Rattle.stream_laws.proofs.Clean.{all_left, all_right, IsClean, all_clean, clean_handed, before_said, before_frames}
 use Rattle.stream_laws.proofs.Clean.{frames_twice, said_ended, frame_free, faultless_before}
 use Rattle.stream_laws.proofs.Kept.{current_kept, first_holds, second_holds, with_member, after_member, after_heard}
@@ -33,8 +20,6 @@ use Rattle.stream_laws.proofs.Formed.{all_formed}
 use Rattle.stream_laws.proofs.LastHeard.{last_at_most, last_grows}
 use Rattle.stream_laws.proofs.Shown.{HasKinds, all_kinds}
 use Rattle.stream_laws.proofs.Announced.{items_in, one_found, frames_counted, there, sent}
-use Rattle.stream_check.proofs.Framing.{all_append}
-use Rattle.mux_types.proofs.Members.{mapped_from, mapped_to}
 
 -- ---- at the end of each frame no entry is silent
 

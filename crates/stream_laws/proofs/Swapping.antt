@@ -1,20 +1,18 @@
 -- The entries of the next configuration in the frames of a notice, and what a swap without a fault implies about it.
-use Rattle.std.proofs.Common.{◌≡◌, ℕ, ◌<◌, ◌&&◌, Bool, true, false, cond, List, [], ◌∷◌, ◌++◌, Some, Contains, refl}
-use Rattle.std.proofs.Common.{sym, ap, ◌∙◌, subst, inl, inr, arith, zero, suc, ◌+◌, ◌≤◌, ◌%◌, ◌==◌, not, nat_lt, drop}
-use Rattle.std.proofs.Common.{Option, None}
-use Rattle.std.proofs.lemmas.Bool.{false≢true, cases_lt, eqb-true, lt-ltb, not-false}
-use Rattle.std.proofs.lemmas.List.{append-nil}
-use Rattle.std.proofs.lemmas.List.Elements.{Contains-append_left, Contains-append_right, Contains-append_cases}
-use Rattle.fib_reader.specs.Raw.{Raw}
-use Rattle.fib_reader.specs.Listening.{Pictured, Listening, is_made}
-use Rattle.stream_check.specs.Pictures.{key_of}
-use Rattle.stream_check.specs.History.{Item, Moment, Said, Ended, is_ensemble, ensemble_of_item, is_flagged, is_swap}
-use Rattle.stream_check.specs.History.{listener_after, has_begun, row_at_hand, rows, times_announced, last_flags}
-use Rattle.stream_check.specs.History.{is_cut_off}
-use Rattle.stream_check.proofs.Ensembles.{heard_as}
+use Rattle.stream_laws.proofs.Words.{[], ◌%◌, ◌&&◌, ◌++◌, ◌+◌, ◌<◌, ◌==◌, ◌∙◌, ◌∷◌, ◌≡◌, ◌≤◌, AllByRecursion, Bool}
+use Rattle.stream_laws.proofs.Words.{Contains, Contains-append_cases, Contains-append_left, Contains-append_right}
+use Rattle.stream_laws.proofs.Words.{Ended, EnsembleInformation, IsCutInThree, IsNoFault, IsTheMost, Item, KnownBefore}
+use Rattle.stream_laws.proofs.Words.{List, Listening, Moment, None, Option, Pictured, Raw, Said, Some, ap, append-nil}
+use Rattle.stream_laws.proofs.Words.{arith, at_most, awaited_low, cases_lt, change_between, changes, concat, cond}
+use Rattle.stream_laws.proofs.Words.{contains_first, contains_later, contains_none, drop, ensemble_of_item, entry_like}
+use Rattle.stream_laws.proofs.Words.{eqb-true, false, false≢true, has_begun, heard_as, inl, inr, is_cut_off}
+use Rattle.stream_laws.proofs.Words.{is_ensemble, is_flagged, is_made, is_swap, key_of, known_of, last_flags, list_any}
+use Rattle.stream_laws.proofs.Words.{listener_after, lt-ltb, map, member_row, member_rows, nat_lt, no_swap, not}
+use Rattle.stream_laws.proofs.Words.{not-false, notice_faults, refl, row_at_hand, rows, slice_get, subst, suc}
+use Rattle.stream_laws.proofs.Words.{swap_findings, sym, three_or_more, times_announced, times_heard, true, unit_faults}
+use Rattle.stream_laws.proofs.Words.{unwrap_or, wanted, zero, ℕ}
 use Rattle.stream_check.proofs.PartCount.{one_of, in_none}
-use Rattle.stream_check.proofs.Members.{member_rows, member_row, no_swap}
-use Rattle.stream_laws.specs.Keeping.{entry_like}
+use Rattle.stream_check.specs.declared.finding.Fault.TheVariants as faults
 use Rattle.stream_laws.proofs.Clean.{IsClean, all_left}
 use Rattle.stream_laws.proofs.Kept.{first_holds, second_holds, next_kept, with_member, after_member, after_heard}
 use Rattle.stream_laws.proofs.Kept.{rows_are, row_is, no_fault, first_fine, ensemble_made, plain_ensemble}
@@ -22,17 +20,6 @@ use Rattle.stream_laws.proofs.Pictures.{picture_with, found_kept, found_again}
 use Rattle.stream_laws.proofs.Rows.{at_hand, notice_rows}
 use Rattle.stream_laws.proofs.Tracking.{IsFormed, AllAnnounce, has_flagged, flagged_rows, alone_first, all_tracked}
 use Rattle.stream_laws.proofs.Tracking.{all_counted}
-use Rattle.std.specs.Prelude.{map, slice_get, unwrap_or}
-use Rattle.std.specs.List.{AllByRecursion, list_any, concat}
-use Rattle.mux_types.proofs.Elements.{contains_first, contains_later, contains_none}
-use Rattle.mux_types.specs.Entries.{EnsembleInformation}
-use Rattle.stream_check.specs.declared.finding.Fault.TheVariants as faults
-use Rattle.stream_check.specs.Cutting.{IsCutInThree}
-use Rattle.stream_check.specs.Parts.{IsTheMost}
-use Rattle.stream_check.specs.Rules.{KnownBefore, known_of, wanted, times_heard, at_most, awaited_low, change_between}
-use Rattle.stream_check.specs.Rules.{changes, notice_faults, unit_faults, swap_findings}
-use Rattle.stream_check.proofs.Greedily.{three_or_more}
-use Rattle.stream_laws.specs.Faultless.{IsNoFault}
 
 -- the entry with this key is among these, with C/N 1 and as in the picture
 pub record IsSaidAmong (next : Pictured) (items : List Item) (x : ℕ) : Type 0 where

@@ -1,23 +1,17 @@
 -- The FIG 0/0 of a notice, where nothing is at fault.
-use Rattle.std.proofs.Common.{◌≡◌, ℕ, ◌+◌, ◌<◌, ◌≤◌, ◌&&◌, ◌||◌, Bool, true, false, cond, not, List, [], ◌∷◌, ◌++◌}
-use Rattle.std.proofs.Common.{Option, Some, None, refl, sym, ap, ◌∙◌, subst, arith}
-use Rattle.std.specs.Prelude.{get_or, unwrap_or}
-use Rattle.std.specs.List.{AllByRecursion, list_any}
-use Rattle.std.proofs.lemmas.Bool.{false≢true, and_from}
-use Rattle.std.proofs.lemmas.List.Folds.{list_any-append}
-use Rattle.fib_reader.specs.Listening.{Listening}
-use Rattle.stream_check.specs.History.{Item, Moment, Said, Ended, is_ensemble, ensemble_of_item, is_flagged, is_swap}
-use Rattle.stream_check.specs.History.{listener_after, has_ensemble, has_begun, began_early, times_announced}
-use Rattle.stream_check.specs.History.{last_flags}
-use Rattle.stream_check.specs.Rules.{known_of, occurrence_of, has_flags, announces_another}
-use Rattle.stream_check.proofs.Members.{no_swap, member_has_begun, member_began_early, member_flags, member_times}
+use Rattle.stream_laws.proofs.Words.{[], ◌&&◌, ◌++◌, ◌+◌, ◌<◌, ◌||◌, ◌∙◌, ◌∷◌, ◌≡◌, ◌≤◌, AllByRecursion, Bool, Ended}
+use Rattle.stream_laws.proofs.Words.{Item, List, Listening, Moment, None, Option, Said, Some, and_from}
+use Rattle.stream_laws.proofs.Words.{announces_another, ap, arith, began_early, cond, each_pushed, ensemble_of_item}
+use Rattle.stream_laws.proofs.Words.{false, false≢true, get_or, has_begun, has_ensemble, has_flags, is_ensemble}
+use Rattle.stream_laws.proofs.Words.{is_flagged, is_swap, known_of, last_flags, list_any, list_any-append}
+use Rattle.stream_laws.proofs.Words.{listener_after, member_began_early, member_flags, member_has_begun, member_times}
+use Rattle.stream_laws.proofs.Words.{no_swap, not, occurrence_of, refl, some_is, subst, sym, times_announced, true}
+use Rattle.stream_laws.proofs.Words.{unwrap_or, ℕ}
 use Rattle.stream_laws.proofs.Clean.{IsClean}
 use Rattle.stream_laws.proofs.Kept.{first_holds, second_holds, next_kept, awaited_member, after_heard, ensemble_made}
 use Rattle.stream_laws.proofs.Kept.{ensemble_flags, begun_is, times_are, flags_are, IsPlainEnsemble, plain_ensemble}
 use Rattle.stream_laws.proofs.Kept.{some_flags, occurrence_is, not_another, nothing_awaited, begun_flagged}
 use Rattle.stream_laws.proofs.Rows.{at_hand, notice_rows, HasNone, none_at_hand}
-use Rattle.mux_types.proofs.Tables.{each_pushed}
-use Rattle.plan_runs.proofs.Passing.{some_is}
 
 -- the form of entries in FIBs: FIG 0/0 to 0/3, and a FIG 0/0 in the first FIG is the first entry of its frame
 abbrev pub IsFormed : List Moment → Type 0

@@ -1,26 +1,12 @@
 -- Which page of entries is in turn in the frames of a run, and how many frames later each other one is.
-use Rattle.std.proofs.Common.{◌≡◌, ◌≢◌, ℕ, ◌+◌, ◌-◌, ◌*◌, ◌<◌, ◌≤◌, ◌==◌, ◌||◌, Bool, true, false, cond, List, Contains}
-use Rattle.std.proofs.Common.{Option, Some, None, refl, sym, ap, ◌∙◌, subst, arith, inl, inr, ◌⊎◌, lt-ltb, le-ltb}
-use Rattle.std.proofs.lemmas.Bool.{cases_lt, eqb-true, eqb-false}
-use Rattle.std.proofs.lemmas.List.Elements.{Contains-append_left}
-use Rattle.mux_config.specs.Configuration.{Configuration}
-use Rattle.mux_types.specs.Facts.{Marked, facts_of}
-use Rattle.fib_carousel.specs.Pages.{page_set, rounds, page_after, page_entries}
-use Rattle.plan_code.specs.declared.plan.Plan.{Plan}
-use Rattle.plan_code.specs.Program.{Program}
-use Rattle.plan_code.specs.Machine.{State}
-use Rattle.plan_verifier.specs.Typing.{Known}
-use Rattle.plan_runs.specs.Frames.{is_due, is_noticed, is_first_noticed, shown, sent_entries, sent_rounds}
-use Rattle.plan_runs.specs.Frames.{left_after_frame, after_frame, begins_phase}
-use Rattle.plan_runs.proofs.Tracked.{split_le, some_rounds, page_after_below}
-use Rattle.plan_runs.proofs.Carries.{LeftBy}
-use Rattle.plan_runs.proofs.Passing.{not_due, some_is}
-use Rattle.plan_runs.proofs.Periods.{Goes, after_goes, sends, sent_period}
-use Rattle.plan_runs.proofs.Right.{PageLaws}
-use Rattle.plan_runs.proofs.Facts.{Holds, IsCode, airs}
-use Rattle.plan_runs.proofs.Notice.{links}
-use Rattle.plan_runs.specs.declared.event.Event.TheVariants.{Contact}
-use Rattle.plan_runs.specs.Runs.{happens}
+use Rattle.stream_laws.proofs.Words.{◌*◌, ◌+◌, ◌-◌, ◌<◌, ◌==◌, ◌||◌, ◌∙◌, ◌≡◌, ◌≢◌, ◌≤◌, ◌⊎◌, Bool, Configuration}
+use Rattle.stream_laws.proofs.Words.{Contact, Contains, Contains-append_left, Goes, Holds, IsCode, Known, LeftBy, List}
+use Rattle.stream_laws.proofs.Words.{Marked, None, Option, PageLaws, Plan, Program, Some, State, after_frame}
+use Rattle.stream_laws.proofs.Words.{after_goes, airs, ap, arith, begins_phase, cases_lt, cond, eqb-false, eqb-true}
+use Rattle.stream_laws.proofs.Words.{facts_of, false, happens, inl, inr, is_due, is_first_noticed, is_noticed, le-ltb}
+use Rattle.stream_laws.proofs.Words.{left_after_frame, links, lt-ltb, not_due, page_after, page_after_below}
+use Rattle.stream_laws.proofs.Words.{page_entries, page_set, refl, rounds, sends, sent_entries, sent_period}
+use Rattle.stream_laws.proofs.Words.{sent_rounds, shown, some_is, some_rounds, split_le, subst, sym, true, ℕ}
 use Rattle.stream_laws.proofs.Following.{begun_left, no_counts}
 
 -- ---- how many frames later a page is in turn

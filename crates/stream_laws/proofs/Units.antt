@@ -1,24 +1,15 @@
 -- The capacity units of a sound configuration, as the checker counts them.
-use Rattle.std.proofs.Common.{◌≡◌, ℕ, ◌+◌, ◌-◌, ◌*◌, ◌/◌, ◌%◌, ◌<◌, ◌≤◌, ◌&&◌, Bool, true, false, cond, nat_lt, List}
-use Rattle.std.proofs.Common.{[], ◌∷◌, Contains, Some, None, refl, sym, ap, ◌∙◌, subst, arith, inl, inr}
-use Rattle.std.specs.Prelude.{map}
-use Rattle.std.specs.List.{AllByRecursion}
-use Rattle.std.proofs.lemmas.Bool.{false≢true, cases_lt, ltb-true, le-ltb, false_from_ne_true, and_right}
+use Rattle.stream_laws.proofs.Words.{[], ◌%◌, ◌&&◌, ◌*◌, ◌+◌, ◌-◌, ◌/◌, ◌<◌, ◌∙◌, ◌∷◌, ◌≡◌, ◌≤◌, AllByRecursion, Bool}
+use Rattle.stream_laws.proofs.Words.{Configuration, Contains, IsAscending, IsConfiguration, IsPart, IsPlaced, IsSound}
+use Rattle.stream_laws.proofs.Words.{List, None, Raw, Some, Sub, and_right, ap, arith, cases_lt, cond, contains_first}
+use Rattle.stream_laws.proofs.Words.{contains_later, each_contains, end_unit, false, false_from_ne_true, false≢true}
+use Rattle.stream_laws.proofs.Words.{first_unit, identifier_of, inl, inr, is_long_form, le-ltb, ltb-true, map, nat_lt}
+use Rattle.stream_laws.proofs.Words.{option_of, overlap, overlap_or, partly, partner, past_end, raw_entry, refl}
+use Rattle.stream_laws.proofs.Words.{share_unit, size_of_sub, sub_entry, sub_identified, subst, sym, true, whole_is_set}
+use Rattle.stream_laws.proofs.Words.{whole_of, ℕ}
 use Rattle.mux_eep.specs.declared.sizes.EepSet.{EepSet}
 use Rattle.mux_eep.specs.declared.sizes.EepSet.TheVariants.{A, B}
-use Rattle.mux_types.specs.declared.parts.Sub.{Sub}
-use Rattle.mux_config.specs.Configuration.{Configuration, IsConfiguration, IsAscending, IsPlaced, size_of_sub}
-use Rattle.mux_config.specs.Sound.{IsSound}
-use Rattle.mux_types.specs.Facts.{sub_entry, option_of}
-use Rattle.mux_types.proofs.Elements.{contains_first, contains_later, each_contains}
-use Rattle.fib_reader.specs.Raw.{Raw, raw_entry}
-use Rattle.fib_reader.specs.Listening.{identifier_of}
-use Rattle.fib_reader.proofs.FromEntries.{sub_identified}
 use Rattle.stream_check.specs.declared.finding.Fault.TheVariants as faults
-use Rattle.stream_check.specs.Rules.{first_unit, end_unit, is_long_form, share_unit, partner, overlap_or, overlap}
-use Rattle.stream_check.specs.Rules.{past_end}
-use Rattle.plan_runs.proofs.Parts.{partly, IsPart}
-use Rattle.plan_runs.proofs.Pictures.{whole_of, whole_is_set}
 
 -- ---- an entry of FIG 0/1
 

@@ -1,21 +1,12 @@
 -- Small streams, computed by the checker from the definitions: for each, examples that hold and examples that fail.
-use Rattle.std.proofs.Common.{◌≡◌, ℕ, true, false, List, [], ◌∷◌, get_or, Some, refl, ap, arith, None, sym}
-use Rattle.fib_codec.specs.Grammar.{Fig, Open}
-use Rattle.fib_reader.specs.Raw.{Raw}
+use Rattle.stream_laws.proofs.Words.{[], ◌∷◌, ◌≡◌, BeginsUnflagged, EnsembleInformation, Fib, Fig, HaveOwnUnits}
+use Rattle.stream_laws.proofs.Words.{IsCurrentAfter, IsFaultless, IsKept, IsNoFault, IsSaidIn, IsUnitOf, Item, List}
+use Rattle.stream_laws.proofs.Words.{MakeNoSwap, Moment, None, Open, Raw, Some, after_frames, ap, arith, end_unit}
+use Rattle.stream_laws.proofs.Words.{false, first_unit, get_or, last_of, last_swap, refl, sym, true, ℕ}
+use Rattle.stream_laws.specs.Notices.{notice_frames}
 use Rattle.stream_check.specs.declared.finding.Fault.TheVariants as faults
 use Rattle.stream_check.specs.declared.finding.StreamEvent.TheVariants as events
 use Rattle.stream_check.specs.declared.finding.What.TheVariants as whats
-use Rattle.stream_check.specs.Frames.{Fib}
-use Rattle.stream_check.specs.History.{Item, Moment}
-use Rattle.stream_check.specs.Stream.{after_frames}
-use Rattle.stream_laws.specs.Faultless.{IsNoFault, IsFaultless, IsSaidIn}
-use Rattle.stream_laws.specs.Keeping.{IsKept}
-use Rattle.stream_laws.specs.Notices.{last_of, notice_frames}
-use Rattle.mux_types.specs.Entries.{EnsembleInformation}
-use Rattle.stream_check.specs.Rules.{first_unit, end_unit}
-use Rattle.stream_laws.specs.Staying.{last_swap, MakeNoSwap, IsCurrentAfter}
-use Rattle.stream_laws.specs.Units.{IsUnitOf, HaveOwnUnits}
-use Rattle.stream_laws.specs.Held.{BeginsUnflagged}
 use Rattle.stream_laws.proofs.OwnUnits.{own_units}
 
 event_is_none : IsNoFault (whats.Event events.Swap)

@@ -1,48 +1,22 @@
 -- The terms of the laws in small cases, computed by the checker from the definitions: examples that hold and that fail.
-use Rattle.std.proofs.Common.{◌≡◌, ℕ, zero, suc, ◌%◌, Bool, false, List, [], ◌∷◌, ◌++◌, length, flat_map, replicate}
-use Rattle.std.proofs.Common.{refl, sym, ap, ◌∙◌, subst, arith, ◌<◌, true, Some}
-use Rattle.std.specs.Prelude.{map, take, drop, ◌*◌, slice_get, cond, ◌==◌}
-use Rattle.std.specs.List.{AllByRecursion}
-use Rattle.std.proofs.lemmas.Bool.{false≢true}
-use Rattle.fib_codec.specs.Heard.{fib_at, IsEnsembleHeardInRow}
-use Rattle.fib_codec.specs.Laws.{FibHas32Bytes, IsByte}
-use Rattle.fib_codec.specs.Modes.{fib_count, count_step}
-use Rattle.fib_codec.specs.declared.modes.Mode.{Mode}
-use Rattle.mux_types.specs.Entries.{EnsembleInformation}
-use Rattle.stream_check.specs.declared.finding.Fault.{Fault}
-use Rattle.stream_check.specs.declared.finding.Finding.{Finding}
-use Rattle.stream_check.specs.declared.finding.What.TheVariants as whats
-use Rattle.stream_check.specs.Frames.{Fib, Reading, AreFrames}
-use Rattle.stream_check.specs.Stream.{findings_of, frames_full}
+use Rattle.stream_laws.proofs.Words.{[], ◌%◌, ◌*◌, ◌++◌, ◌<◌, ◌==◌, ◌∙◌, ◌∷◌, ◌≡◌, All, AllByRecursion, AnnouncesChange}
+use Rattle.stream_laws.proofs.Words.{AreCounted, AreFibBytes, AreFrames, Bool, EnsembleInformation, Fault, Fib}
+use Rattle.stream_laws.proofs.Words.{FibHas32Bytes, Finding, Frame, II, IsAtCount, IsByte, IsCleared, IsCutOf}
+use Rattle.stream_laws.proofs.Words.{IsEnsembleHeardInRow, IsFibBytes, IsFrameOfCount, IsFreeOf, IsFreeUnlessShort}
+use Rattle.stream_laws.proofs.Words.{IsHeardOut, IsLongFor, IsNoFault, IsPieceOf, IsSaidIn, IsSent, IsSentWhole, Item}
+use Rattle.stream_laws.proofs.Words.{List, Mode, Moment, Program, Raw, Reading, RunIsFree, RunOn, Some, State, Whole}
+use Rattle.stream_laws.proofs.Words.{ap, arith, blank, cond, count_step, drop, due_after_first, due_frames, entry_at}
+use Rattle.stream_laws.proofs.Words.{entry_like, false, false≢true, fib_at, fib_count, findings_of, flat_map}
+use Rattle.stream_laws.proofs.Words.{frames_full, frames_of, identifier_of, is_due, is_of_appearance, is_of_flags}
+use Rattle.stream_laws.proofs.Words.{is_of_frame, is_of_mention, is_of_period, is_of_repetition, is_of_silence}
+use Rattle.stream_laws.proofs.Words.{is_of_times, is_of_word, length, map, no_flat, refl, replicate, slice_get, subst}
+use Rattle.stream_laws.proofs.Words.{suc, swap_frames, sym, take, true, zero, ℕ}
 use Rattle.stream_check.specs.Following.{Checking, Follows}
-use Rattle.stream_check.specs.Reported.{All}
-use Rattle.plan_code.specs.Program.{Program}
-use Rattle.plan_code.specs.Machine.{State}
-use Rattle.stream_laws.specs.Faultless.{IsNoFault, IsSaidIn}
-use Rattle.stream_laws.specs.Counting.{IsFrameOfCount, AreCounted}
-use Rattle.stream_laws.specs.RunningOn.{IsAtCount, RunOn}
-use Rattle.stream_laws.specs.Delivered.{IsCleared, IsPieceOf, IsHeardOut}
-use Rattle.stream_check.proofs.Fronts.{no_flat}
-use Rattle.fib_codec.specs.declared.frame_layout.FrameLayout.TheVariants.{Whole}
-use Rattle.mux_config.specs.Tables.{entry_at}
-use Rattle.stream_laws.specs.Keeping.{entry_like}
-use Rattle.fib_codec.specs.declared.modes.Mode.TheVariants.{II}
-use Rattle.fib_reader.specs.Raw.{Raw}
-use Rattle.fib_reader.specs.Listening.{blank, identifier_of}
 use Rattle.stream_check.specs.declared.contradiction.Contradiction.TheVariants.{NotWhole}
+use Rattle.stream_check.specs.declared.finding.What.TheVariants as whats
 use Rattle.stream_check.specs.declared.finding.EntryName.TheVariants as names
 use Rattle.stream_check.specs.declared.finding.Fault.TheVariants as faults
 use Rattle.stream_check.specs.declared.finding.StreamEvent.TheVariants as named_events
-use Rattle.stream_check.specs.History.{Item, Moment}
-use Rattle.plan_runs.specs.declared.event.Event.TheVariants.{Frame}
-use Rattle.plan_runs.specs.Frames.{is_due}
-use Rattle.stream_laws.specs.Notices.{IsFibBytes, AreFibBytes, IsCutOf}
-use Rattle.stream_laws.specs.Entries.{IsSent, IsSentWhole, AnnouncesChange}
-use Rattle.stream_laws.specs.Framing.{frames_of}
-use Rattle.stream_laws.specs.Sorts.{is_of_frame, is_of_word, is_of_times, is_of_flags, is_of_mention, is_of_silence}
-use Rattle.stream_laws.specs.Sorts.{is_of_appearance, is_of_repetition, is_of_period, IsFreeOf, IsFreeUnlessShort}
-use Rattle.stream_laws.specs.Sorts.{IsLongFor, RunIsFree}
-use Rattle.stream_laws.specs.Naming.{swap_frames, due_frames, due_after_first}
 use Rattle.stream_laws.proofs.Delivered.{all_of}
 
 -- ---- counts

@@ -1,9 +1,6 @@
 -- Counting findings one after the other.
-use Rattle.std.proofs.Common.{◌≡◌, ℕ, ◌+◌, List, [], ◌∷◌, ◌∙◌, length, refl, sym, ap, arith}
-use Rattle.std.specs.Io.Iter.{u64_saturate}
-use Rattle.stream_check.specs.declared.finding.Finding.{Finding}
-use Rattle.stream_monitor.specs.declared.tally.Tally.{Tally}
-use Rattle.stream_monitor.specs.Findings.{swaps_in, faults_in, counted}
+use Rattle.stream_monitor.proofs.Words.{[], ◌+◌, ◌∙◌, ◌∷◌, ◌≡◌, Finding, List, Tally, ap, arith, counted, faults_in}
+use Rattle.stream_monitor.proofs.Words.{length, refl, swaps_in, sym, u64_saturate, ℕ}
 
 pub saturated_more : (a b n : ℕ) → u64_saturate (u64_saturate (a + b) + n) ≡ u64_saturate (a + (b + n))
 saturated_more a b n = omega arith

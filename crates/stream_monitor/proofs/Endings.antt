@@ -1,24 +1,12 @@
 -- The beginning of a check, and its end with the stream.
-use Rattle.std.proofs.Common.{◌≡◌, ℕ, ◌||◌, ◌&&◌, nat_lt, Bool, true, false, not, List, [], ◌∷◌, ◌++◌, length, map}
-use Rattle.std.proofs.Common.{flat_map, refl, sym, ap, ◌∙◌, arith, subst}
-use Rattle.std.proofs.lemmas.Bool.{false≢true}
-use Rattle.std.proofs.lemmas.List.{append-nil}
-use Rattle.fib_codec.specs.Modes.{fib_count, count_step}
-use Rattle.stream_check.specs.declared.checker.Summary.{Summary}
-use Rattle.stream_check.specs.Following.{Follows, IsSummary, is_begun, is_empty}
-use Rattle.stream_check.specs.Frames.{Fib, Reading, HoldsFirst, AreFrames}
-use Rattle.stream_check.specs.Reported.{Unknown}
-use Rattle.stream_check.proofs.Followed.{frame_count, unbegun}
+use Rattle.stream_monitor.proofs.Words.{[], ◌&&◌, ◌++◌, ◌||◌, ◌∙◌, ◌∷◌, ◌≡◌, AreFrames, Bool, CheckOptions, Fib}
+use Rattle.stream_monitor.proofs.Words.{Follows, HasNoEnsemble, HoldsFirst, IsAfter, IsSummary, Line, List, Reading}
+use Rattle.stream_monitor.proofs.Words.{State, StopsAtEnd, Summary, Tally, Totals, Unknown, ap, append-nil, arith}
+use Rattle.stream_monitor.proofs.Words.{count_step, false, false≢true, fib_count, flat_map, frame_count, frames_lines}
+use Rattle.stream_monitor.proofs.Words.{is_begun, is_empty, is_stopped, length, map, nat_lt, not, refl, subst}
+use Rattle.stream_monitor.proofs.Words.{summary_after, sym, tally_after, totals_after, true, unbegun, ℕ}
 use Rattle.stream_monitor.specs.declared.ending.Ending.TheVariants as endings
 use Rattle.stream_monitor.specs.declared.line.Cause.TheVariants as causes
-use Rattle.stream_monitor.specs.declared.line.Totals.{Totals}
-use Rattle.stream_monitor.specs.declared.check.State.{State}
-use Rattle.stream_monitor.specs.declared.line.Line.{Line}
-use Rattle.stream_monitor.specs.declared.options.CheckOptions.{CheckOptions}
-use Rattle.stream_monitor.specs.declared.tally.Tally.{Tally}
-use Rattle.stream_monitor.specs.Frames.{is_stopped, tally_after, summary_after, totals_after, frames_lines}
-use Rattle.stream_monitor.specs.Going.{IsAfter}
-use Rattle.stream_monitor.specs.Outcome.{HasNoEnsemble, StopsAtEnd}
 use Rattle.stream_monitor.proofs.Steps.{goes_on, summary_is}
 
 flat : List (List Fib) → List Fib

@@ -1,16 +1,10 @@
 -- One more frame: what is found, counted and printed.
-use Rattle.std.proofs.Common.{◌≡◌, ℕ, zero, suc, ◌+◌, ◌<◌, nat_lt, lt-ltb, nat_le, Bool, true, false, if◌then◌else◌}
-use Rattle.std.proofs.Common.{List, [], ◌∷◌, ◌++◌, length, ◌⊎◌, inl, inr, refl, sym, ap, ◌∙◌, arith}
-use Rattle.std.proofs.lemmas.List.{append_assoc, append-nil}
-use Rattle.std.specs.Io.Iter.{u64_saturate}
-use Rattle.fib_codec.specs.Modes.{fib_count, count_step}
-use Rattle.stream_check.specs.Frames.{Fib}
-use Rattle.stream_check.specs.Reported.{Unknown, AtMost, with_more}
-use Rattle.stream_check.specs.declared.finding.Finding.{Finding}
-use Rattle.stream_check.proofs.Framing.{findings_more}
-use Rattle.stream_monitor.specs.declared.options.CheckOptions.{CheckOptions}
-use Rattle.stream_monitor.specs.Findings.{swaps_in, faults_in, counted}
-use Rattle.stream_monitor.specs.Frames.{found_in, found_next, is_full, tally_after, frame_lines, frames_lines}
+use Rattle.stream_monitor.proofs.Words.{[], ◌++◌, ◌+◌, ◌<◌, ◌∙◌, ◌∷◌, ◌≡◌, ◌⊎◌, AtMost, Bool, CheckOptions, Fib}
+use Rattle.stream_monitor.proofs.Words.{Finding, List, Unknown, ap, append-nil, append_assoc, arith, count_step}
+use Rattle.stream_monitor.proofs.Words.{counted, false, faults_in, fib_count, findings_more, found_in, found_next}
+use Rattle.stream_monitor.proofs.Words.{frame_lines, frames_lines, if◌then◌else◌, inl, inr, is_full, length, lt-ltb}
+use Rattle.stream_monitor.proofs.Words.{nat_le, nat_lt, refl, suc, swaps_in, sym, tally_after, true, u64_saturate}
+use Rattle.stream_monitor.proofs.Words.{with_more, zero, ℕ}
 
 -- ---- numbers
 

@@ -1,10 +1,6 @@
 -- A stream is cut into frames in one way.
-use Rattle.std.proofs.Common.{ℕ, List, [], ◌++◌, sym, ap, ◌∙◌, subst}
-use Rattle.std.proofs.lemmas.List.{append-nil, append_cancel_left}
-use Rattle.stream_check.specs.Frames.{Fib, IsFramed}
-use Rattle.stream_check.proofs.Framing.{flat}
-use Rattle.stream_check.proofs.Fronts.{same_skipped, front_framing, none_more}
-use Rattle.stream_monitor.specs.Outcomes.{AreFramedAlike}
+use Rattle.stream_monitor.proofs.Words.{[], ◌++◌, ◌∙◌, AreFramedAlike, Fib, IsFramed, List, ap, append-nil}
+use Rattle.stream_monitor.proofs.Words.{append_cancel_left, flat, front_framing, none_more, same_skipped, subst, sym, ℕ}
 
 whole_front : (size : ℕ) (stream skipped : List Fib) (frames : List (List Fib)) (rest : List Fib)
     → IsFramed size stream skipped frames rest → IsFramed size (stream ++ []) skipped frames rest

@@ -1,22 +1,13 @@
 -- A check goes on as far as a front of a stream goes if it goes on behind it.
-use Rattle.std.proofs.Common.{◌≡◌, ℕ, ◌+◌, ◌<◌, ◌≤◌, ◌&&◌, nat_lt, lt-ltb, le-ltb, Bool, true, false, cond, List, []}
-use Rattle.std.proofs.Common.{◌∷◌, ◌++◌, length, inl, inr, refl, sym, ap, ◌∙◌, arith}
-use Rattle.std.proofs.lemmas.Bool.{false≢true, cases_lt}
-use Rattle.std.proofs.lemmas.List.{length-append}
-use Rattle.fib_codec.specs.Modes.{fib_count, count_step}
+use Rattle.stream_monitor.proofs.Words.{[], ◌&&◌, ◌++◌, ◌+◌, ◌<◌, ◌∙◌, ◌∷◌, ◌≡◌, ◌≤◌, AreFrames, Bool, CheckOptions}
+use Rattle.stream_monitor.proofs.Words.{Fib, Finding, IsFramed, IsTooLong, List, ap, arith, cases_lt, cond, count_step}
+use Rattle.stream_monitor.proofs.Words.{damaged_in, false, false≢true, faults_in, fib_count, flat, found_in, inl, inr}
+use Rattle.stream_monitor.proofs.Words.{is_damaged, is_full, is_stopped, le-ltb, length, length-append, lt-ltb, most}
+use Rattle.stream_monitor.proofs.Words.{nat_lt, refl, room_before, sym, true, ℕ}
 use Rattle.stream_check.specs.declared.contradiction.Contradiction.{Contradiction}
-use Rattle.stream_check.specs.declared.finding.Finding.{Finding}
-use Rattle.stream_check.specs.Frames.{Fib, AreFrames, IsFramed, is_damaged, damaged_in}
 use Rattle.stream_check.specs.History.{Moment, frame_items}
-use Rattle.stream_check.specs.CheckerState.{most}
 use Rattle.stream_check.specs.Stream.{runs_full, findings_in, findings_from, noted_in, past_after_frame}
-use Rattle.stream_monitor.specs.declared.options.CheckOptions.{CheckOptions}
-use Rattle.stream_monitor.specs.Findings.{faults_in}
-use Rattle.stream_monitor.specs.Frames.{found_in, is_full, is_stopped}
-use Rattle.stream_monitor.specs.Outcome.{IsTooLong}
 use Rattle.stream_monitor.proofs.Frames.{faults_append}
-use Rattle.stream_check.proofs.Framing.{flat}
-use Rattle.stream_check.proofs.Fronts.{room_before}
 
 -- ---- no frame of a front ends the check
 

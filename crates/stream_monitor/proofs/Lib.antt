@@ -10,3 +10,4 @@ mod OneOutcome
 mod Taking
 mod VectorsOfChecks
 mod VectorsOfLogs
+mod Words

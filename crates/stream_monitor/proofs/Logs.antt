@@ -1,12 +1,9 @@
 -- What a log has after one step and then another.
-use Rattle.std.proofs.Common.{◌≡◌, ℕ, List, [], ◌∷◌, ◌++◌, Option, None, Some, refl, sym, ap, ◌∙◌, subst}
-use Rattle.std.proofs.lemmas.List.{append_assoc, append-nil}
+use Rattle.stream_monitor.proofs.Words.{[], ◌++◌, ◌∙◌, ◌∷◌, ◌≡◌, CheckOptions, End, HasLines, IsLog, Line, List, Log}
+use Rattle.stream_monitor.proofs.Words.{LogsLines, LogsNext, Next, None, Option, Part, Some, after_lines, after_next}
+use Rattle.stream_monitor.proofs.Words.{ap, append-nil, append_assoc, log_of, refl, subst, sym, ℕ}
 use Rattle.std.specs.Option.{option_map}
-use Rattle.stream_monitor.specs.declared.fibs.Next.{Next}
-use Rattle.stream_monitor.specs.declared.fibs.Next.TheVariants.{Fib, Part, End}
-use Rattle.stream_monitor.specs.declared.line.Line.{Line}
-use Rattle.stream_monitor.specs.declared.options.CheckOptions.{CheckOptions}
-use Rattle.stream_monitor.specs.Log.{Log, log_of, after_lines, after_next, IsLog, HasLines, LogsLines, LogsNext}
+use Rattle.stream_monitor.specs.declared.fibs.Next.TheVariants.{Fib}
 
 pub no_lines : (a : Option Log) → LogsLines a a []
 no_lines None = refl

@@ -1,22 +1,13 @@
 -- A check of a stream prints one log, and ends in one way.
-use Rattle.std.proofs.Common.{◌≡◌, ℕ, ◌<◌, ◌≤◌, true, List, [], ◌∷◌, ◌++◌, length, map, inl, inr, ◌⊎◌, refl, sym, ap}
-use Rattle.std.proofs.Common.{◌∙◌, arith, subst}
-use Rattle.std.proofs.lemmas.Bool.{false≢true}
-use Rattle.std.proofs.lemmas.List.{append_assoc, length-append, length-map, map-append}
-use Rattle.std.specs.List.{AllByRecursion, concat}
-use Rattle.fib_codec.specs.Modes.{fib_count}
-use Rattle.stream_check.specs.Frames.{Fib, Reading, IsFramed}
-use Rattle.stream_check.specs.CheckerState.{most}
-use Rattle.stream_monitor.specs.declared.ending.Ending.{Ending}
+use Rattle.stream_monitor.proofs.Words.{[], ◌++◌, ◌<◌, ◌∙◌, ◌∷◌, ◌≡◌, ◌≤◌, ◌⊎◌, AllByRecursion, AreFramedAlike, AreSame}
+use Rattle.stream_monitor.proofs.Words.{CheckOptions, Ending, EndsFrame, Fib, GoesOn, HasFibSize, IsFramed, IsTooLong}
+use Rattle.stream_monitor.proofs.Words.{Line, List, OneOutcome, Reading, StopsAtEnd, StopsWithFib, ap, append_assoc}
+use Rattle.stream_monitor.proofs.Words.{arith, concat, false≢true, fib_count, frames_lines, front_framing, inl, inr}
+use Rattle.stream_monitor.proofs.Words.{is_full, is_stopped, length, length-append, length-map, map, map-append, most}
+use Rattle.stream_monitor.proofs.Words.{refl, subst, sym, totals_after, true, ℕ}
 use Rattle.stream_monitor.specs.declared.ending.Ending.TheVariants as endings
 use Rattle.stream_monitor.specs.declared.line.Cause.TheVariants as causes
-use Rattle.stream_monitor.specs.declared.line.Line.{Line}
-use Rattle.stream_monitor.specs.declared.options.CheckOptions.{CheckOptions}
-use Rattle.stream_monitor.specs.Frames.{is_full, is_stopped, totals_after, frames_lines}
-use Rattle.stream_monitor.specs.Outcome.{HasFibSize, GoesOn, EndsFrame, IsTooLong, StopsWithFib, StopsAtEnd}
-use Rattle.stream_monitor.specs.Outcomes.{AreFramedAlike, AreSame, OneOutcome}
 use Rattle.stream_monitor.proofs.Framings.{one_framing}
-use Rattle.stream_check.proofs.Fronts.{front_framing}
 use Rattle.stream_monitor.proofs.Fronts.{full_before, stopped_before, not_long}
 
 -- ---- the FIBs of bytes

@@ -1,21 +1,13 @@
 -- A check from one FIB to the next.
-use Rattle.std.proofs.Common.{◌≡◌, ℕ, List, [], ◌∷◌, ◌++◌, inl, inr, Option, None, Some, sym, ap, ◌∙◌, subst}
-use Rattle.std.proofs.lemmas.List.{append-nil}
+use Rattle.stream_monitor.proofs.Words.{[], ◌++◌, ◌∙◌, ◌∷◌, ◌≡◌, CheckOptions, ChecksFib, ChecksInput, ChecksSoFar}
+use Rattle.stream_monitor.proofs.Words.{Consumes, End, Ending, Gives, GoesOn, HasLines, IsAfter, IsLog, IsPrompt, Line}
+use Rattle.stream_monitor.proofs.Words.{List, Log, LogsNext, None, Option, Part, Reading, Some, State, StopsAtEnd, ap}
+use Rattle.stream_monitor.proofs.Words.{append-nil, concat, inl, inr, subst, sym, ℕ}
 use Rattle.std.proofs.lemmas.List.Folds.{concat-append}
 use Rattle.std.proofs.KnownBytes.{Consumes-nil, Consumes-trans}
-use Rattle.std.specs.List.{concat}
-use Rattle.std.specs.Io.KnownBytes.{Consumes}
-use Rattle.stream_check.specs.Frames.{Reading}
-use Rattle.stream_monitor.specs.declared.check.State.{State}
-use Rattle.stream_monitor.specs.declared.ending.Ending.{Ending}
+use Rattle.stream_monitor.specs.declared.fibs.Next.TheVariants.{Fib}
 use Rattle.stream_monitor.specs.declared.ending.Ending.TheVariants as endings
-use Rattle.stream_monitor.specs.declared.fibs.Next.TheVariants.{Fib, Part, End}
 use Rattle.stream_monitor.specs.declared.line.Cause.TheVariants as causes
-use Rattle.stream_monitor.specs.declared.line.Line.{Line}
-use Rattle.stream_monitor.specs.declared.options.CheckOptions.{CheckOptions}
-use Rattle.stream_monitor.specs.Going.{IsAfter, ChecksFib, ChecksSoFar}
-use Rattle.stream_monitor.specs.Log.{Log, Gives, HasLines, IsLog, IsPrompt, LogsNext}
-use Rattle.stream_monitor.specs.Outcome.{ChecksInput, GoesOn, StopsAtEnd}
 use Rattle.stream_monitor.proofs.Logs.{has_lines, kept_lines, lines_logged, one_more_fib}
 use Rattle.stream_monitor.proofs.Steps.{goes_on}
 

@@ -1,37 +1,21 @@
 -- A check from one FIB to the next.
-use Rattle.std.proofs.Common.{◌≡◌, ℕ, ◌≤◌, Bool, true, false, if◌then◌else◌, not, ◌&&◌, List, [], ◌∷◌, ◌++◌, length}
-use Rattle.std.proofs.Common.{map, inl, inr, Option, None, Some, Result, Ok, Err, IfOk, refl, sym, ap, ◌∙◌, subst}
-use Rattle.std.proofs.lemmas.List.{append_assoc, append-nil, map-append}
-use Rattle.std.specs.List.{AllByRecursion}
+use Rattle.stream_monitor.proofs.Words.{[], ◌&&◌, ◌++◌, ◌∙◌, ◌∷◌, ◌≡◌, ◌≤◌, AllByRecursion, AtMost, Bool, CheckOptions}
+use Rattle.stream_monitor.proofs.Words.{Ending, EndsAtFib, EndsFrame, EndsFrameFrom, Err, Fib, Finding, Follows}
+use Rattle.stream_monitor.proofs.Words.{FollowsFib, GoesOn, HasFibSize, IfOk, IsAfter, IsAfterFib, IsAtLimit, IsFramed}
+use Rattle.stream_monitor.proofs.Words.{IsSummary, IsTooLong, Line, List, Log, LogsLines, None, Ok, Option, Reading}
+use Rattle.stream_monitor.proofs.Words.{Reported, Result, Some, State, StopsWithFib, Summary, Tally, Totals, Unknown}
+use Rattle.stream_monitor.proofs.Words.{alive_lines, all_append, ap, append-nil, append_assoc, cause_of, count_step}
+use Rattle.stream_monitor.proofs.Words.{counted, due_lines, end_after, end_of, false, faults_in, fib_count}
+use Rattle.stream_monitor.proofs.Words.{finding_lines, found_in, found_next, frame_count, frames_lines, if◌then◌else◌}
+use Rattle.stream_monitor.proofs.Words.{inl, inr, is_due, is_stopped, length, map, map-append, most, not, refl, subst}
+use Rattle.stream_monitor.proofs.Words.{summary_after, sym, tally_after, totals_after, true, with_more, ℕ}
 use Rattle.fib_codec.specs.declared.modes.Mode.{Mode}
-use Rattle.fib_codec.specs.Modes.{fib_count, count_step}
-use Rattle.stream_check.specs.declared.checker.Summary.{Summary}
-use Rattle.stream_check.specs.declared.finding.Finding.{Finding}
-use Rattle.stream_check.specs.Following.{IsAtLimit, Follows, FollowsFib, EndsAtFib, IsSummary}
-use Rattle.stream_check.specs.Frames.{Fib, Reading, IsFramed}
-use Rattle.stream_check.specs.CheckerState.{most}
-use Rattle.stream_check.specs.Reported.{Reported, AtMost, Unknown, with_more}
-use Rattle.stream_check.proofs.Framing.{all_append}
-use Rattle.stream_check.proofs.Followed.{frame_count}
 use Rattle.stream_check.specs.declared.checker.CheckFault.{CheckFault}
-use Rattle.stream_check.specs.declared.checker.CheckFault.TheVariants as faults
-use Rattle.stream_monitor.specs.declared.ending.Ending.{Ending}
-use Rattle.stream_monitor.specs.declared.ending.Ending.TheVariants as endings
 use Rattle.stream_monitor.specs.declared.line.Cause.{Cause}
+use Rattle.stream_check.specs.declared.checker.CheckFault.TheVariants as faults
+use Rattle.stream_monitor.specs.declared.ending.Ending.TheVariants as endings
 use Rattle.stream_monitor.specs.declared.line.Cause.TheVariants as causes
-use Rattle.stream_monitor.specs.declared.line.Totals.{Totals}
-use Rattle.stream_monitor.specs.declared.check.State.{State}
-use Rattle.stream_monitor.specs.declared.tally.Tally.{Tally}
-use Rattle.stream_monitor.specs.declared.options.CheckOptions.{CheckOptions}
-use Rattle.stream_monitor.specs.Lines.{finding_lines, is_due}
-use Rattle.stream_monitor.specs.Log.{Log, LogsLines}
-use Rattle.stream_monitor.specs.Findings.{counted, faults_in}
-use Rattle.stream_monitor.specs.declared.line.Line.{Line}
 use Rattle.stream_monitor.specs.declared.line.Line.TheVariants as lines
-use Rattle.stream_monitor.specs.Frames.{found_in, found_next, is_stopped, tally_after, summary_after, totals_after}
-use Rattle.stream_monitor.specs.Frames.{alive_lines, frames_lines}
-use Rattle.stream_monitor.specs.Going.{IsAfter, IsAfterFib, EndsFrameFrom, cause_of, due_lines, end_of, end_after}
-use Rattle.stream_monitor.specs.Outcome.{HasFibSize, GoesOn, EndsFrame, IsTooLong, StopsWithFib}
 use Rattle.stream_monitor.proofs.Logs.{more_lines}
 use Rattle.stream_monitor.proofs.Frames.{saturated_some, counted_none, tally_more, findings_are, text_more, text_kept}
 

@@ -1,13 +1,10 @@
 -- What is taken of the bytes that are buffered.
-use Rattle.std.proofs.Common.{◌≡◌, ℕ, ◌+◌, ◌-◌, ◌<◌, ◌≤◌, List, [], ◌∷◌, ◌++◌, length, take, drop, min, inl, inr}
-use Rattle.std.proofs.Common.{Option, None, Some, refl, sym, ap, ◌∙◌, arith, subst, take-append-drop, length-take-le}
-use Rattle.std.proofs.lemmas.List.{append_assoc, append-nil, length-drop, drop-drop, drop_all, take_all}
-use Rattle.std.proofs.lemmas.Bool.{cases_lt}
-use Rattle.std.specs.Io.KnownBytes.{Consumes, IsAtEnd, prepend_known}
-use Rattle.stream_monitor.specs.Log.{Gives}
-use Rattle.stream_monitor.specs.Splitting.{BeginsWith}
-use Rattle.stream_monitor.specs.declared.fibs.Next.{Next}
-use Rattle.stream_monitor.specs.declared.fibs.Next.TheVariants.{Fib, Part, End}
+use Rattle.stream_monitor.proofs.Words.{[], ◌++◌, ◌+◌, ◌-◌, ◌<◌, ◌∙◌, ◌∷◌, ◌≡◌, ◌≤◌, BeginsWith, Consumes, End, Gives}
+use Rattle.stream_monitor.proofs.Words.{IsAtEnd, List, Next, None, Option, Part, Some, ap, append-nil, append_assoc}
+use Rattle.stream_monitor.proofs.Words.{arith, cases_lt, drop, drop-drop, drop_all, inl, inr, length, length-drop}
+use Rattle.stream_monitor.proofs.Words.{length-take-le, min, prepend_known, refl, subst, sym, take, take-append-drop}
+use Rattle.stream_monitor.proofs.Words.{take_all, ℕ}
+use Rattle.stream_monitor.specs.declared.fibs.Next.TheVariants.{Fib}
 
 -- the front of what is buffered
 pub front_consumed : (front rest : List ℕ) (behind : Option (List ℕ))

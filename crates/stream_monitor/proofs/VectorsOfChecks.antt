@@ -1,21 +1,16 @@
 -- Examples of checks: for each definition one in which it holds, and one in which it does not.
-use Rattle.std.proofs.Common.{◌≡◌, ℕ, true, false, List, [], ◌∷◌, ◌++◌, None, Some, inl, inr, refl, sym, ap, ◌∙◌, arith}
+use Rattle.stream_monitor.proofs.Words.{[], ◌++◌, ◌∙◌, ◌∷◌, ◌≡◌, CheckOptions, Checks, EndsFrame, Fib, Finding, GoesOn}
+use Rattle.stream_monitor.proofs.Words.{IsTooLong, Line, List, None, Reading, Some, StopsAtEnd, Totals, alive_lines, ap}
+use Rattle.stream_monitor.proofs.Words.{arith, false, finding_lines, frames_lines, inl, inr, is_full, is_stopped, refl}
+use Rattle.stream_monitor.proofs.Words.{sym, tally_after, true, ℕ}
+use Rattle.stream_check.specs.declared.finding.What.{What}
 use Rattle.fib_codec.specs.declared.modes.Mode.TheVariants as modes
-use Rattle.stream_check.specs.Frames.{Fib, Reading}
 use Rattle.stream_check.specs.declared.finding.StreamEvent.TheVariants as events
 use Rattle.stream_check.specs.declared.finding.Fault.TheVariants as faults
-use Rattle.stream_check.specs.declared.finding.Finding.{Finding}
-use Rattle.stream_check.specs.declared.finding.What.{What}
 use Rattle.stream_check.specs.declared.finding.What.TheVariants as whats
 use Rattle.stream_monitor.specs.declared.ending.Ending.TheVariants as endings
 use Rattle.stream_monitor.specs.declared.line.Cause.TheVariants as causes
-use Rattle.stream_monitor.specs.declared.line.Line.{Line}
 use Rattle.stream_monitor.specs.declared.line.Line.TheVariants as lines
-use Rattle.stream_monitor.specs.declared.line.Totals.{Totals}
-use Rattle.stream_monitor.specs.declared.options.CheckOptions.{CheckOptions}
-use Rattle.stream_monitor.specs.Frames.{is_full, is_stopped, tally_after, alive_lines, frames_lines}
-use Rattle.stream_monitor.specs.Lines.{finding_lines}
-use Rattle.stream_monitor.specs.Outcome.{GoesOn, EndsFrame, IsTooLong, StopsAtEnd, Checks}
 use Rattle.stream_monitor.proofs.Endings.{none_framed, none_there}
 
 -- in mode I, with totals after each second frame; the check does not end with a fault

@@ -1,13 +1,12 @@
 -- Examples of logs: for each definition one in which it holds, and one in which it does not.
-use Rattle.std.proofs.Common.{◌≡◌, ℕ, List, [], ◌∷◌, Option, None, Some, refl, ap, length, arith}
-use Rattle.stream_check.specs.Frames.{Reading}
+use Rattle.stream_monitor.proofs.Words.{[], ◌∷◌, ◌≡◌, BeginsWith, Gives, HasLines, IsLog, IsPrompt, List, Log}
+use Rattle.stream_monitor.proofs.Words.{LogsLines, LogsNext, None, Option, Part, Reading, Some, ap, arith, length}
+use Rattle.stream_monitor.proofs.Words.{log_of, refl, ℕ}
+use Rattle.stream_monitor.specs.declared.fibs.Next.TheVariants.{Fib}
+use Rattle.stream_monitor.specs.Checking.{StopsAtFib, HasReadAll}
 use Rattle.stream_monitor.specs.declared.ending.Ending.TheVariants as endings
-use Rattle.stream_monitor.specs.declared.fibs.Next.TheVariants.{Fib, Part}
 use Rattle.stream_monitor.specs.declared.line.Cause.TheVariants as causes
 use Rattle.stream_monitor.specs.declared.line.Line.TheVariants as lines
-use Rattle.stream_monitor.specs.Checking.{StopsAtFib, HasReadAll}
-use Rattle.stream_monitor.specs.Log.{Log, Gives, HasLines, IsLog, IsPrompt, LogsLines, LogsNext, log_of}
-use Rattle.stream_monitor.specs.Splitting.{BeginsWith}
 use Rattle.stream_monitor.proofs.VectorsOfChecks.{goes_on, options, tells_nothing, two}
 
 -- ---- what a monitor gives

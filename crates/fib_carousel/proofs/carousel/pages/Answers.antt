@@ -1,5 +1,4 @@
-use Rattle.std.proofs.Common.{◌∙◌}
-use Rattle.fib_carousel.specs.Packing.{rounds_of}
+use Rattle.fib_carousel.proofs.Words.{◌∙◌, rounds_of}
 use Rattle.fib_carousel.proofs.Least.{of_packing}
 use Rattle.fib_carousel.proofs.carousel.pages.Goals as goal
 

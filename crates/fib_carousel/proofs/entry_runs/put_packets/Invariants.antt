@@ -1,6 +1,5 @@
-use Rattle.std.proofs.Common.{◌≡◌, ◌+◌, ◌-◌, ◌*◌, ◌≤◌, ◌++◌, length, map, take, drop}
-use Rattle.mux_types.specs.Facts.{packet_entry}
-use Rattle.fib_codec.specs.Spelling.{entries_bytes}
+use Rattle.fib_carousel.proofs.Words.{◌*◌, ◌++◌, ◌+◌, ◌-◌, ◌≡◌, ◌≤◌, drop, entries_bytes, length, map, packet_entry}
+use Rattle.fib_carousel.proofs.Words.{take}
 use Rattle.fib_carousel.proofs.entry_runs.put_packets.Given as goal
 
 abbrev pub invariant-loop-place : goal.invariant-loop-place

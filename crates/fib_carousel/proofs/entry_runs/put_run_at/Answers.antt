@@ -1,10 +1,5 @@
-use Rattle.std.proofs.Common.{◌-◌, ◌<◌, arith, sym, subst, length}
-use Rattle.std.proofs.lemmas.List.{length-map}
-use Rattle.mux_types.specs.Facts.{facts_of, marked}
-use Rattle.fib_carousel.specs.declared.pack_state.EntryShape.{EntryShape}
-use Rattle.fib_carousel.specs.Items.{config_entries}
-use Rattle.fib_carousel.specs.Walk.{IsShapeAt}
-use Rattle.fib_carousel.specs.Shapes.{PutsRun}
+use Rattle.fib_carousel.proofs.Words.{◌-◌, ◌<◌, EntryShape, IsShapeAt, PutsRun, arith, config_entries, facts_of, length}
+use Rattle.fib_carousel.proofs.Words.{length-map, marked, subst, sym}
 use Rattle.fib_carousel.proofs.Sections.{facts_length, subs_done, subs_room, packets_done, packets_room, behind_subs}
 use Rattle.fib_carousel.proofs.Sections.{behind_services}
 use Rattle.fib_carousel.proofs.entry_runs.put_run_at.Goals as goal

@@ -1,12 +1,10 @@
-use Rattle.std.proofs.Common.{◌≡◌, ◌-◌, ◌*◌, ◌++◌, ◌≤◌, take, drop, map, arith, ap, sym, ◌∙◌, append-nil}
-use Rattle.mux_types.specs.Facts.{marked, service_entry}
-use Rattle.fib_codec.specs.Spelling.{entries_bytes}
-use Rattle.fib_carousel.specs.Runs.{shape_of}
+use Rattle.fib_carousel.proofs.Words.{◌*◌, ◌++◌, ◌-◌, ◌∙◌, ◌≡◌, ◌≤◌, ap, append-nil, arith, drop, entries_bytes, map}
+use Rattle.fib_carousel.proofs.Words.{marked, service_entry, shape_of, sym, take}
 use Rattle.fib_carousel.proofs.Sections.{NextService, one_more, service_formed, service_shaped, services_put}
 use Rattle.fib_carousel.proofs.Sections.{next_service, first_service}
+use Rattle.fib_carousel.proofs.entry_runs.put_services.Goals.{After-service_shape-shape, Else-not-is_same_shape}
 use Rattle.fib_carousel.proofs.entry_runs.put_services.Given as given
 use Rattle.fib_carousel.proofs.entry_runs.put_services.Goals as goal
-use Rattle.fib_carousel.proofs.entry_runs.put_services.Goals.{After-service_shape-shape, Else-not-is_same_shape}
 
 -- the first service, and each later one with its head and size, has room
 first_put : (g : given.Over) (c : After-service_shape-shape g)

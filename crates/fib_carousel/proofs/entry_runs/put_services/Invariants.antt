@@ -1,7 +1,5 @@
-use Rattle.std.proofs.Common.{◌≡◌, ◌+◌, ◌-◌, ◌*◌, ◌<◌, ◌≤◌, ◌++◌, length, map, take, drop}
-use Rattle.mux_types.specs.Facts.{service_entry}
-use Rattle.fib_codec.specs.Spelling.{entries_bytes}
-use Rattle.fib_carousel.specs.Shapes.{AreAlike}
+use Rattle.fib_carousel.proofs.Words.{◌*◌, ◌++◌, ◌+◌, ◌-◌, ◌<◌, ◌≡◌, ◌≤◌, AreAlike, drop, entries_bytes, length, map}
+use Rattle.fib_carousel.proofs.Words.{service_entry, take}
 use Rattle.fib_carousel.proofs.Sections.{marked_all}
 use Rattle.fib_carousel.proofs.entry_runs.put_services.Given as goal
 

@@ -1,8 +1,5 @@
-use Rattle.std.proofs.Common.{◌≡◌, ◌+◌, length, arith, ap, ◌∙◌}
-use Rattle.std.proofs.lemmas.List.{length-append}
-use Rattle.mux_types.specs.Facts.{sub_entry}
-use Rattle.fib_codec.specs.Spelling.{entry_bytes}
-use Rattle.fib_codec.proofs.Lengths.{entry_length}
+use Rattle.fib_carousel.proofs.Words.{◌+◌, ◌∙◌, ◌≡◌, ap, arith, entry_bytes, entry_length, length, length-append}
+use Rattle.fib_carousel.proofs.Words.{sub_entry}
 use Rattle.fib_carousel.proofs.Sections.{one_more}
 use Rattle.fib_carousel.proofs.entry_runs.put_subs.Goals as goal
 

@@ -1,6 +1,4 @@
-use Rattle.std.proofs.Common.{◌≡◌, ◌+◌, ◌-◌, ◌*◌, ◌≤◌, ◌++◌, length, map, take, drop}
-use Rattle.mux_types.specs.Facts.{sub_entry}
-use Rattle.fib_codec.specs.Spelling.{entries_bytes}
+use Rattle.fib_carousel.proofs.Words.{◌*◌, ◌++◌, ◌+◌, ◌-◌, ◌≡◌, ◌≤◌, drop, entries_bytes, length, map, sub_entry, take}
 use Rattle.fib_carousel.proofs.entry_runs.put_subs.Given as goal
 
 abbrev pub invariant-loop-place : goal.invariant-loop-place

@@ -1,6 +1,4 @@
-use Rattle.std.proofs.Common.{ap, ◌∙◌}
-use Rattle.mux_types.specs.Facts.{facts_of}
-use Rattle.fib_carousel.specs.Runs.{all_placed}
+use Rattle.fib_carousel.proofs.Words.{◌∙◌, all_placed, ap, facts_of}
 use Rattle.fib_carousel.proofs.Runs.{one_counted, two_counted}
 use Rattle.fib_carousel.proofs.page_count.pages.Goals as goal
 

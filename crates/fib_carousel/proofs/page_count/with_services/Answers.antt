@@ -1,5 +1,4 @@
-use Rattle.std.proofs.Common.{arith}
-use Rattle.mux_config.specs.Configuration.{Configuration}
+use Rattle.fib_carousel.proofs.Words.{Configuration, arith}
 use Rattle.fib_carousel.proofs.Runs.{service_placed}
 use Rattle.fib_carousel.proofs.Sharing.{same_fields}
 use Rattle.fib_carousel.proofs.page_count.with_services.Goals as goal

@@ -1,7 +1,4 @@
-use Rattle.std.proofs.Common.{◌≡◌, ◌+◌, ◌*◌, ◌≤◌, map, drop}
-use Rattle.mux_config.specs.Configuration.{Configuration}
-use Rattle.mux_types.specs.Facts.{marked, service_entry}
-use Rattle.fib_carousel.specs.Runs.{all_placed}
+use Rattle.fib_carousel.proofs.Words.{◌*◌, ◌+◌, ◌≡◌, ◌≤◌, Configuration, all_placed, drop, map, marked, service_entry}
 use Rattle.fib_carousel.proofs.page_count.with_services.Given as goal
 
 abbrev pub invariant-loop-index : goal.invariant-loop-index

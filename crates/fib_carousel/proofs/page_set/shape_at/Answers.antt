@@ -1,5 +1,4 @@
-use Rattle.mux_types.specs.Facts.{marked}
-use Rattle.fib_carousel.specs.Items.{item_entry}
+use Rattle.fib_carousel.proofs.Words.{item_entry, marked}
 use Rattle.fib_carousel.proofs.Sides.{marked_at}
 use Rattle.fib_carousel.proofs.Sharing.{same_fields}
 use Rattle.fib_carousel.proofs.page_set.shape_at.Goals as goal

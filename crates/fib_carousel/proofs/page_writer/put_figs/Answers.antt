@@ -1,16 +1,14 @@
-use Rattle.std.proofs.Common.{◌≡◌, ◌+◌, ◌-◌, ◌*◌, arith, refl, subst, sym, ap, Some, List, ℕ, slice_set, slice_index_or}
-use Rattle.fib_carousel.specs.declared.pack_state.Position.{Position}
-use Rattle.fib_carousel.specs.Packing.{room}
-use Rattle.fib_carousel.specs.Walk.{IsShapeAt, NextIsAfter}
+use Rattle.fib_carousel.proofs.Words.{◌*◌, ◌+◌, ◌-◌, ◌≡◌, IsShapeAt, List, NextIsAfter, Position, Some, ap, arith, refl}
+use Rattle.fib_carousel.proofs.Words.{room, slice_index_or, slice_set, subst, sym, ℕ}
 use Rattle.fib_carousel.proofs.Least.{room_high}
 use Rattle.fib_carousel.proofs.Walk.{passed, passed_entry, walked_over, walked_end, passed_by}
 use Rattle.fib_carousel.proofs.Filling.{FilledTo, Entered, filled_start, filled_all, filled_fits, filled_before}
 use Rattle.fib_carousel.proofs.Closing.{past_entry, past_full, walked_past, passed_past}
 use Rattle.fib_carousel.proofs.Together.{Room, RunIn, Counted, first_of_run, counted, takes, all_in}
-use Rattle.fib_carousel.proofs.page_writer.put_figs.Given as given
-use Rattle.fib_carousel.proofs.page_writer.put_figs.Goals as goal
 use Rattle.fib_carousel.proofs.page_writer.put_figs.Goals.{Then-state-number, After-put_run-count, After-from}
 use Rattle.fib_carousel.proofs.page_writer.put_figs.Goals.{Then-left-more-lt-SHORTEST}
+use Rattle.fib_carousel.proofs.page_writer.put_figs.Given as given
+use Rattle.fib_carousel.proofs.page_writer.put_figs.Goals as goal
 
 -- the step of the entry into this FIB, and the room there for a run of its shape
 entered : (g : given.Over) (c : Then-state-number g)

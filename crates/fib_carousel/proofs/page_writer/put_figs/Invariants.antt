@@ -1,4 +1,4 @@
-use Rattle.std.proofs.Common.{◌-◌}
+use Rattle.fib_carousel.proofs.Words.{◌-◌}
 use Rattle.fib_carousel.proofs.Filling.{FilledTo}
 use Rattle.fib_carousel.proofs.page_writer.put_figs.Given as goal
 

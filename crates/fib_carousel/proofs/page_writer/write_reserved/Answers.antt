@@ -1,6 +1,4 @@
-use Rattle.std.proofs.Common.{◌≡◌, ◌+◌, ◌*◌, List, ℕ, take, arith, ap, ◌∙◌}
-use Rattle.fib_codec.specs.Layouts.{frame_fibs}
-use Rattle.fib_codec.specs.Spelling.{checked, filled}
+use Rattle.fib_carousel.proofs.Words.{◌*◌, ◌+◌, ◌∙◌, ◌≡◌, List, ap, arith, checked, filled, frame_fibs, take, ℕ}
 use Rattle.fib_carousel.proofs.Rows.{reserved_written}
 use Rattle.fib_carousel.proofs.page_writer.write_reserved.Goals as goal
 

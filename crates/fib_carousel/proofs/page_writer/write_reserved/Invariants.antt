@@ -1,7 +1,5 @@
-use Rattle.std.proofs.Common.{◌≡◌, ◌-◌, ◌*◌, ◌++◌, [], length, take, flat_map, replicate}
-use Rattle.fib_codec.specs.Layouts.{used_fibs, frame_fibs}
-use Rattle.fib_codec.specs.Spelling.{fib_bytes}
-use Rattle.fib_carousel.specs.Bytes.{reserved_figs}
+use Rattle.fib_carousel.proofs.Words.{[], ◌*◌, ◌++◌, ◌-◌, ◌≡◌, fib_bytes, flat_map, frame_fibs, length, replicate}
+use Rattle.fib_carousel.proofs.Words.{reserved_figs, take, used_fibs}
 use Rattle.fib_carousel.proofs.page_writer.write_reserved.Given as goal
 
 abbrev pub invariant-loop-slot : goal.invariant-loop-slot

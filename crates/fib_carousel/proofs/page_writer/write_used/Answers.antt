@@ -1,9 +1,5 @@
-use Rattle.std.proofs.Common.{◌≡◌, ◌+◌, ◌-◌, ◌*◌, ℕ, List, arith, ap, subst, ◌∙◌, take}
-use Rattle.fib_codec.specs.Layouts.{used_fibs}
-use Rattle.fib_codec.specs.Spelling.{Written, fib_bytes}
-use Rattle.fib_carousel.specs.Bytes.{figs_of}
-use Rattle.fib_carousel.specs.Pages.{fib_entries, first_fib}
-use Rattle.fib_carousel.specs.Walk.{IsAtFib, HasPassed}
+use Rattle.fib_carousel.proofs.Words.{◌*◌, ◌+◌, ◌-◌, ◌∙◌, ◌≡◌, HasPassed, IsAtFib, List, Written, ap, arith, fib_bytes}
+use Rattle.fib_carousel.proofs.Words.{fib_entries, figs_of, first_fib, subst, take, used_fibs, ℕ}
 use Rattle.fib_carousel.proofs.Walk.{rounds_bound}
 use Rattle.fib_carousel.proofs.Widths.{few_fibs}
 use Rattle.fib_carousel.proofs.Rows.{fib_written}

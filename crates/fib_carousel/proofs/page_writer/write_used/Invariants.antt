@@ -1,11 +1,6 @@
-use Rattle.std.proofs.Common.{◌≡◌, ◌+◌, ◌-◌, ◌*◌, ◌≤◌, ◌++◌, length, take, map, flat_map}
-use Rattle.std.specs.List.{range_with_len}
-use Rattle.fib_codec.specs.Layouts.{used_fibs, frame_fibs}
-use Rattle.fib_codec.specs.Spelling.{fib_bytes}
-use Rattle.fib_carousel.specs.Bytes.{figs_of, used_figs}
-use Rattle.fib_carousel.specs.Greedy.{packing}
-use Rattle.fib_carousel.specs.Pages.{fib_entries, first_fib}
-use Rattle.fib_carousel.specs.Walk.{IsAtFib, HasPassed}
+use Rattle.fib_carousel.proofs.Words.{◌*◌, ◌++◌, ◌+◌, ◌-◌, ◌≡◌, ◌≤◌, HasPassed, IsAtFib, fib_bytes, fib_entries}
+use Rattle.fib_carousel.proofs.Words.{figs_of, first_fib, flat_map, frame_fibs, length, map, packing, range_with_len}
+use Rattle.fib_carousel.proofs.Words.{take, used_fibs, used_figs}
 use Rattle.fib_carousel.proofs.page_writer.write_used.Given as goal
 
 abbrev pub invariant-loop-slot : goal.invariant-loop-slot

@@ -1,6 +1,4 @@
-use Rattle.std.proofs.Common.{◌≡◌, ◌++◌, take}
-use Rattle.fib_codec.specs.Spelling.{components_bytes}
-use Rattle.mux_types.specs.Facts.{component_entries}
+use Rattle.fib_carousel.proofs.Words.{◌++◌, ◌≡◌, component_entries, components_bytes, take}
 use Rattle.fib_carousel.proofs.to_entries.put_components.Given as goal
 
 abbrev pub invariant-loop-place : goal.invariant-loop-place

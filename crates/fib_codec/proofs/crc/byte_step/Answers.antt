@@ -1,5 +1,4 @@
-use Rattle.std.proofs.Common.{sym, ◌∙◌, ap, ◌*◌, ◌%◌}
-use Rattle.std.specs.Prelude.{bit_xor}
+use Rattle.fib_codec.proofs.Words.{◌%◌, ◌*◌, ◌∙◌, ap, bit_xor, sym}
 use Rattle.fib_codec.proofs.Linear.{one_byte}
 use Rattle.fib_codec.proofs.crc.byte_step.Goals as goal
 

@@ -1,5 +1,4 @@
-use Rattle.std.proofs.Common.{◌≡◌, ◌-◌}
-use Rattle.fib_codec.specs.Register.{after}
+use Rattle.fib_codec.proofs.Words.{◌-◌, ◌≡◌, after}
 use Rattle.fib_codec.proofs.crc.byte_step_by_bits.Given as goal
 
 abbrev pub invariant-loop-index : goal.invariant-loop-index

@@ -1,4 +1,4 @@
-use Rattle.std.proofs.Common.{◌∙◌}
+use Rattle.fib_codec.proofs.Words.{◌∙◌}
 use Rattle.fib_codec.proofs.Division.{word_checks}
 use Rattle.fib_codec.proofs.crc.crc16.Goals as goal
 

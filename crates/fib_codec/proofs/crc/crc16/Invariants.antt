@@ -1,5 +1,4 @@
-use Rattle.std.proofs.Common.{◌≡◌, length}
-use Rattle.fib_codec.specs.Register.{after_all}
+use Rattle.fib_codec.proofs.Words.{◌≡◌, after_all, length}
 use Rattle.fib_codec.proofs.crc.crc16.Given as goal
 
 abbrev pub invariant-loop-rest : goal.invariant-loop-rest

@@ -1,6 +1,4 @@
-use Rattle.std.proofs.Common.{◌≡◌, [], drop, sym, ◌∙◌, ap}
-use Rattle.std.proofs.lemmas.List.{drop_all}
-use Rattle.fib_codec.specs.Register.{after_all}
+use Rattle.fib_codec.proofs.Words.{[], ◌∙◌, ◌≡◌, after_all, ap, drop, drop_all, sym}
 use Rattle.fib_codec.proofs.Division.{word_checks}
 use Rattle.fib_codec.proofs.crc.crc16_by_bits.Goals as goal
 

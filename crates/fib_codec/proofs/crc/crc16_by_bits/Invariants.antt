@@ -1,5 +1,4 @@
-use Rattle.std.proofs.Common.{◌≡◌, drop}
-use Rattle.fib_codec.specs.Register.{after_all}
+use Rattle.fib_codec.proofs.Words.{◌≡◌, after_all, drop}
 use Rattle.fib_codec.proofs.crc.crc16_by_bits.Given as goal
 
 abbrev pub invariant-loop-byte : goal.invariant-loop-byte

@@ -1,5 +1,5 @@
-use Rattle.std.proofs.Common.{◌∙◌, ap}
-use Rattle.std.specs.Int.Bits.{bit_xor, xor_assoc}
+use Rattle.fib_codec.proofs.Words.{◌∙◌, ap, bit_xor}
+use Rattle.std.specs.Int.Bits.{xor_assoc}
 use Rattle.fib_codec.proofs.TableRule.{six_bytes}
 use Rattle.fib_codec.proofs.crc.six_step.Goals as goal
 

@@ -1,4 +1,4 @@
-use Rattle.std.proofs.Common.{sym, arith, length-take-le}
+use Rattle.fib_codec.proofs.Words.{arith, length-take-le, sym}
 use Rattle.fib_codec.proofs.U16.{sealed_row}
 use Rattle.fib_codec.proofs.data.with_crc.Goals as goal
 

@@ -1,5 +1,4 @@
-use Rattle.std.proofs.Common.{◌≡◌, ◌≤◌, length, take}
-use Rattle.fib_codec.specs.Spelling.{entries_bytes}
+use Rattle.fib_codec.proofs.Words.{◌≡◌, ◌≤◌, entries_bytes, length, take}
 use Rattle.fib_codec.proofs.fib.len_within.Given as goal
 
 abbrev pub invariant-loop-entry : goal.invariant-loop-entry

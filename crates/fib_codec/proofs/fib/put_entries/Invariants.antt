@@ -1,7 +1,4 @@
-use Rattle.std.proofs.Common.{◌≡◌, ◌++◌, take}
-use Rattle.std.specs.List.{AllByRecursion}
-use Rattle.fib_codec.specs.Ranges.{IsWithin}
-use Rattle.fib_codec.specs.Spelling.{entries_bytes}
+use Rattle.fib_codec.proofs.Words.{◌++◌, ◌≡◌, AllByRecursion, IsWithin, entries_bytes, take}
 use Rattle.fib_codec.proofs.fib.put_entries.Given as goal
 
 abbrev pub invariant-loop-entry : goal.invariant-loop-entry

@@ -1,4 +1,4 @@
-use Rattle.std.proofs.Common.{arith, length-take-le}
+use Rattle.fib_codec.proofs.Words.{arith, length-take-le}
 use Rattle.fib_codec.proofs.U16.{sealed_end}
 use Rattle.fib_codec.proofs.fib_frame.seal.Goals as goal
 

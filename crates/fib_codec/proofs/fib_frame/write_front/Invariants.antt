@@ -1,4 +1,4 @@
-use Rattle.std.proofs.Common.{◌≡◌, length, take, drop}
+use Rattle.fib_codec.proofs.Words.{◌≡◌, drop, length, take}
 use Rattle.fib_codec.proofs.fib_frame.write_front.Given as goal
 
 abbrev pub invariant-loop-index : goal.invariant-loop-index

@@ -1,4 +1,4 @@
-use Rattle.std.proofs.Common.{arith}
+use Rattle.fib_codec.proofs.Words.{arith}
 use Rattle.fib_codec.proofs.U16.{joined_into}
 use Rattle.fib_codec.proofs.fib_frame.write_joined.Goals as goal
 

@@ -1,4 +1,4 @@
-use Rattle.std.proofs.Common.{rules, sym, ◌∙◌, arith}
+use Rattle.fib_codec.proofs.Words.{◌∙◌, arith, rules, sym}
 use Rattle.std.proofs.lemmas.Grind.{common_steps}
 use Rattle.fib_codec.proofs.Determined.{service_told}
 use Rattle.fib_codec.proofs.fig0_2.decode.Goals as goal

@@ -1,7 +1,4 @@
-use Rattle.std.proofs.Common.{◌≡◌, ◌+◌, ◌*◌, ◌++◌, length}
-use Rattle.std.specs.List.{AllByRecursion}
-use Rattle.fib_codec.specs.Ranges.{IsComponentEntry}
-use Rattle.fib_codec.specs.Spelling.{components_bytes}
+use Rattle.fib_codec.proofs.Words.{◌*◌, ◌++◌, ◌+◌, ◌≡◌, AllByRecursion, IsComponentEntry, components_bytes, length}
 use Rattle.fib_codec.proofs.fig0_2.decode_components.Given as goal
 
 abbrev pub invariant-loop-rest : goal.invariant-loop-rest

@@ -1,7 +1,4 @@
-use Rattle.std.proofs.Common.{◌≡◌, ◌++◌, take}
-use Rattle.std.specs.List.{AllByRecursion}
-use Rattle.fib_codec.specs.Ranges.{IsComponentEntry}
-use Rattle.fib_codec.specs.Spelling.{components_bytes}
+use Rattle.fib_codec.proofs.Words.{◌++◌, ◌≡◌, AllByRecursion, IsComponentEntry, components_bytes, take}
 use Rattle.fib_codec.proofs.fig0_2.encode_components.Given as goal
 
 abbrev pub invariant-loop-component : goal.invariant-loop-component

@@ -1,7 +1,4 @@
-use Rattle.std.proofs.Common.{◌∙◌, List, sym, subst}
-use Rattle.fib_codec.specs.Grammar.{Fig}
-use Rattle.fib_reader.specs.Listening.{hear_figs}
-use Rattle.fib_reader.specs.Remembering.{KeepsCurrent}
+use Rattle.fib_reader.proofs.Words.{◌∙◌, Fig, KeepsCurrent, List, hear_figs, subst, sym}
 use Rattle.fib_reader.proofs.Remembering.{keeps_fig, keeps_other, keeps_figs, keeps_nothing}
 use Rattle.fib_reader.proofs.basis.are_of_next.Goals as goal
 

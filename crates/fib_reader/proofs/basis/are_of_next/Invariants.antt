@@ -1,5 +1,4 @@
-use Rattle.fib_reader.specs.Listening.{hear_figs}
-use Rattle.fib_reader.specs.Remembering.{KeepsCurrent}
+use Rattle.fib_reader.proofs.Words.{KeepsCurrent, hear_figs}
 use Rattle.fib_reader.proofs.basis.are_of_next.Given as goal
 
 abbrev pub invariant-loop-fig : goal.invariant-loop-fig

@@ -1,5 +1,4 @@
-use Rattle.std.proofs.Common.{◌≡◌, ◌∙◌, refl, sym, ap, length, take, Ok, None, arith}
-use Rattle.fib_reader.specs.FirstFault.{figs_fault}
+use Rattle.fib_reader.proofs.Words.{◌∙◌, ◌≡◌, None, Ok, ap, arith, figs_fault, length, refl, sym, take}
 use Rattle.fib_reader.proofs.FigFaults.{found_is_fault}
 use Rattle.fib_reader.proofs.FigLists.{sound_figs, same_figs, no_fault_twice}
 use Rattle.fib_reader.proofs.checking.check.Goals as goal

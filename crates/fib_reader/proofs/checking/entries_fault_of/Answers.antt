@@ -1,5 +1,4 @@
-use Rattle.std.proofs.Common.{◌<◌, length, arith}
-use Rattle.fib_codec.specs.Extensions.{number_of}
+use Rattle.fib_reader.proofs.Words.{◌<◌, arith, length, number_of}
 use Rattle.fib_reader.proofs.FaultSteps.{next_entry, missing_bytes, no_entries, some_left, none_left}
 use Rattle.fib_reader.proofs.Lengths.{some_bytes}
 use Rattle.fib_reader.proofs.checking.entries_fault_of.Goals as goal

@@ -1,7 +1,5 @@
-use Rattle.std.proofs.Common.{◌≡◌, ◌+◌, length}
-use Rattle.fib_codec.specs.Extensions.{number_of}
+use Rattle.fib_reader.proofs.Words.{◌+◌, ◌≡◌, entries_fault, length, number_of}
 use Rattle.fib_reader.proofs.FaultSteps.{LeadsTo}
-use Rattle.fib_reader.specs.FirstFault.{entries_fault}
 use Rattle.fib_reader.proofs.checking.entries_fault_of.Given as goal
 
 abbrev pub invariant-loop-rest : goal.invariant-loop-rest

@@ -1,6 +1,5 @@
-use Rattle.std.proofs.Common.{◌≡◌, ◌≢◌, ◌<◌, length, get_or, arith, sym, ◌∙◌, drop, Some, None}
+use Rattle.fib_reader.proofs.Words.{◌<◌, ◌∙◌, ◌≡◌, ◌≢◌, None, Some, arith, drop, fig_fault, get_or, length, sym}
 use Rattle.fib_reader.proofs.FaultSteps.{next_fig, at_marker, fault_here, no_figs, some_left, none_left}
-use Rattle.fib_reader.specs.FirstFault.{fig_fault}
 use Rattle.fib_reader.proofs.checking.figs_fault_of.Goals as goal
 
 pub returns-then-header : goal.returns-then-header

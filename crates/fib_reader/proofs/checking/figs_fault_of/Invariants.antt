@@ -1,6 +1,5 @@
-use Rattle.std.proofs.Common.{◌≡◌, ◌+◌, length}
+use Rattle.fib_reader.proofs.Words.{◌+◌, ◌≡◌, figs_fault, length}
 use Rattle.fib_reader.proofs.FaultSteps.{LeadsToFig}
-use Rattle.fib_reader.specs.FirstFault.{figs_fault}
 use Rattle.fib_reader.proofs.checking.figs_fault_of.Given as goal
 
 abbrev pub invariant-loop-rest : goal.invariant-loop-rest

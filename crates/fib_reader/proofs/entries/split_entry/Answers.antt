@@ -1,7 +1,5 @@
-use Rattle.std.proofs.Common.{◌≡◌, ◌<◌, length, take, drop, min, ◌∙◌, ap}
-use Rattle.std.proofs.lemmas.List.{take_min, drop_min}
-use Rattle.fib_codec.specs.Extensions.{number_of}
-use Rattle.fib_codec.specs.Grammar.{entry_len}
+use Rattle.fib_reader.proofs.Words.{◌<◌, ◌∙◌, ◌≡◌, ap, drop, drop_min, entry_len, length, min, number_of, take}
+use Rattle.fib_reader.proofs.Words.{take_min}
 use Rattle.fib_reader.proofs.EntryLists.{first_of_entries, no_entries_of}
 use Rattle.fib_reader.proofs.FaultSteps.{some_left, none_left}
 use Rattle.fib_reader.proofs.entries.split_entry.Goals as goal

@@ -1,10 +1,6 @@
-use Rattle.std.proofs.Common.{◌≡◌, ◌+◌, ◌==◌, ◌++◌, ◌∷◌, ◌∙◌, [], true, false, length, get_or, sym, ap}
-use Rattle.std.specs.List.{list_any}
-use Rattle.std.proofs.lemmas.List.{take_more, length-append}
-use Rattle.mux_config.specs.Configuration.{carrier_of}
-use Rattle.mux_config.specs.Sameness.{names}
-use Rattle.mux_types.specs.Facts.{component_entry, component_entries}
-use Rattle.mux_types.specs.declared.parts.Component.TheVariants.{Packet}
+use Rattle.fib_reader.proofs.Words.{[], ◌++◌, ◌+◌, ◌==◌, ◌∙◌, ◌∷◌, ◌≡◌, Packet, ap, carrier_of, component_entries}
+use Rattle.fib_reader.proofs.Words.{component_entry, false, get_or, length, length-append, list_any, names, sym}
+use Rattle.fib_reader.proofs.Words.{take_more, true}
 use Rattle.fib_reader.proofs.Components.{entry_at_place, named_twice, component_entries-more, members_more}
 use Rattle.fib_reader.proofs.Components.{different_more}
 use Rattle.fib_reader.proofs.from_entry.components_from_entry.Goals as goal

@@ -1,7 +1,4 @@
-use Rattle.std.proofs.Common.{◌≡◌, length, take}
-use Rattle.mux_config.specs.Configuration.{IsComponent, AreDifferent}
-use Rattle.std.specs.List.{AllByRecursion}
-use Rattle.mux_types.specs.Facts.{component_entries}
+use Rattle.fib_reader.proofs.Words.{◌≡◌, AllByRecursion, AreDifferent, IsComponent, component_entries, length, take}
 use Rattle.fib_reader.proofs.from_entry.components_from_entry.Given as goal
 
 abbrev pub invariant-loop-index : goal.invariant-loop-index

@@ -1,4 +1,4 @@
-use Rattle.std.proofs.Common.{take}
+use Rattle.fib_reader.proofs.Words.{take}
 use Rattle.fib_reader.proofs.Places.{front_of_figs}
 use Rattle.fib_reader.proofs.laws.places.Goals as goal
 

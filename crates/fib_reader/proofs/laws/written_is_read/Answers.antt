@@ -1,6 +1,4 @@
-use Rattle.std.proofs.Common.{map}
-use Rattle.fib_codec.specs.Spelling.{fib_bytes}
-use Rattle.fib_codec.specs.Grammar.{fig_of}
+use Rattle.fib_reader.proofs.Words.{fib_bytes, fig_of, map}
 use Rattle.fib_reader.proofs.laws.written_is_read.Goals as goal
 
 pub returns-clause-good : goal.returns-clause-good

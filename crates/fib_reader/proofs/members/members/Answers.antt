@@ -1,6 +1,5 @@
-use Rattle.std.proofs.Common.{◌∙◌, ◌≤◌, ◌<◌, ◌≡◌, sym, ap, rules, length, arith}
-use Rattle.std.proofs.lemmas.List.{length-map, length-take-le}
-use Rattle.fib_reader.specs.Raw.{raw_entry}
+use Rattle.fib_reader.proofs.Words.{◌<◌, ◌∙◌, ◌≡◌, ◌≤◌, ap, arith, length, length-map, length-take-le, raw_entry, rules}
+use Rattle.fib_reader.proofs.Words.{sym}
 use Rattle.fib_reader.proofs.FromEntries.{above_all, none_says}
 use Rattle.fib_reader.proofs.members.members.Goals as goal
 

@@ -1,6 +1,4 @@
-use Rattle.std.proofs.Common.{◌≡◌, map, take}
-use Rattle.std.specs.List.{AllByRecursion}
-use Rattle.fib_reader.specs.Raw.{raw_entry}
+use Rattle.fib_reader.proofs.Words.{◌≡◌, AllByRecursion, map, raw_entry, take}
 use Rattle.fib_reader.proofs.members.members.Given as goal
 
 abbrev pub invariant-loop-entry : goal.invariant-loop-entry

@@ -1,5 +1,5 @@
+use Rattle.fig_merge.proofs.Words.{agrees_with, room_of, turns_in}
 use Rattle.fig_merge.proofs.Passing.{all_agree}
-use Rattle.fig_merge.specs.Filling.{agrees_with, room_of, turns_in}
 use Rattle.fig_merge.proofs.laws.agreement.Goals as goal
 
 pub returns : goal.returns

@@ -1,5 +1,4 @@
-use Rattle.std.proofs.Common.{◌≡◌, ◌+◌, length}
-use Rattle.fig_merge.specs.Filling.{data_of}
+use Rattle.fig_merge.proofs.Words.{◌+◌, ◌≡◌, data_of, length}
 use Rattle.fig_merge.proofs.merger.data_len.Given as goal
 
 abbrev pub invariant-loop-fig : goal.invariant-loop-fig

@@ -1,4 +1,4 @@
-use Rattle.std.proofs.Common.{refl}
+use Rattle.fig_merge.proofs.Words.{refl}
 use Rattle.fig_merge.proofs.Carrying.{padded}
 use Rattle.fig_merge.proofs.sealing.pad.Goals as goal
 

@@ -1,5 +1,4 @@
-use Rattle.std.proofs.Common.{arith, length-take-le}
-use Rattle.fib_codec.proofs.U16.{sealed_end}
+use Rattle.fig_merge.proofs.Words.{arith, length-take-le, sealed_end}
 use Rattle.fig_merge.proofs.sealing.seal.Goals as goal
 
 pub slice_bounds-crc16-end-2 : goal.slice_bounds-crc16-end-2

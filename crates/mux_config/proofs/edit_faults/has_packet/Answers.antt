@@ -1,5 +1,4 @@
-use Rattle.std.proofs.Common.{◌∙◌}
-use Rattle.mux_types.specs.Configuration.{packet_key}
+use Rattle.mux_config.proofs.Words.{◌∙◌, packet_key}
 use Rattle.mux_config.proofs.Keeping.{is_found}
 use Rattle.mux_config.proofs.edit_faults.has_packet.Goals as goal
 

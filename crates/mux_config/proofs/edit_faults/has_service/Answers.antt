@@ -1,5 +1,4 @@
-use Rattle.std.proofs.Common.{◌∙◌}
-use Rattle.mux_types.specs.Configuration.{service_key, sid_key}
+use Rattle.mux_config.proofs.Words.{◌∙◌, service_key, sid_key}
 use Rattle.mux_config.proofs.Keeping.{is_found_lent}
 use Rattle.mux_config.proofs.edit_faults.has_service.Goals as goal
 

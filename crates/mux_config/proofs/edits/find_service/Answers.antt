@@ -1,5 +1,4 @@
-use Rattle.std.proofs.Common.{sym}
-use Rattle.mux_types.specs.Configuration.{IsService, service_key}
+use Rattle.mux_config.proofs.Words.{IsService, service_key, sym}
 use Rattle.mux_config.proofs.Keeping.{entry_holds}
 use Rattle.mux_config.proofs.edits.find_service.Goals as goal
 

@@ -1,5 +1,4 @@
-use Rattle.std.proofs.Common.{sym}
-use Rattle.mux_types.specs.Configuration.{IsPlaced, sub_key}
+use Rattle.mux_config.proofs.Words.{IsPlaced, sub_key, sym}
 use Rattle.mux_config.proofs.Keeping.{entry_holds}
 use Rattle.mux_config.proofs.edits.find_sub.Goals as goal
 

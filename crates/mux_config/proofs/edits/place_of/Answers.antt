@@ -1,8 +1,5 @@
-use Rattle.std.proofs.Common.{◌≡◌, ◌∙◌, Some, slice_get, length, refl, sym, arith}
+use Rattle.mux_config.proofs.Words.{◌∙◌, ◌≡◌, Some, any_end, arith, carrier_of, length, names, refl, slice_get, sym}
 use Rattle.std.proofs.lemmas.Option.{slice_get_read}
-use Rattle.mux_types.specs.Configuration.{carrier_of}
-use Rattle.mux_types.specs.Sameness.{names}
-use Rattle.mux_types.proofs.Walking.{any_end}
 use Rattle.mux_config.proofs.Keeping.{closed_up, carrier_same, stay_told}
 use Rattle.mux_config.proofs.edits.place_of.Goals as goal
 

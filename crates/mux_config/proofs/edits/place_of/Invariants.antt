@@ -1,6 +1,4 @@
-use Rattle.std.proofs.Common.{◌≡◌, drop}
-use Rattle.std.specs.List.{list_any}
-use Rattle.mux_types.specs.Sameness.{names}
+use Rattle.mux_config.proofs.Words.{◌≡◌, drop, list_any, names}
 use Rattle.mux_config.proofs.edits.place_of.Given as goal
 
 abbrev pub invariant-loop-place : goal.invariant-loop-place

@@ -1,5 +1,4 @@
-use Rattle.std.proofs.Common.{◌≡◌, drop}
-use Rattle.mux_config.specs.Sound.{is_crowded}
+use Rattle.mux_config.proofs.Words.{◌≡◌, drop, is_crowded}
 use Rattle.mux_config.proofs.overlap.is_crowded.Given as goal
 
 abbrev pub invariant-loop-place : goal.invariant-loop-place

@@ -1,6 +1,4 @@
-use Rattle.std.proofs.Common.{◌≡◌, drop}
-use Rattle.std.specs.List.{list_any}
-use Rattle.mux_config.specs.Sound.{overlaps}
+use Rattle.mux_config.proofs.Words.{◌≡◌, drop, list_any, overlaps}
 use Rattle.mux_config.proofs.overlap.overlaps_any.Given as goal
 
 abbrev pub invariant-loop-other : goal.invariant-loop-other

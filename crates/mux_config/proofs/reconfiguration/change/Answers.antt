@@ -1,4 +1,4 @@
-use Rattle.std.proofs.Common.{not}
+use Rattle.mux_config.proofs.Words.{not}
 use Rattle.mux_config.proofs.Rates.{one_rate}
 use Rattle.mux_config.proofs.Same.{change_told}
 use Rattle.mux_config.proofs.reconfiguration.change.Goals as goal

@@ -1,5 +1,4 @@
-use Rattle.std.proofs.Common.{◌≡◌, length, drop}
-use Rattle.mux_types.specs.Sameness.{is_same_service, is_same_list}
+use Rattle.mux_config.proofs.Words.{◌≡◌, drop, is_same_list, is_same_service, length}
 use Rattle.mux_config.proofs.reconfiguration.has_same_service_set.Given as goal
 
 abbrev pub invariant-loop-place : goal.invariant-loop-place

@@ -1,6 +1,4 @@
-use Rattle.std.proofs.Common.{◌∙◌, sym}
-use Rattle.mux_types.specs.Sameness.{is_same_sub, is_same_list}
-use Rattle.mux_types.proofs.Walking.{same_more, same_not}
+use Rattle.mux_config.proofs.Words.{◌∙◌, is_same_list, is_same_sub, same_more, same_not, sym}
 use Rattle.mux_config.proofs.reconfiguration.has_same_subs.Goals as goal
 
 pub returns-then-not-is_same_sub-clause-value : goal.returns-then-not-is_same_sub-clause-value

@@ -1,6 +1,4 @@
-use Rattle.std.proofs.Common.{◌+◌, ap, ◌∙◌, arith}
-use Rattle.std.proofs.lemmas.Result.{err_from_is_err_and}
-use Rattle.std.proofs.lemmas.List.{length_push}
+use Rattle.mux_config.proofs.Words.{◌+◌, ◌∙◌, ap, arith, err_from_is_err_and, length_push}
 use Rattle.mux_config.proofs.ReadingLoops.{component_fault, component_repeated, component_fresh, components_done}
 use Rattle.mux_config.proofs.record_reader.components.Goals as goal
 

@@ -1,5 +1,4 @@
-use Rattle.std.proofs.Common.{◌≡◌, ◌-◌, [], length}
-use Rattle.mux_config.specs.Reading.{components_at}
+use Rattle.mux_config.proofs.Words.{[], ◌-◌, ◌≡◌, components_at, length}
 use Rattle.mux_config.proofs.record_reader.components.Given as goal
 
 abbrev pub invariant-loop : goal.invariant-loop

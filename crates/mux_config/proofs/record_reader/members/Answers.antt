@@ -1,7 +1,5 @@
-use Rattle.std.proofs.Common.{rules, ◌<◌, ◌+◌, ap, ◌∙◌, arith}
-use Rattle.std.proofs.lemmas.Result.{err_from_is_err_and}
-use Rattle.std.proofs.lemmas.List.{length_push}
-use Rattle.mux_types.proofs.Tables.{each_weaker, each_pushed}
+use Rattle.mux_config.proofs.Words.{◌+◌, ◌<◌, ◌∙◌, ap, arith, each_pushed, each_weaker, err_from_is_err_and}
+use Rattle.mux_config.proofs.Words.{length_push, rules}
 use Rattle.mux_config.proofs.ReadingLoops.{member_fault, member_next, members_done}
 use Rattle.mux_config.proofs.record_reader.members.Goals as goal
 

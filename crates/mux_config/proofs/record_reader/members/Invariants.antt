@@ -1,6 +1,4 @@
-use Rattle.std.proofs.Common.{◌≡◌, ◌<◌, ◌-◌, [], length}
-use Rattle.std.specs.List.{AllByRecursion}
-use Rattle.mux_config.specs.Reading.{members_at}
+use Rattle.mux_config.proofs.Words.{[], ◌-◌, ◌<◌, ◌≡◌, AllByRecursion, length, members_at}
 use Rattle.mux_config.proofs.record_reader.members.Given as goal
 
 abbrev pub invariant-loop : goal.invariant-loop

@@ -1,4 +1,4 @@
-use Rattle.std.proofs.Common.{arith}
+use Rattle.mux_config.proofs.Words.{arith}
 use Rattle.mux_config.proofs.Places.{field_in}
 use Rattle.mux_config.proofs.RecordLaws.{spelled_so, read_so}
 use Rattle.mux_config.proofs.record_reader.read_config.Goals as goal

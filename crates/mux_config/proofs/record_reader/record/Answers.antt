@@ -1,7 +1,5 @@
-use Rattle.std.proofs.Common.{◌≡◌, ℕ, ◌-◌, List, length, drop, Result, Ok, ap, sym, ◌∙◌, arith}
-use Rattle.mux_config.specs.declared.record.RecordFault.{RecordFault}
-use Rattle.mux_types.specs.Configuration.{Configuration}
-use Rattle.mux_config.specs.Reading.{config_at}
+use Rattle.mux_config.proofs.Words.{◌-◌, ◌∙◌, ◌≡◌, Configuration, List, Ok, RecordFault, Result, ap, arith, config_at}
+use Rattle.mux_config.proofs.Words.{drop, length, sym, ℕ}
 use Rattle.mux_config.proofs.RecordLaws.{read_in_turn, left}
 use Rattle.mux_config.proofs.record_reader.record.Goals as goal
 

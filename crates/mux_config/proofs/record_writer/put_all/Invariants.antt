@@ -1,5 +1,4 @@
-use Rattle.std.proofs.Common.{◌≡◌, ◌++◌, take}
-use Rattle.std.specs.List.{flat_map}
+use Rattle.mux_config.proofs.Words.{◌++◌, ◌≡◌, flat_map, take}
 use Rattle.mux_config.proofs.record_writer.put_all.Given as goal
 
 abbrev pub invariant-loop-item : goal.invariant-loop-item

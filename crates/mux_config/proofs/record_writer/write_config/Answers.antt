@@ -1,5 +1,4 @@
-use Rattle.std.proofs.Common.{rules, ◌≡◌}
-use Rattle.mux_config.specs.Spelling.{config_bytes}
+use Rattle.mux_config.proofs.Words.{◌≡◌, config_bytes, rules}
 use Rattle.mux_config.proofs.RecordLaws.{written_again}
 use Rattle.mux_config.proofs.record_writer.write_config.Goals as goal
 

@@ -1,7 +1,4 @@
-use Rattle.std.proofs.Common.{◌∙◌, sym, ap, Option}
-use Rattle.std.proofs.lemmas.Bool.{false≢true}
-use Rattle.mux_config.specs.declared.fault.ConfigFault.{ConfigFault}
-use Rattle.mux_config.specs.Sound.{first_of_two, other_fault}
+use Rattle.mux_config.proofs.Words.{◌∙◌, ConfigFault, Option, ap, false≢true, first_of_two, other_fault, sym}
 use Rattle.mux_config.proofs.Sounding.{crowded_found, not_crowded, stays_first}
 use Rattle.mux_config.proofs.soundness_test.first_fault.Goals as goal
 

@@ -1,5 +1,4 @@
-use Rattle.std.proofs.Common.{◌∙◌, sym}
-use Rattle.mux_config.specs.Sound.{first_overlap}
+use Rattle.mux_config.proofs.Words.{◌∙◌, first_overlap, sym}
 use Rattle.mux_config.proofs.Overlaps.{first_found, first_more}
 use Rattle.mux_config.proofs.soundness_test.first_overlap.Goals as goal
 

@@ -1,5 +1,4 @@
-use Rattle.std.proofs.Common.{◌≡◌, drop}
-use Rattle.mux_config.specs.Sound.{first_overlap}
+use Rattle.mux_config.proofs.Words.{◌≡◌, drop, first_overlap}
 use Rattle.mux_config.proofs.soundness_test.first_overlap.Given as goal
 
 abbrev pub invariant-loop-place : goal.invariant-loop-place

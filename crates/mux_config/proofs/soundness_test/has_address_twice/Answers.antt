@@ -1,7 +1,5 @@
-use Rattle.std.proofs.Common.{◌≡◌, ℕ, ◌+◌, ◌-◌, ◌<◌, false, [], drop, refl, sym, ap, ◌∙◌, subst, slice_index_or}
-use Rattle.std.proofs.Common.{slice_set, true, arith}
-use Rattle.std.proofs.lemmas.List.{drop_all, length-set}
-use Rattle.mux_config.specs.Sound.{has_address_twice}
+use Rattle.mux_config.proofs.Words.{[], ◌+◌, ◌-◌, ◌<◌, ◌∙◌, ◌≡◌, ap, arith, drop, drop_all, false, has_address_twice}
+use Rattle.mux_config.proofs.Words.{length-set, refl, slice_index_or, slice_set, subst, sym, true, ℕ}
 use Rattle.mux_config.proofs.Overlaps.{Marks, marks_none, marks_one, twice_found, twice_not, twice_unnamed}
 use Rattle.mux_config.proofs.soundness_test.has_address_twice.Goals.{else-named-sub-via-then-named-sub+else-has_same_address_from}
 use Rattle.mux_config.proofs.soundness_test.has_address_twice.Goals.{else-named-sub-via-else-named-sub}

@@ -1,5 +1,4 @@
-use Rattle.std.proofs.Common.{◌≡◌, ◌-◌, false, length, drop}
-use Rattle.mux_config.specs.Sound.{has_address_twice}
+use Rattle.mux_config.proofs.Words.{◌-◌, ◌≡◌, drop, false, has_address_twice, length}
 use Rattle.mux_config.proofs.Overlaps.{Marks}
 use Rattle.mux_config.proofs.soundness_test.has_address_twice.Given as goal
 

@@ -1,8 +1,4 @@
-use Rattle.std.proofs.Common.{◌∙◌, sym}
-use Rattle.std.specs.List.{list_any}
-use Rattle.mux_config.specs.Sound.{is_empty_service}
-use Rattle.std.proofs.lemmas.Bool.{eq-eqb, ne_eqb}
-use Rattle.mux_types.proofs.Walking.{any_more, any_found}
+use Rattle.mux_config.proofs.Words.{◌∙◌, any_found, any_more, eq-eqb, is_empty_service, list_any, ne_eqb, sym}
 use Rattle.mux_config.proofs.soundness_test.has_empty_service.Goals as goal
 
 pub returns-then-len-eq0 : goal.returns-then-len-eq0

@@ -1,6 +1,4 @@
-use Rattle.std.proofs.Common.{◌≡◌, drop}
-use Rattle.std.specs.List.{list_any}
-use Rattle.mux_config.specs.Sound.{is_empty_service}
+use Rattle.mux_config.proofs.Words.{◌≡◌, drop, is_empty_service, list_any}
 use Rattle.mux_config.proofs.soundness_test.has_empty_service.Given as goal
 
 abbrev pub invariant-loop-place : goal.invariant-loop-place

@@ -1,9 +1,5 @@
-use Rattle.std.proofs.Common.{◌∙◌, sym, ap, List}
-use Rattle.std.specs.List.{list_any}
-use Rattle.mux_types.specs.Configuration.{carrier_of}
-use Rattle.mux_types.specs.declared.parts.Component.{Component}
-use Rattle.mux_config.specs.Sound.{is_missing}
-use Rattle.mux_types.proofs.Walking.{any_more, any_found}
+use Rattle.mux_config.proofs.Words.{◌∙◌, Component, List, any_found, any_more, ap, carrier_of, is_missing, list_any}
+use Rattle.mux_config.proofs.Words.{sym}
 use Rattle.mux_config.proofs.soundness_test.has_orphan_component.Goals as goal
 
 pub returns-then-names_missing : goal.returns-then-names_missing

@@ -1,8 +1,5 @@
-use Rattle.std.proofs.Common.{◌∙◌, sym}
-use Rattle.std.specs.List.{list_any}
-use Rattle.mux_config.specs.Sound.{is_missing}
+use Rattle.mux_config.proofs.Words.{◌∙◌, any_found, any_more, is_missing, list_any, sym}
 use Rattle.mux_types.specs.declared.parts.Carrier.TheVariants.{Sub as BySub}
-use Rattle.mux_types.proofs.Walking.{any_more, any_found}
 use Rattle.mux_config.proofs.soundness_test.has_orphan_packet.Goals as goal
 
 pub returns-then-is_missing : goal.returns-then-is_missing

@@ -1,6 +1,4 @@
-use Rattle.std.proofs.Common.{◌≡◌, drop}
-use Rattle.std.specs.List.{list_any}
-use Rattle.mux_config.specs.Sound.{is_missing}
+use Rattle.mux_config.proofs.Words.{◌≡◌, drop, is_missing, list_any}
 use Rattle.mux_types.specs.declared.parts.Carrier.TheVariants.{Sub as BySub}
 use Rattle.mux_config.proofs.soundness_test.has_orphan_packet.Given as goal
 

@@ -1,8 +1,4 @@
-use Rattle.std.proofs.Common.{◌∙◌, sym}
-use Rattle.std.specs.List.{list_any}
-use Rattle.std.proofs.Common.{drop}
-use Rattle.mux_config.specs.Sound.{has_same_address}
-use Rattle.mux_types.proofs.Walking.{any_more, any_found}
+use Rattle.mux_config.proofs.Words.{◌∙◌, any_found, any_more, drop, has_same_address, list_any, sym}
 use Rattle.mux_config.proofs.soundness_test.has_same_address_from.Goals as goal
 
 pub returns-then-has_same_address : goal.returns-then-has_same_address

@@ -1,6 +1,4 @@
-use Rattle.std.proofs.Common.{◌≡◌, drop}
-use Rattle.std.specs.List.{list_any}
-use Rattle.mux_config.specs.Sound.{has_same_address}
+use Rattle.mux_config.proofs.Words.{◌≡◌, drop, has_same_address, list_any}
 use Rattle.mux_config.proofs.soundness_test.has_same_address_from.Given as goal
 
 abbrev pub invariant-loop-place : goal.invariant-loop-place

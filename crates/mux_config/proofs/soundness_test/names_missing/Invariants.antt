@@ -1,7 +1,4 @@
-use Rattle.std.proofs.Common.{◌≡◌, drop}
-use Rattle.std.specs.List.{list_any}
-use Rattle.mux_types.specs.Configuration.{carrier_of}
-use Rattle.mux_config.specs.Sound.{is_missing}
+use Rattle.mux_config.proofs.Words.{◌≡◌, carrier_of, drop, is_missing, list_any}
 use Rattle.mux_config.proofs.soundness_test.names_missing.Given as goal
 
 abbrev pub invariant-loop-component : goal.invariant-loop-component

@@ -1,5 +1,4 @@
-use Rattle.std.proofs.Common.{◌∙◌, sym, drop}
-use Rattle.mux_config.specs.Sound.{overlap_with}
+use Rattle.mux_config.proofs.Words.{◌∙◌, drop, overlap_with, sym}
 use Rattle.mux_config.proofs.Overlaps.{with_found, with_more}
 use Rattle.mux_config.proofs.soundness_test.overlap_with.Goals as goal
 

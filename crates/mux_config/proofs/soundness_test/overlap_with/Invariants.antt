@@ -1,5 +1,4 @@
-use Rattle.std.proofs.Common.{◌≡◌, drop}
-use Rattle.mux_config.specs.Sound.{overlap_with}
+use Rattle.mux_config.proofs.Words.{◌≡◌, drop, overlap_with}
 use Rattle.mux_config.proofs.soundness_test.overlap_with.Given as goal
 
 abbrev pub invariant-loop-place : goal.invariant-loop-place

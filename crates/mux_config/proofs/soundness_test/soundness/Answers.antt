@@ -1,5 +1,4 @@
-use Rattle.std.proofs.Common.{◌≡◌, ◌∙◌, sym, refl, Some, None}
-use Rattle.std.proofs.lemmas.Bool.{false≢true}
+use Rattle.mux_config.proofs.Words.{◌∙◌, ◌≡◌, None, Some, false≢true, refl, sym}
 use Rattle.mux_config.proofs.Sounding.{sound_told, sound_found}
 use Rattle.mux_config.proofs.soundness_test.soundness.Goals as goal
 

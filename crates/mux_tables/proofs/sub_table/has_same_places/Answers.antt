@@ -1,7 +1,4 @@
-use Rattle.std.proofs.Common.{List, Option, refl, ap, sym, ◌∙◌, arith}
-use Rattle.std.proofs.lemmas.Bool.{false≢true}
-use Rattle.mux_types.specs.declared.parts.Sub.{Sub}
-use Rattle.mux_tables.specs.Members.{members}
+use Rattle.mux_tables.proofs.Words.{◌∙◌, List, Option, Sub, ap, arith, false≢true, members, refl, sym}
 use Rattle.mux_tables.proofs.SubTables.{with_default, same_place, all_same}
 use Rattle.mux_tables.proofs.sub_table.has_same_places.Goals as goal
 

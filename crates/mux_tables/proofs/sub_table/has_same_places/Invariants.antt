@@ -1,4 +1,4 @@
-use Rattle.std.proofs.Common.{◌≡◌, ◌<◌, ℕ, get_or, None}
+use Rattle.mux_tables.proofs.Words.{◌<◌, ◌≡◌, None, get_or, ℕ}
 use Rattle.mux_tables.proofs.sub_table.has_same_places.Given as goal
 
 abbrev pub invariant-loop-place : goal.invariant-loop-place

@@ -1,4 +1,4 @@
-use Rattle.std.proofs.Common.{◌/◌, refl, arith}
+use Rattle.mux_tables.proofs.Words.{◌/◌, arith, refl}
 use Rattle.mux_tables.proofs.Lanes.{raised}
 use Rattle.mux_tables.proofs.unit_map.count_in.Goals as goal
 

@@ -1,4 +1,4 @@
-use Rattle.std.proofs.Common.{◌≤◌, ◌/◌, ◌+◌, ◌-◌, ◌%◌}
+use Rattle.mux_tables.proofs.Words.{◌%◌, ◌+◌, ◌-◌, ◌/◌, ◌≤◌}
 use Rattle.mux_tables.proofs.Lanes.{Stepped}
 use Rattle.mux_tables.proofs.unit_map.count_out.Given as goal
 

@@ -1,4 +1,4 @@
-use Rattle.std.proofs.Common.{◌+◌, ◌*◌, arith, refl}
+use Rattle.mux_tables.proofs.Words.{◌*◌, ◌+◌, arith, refl}
 use Rattle.mux_tables.proofs.Lanes.{high_told, none_high}
 use Rattle.mux_tables.proofs.unit_map.has_shared_unit.Goals as goal
 

@@ -1,5 +1,4 @@
-use Rattle.std.proofs.Common.{ℕ, ◌<◌, ◌≤◌, get_or}
-use Rattle.mux_tables.specs.Units.{units_at}
+use Rattle.mux_tables.proofs.Words.{◌<◌, ◌≤◌, get_or, units_at, ℕ}
 use Rattle.mux_tables.proofs.unit_map.has_shared_unit.Given as goal
 
 abbrev pub invariant-loop-block : goal.invariant-loop-block

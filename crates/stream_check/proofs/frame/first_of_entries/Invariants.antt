@@ -1,5 +1,4 @@
-use Rattle.std.proofs.Common.{◌≡◌, length}
-use Rattle.stream_check.specs.Frames.{first_raw}
+use Rattle.stream_check.proofs.Words.{◌≡◌, first_raw, length}
 use Rattle.stream_check.proofs.frame.first_of_entries.Given as goal
 
 abbrev pub invariant-loop-entry : goal.invariant-loop-entry

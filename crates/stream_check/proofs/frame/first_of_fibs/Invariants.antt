@@ -1,5 +1,4 @@
-use Rattle.std.proofs.Common.{◌≡◌, length, map}
-use Rattle.stream_check.specs.Frames.{Reading, first_of_frame}
+use Rattle.stream_check.proofs.Words.{◌≡◌, Reading, first_of_frame, length, map}
 use Rattle.stream_check.proofs.frame.first_of_fibs.Given as goal
 
 abbrev pub invariant-loop-fib : goal.invariant-loop-fib

@@ -1,5 +1,4 @@
-use Rattle.std.proofs.Common.{◌≡◌, length}
-use Rattle.stream_check.specs.Frames.{first_in_figs}
+use Rattle.stream_check.proofs.Words.{◌≡◌, first_in_figs, length}
 use Rattle.stream_check.proofs.frame.first_of_figs.Given as goal
 
 abbrev pub invariant-loop-fig : goal.invariant-loop-fig

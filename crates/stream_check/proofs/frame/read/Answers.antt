@@ -1,4 +1,4 @@
-use Rattle.std.proofs.Common.{◌∙◌, sym}
+use Rattle.stream_check.proofs.Words.{◌∙◌, sym}
 use Rattle.stream_check.proofs.Seeing.{read_whole, read_damaged}
 use Rattle.stream_check.proofs.frame.read.Goals as goal
 

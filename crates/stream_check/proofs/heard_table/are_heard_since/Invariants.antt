@@ -1,5 +1,4 @@
-use Rattle.std.proofs.Common.{◌≡◌, length, nat_lt}
-use Rattle.std.specs.List.{list_all}
+use Rattle.stream_check.proofs.Words.{◌≡◌, length, list_all, nat_lt}
 use Rattle.stream_check.proofs.heard_table.are_heard_since.Given as goal
 
 abbrev pub invariant-loop-entry : goal.invariant-loop-entry

@@ -1,7 +1,4 @@
-use Rattle.std.proofs.Common.{◌≡◌, length}
-use Rattle.std.specs.List.{list_any}
-use Rattle.fig_mentions.specs.Agreeing.{is_named}
-use Rattle.stream_check.specs.Pictures.{raws}
+use Rattle.stream_check.proofs.Words.{◌≡◌, is_named, length, list_any, raws}
 use Rattle.stream_check.proofs.heard_table.has_named.Given as goal
 
 abbrev pub invariant-loop-entry : goal.invariant-loop-entry

@@ -1,6 +1,4 @@
-use Rattle.std.proofs.Common.{◌≡◌, length}
-use Rattle.stream_check.specs.Pictures.{raws}
-use Rattle.stream_check.specs.Rules.{are_same}
+use Rattle.stream_check.proofs.Words.{◌≡◌, are_same, length, raws}
 use Rattle.stream_check.proofs.heard_table.have_same_entries.Given as goal
 
 abbrev pub invariant-loop-entry : goal.invariant-loop-entry

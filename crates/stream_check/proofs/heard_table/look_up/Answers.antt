@@ -1,8 +1,5 @@
-use Rattle.std.proofs.Common.{◌≡◌, ◌∙◌, true, false, None, Some, sym, ap}
+use Rattle.stream_check.proofs.Words.{◌∙◌, ◌≡◌, None, Some, ap, entry_at, false, heard_key, identifier_of, sym, true}
 use Rattle.std.specs.Option.{option_copied}
-use Rattle.mux_config.specs.Tables.{entry_at}
-use Rattle.fib_reader.specs.Listening.{identifier_of}
-use Rattle.stream_check.specs.Pictures.{heard_key}
 use Rattle.stream_check.proofs.Tables.{standing_known, standing_new, standing_full}
 use Rattle.stream_check.proofs.heard_table.look_up.Goals as goal
 

@@ -1,6 +1,4 @@
-use Rattle.std.proofs.Common.{◌≤◌, sym, subst, arith, List}
-use Rattle.std.specs.List.{AllByRecursion}
-use Rattle.stream_check.specs.Pictures.{Heard}
+use Rattle.stream_check.proofs.Words.{◌≤◌, AllByRecursion, Heard, List, arith, subst, sym}
 use Rattle.stream_check.proofs.Waiting.{each_of_none}
 use Rattle.stream_check.proofs.heard_table.oldest_of.Goals as goal
 

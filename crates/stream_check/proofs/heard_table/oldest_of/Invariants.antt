@@ -1,6 +1,4 @@
-use Rattle.std.proofs.Common.{◌≤◌, ℕ, length}
-use Rattle.std.specs.List.{AllByRecursion}
-use Rattle.stream_check.specs.Pictures.{Heard}
+use Rattle.stream_check.proofs.Words.{◌≤◌, AllByRecursion, Heard, length, ℕ}
 use Rattle.stream_check.proofs.heard_table.oldest_of.Given as goal
 
 -- a time before which none of the rest and none of those seen was last heard is one for all entries

@@ -1,6 +1,4 @@
-use Rattle.std.proofs.Common.{◌≡◌, length}
-use Rattle.fig_mentions.specs.Mentions.{mentions_of}
-use Rattle.stream_check.specs.Contradictions.{are_whole}
+use Rattle.stream_check.proofs.Words.{◌≡◌, are_whole, length, mentions_of}
 use Rattle.stream_check.proofs.mention_rules.are_whole.Given as goal
 
 abbrev pub invariant-loop-rest : goal.invariant-loop-rest

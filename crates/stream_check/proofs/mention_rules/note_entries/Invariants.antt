@@ -1,5 +1,4 @@
-use Rattle.std.proofs.Common.{length}
-use Rattle.stream_check.specs.Pictures.{picture_of_heard}
+use Rattle.stream_check.proofs.Words.{length, picture_of_heard}
 use Rattle.stream_check.proofs.Mentioned.{AreLeft}
 use Rattle.stream_check.proofs.mention_rules.note_entries.Given as goal
 

@@ -1,6 +1,4 @@
-use Rattle.std.proofs.Common.{◌≡◌, length}
-use Rattle.std.specs.List.{list_any}
-use Rattle.stream_check.specs.Contradictions.{is_same}
+use Rattle.stream_check.proofs.Words.{◌≡◌, is_same, length, list_any}
 use Rattle.stream_check.proofs.noted.has_same.Given as goal
 
 abbrev pub invariant-loop-other : goal.invariant-loop-other

@@ -1,6 +1,4 @@
-use Rattle.std.proofs.Common.{◌≡◌, length}
-use Rattle.stream_check.specs.Pictures.{raws}
-use Rattle.stream_check.specs.Rules.{overlap}
+use Rattle.stream_check.proofs.Words.{◌≡◌, length, overlap, raws}
 use Rattle.stream_check.proofs.subs.overlap.Given as goal
 
 abbrev pub invariant-loop-sub : goal.invariant-loop-sub

@@ -1,6 +1,4 @@
-use Rattle.std.proofs.Common.{◌≡◌, length}
-use Rattle.stream_check.specs.Pictures.{raws}
-use Rattle.stream_check.specs.Rules.{partner}
+use Rattle.stream_check.proofs.Words.{◌≡◌, length, partner, raws}
 use Rattle.stream_check.proofs.subs.partner.Given as goal
 
 abbrev pub invariant-loop-other : goal.invariant-loop-other

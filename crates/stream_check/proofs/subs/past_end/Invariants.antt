@@ -1,6 +1,4 @@
-use Rattle.std.proofs.Common.{◌≡◌, length}
-use Rattle.stream_check.specs.Pictures.{raws}
-use Rattle.stream_check.specs.Rules.{past_end}
+use Rattle.stream_check.proofs.Words.{◌≡◌, length, past_end, raws}
 use Rattle.stream_check.proofs.subs.past_end.Given as goal
 
 abbrev pub invariant-loop-sub : goal.invariant-loop-sub

@@ -1,4 +1,4 @@
-use Rattle.stream_laws.specs.Sorts.{is_of_appearance}
+use Rattle.stream_laws.proofs.Words.{is_of_appearance}
 use Rattle.stream_laws.proofs.NoFault.{long_runs}
 use Rattle.stream_laws.proofs.laws.appearances.Goals as goal
 

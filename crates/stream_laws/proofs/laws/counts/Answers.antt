@@ -1,4 +1,4 @@
-use Rattle.plan_runs.proofs.Right.{PageLaws}
+use Rattle.stream_laws.proofs.Words.{PageLaws}
 use Rattle.stream_laws.proofs.Counting.{runs_are_counted}
 use Rattle.stream_laws.proofs.laws.counts.Goals as goal
 

@@ -1,9 +1,8 @@
-use Rattle.plan_runs.proofs.Right.{PageLaws}
-use Rattle.plan_runs.proofs.Contents.{Laws}
+use Rattle.stream_laws.proofs.Words.{Laws, PageLaws}
 use Rattle.stream_laws.proofs.Following.{SwapLaws}
 use Rattle.stream_laws.proofs.NoFault.{runs_are_free}
-use Rattle.stream_laws.proofs.laws.findings.Goals as goal
 use Rattle.stream_laws.proofs.Opening.{FrameLaws}
+use Rattle.stream_laws.proofs.laws.findings.Goals as goal
 
 pub returns : goal.returns
 returns c =

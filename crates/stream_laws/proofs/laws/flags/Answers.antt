@@ -1,5 +1,4 @@
-use Rattle.std.proofs.Common.{refl}
-use Rattle.stream_laws.specs.Sorts.{is_of_flags}
+use Rattle.stream_laws.proofs.Words.{is_of_flags, refl}
 use Rattle.stream_laws.proofs.NoFault.{free_runs}
 use Rattle.stream_laws.proofs.laws.flags.Goals as goal
 

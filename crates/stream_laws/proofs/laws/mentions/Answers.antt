@@ -1,5 +1,4 @@
-use Rattle.std.proofs.Common.{refl}
-use Rattle.stream_laws.specs.Sorts.{is_of_mention}
+use Rattle.stream_laws.proofs.Words.{is_of_mention, refl}
 use Rattle.stream_laws.proofs.NoFault.{free_runs}
 use Rattle.stream_laws.proofs.laws.mentions.Goals as goal
 

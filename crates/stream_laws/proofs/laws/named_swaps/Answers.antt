@@ -1,5 +1,4 @@
-use Rattle.plan_runs.proofs.Right.{PageLaws}
-use Rattle.plan_runs.proofs.Contents.{Laws}
+use Rattle.stream_laws.proofs.Words.{Laws, PageLaws}
 use Rattle.stream_laws.proofs.Named.{swaps_are_named}
 use Rattle.stream_laws.proofs.laws.named_swaps.Goals as goal
 

@@ -1,5 +1,4 @@
-use Rattle.std.proofs.Common.{refl}
-use Rattle.stream_laws.specs.Sorts.{is_of_frame}
+use Rattle.stream_laws.proofs.Words.{is_of_frame, refl}
 use Rattle.stream_laws.proofs.NoFault.{free_runs}
 use Rattle.stream_laws.proofs.laws.places.Goals as goal
 

@@ -1,5 +1,4 @@
-use Rattle.std.proofs.Common.{refl}
-use Rattle.stream_laws.specs.Sorts.{is_of_repetition}
+use Rattle.stream_laws.proofs.Words.{is_of_repetition, refl}
 use Rattle.stream_laws.proofs.NoFault.{free_runs}
 use Rattle.stream_laws.proofs.laws.repetition.Goals as goal
 

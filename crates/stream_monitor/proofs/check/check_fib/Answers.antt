@@ -1,7 +1,4 @@
-use Rattle.std.proofs.Common.{rules, ◌≡◌, length}
-use Rattle.stream_monitor.specs.declared.check.State.{State}
-use Rattle.stream_monitor.specs.Going.{ChecksFib, EndsFrameFrom}
-use Rattle.stream_monitor.specs.Lines.{finding_lines}
+use Rattle.stream_monitor.proofs.Words.{◌≡◌, ChecksFib, EndsFrameFrom, State, finding_lines, length, rules}
 use Rattle.stream_monitor.proofs.Steps.{step_within, step_ended, step_refused, fib_ends, of_result}
 use Rattle.stream_monitor.proofs.check.check_fib.Goals as goal
 

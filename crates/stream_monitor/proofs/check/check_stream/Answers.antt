@@ -1,8 +1,4 @@
-use Rattle.std.proofs.Common.{Option, subst}
-use Rattle.stream_monitor.specs.declared.ending.Ending.{Ending}
-use Rattle.stream_monitor.specs.declared.fibs.Next.{Next}
-use Rattle.stream_monitor.specs.Going.{ChecksFib}
-use Rattle.stream_monitor.specs.Log.{Gives, LogsNext}
+use Rattle.stream_monitor.proofs.Words.{ChecksFib, Ending, Gives, LogsNext, Next, Option, subst}
 use Rattle.stream_monitor.proofs.Running.{begins, prompt, goes_further, ends_with_fib, ends_within_fib, ends_at_end}
 use Rattle.stream_monitor.proofs.check.check_stream.Goals as goal
 

@@ -1,5 +1,5 @@
 -- The FIBs so far are checked, and their lines were told.
-use Rattle.stream_monitor.specs.Going.{ChecksSoFar}
+use Rattle.stream_monitor.proofs.Words.{ChecksSoFar}
 use Rattle.stream_monitor.proofs.check.check_stream.Given as goal
 
 abbrev pub invariant-loop : goal.invariant-loop

@@ -1,4 +1,4 @@
-use Rattle.stream_check.specs.Reported.{Unknown}
+use Rattle.stream_monitor.proofs.Words.{Unknown}
 use Rattle.stream_monitor.proofs.Endings.{starts}
 use Rattle.stream_monitor.proofs.check.start.Goals as goal
 

@@ -1,6 +1,5 @@
-use Rattle.std.proofs.Common.{rules, ◌≡◌, ◌∷◌, ◌++◌, [], ◌∙◌, append_assoc, sym, ap}
+use Rattle.stream_monitor.proofs.Words.{[], ◌++◌, ◌∙◌, ◌∷◌, ◌≡◌, ap, append_assoc, finding_lines, rules, sym}
 use Rattle.stream_monitor.specs.declared.line.Line.TheVariants as lines
-use Rattle.stream_monitor.specs.Lines.{finding_lines}
 use Rattle.stream_monitor.proofs.Logs.{more_lines}
 use Rattle.stream_monitor.proofs.check.tell_findings.Goals as goal
 

@@ -1,8 +1,5 @@
 -- The findings so far were told.
-use Rattle.std.proofs.Common.{◌≡◌, List, ◌++◌, length}
-use Rattle.stream_monitor.specs.declared.line.Line.{Line}
-use Rattle.stream_monitor.specs.Lines.{finding_lines}
-use Rattle.stream_monitor.specs.Log.{LogsLines}
+use Rattle.stream_monitor.proofs.Words.{◌++◌, ◌≡◌, Line, List, LogsLines, finding_lines, length}
 use Rattle.stream_monitor.proofs.check.tell_findings.Given as goal
 
 abbrev pub invariant-loop-finding : goal.invariant-loop-finding

@@ -1,4 +1,4 @@
-use Rattle.std.proofs.Common.{◌∙◌}
+use Rattle.stream_monitor.proofs.Words.{◌∙◌}
 use Rattle.stream_monitor.proofs.Counting.{counted_all}
 use Rattle.stream_monitor.proofs.tally.counted.Goals as goal
 

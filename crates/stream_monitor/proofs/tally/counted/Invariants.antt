@@ -1,7 +1,5 @@
 -- With the findings that are left, the numbers are those with all findings.
-use Rattle.std.proofs.Common.{◌≡◌, ◌+◌, length}
-use Rattle.std.specs.Io.Iter.{u64_saturate}
-use Rattle.stream_monitor.specs.Findings.{swaps_in, faults_in}
+use Rattle.stream_monitor.proofs.Words.{◌+◌, ◌≡◌, faults_in, length, swaps_in, u64_saturate}
 use Rattle.stream_monitor.proofs.tally.counted.Given as goal
 
 abbrev pub invariant-loop-finding : goal.invariant-loop-finding

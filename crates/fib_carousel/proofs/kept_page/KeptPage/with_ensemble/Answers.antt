@@ -1,4 +1,4 @@
-use Rattle.std.proofs.Common.{refl}
+use Rattle.fib_carousel.proofs.Words.{refl}
 use Rattle.fib_carousel.proofs.Headed.{kept_with}
 use Rattle.fib_carousel.proofs.kept_page.KeptPage.with_ensemble.Goals as goal
 

@@ -1,5 +1,4 @@
-use Rattle.std.proofs.Common.{◌≡◌, ◌+◌, ◌-◌, ◌/◌, sym, ap, ◌∙◌, arith}
-use Rattle.fib_carousel.specs.Packing.{room}
+use Rattle.fib_carousel.proofs.Words.{◌+◌, ◌-◌, ◌/◌, ◌∙◌, ◌≡◌, ap, arith, room, sym}
 use Rattle.fib_carousel.proofs.Least.{room_low}
 use Rattle.fib_carousel.proofs.Runs.{run_done, run_over}
 use Rattle.fib_carousel.proofs.pack_state.PackState.run.Goals as goal

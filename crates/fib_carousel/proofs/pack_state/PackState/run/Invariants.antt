@@ -1,5 +1,4 @@
-use Rattle.std.proofs.Common.{◌≡◌, ◌+◌, ◌*◌, ◌≤◌}
-use Rattle.fib_carousel.specs.Runs.{steps}
+use Rattle.fib_carousel.proofs.Words.{◌*◌, ◌+◌, ◌≡◌, ◌≤◌, steps}
 use Rattle.fib_carousel.proofs.Runs.{IsBehind}
 use Rattle.fib_carousel.proofs.pack_state.PackState.run.Given as goal
 

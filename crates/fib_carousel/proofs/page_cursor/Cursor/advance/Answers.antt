@@ -1,4 +1,4 @@
-use Rattle.std.proofs.Common.{arith}
+use Rattle.fib_carousel.proofs.Words.{arith}
 use Rattle.fib_carousel.proofs.Walk.{rounds_bound}
 use Rattle.fib_carousel.proofs.page_cursor.Cursor.advance.Goals as goal
 

@@ -1,9 +1,6 @@
-use Rattle.std.proofs.Common.{◌≡◌, ◌-◌, ◌<◌, false, true, Some, ap, arith, option_map, length}
-use Rattle.std.proofs.lemmas.List.{length-map}
+use Rattle.fib_carousel.proofs.Words.{◌-◌, ◌<◌, ◌≡◌, Configuration, Some, ap, arith, config_entries, facts_of, false}
+use Rattle.fib_carousel.proofs.Words.{length, length-map, marked, option_map, true}
 use Rattle.std.specs.Option.{option_copied}
-use Rattle.mux_config.specs.Configuration.{Configuration}
-use Rattle.mux_types.specs.Facts.{facts_of, marked}
-use Rattle.fib_carousel.specs.Items.{config_entries}
 use Rattle.fib_carousel.proofs.Sides.{current_side, next_side, next_within, side_takes, side_puts}
 use Rattle.fib_carousel.proofs.page_set.PageSetEntryList.put_run.Goals as goal
 

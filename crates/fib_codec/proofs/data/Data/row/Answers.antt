@@ -1,5 +1,4 @@
-use Rattle.std.proofs.Common.{ap, ◌∙◌}
-use Rattle.fib_codec.specs.Spelling.{filled}
+use Rattle.fib_codec.proofs.Words.{◌∙◌, ap, filled}
 use Rattle.fib_codec.proofs.Begun.{begun_is_filled}
 use Rattle.fib_codec.proofs.data.Data.row.Goals as goal
 

@@ -1,6 +1,5 @@
-use Rattle.std.proofs.Common.{◌≡◌, ◌≤◌, ℕ, List, length, map, subst, sym, ◌∙◌, ap, arith}
-use Rattle.fib_codec.specs.Spelling.{figs_bytes, filled, checked}
-use Rattle.fib_codec.specs.Grammar.{IsFib, IsValid, fig_of}
+use Rattle.fib_codec.proofs.Words.{◌∙◌, ◌≡◌, ◌≤◌, IsFib, IsValid, List, ap, arith, checked, fig_of, figs_bytes, filled}
+use Rattle.fib_codec.proofs.Words.{length, map, subst, sym, ℕ}
 use Rattle.fib_codec.proofs.Finished.{fib_is, valid_is}
 use Rattle.fib_codec.proofs.fib.Fib.finish.Goals as goal
 

@@ -1,5 +1,4 @@
-use Rattle.std.proofs.Common.{◌≡◌, ◌+◌, length, ap, ◌∙◌, arith, length-append}
-use Rattle.fib_codec.specs.Spelling.{entry_bytes, entry_size}
+use Rattle.fib_codec.proofs.Words.{◌+◌, ◌∙◌, ◌≡◌, ap, arith, entry_bytes, entry_size, length, length-append}
 use Rattle.fib_codec.proofs.Lengths.{entry_length}
 use Rattle.fib_codec.proofs.fib.Fib.put_entry.Goals as goal
 

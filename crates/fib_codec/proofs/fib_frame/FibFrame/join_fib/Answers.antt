@@ -1,6 +1,4 @@
-use Rattle.std.proofs.Common.{◌≡◌, ◌-◌, ◌*◌, ◌++◌, List, ℕ, length, take, arith, sym, subst}
-use Rattle.fib_codec.specs.Modes.{IsInFrame}
-use Rattle.fib_codec.specs.Spelling.{checked}
+use Rattle.fib_codec.proofs.Words.{◌*◌, ◌++◌, ◌-◌, ◌≡◌, IsInFrame, List, arith, checked, length, subst, sym, take, ℕ}
 use Rattle.fib_codec.proofs.U16.{checked_len, joined_len}
 use Rattle.fib_codec.proofs.Frames.{written_over, written_fib}
 use Rattle.fib_codec.proofs.fib_frame.FibFrame.join_fib.Goals as goal

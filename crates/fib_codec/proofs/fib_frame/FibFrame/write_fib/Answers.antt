@@ -1,5 +1,4 @@
-use Rattle.std.proofs.Common.{arith, ◌*◌, sym, subst}
-use Rattle.fib_codec.specs.Modes.{IsInFrame}
+use Rattle.fib_codec.proofs.Words.{◌*◌, IsInFrame, arith, subst, sym}
 use Rattle.fib_codec.proofs.Frames.{written_over, written_fib}
 use Rattle.fib_codec.proofs.fib_frame.FibFrame.write_fib.Goals as goal
 

@@ -1,5 +1,4 @@
-use Rattle.std.proofs.Common.{false, sym, subst}
-use Rattle.fib_reader.specs.Walk.{AreRaw}
+use Rattle.fib_reader.proofs.Words.{AreRaw, false, subst, sym}
 use Rattle.fib_reader.proofs.EntryLists.{raws_of_nothing}
 use Rattle.fib_reader.proofs.entries.Entries.none.Goals as goal
 

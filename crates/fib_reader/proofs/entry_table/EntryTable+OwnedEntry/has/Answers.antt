@@ -1,8 +1,4 @@
-use Rattle.std.proofs.Common.{◌≡◌, ◌∙◌, Some, sym, ap}
-use Rattle.std.specs.Option.{option_copied}
-use Rattle.mux_config.specs.Tables.{entry_at}
-use Rattle.mux_config.proofs.Keeping.{present}
-use Rattle.fib_reader.specs.Listening.{identifier_of}
+use Rattle.fib_reader.proofs.Words.{◌∙◌, ◌≡◌, Some, ap, entry_at, identifier_of, option_copied, present, sym}
 use Rattle.fib_reader.proofs.Keeping.{kept_where_told}
 use Rattle.fib_reader.proofs.entry_table.EntryTable+OwnedEntry.has.Goals as goal
 

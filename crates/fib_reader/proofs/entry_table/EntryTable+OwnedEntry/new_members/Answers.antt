@@ -1,6 +1,4 @@
-use Rattle.std.proofs.Common.{◌∙◌, sym}
-use Rattle.std.proofs.lemmas.Bool.{false≢true}
-use Rattle.fib_reader.specs.Listening.{identifier_of}
+use Rattle.fib_reader.proofs.Words.{◌∙◌, false≢true, identifier_of, sym}
 use Rattle.fib_reader.proofs.Keeping.{known_if_found}
 use Rattle.fib_reader.proofs.entry_table.EntryTable+OwnedEntry.new_members.Goals as goal
 

@@ -1,8 +1,5 @@
-use Rattle.std.proofs.Common.{◌∙◌, List, Some, sym, ap, subst}
-use Rattle.std.proofs.lemmas.Option.{slice_get-get_or}
-use Rattle.mux_config.specs.Configuration.{IsAscending}
-use Rattle.mux_config.specs.Tables.{entry_at}
-use Rattle.mux_types.proofs.Tables.{found_here}
+use Rattle.fib_reader.proofs.Words.{◌∙◌, IsAscending, List, Some, ap, entry_at, found_here, slice_get-get_or, subst}
+use Rattle.fib_reader.proofs.Words.{sym}
 use Rattle.fib_reader.proofs.entry_table.EntryTable.get.Goals as goal
 
 pub returns-then-key-identifier-clause-value : goal.returns-then-key-identifier-clause-value

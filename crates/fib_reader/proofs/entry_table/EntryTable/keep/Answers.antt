@@ -1,6 +1,5 @@
-use Rattle.std.proofs.Common.{◌≤◌, ◌∙◌, cond, nat_lt, List, length, sym, ap, subst, le-ltb}
-use Rattle.std.specs.Prelude.{◌||◌}
-use Rattle.mux_config.specs.Tables.{with_entry, with_entry_changed}
+use Rattle.fib_reader.proofs.Words.{◌||◌, ◌∙◌, ◌≤◌, List, ap, cond, le-ltb, length, nat_lt, subst, sym, with_entry}
+use Rattle.fib_reader.proofs.Words.{with_entry_changed}
 use Rattle.fib_reader.proofs.Keeping.{known_if_found}
 use Rattle.fib_reader.proofs.entry_table.EntryTable.keep.Goals as goal
 

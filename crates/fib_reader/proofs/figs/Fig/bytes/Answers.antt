@@ -1,6 +1,4 @@
-use Rattle.std.proofs.Common.{◌∙◌, ap}
-use Rattle.fib_codec.specs.Grammar.{fig_spelled}
-use Rattle.fib_reader.specs.Walk.{fig_of_bytes}
+use Rattle.fib_reader.proofs.Words.{◌∙◌, ap, fig_of_bytes, fig_spelled}
 use Rattle.fib_reader.proofs.FigLists.{spelled_fig}
 use Rattle.fib_reader.proofs.figs.Fig.bytes.Goals as goal
 

@@ -1,5 +1,4 @@
-use Rattle.std.proofs.Common.{subst}
-use Rattle.fib_codec.specs.Grammar.{IsFig}
+use Rattle.fib_reader.proofs.Words.{IsFig, subst}
 use Rattle.fib_reader.proofs.FigLists.{raw_fig}
 use Rattle.fib_reader.proofs.figs.Fig.entries.Goals as goal
 

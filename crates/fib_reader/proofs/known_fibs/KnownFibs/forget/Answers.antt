@@ -1,4 +1,4 @@
-use Rattle.std.proofs.Common.{refl}
+use Rattle.fib_reader.proofs.Words.{refl}
 use Rattle.fib_reader.proofs.Remembered.{nothing}
 use Rattle.fib_reader.proofs.known_fibs.KnownFibs.forget.Goals as goal
 

@@ -1,5 +1,4 @@
-use Rattle.std.proofs.Common.{◌∙◌, sym, ap, length}
-use Rattle.fib_reader.specs.Listening.{identifier_of}
+use Rattle.fib_reader.proofs.Words.{◌∙◌, ap, identifier_of, length, sym}
 use Rattle.fib_reader.proofs.Keeping.{raw_again, raw_same, copied_front}
 use Rattle.fib_reader.proofs.owned_entry.OwnedEntry.of.Goals as goal
 

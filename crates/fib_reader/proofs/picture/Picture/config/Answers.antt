@@ -1,8 +1,5 @@
-use Rattle.std.proofs.Common.{◌∙◌, ◌≤◌, List, length, sym, ap, subst, Some}
-use Rattle.mux_config.specs.Configuration.{Configuration, IsConfiguration}
-use Rattle.fib_reader.specs.Raw.{Raw}
-use Rattle.fib_reader.specs.Listening.{Pictured}
-use Rattle.fib_reader.specs.Picture.{Shows}
+use Rattle.fib_reader.proofs.Words.{◌∙◌, ◌≤◌, Configuration, IsConfiguration, List, Pictured, Raw, Shows, Some, ap}
+use Rattle.fib_reader.proofs.Words.{length, subst, sym}
 use Rattle.fib_reader.proofs.Shown.{ShowsEach, shows_each, each_shows, shows_one, makes_configuration}
 use Rattle.fib_reader.proofs.picture.Picture.config.Goals as goal
 

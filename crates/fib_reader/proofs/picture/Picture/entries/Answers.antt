@@ -1,6 +1,4 @@
-use Rattle.std.proofs.Common.{◌≡◌, ◌≤◌, ◌++◌, List, length, sym, ap, subst, ◌∙◌}
-use Rattle.fib_reader.specs.Raw.{Raw}
-use Rattle.fib_reader.specs.Picture.{AreInOrder, IsKept}
+use Rattle.fib_reader.proofs.Words.{◌++◌, ◌∙◌, ◌≡◌, ◌≤◌, AreInOrder, IsKept, List, Raw, ap, length, subst, sym}
 use Rattle.fib_reader.proofs.Order.{in_order}
 use Rattle.fib_reader.proofs.picture.Picture.entries.Goals as goal
 

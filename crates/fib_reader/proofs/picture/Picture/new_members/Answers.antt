@@ -1,6 +1,4 @@
-use Rattle.std.proofs.Common.{◌≡◌, ◌≢◌, ◌∙◌, sym, ap, subst, IfSome, arith}
-use Rattle.fib_codec.specs.Extensions.{number_of}
-use Rattle.fib_reader.specs.Listening.{Pictured}
+use Rattle.fib_reader.proofs.Words.{◌∙◌, ◌≡◌, ◌≢◌, IfSome, Pictured, ap, arith, number_of, subst, sym}
 use Rattle.fib_reader.proofs.Forecast.{Takes, takes_sub, takes_if_service, takes_if_packet}
 use Rattle.fib_reader.proofs.picture.Picture.new_members.Goals as goal
 

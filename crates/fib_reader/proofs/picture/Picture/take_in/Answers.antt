@@ -1,7 +1,5 @@
-use Rattle.std.proofs.Common.{◌≡◌, ◌<◌, ◌∙◌, sym, subst, ap, true, false}
-use Rattle.fib_codec.specs.Extensions.{number_of}
-use Rattle.fib_reader.specs.Listening.{identifier_of, has_room}
-use Rattle.fib_reader.specs.Picture.{IsSubOf}
+use Rattle.fib_reader.proofs.Words.{◌<◌, ◌∙◌, ◌≡◌, IsSubOf, ap, false, has_room, identifier_of, number_of, subst, sym}
+use Rattle.fib_reader.proofs.Words.{true}
 use Rattle.fib_reader.proofs.Keeping.{each_after, room_for_subs}
 use Rattle.fib_reader.proofs.picture.Picture.take_in.Goals as goal
 

@@ -1,8 +1,4 @@
-use Rattle.std.proofs.Common.{◌∙◌, List, sym, subst}
-use Rattle.fib_codec.specs.Grammar.{Fig}
-use Rattle.fib_reader.specs.Raw.{Raw}
-use Rattle.fib_reader.specs.Listening.{hear_entries, hear_fig, hear_figs}
-use Rattle.fib_reader.specs.Forecast.{LeavesRoom}
+use Rattle.fib_reader.proofs.Words.{◌∙◌, Fig, LeavesRoom, List, Raw, hear_entries, hear_fig, hear_figs, subst, sym}
 use Rattle.fib_reader.proofs.Forecast.{leaves_both, leaves_fig, leaves_other, leaves_nothing, never_full}
 use Rattle.fib_reader.proofs.receiver.Receiver.has_room.Goals as goal
 

@@ -1,6 +1,4 @@
-use Rattle.std.proofs.Common.{ℕ}
-use Rattle.fib_reader.specs.Listening.{hear_figs}
-use Rattle.fib_reader.specs.Forecast.{LeavesRoom}
+use Rattle.fib_reader.proofs.Words.{LeavesRoom, hear_figs, ℕ}
 use Rattle.fib_reader.proofs.receiver.Receiver.has_room.Given as goal
 
 abbrev pub invariant-loop-fig : goal.invariant-loop-fig

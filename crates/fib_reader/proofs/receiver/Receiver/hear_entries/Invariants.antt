@@ -1,5 +1,4 @@
-use Rattle.std.proofs.Common.{◌≡◌, length}
-use Rattle.fib_reader.specs.Listening.{hear_entries}
+use Rattle.fib_reader.proofs.Words.{◌≡◌, hear_entries, length}
 use Rattle.fib_reader.proofs.receiver.Receiver.hear_entries.Given as goal
 
 abbrev pub invariant-loop-entry : goal.invariant-loop-entry

@@ -1,5 +1,4 @@
-use Rattle.std.proofs.Common.{◌≡◌, length}
-use Rattle.fib_reader.specs.Listening.{hear_figs}
+use Rattle.fib_reader.proofs.Words.{◌≡◌, hear_figs, length}
 use Rattle.fib_reader.proofs.receiver.Receiver.hear_figs.Given as goal
 
 abbrev pub invariant-loop-fig : goal.invariant-loop-fig

@@ -1,10 +1,5 @@
-use Rattle.std.proofs.Common.{◌≡◌, ◌∙◌, List, Some, refl, sym, subst}
-use Rattle.std.specs.List.{AllByRecursion}
-use Rattle.fib_codec.specs.Grammar.{Fig}
-use Rattle.fib_reader.specs.Raw.{Raw}
-use Rattle.fib_reader.specs.declared.basis.Basis.{Basis}
-use Rattle.fib_reader.specs.Listening.{hear_entry, hear_figs}
-use Rattle.fib_reader.specs.Remembering.{Agrees}
+use Rattle.fib_reader.proofs.Words.{◌∙◌, ◌≡◌, Agrees, AllByRecursion, Basis, Fig, List, Raw, Some, hear_entry}
+use Rattle.fib_reader.proofs.Words.{hear_figs, refl, subst, sym}
 use Rattle.fib_reader.proofs.Remembering.{fig_lasts, other_lasts, figs_last}
 use Rattle.fib_reader.proofs.receiver.Receiver.knows.Goals as goal
 

@@ -1,6 +1,4 @@
-use Rattle.std.proofs.Common.{◌≡◌, Some}
-use Rattle.fib_reader.specs.Listening.{Listening, hear_figs}
-use Rattle.fib_reader.specs.Remembering.{Agrees}
+use Rattle.fib_reader.proofs.Words.{◌≡◌, Agrees, Listening, Some, hear_figs}
 use Rattle.fib_reader.proofs.receiver.Receiver.knows.Given as goal
 
 abbrev pub invariant-loop-fig : goal.invariant-loop-fig

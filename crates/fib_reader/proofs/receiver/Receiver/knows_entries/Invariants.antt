@@ -1,6 +1,4 @@
-use Rattle.std.proofs.Common.{◌≡◌, Some}
-use Rattle.std.specs.List.{AllByRecursion}
-use Rattle.fib_reader.specs.Listening.{hear_entry}
+use Rattle.fib_reader.proofs.Words.{◌≡◌, AllByRecursion, Some, hear_entry}
 use Rattle.fib_reader.proofs.receiver.Receiver.knows_entries.Given as goal
 
 abbrev pub invariant-loop-entry : goal.invariant-loop-entry

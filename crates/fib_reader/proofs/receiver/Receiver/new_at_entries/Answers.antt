@@ -1,7 +1,4 @@
-use Rattle.std.proofs.Common.{List, sym, subst}
-use Rattle.fib_reader.specs.Raw.{Raw}
-use Rattle.fib_reader.specs.Listening.{hear_entry, hear_entries}
-use Rattle.fib_reader.specs.Forecast.{LeavesRoom}
+use Rattle.fib_reader.proofs.Words.{LeavesRoom, List, Raw, hear_entries, hear_entry, subst, sym}
 use Rattle.fib_reader.proofs.Forecast.{leaves_both}
 use Rattle.fib_reader.proofs.receiver.Receiver.new_at_entries.Goals as goal
 

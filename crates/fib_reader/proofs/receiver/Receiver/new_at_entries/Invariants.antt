@@ -1,6 +1,4 @@
-use Rattle.std.proofs.Common.{ℕ}
-use Rattle.fib_reader.specs.Listening.{hear_entries}
-use Rattle.fib_reader.specs.Forecast.{LeavesRoom}
+use Rattle.fib_reader.proofs.Words.{LeavesRoom, hear_entries, ℕ}
 use Rattle.fib_reader.proofs.receiver.Receiver.new_at_entries.Given as goal
 
 abbrev pub invariant-loop-entry : goal.invariant-loop-entry

@@ -1,7 +1,5 @@
-use Rattle.std.proofs.Common.{◌≢◌, ◌∙◌, ap, true, false, sym, subst, Bool, ℕ, IfSome}
-use Rattle.std.proofs.lemmas.Bool.{false≢true, eq-eqb}
-use Rattle.fib_reader.specs.Listening.{Listening, hear_entry}
-use Rattle.fib_reader.specs.Forecast.{LeavesRoom}
+use Rattle.fib_reader.proofs.Words.{◌∙◌, ◌≢◌, Bool, IfSome, LeavesRoom, Listening, ap, eq-eqb, false, false≢true}
+use Rattle.fib_reader.proofs.Words.{hear_entry, subst, sym, true, ℕ}
 use Rattle.fib_reader.proofs.Forecast.{leaves_if_next, leaves_if_current}
 use Rattle.fib_reader.proofs.receiver.Receiver.new_at_entry.Goals as goal
 

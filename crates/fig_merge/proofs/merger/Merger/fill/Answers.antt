@@ -1,16 +1,10 @@
-use Rattle.std.proofs.Common.{◌≡◌, ◌-◌, ◌++◌, ℕ, Bool, List, Some, Ok, length, take, map, refl, ap, ap₂, sym, subst}
-use Rattle.std.proofs.Common.{◌∙◌, arith}
-use Rattle.std.specs.Prelude.{Result}
-use Rattle.std.specs.List.{concat}
-use Rattle.fib_codec.specs.Grammar.{Fig, IsFib, Other}
-use Rattle.fib_codec.specs.Spelling.{filled, checked}
-use Rattle.fib_reader.specs.Listening.{Listening, hear_figs}
+use Rattle.fig_merge.proofs.Words.{◌++◌, ◌-◌, ◌∙◌, ◌≡◌, Bool, Fib, Fig, IsFib, IsPassedOver, List, Listening, Ok, Other}
+use Rattle.fig_merge.proofs.Words.{Result, Some, after_fill, agrees_with, ap, ap₂, arith, carried_in, checked, concat}
+use Rattle.fig_merge.proofs.Words.{data_of, fig_agrees, filled, filled_fib, length, map, merged, refl, room_of, subst}
+use Rattle.fig_merge.proofs.Words.{sym, take, ℕ}
+use Rattle.fib_reader.specs.Listening.{hear_figs}
 use Rattle.fib_reader.specs.declared.fault.FibFault.{FibFault}
-use Rattle.fig_mentions.specs.Agreeing.{fig_agrees}
-use Rattle.stream_check.specs.Frames.{Fib}
 use Rattle.stream_check.proofs.Seeing.{read_whole}
-use Rattle.fig_merge.specs.Taking.{IsPassedOver}
-use Rattle.fig_merge.specs.Filling.{after_fill, agrees_with, data_of, room_of, carried_in, filled_fib, merged}
 use Rattle.fig_merge.proofs.Hearing.{fill_is, heard_is, judges}
 use Rattle.fig_merge.proofs.Passing.{data_short, data_front, filled_is, all_left, few_left}
 use Rattle.fig_merge.proofs.merger.Merger.fill.Goals as goal

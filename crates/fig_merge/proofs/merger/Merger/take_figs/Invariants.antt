@@ -1,6 +1,4 @@
-use Rattle.std.proofs.Common.{◌≡◌, length}
-use Rattle.std.specs.List.{AllByRecursion}
-use Rattle.fig_merge.specs.Taking.{with_figs, taken_of, IsSendable}
+use Rattle.fig_merge.proofs.Words.{◌≡◌, AllByRecursion, IsSendable, length, taken_of, with_figs}
 use Rattle.fig_merge.proofs.merger.Merger.take_figs.Given as goal
 
 abbrev pub invariant-loop-fig : goal.invariant-loop-fig

@@ -1,10 +1,9 @@
-use Rattle.std.proofs.Common.{◌≡◌, ◌-◌, ◌+◌, ◌<◌, ◌≤◌, true, false, List, ℕ, ◌++◌, length, get_or, take, drop, arith}
-use Rattle.std.proofs.Common.{ap, ◌∙◌, sym}
-use Rattle.fig_mentions.specs.Agreeing.{fig_agrees}
+use Rattle.fig_merge.proofs.Words.{◌++◌, ◌+◌, ◌-◌, ◌<◌, ◌∙◌, ◌≡◌, ◌≤◌, List, ap, arith, drop, false, fig_agrees, get_or}
+use Rattle.fig_merge.proofs.Words.{length, sym, take, true, ℕ}
 use Rattle.fig_merge.proofs.Carrying.{step_over, step_in, step_by, written_behind, written_length, same_at}
-use Rattle.fig_merge.proofs.queue.Queue.carry.Goals as goal
 use Rattle.fig_merge.proofs.queue.Queue.carry.Goals.{then-len-used, else-len-used+then-agrees}
 use Rattle.fig_merge.proofs.queue.Queue.carry.Goals.{else-len-used+else-agrees}
+use Rattle.fig_merge.proofs.queue.Queue.carry.Goals as goal
 
 pub loop-preserved : goal.loop-preserved
 loop-preserved c =

@@ -1,5 +1,4 @@
-use Rattle.std.proofs.Common.{◌≡◌, ◌+◌, ◌-◌, ◌≤◌, length, take, drop}
-use Rattle.fig_mentions.specs.Agreeing.{fig_agrees}
+use Rattle.fig_merge.proofs.Words.{◌+◌, ◌-◌, ◌≡◌, ◌≤◌, drop, fig_agrees, length, take}
 use Rattle.fig_merge.proofs.Carrying.{IsPassed}
 use Rattle.fig_merge.proofs.queue.Queue.carry.Given as goal
 

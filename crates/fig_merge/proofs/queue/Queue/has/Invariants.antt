@@ -1,5 +1,4 @@
-use Rattle.std.proofs.Common.{◌≡◌, false, take}
-use Rattle.fig_merge.specs.Taking.{waits}
+use Rattle.fig_merge.proofs.Words.{◌≡◌, false, take, waits}
 use Rattle.fig_merge.proofs.queue.Queue.has.Given as goal
 
 abbrev pub invariant-loop-waiting : goal.invariant-loop-waiting

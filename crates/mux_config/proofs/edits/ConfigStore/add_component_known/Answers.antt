@@ -1,8 +1,7 @@
-use Rattle.std.proofs.Common.{◌≡◌, None, Some, List, [], ◌∷◌, ◌++◌, sym, ◌∙◌, ap, subst, option_copied, rules}
-use Rattle.mux_types.specs.declared.parts.Service.{Service}
-use Rattle.mux_types.specs.Configuration.{Configuration, IsConfiguration, IsComponent, service_key, sid_key}
-use Rattle.mux_types.specs.Tables.{entry_at, with_entry_changed}
-use Rattle.mux_config.specs.Edits.{add_component_fault, service_at, with_component, component_added}
+use Rattle.mux_config.proofs.Words.{[], ◌++◌, ◌∙◌, ◌∷◌, ◌≡◌, Configuration, IsComponent, IsConfiguration, List, None}
+use Rattle.mux_config.proofs.Words.{Service, Some, add_component_fault, ap, component_added, entry_at, option_copied}
+use Rattle.mux_config.proofs.Words.{rules, service_at, service_key, sid_key, subst, sym, with_component}
+use Rattle.mux_config.proofs.Words.{with_entry_changed}
 use Rattle.mux_config.proofs.Keeping.{changed_here, entry_key, add_component_keeps}
 use Rattle.mux_config.proofs.edits.ConfigStore.add_component_known.Goals as goal
 

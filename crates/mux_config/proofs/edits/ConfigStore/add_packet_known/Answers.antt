@@ -1,7 +1,5 @@
-use Rattle.std.proofs.Common.{◌≡◌, None, List, sym, subst, arith}
-use Rattle.mux_types.specs.declared.parts.Packet.{Packet}
-use Rattle.mux_types.specs.Configuration.{Configuration, IsConfiguration}
-use Rattle.mux_config.specs.Edits.{add_packet_fault}
+use Rattle.mux_config.proofs.Words.{◌≡◌, Configuration, IsConfiguration, List, None, Packet, add_packet_fault, arith}
+use Rattle.mux_config.proofs.Words.{subst, sym}
 use Rattle.mux_config.proofs.Keeping.{add_packet_fits, add_packet_keeps}
 use Rattle.mux_config.proofs.edits.ConfigStore.add_packet_known.Goals as goal
 

@@ -1,8 +1,5 @@
-use Rattle.std.proofs.Common.{◌≡◌, None, List, sym, ap, ◌∙◌, subst, arith, rules}
-use Rattle.mux_types.specs.declared.parts.Service.{Service}
-use Rattle.mux_types.specs.Configuration.{Configuration, IsConfiguration, IsSid, service_key}
-use Rattle.mux_types.specs.Tables.{entry_at, with_entry}
-use Rattle.mux_config.specs.Edits.{add_service_fault}
+use Rattle.mux_config.proofs.Words.{◌∙◌, ◌≡◌, Configuration, IsConfiguration, IsSid, List, None, Service}
+use Rattle.mux_config.proofs.Words.{add_service_fault, ap, arith, entry_at, rules, service_key, subst, sym, with_entry}
 use Rattle.mux_config.proofs.Keeping.{add_service_fits, add_service_keeps}
 use Rattle.mux_config.proofs.edits.ConfigStore.add_service_known.Goals as goal
 

@@ -1,7 +1,5 @@
-use Rattle.std.proofs.Common.{◌≡◌, None, List, sym, subst, arith}
-use Rattle.mux_types.specs.declared.parts.Sub.{Sub}
-use Rattle.mux_types.specs.Configuration.{Configuration, IsConfiguration}
-use Rattle.mux_config.specs.Edits.{add_sub_fault}
+use Rattle.mux_config.proofs.Words.{◌≡◌, Configuration, IsConfiguration, List, None, Sub, add_sub_fault, arith, subst}
+use Rattle.mux_config.proofs.Words.{sym}
 use Rattle.mux_config.proofs.Keeping.{add_sub_fits, add_sub_keeps}
 use Rattle.mux_config.proofs.edits.ConfigStore.add_sub_known.Goals as goal
 

@@ -1,5 +1,4 @@
-use Rattle.std.proofs.Common.{◌≡◌, is_some, sym, ap, ◌∙◌}
-use Rattle.mux_config.specs.Sound.{first_overlap, is_crowded}
+use Rattle.mux_config.proofs.Words.{◌∙◌, ◌≡◌, ap, first_overlap, is_crowded, is_some, sym}
 use Rattle.mux_config.proofs.Sounding.{crowded_told, crowded_found, first_any}
 use Rattle.mux_config.proofs.edits.ConfigStore.crowded.Goals as goal
 

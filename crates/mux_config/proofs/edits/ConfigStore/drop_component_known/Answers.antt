@@ -1,8 +1,6 @@
-use Rattle.std.proofs.Common.{◌≡◌, None, Some, List, sym, ◌∙◌, ap, subst, option_copied}
-use Rattle.mux_types.specs.declared.parts.Service.{Service}
-use Rattle.mux_types.specs.Configuration.{Configuration, IsConfiguration, service_key, sid_key}
-use Rattle.mux_types.specs.Tables.{entry_at, with_entry_changed}
-use Rattle.mux_config.specs.Edits.{drop_component_fault, service_at, without_carrier, component_dropped}
+use Rattle.mux_config.proofs.Words.{◌∙◌, ◌≡◌, Configuration, IsConfiguration, List, None, Service, Some, ap}
+use Rattle.mux_config.proofs.Words.{component_dropped, drop_component_fault, entry_at, option_copied, service_at}
+use Rattle.mux_config.proofs.Words.{service_key, sid_key, subst, sym, with_entry_changed, without_carrier}
 use Rattle.mux_config.proofs.Keeping.{changed_here, entry_key, drop_component_keeps}
 use Rattle.mux_config.proofs.edits.ConfigStore.drop_component_known.Goals as goal
 

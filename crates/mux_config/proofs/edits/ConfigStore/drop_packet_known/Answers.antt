@@ -1,6 +1,4 @@
-use Rattle.std.proofs.Common.{List, sym, subst}
-use Rattle.mux_types.specs.declared.parts.Packet.{Packet}
-use Rattle.mux_types.specs.Configuration.{Configuration, IsConfiguration}
+use Rattle.mux_config.proofs.Words.{Configuration, IsConfiguration, List, Packet, subst, sym}
 use Rattle.mux_config.proofs.Keeping.{drop_packet_keeps}
 use Rattle.mux_config.proofs.edits.ConfigStore.drop_packet_known.Goals as goal
 

@@ -1,6 +1,4 @@
-use Rattle.std.proofs.Common.{List, sym, subst}
-use Rattle.mux_types.specs.declared.parts.Service.{Service}
-use Rattle.mux_types.specs.Configuration.{Configuration, IsConfiguration, IsService, service_key}
+use Rattle.mux_config.proofs.Words.{Configuration, IsConfiguration, IsService, List, Service, service_key, subst, sym}
 use Rattle.mux_config.proofs.Keeping.{services_keep, services_set, set_without}
 use Rattle.mux_config.proofs.edits.ConfigStore.drop_service_known.Goals as goal
 

@@ -1,6 +1,4 @@
-use Rattle.std.proofs.Common.{List, sym, subst}
-use Rattle.mux_types.specs.declared.parts.Sub.{Sub}
-use Rattle.mux_types.specs.Configuration.{Configuration, IsConfiguration}
+use Rattle.mux_config.proofs.Words.{Configuration, IsConfiguration, List, Sub, subst, sym}
 use Rattle.mux_config.proofs.Keeping.{drop_sub_keeps}
 use Rattle.mux_config.proofs.edits.ConfigStore.drop_sub_known.Goals as goal
 

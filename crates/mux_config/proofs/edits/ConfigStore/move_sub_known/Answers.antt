@@ -1,8 +1,5 @@
-use Rattle.std.proofs.Common.{◌≡◌, None, Some, List, sym, ◌∙◌, ap, subst}
-use Rattle.mux_types.specs.declared.parts.Sub.{Sub}
-use Rattle.mux_types.specs.Configuration.{Configuration, IsConfiguration, sub_key}
-use Rattle.mux_types.specs.Tables.{entry_at}
-use Rattle.mux_config.specs.Edits.{move_sub_fault, at_start, sub_at, sub_moved}
+use Rattle.mux_config.proofs.Words.{◌∙◌, ◌≡◌, Configuration, IsConfiguration, List, None, Some, Sub, ap, at_start}
+use Rattle.mux_config.proofs.Words.{entry_at, move_sub_fault, sub_at, sub_key, sub_moved, subst, sym}
 use Rattle.mux_config.proofs.Keeping.{changed_here, entry_key, move_sub_keeps}
 use Rattle.mux_config.proofs.edits.ConfigStore.move_sub_known.Goals as goal
 

@@ -1,7 +1,5 @@
-use Rattle.std.proofs.Common.{◌≡◌, ◌∙◌, sym, ap}
-use Rattle.std.proofs.lemmas.Bool.{false≢true}
-use Rattle.mux_types.specs.Configuration.{Configuration}
-use Rattle.mux_types.specs.Sameness.{is_same_list, is_same_sub, is_same_service, is_same_packet}
+use Rattle.mux_config.proofs.Words.{◌∙◌, ◌≡◌, Configuration, ap, false≢true, is_same_list, is_same_packet}
+use Rattle.mux_config.proofs.Words.{is_same_service, is_same_sub, sym}
 use Rattle.mux_config.proofs.Same.{list_same, list_equal, sub_same, sub_itself, service_same, service_itself}
 use Rattle.mux_config.proofs.Same.{packet_same, packet_itself}
 use Rattle.mux_config.proofs.edits.ConfigStore.same.Goals as goal

@@ -1,8 +1,4 @@
-use Rattle.std.proofs.Common.{None, rules, ◌≡◌}
-use Rattle.mux_config.specs.declared.edit.Edit.TheVariants.{AddComponent}
-use Rattle.mux_config.specs.Configuration.{IsComponent}
-use Rattle.mux_config.specs.Edits.{edit_fault}
-use Rattle.mux_tables.specs.Units.{with_sub_channels}
+use Rattle.mux_tables.proofs.Words.{◌≡◌, AddComponent, IsComponent, None, edit_fault, rules, with_sub_channels}
 use Rattle.mux_tables.proofs.Others.{known_keeps}
 use Rattle.mux_tables.proofs.store.TablesStore.add_component_known.Goals as goal
 

@@ -1,8 +1,4 @@
-use Rattle.std.proofs.Common.{None, rules, ◌≡◌}
-use Rattle.mux_config.specs.declared.edit.Edit.TheVariants.{AddService}
-use Rattle.mux_config.specs.Configuration.{IsSid}
-use Rattle.mux_config.specs.Edits.{edit_fault}
-use Rattle.mux_tables.specs.Units.{with_sub_channels}
+use Rattle.mux_tables.proofs.Words.{◌≡◌, AddService, IsSid, None, edit_fault, rules, with_sub_channels}
 use Rattle.mux_tables.proofs.Others.{known_keeps}
 use Rattle.mux_tables.proofs.store.TablesStore.add_service_known.Goals as goal
 

@@ -1,4 +1,4 @@
-use Rattle.std.proofs.Common.{◌≡◌, take}
+use Rattle.mux_tables.proofs.Words.{◌≡◌, take}
 use Rattle.mux_tables.proofs.store.TablesStore.copy_from_config.Given as goal
 
 abbrev pub invariant-loop-index : goal.invariant-loop-index

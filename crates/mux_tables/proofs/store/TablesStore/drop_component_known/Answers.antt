@@ -1,7 +1,4 @@
-use Rattle.std.proofs.Common.{None, ◌≡◌}
-use Rattle.mux_config.specs.declared.edit.Edit.TheVariants.{DropComponent}
-use Rattle.mux_config.specs.Edits.{edit_fault}
-use Rattle.mux_tables.specs.Units.{with_sub_channels}
+use Rattle.mux_tables.proofs.Words.{◌≡◌, DropComponent, None, edit_fault, with_sub_channels}
 use Rattle.mux_tables.proofs.Others.{known_keeps}
 use Rattle.mux_tables.proofs.store.TablesStore.drop_component_known.Goals as goal
 

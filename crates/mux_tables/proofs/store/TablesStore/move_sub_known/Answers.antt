@@ -1,9 +1,5 @@
-use Rattle.std.proofs.Common.{◌≡◌, ℕ, Some, List, sym, ap, ◌∙◌}
-use Rattle.mux_types.specs.declared.parts.Sub.{Sub}
-use Rattle.mux_config.specs.Configuration.{sub_key}
-use Rattle.mux_config.specs.Tables.{entry_at}
-use Rattle.mux_config.specs.Edits.{at_start}
-use Rattle.mux_config.proofs.Keeping.{changed_here, entry_key}
+use Rattle.mux_tables.proofs.Words.{◌∙◌, ◌≡◌, List, Some, Sub, ap, at_start, changed_here, entry_at, entry_key, sub_key}
+use Rattle.mux_tables.proofs.Words.{sym, ℕ}
 use Rattle.mux_tables.proofs.store.TablesStore.move_sub_known.Goals as goal
 
 pub replace-requires-clause-there : goal.replace-requires-clause-there

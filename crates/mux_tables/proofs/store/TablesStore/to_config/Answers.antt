@@ -1,4 +1,4 @@
-use Rattle.std.proofs.Common.{◌∙◌}
+use Rattle.mux_tables.proofs.Words.{◌∙◌}
 use Rattle.mux_tables.proofs.Filling.{fits_next, added_next}
 use Rattle.mux_tables.proofs.store.TablesStore.to_config.Goals as goal
 

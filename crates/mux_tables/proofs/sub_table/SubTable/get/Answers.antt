@@ -1,7 +1,4 @@
-use Rattle.std.proofs.Common.{List, ap, ◌∙◌, arith}
-use Rattle.mux_types.specs.declared.parts.Sub.{Sub}
-use Rattle.mux_config.specs.Configuration.{sub_key}
-use Rattle.mux_config.specs.Tables.{entry_at}
+use Rattle.mux_tables.proofs.Words.{◌∙◌, List, Sub, ap, arith, entry_at, sub_key}
 use Rattle.mux_tables.proofs.Members.{ascends}
 use Rattle.mux_tables.proofs.SubTables.{found_at}
 use Rattle.mux_tables.proofs.sub_table.SubTable.get.Goals as goal

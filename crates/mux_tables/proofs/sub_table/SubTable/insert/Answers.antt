@@ -1,8 +1,5 @@
-use Rattle.std.proofs.Common.{◌≡◌, List, None, ap, sym, subst, ◌∙◌, arith}
-use Rattle.mux_types.specs.declared.parts.Sub.{Sub}
-use Rattle.mux_config.specs.Configuration.{sub_key}
-use Rattle.mux_config.specs.Tables.{entry_at, with_entry}
-use Rattle.mux_tables.specs.Members.{members}
+use Rattle.mux_tables.proofs.Words.{◌∙◌, ◌≡◌, List, None, Sub, ap, arith, entry_at, members, sub_key, subst, sym}
+use Rattle.mux_tables.proofs.Words.{with_entry}
 use Rattle.mux_tables.proofs.SubTables.{id_absent, id_room, added, added_in_place, ids_added}
 use Rattle.mux_tables.proofs.sub_table.SubTable.insert.Goals as goal
 

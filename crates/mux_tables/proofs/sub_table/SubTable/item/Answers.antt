@@ -1,7 +1,4 @@
-use Rattle.std.proofs.Common.{◌≡◌, List, slice_get, sym, subst, ◌∙◌}
-use Rattle.mux_types.specs.declared.parts.Sub.{Sub}
-use Rattle.mux_config.specs.Configuration.{sub_key}
-use Rattle.mux_config.specs.Tables.{entry_at}
+use Rattle.mux_tables.proofs.Words.{◌∙◌, ◌≡◌, List, Sub, entry_at, slice_get, sub_key, subst, sym}
 use Rattle.mux_tables.proofs.SubTables.{item_at, item_there}
 use Rattle.mux_tables.proofs.sub_table.SubTable.item.Goals as goal
 

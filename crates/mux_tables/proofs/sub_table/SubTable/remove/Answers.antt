@@ -1,6 +1,4 @@
-use Rattle.std.proofs.Common.{ap, ◌∙◌}
-use Rattle.mux_config.specs.Configuration.{sub_key}
-use Rattle.mux_config.specs.Tables.{without_entry}
+use Rattle.mux_tables.proofs.Words.{◌∙◌, ap, sub_key, without_entry}
 use Rattle.mux_tables.proofs.SubTables.{removed, removed_in_place, ids_removed}
 use Rattle.mux_tables.proofs.sub_table.SubTable.remove.Goals as goal
 

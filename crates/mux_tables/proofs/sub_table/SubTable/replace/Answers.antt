@@ -1,9 +1,5 @@
-use Rattle.std.proofs.Common.{◌≡◌, Some, List, ap, sym, ◌∙◌}
-use Rattle.mux_types.specs.declared.parts.Sub.{Sub}
-use Rattle.mux_config.specs.Configuration.{sub_key}
-use Rattle.mux_config.specs.Tables.{entry_at, with_entry_changed}
-use Rattle.mux_types.proofs.Tables.{changed_absent}
-use Rattle.mux_tables.specs.Members.{members}
+use Rattle.mux_tables.proofs.Words.{◌∙◌, ◌≡◌, List, Some, Sub, ap, changed_absent, entry_at, members, sub_key, sym}
+use Rattle.mux_tables.proofs.Words.{with_entry_changed}
 use Rattle.mux_tables.proofs.SubTables.{added_in_place, changed, ids_changed}
 use Rattle.mux_tables.proofs.sub_table.SubTable.replace.Goals as goal
 

@@ -1,10 +1,5 @@
-use Rattle.std.proofs.Common.{◌≡◌, None, List, sym, subst, arith}
-use Rattle.mux_types.specs.declared.parts.Sub.{Sub}
-use Rattle.mux_config.specs.Configuration.{IsConfiguration}
-use Rattle.mux_config.specs.Edits.{add_sub_fault}
-use Rattle.mux_config.proofs.Keeping.{add_sub_fits, add_sub_keeps}
-use Rattle.mux_tables.specs.declared.span.Span.{Span}
-use Rattle.mux_tables.specs.Units.{Counts, CountsIn, users, with_sub_channels}
+use Rattle.mux_tables.proofs.Words.{◌≡◌, Counts, CountsIn, IsConfiguration, List, None, Span, Sub, add_sub_fault}
+use Rattle.mux_tables.proofs.Words.{add_sub_fits, add_sub_keeps, arith, subst, sym, users, with_sub_channels}
 use Rattle.mux_tables.proofs.Users.{counts_with}
 use Rattle.mux_tables.proofs.tables.Tables.insert.Goals as goal
 

@@ -1,7 +1,5 @@
-use Rattle.std.proofs.Common.{length, ap, subst, ◌∙◌, ◌↔◌, IsTrue}
-use Rattle.mux_config.specs.Configuration.{Configuration}
-use Rattle.mux_config.specs.Sound.{IsCrowded}
-use Rattle.mux_tables.specs.Units.{users, with_sub_channels}
+use Rattle.mux_tables.proofs.Words.{◌↔◌, ◌∙◌, Configuration, IsCrowded, IsTrue, ap, length, subst, users}
+use Rattle.mux_tables.proofs.Words.{with_sub_channels}
 use Rattle.mux_tables.proofs.Lanes.{length_block}
 use Rattle.mux_tables.proofs.Crowds.{crowded_by}
 use Rattle.mux_tables.proofs.tables.Tables.is_crowded.Goals as goal

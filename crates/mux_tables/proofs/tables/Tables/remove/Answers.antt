@@ -1,11 +1,6 @@
-use Rattle.std.proofs.Common.{◌≡◌, None, List, sym, ap, subst, ◌∙◌}
-use Rattle.mux_types.specs.declared.parts.Sub.{Sub}
-use Rattle.mux_config.specs.Configuration.{Configuration, IsConfiguration, IsPlaced, sub_key}
-use Rattle.mux_config.specs.Tables.{entry_at}
-use Rattle.mux_config.proofs.Keeping.{drop_sub_keeps, entry_holds}
-use Rattle.mux_types.proofs.Tables.{without_absent}
-use Rattle.mux_tables.specs.declared.span.Span.{Span}
-use Rattle.mux_tables.specs.Units.{Counts, CountsOut, users, with_sub_channels}
+use Rattle.mux_tables.proofs.Words.{◌∙◌, ◌≡◌, Configuration, Counts, CountsOut, IsConfiguration, IsPlaced, List, None}
+use Rattle.mux_tables.proofs.Words.{Span, Sub, ap, drop_sub_keeps, entry_at, entry_holds, sub_key, subst, sym, users}
+use Rattle.mux_tables.proofs.Words.{with_sub_channels, without_absent}
 use Rattle.mux_tables.proofs.Users.{counts_without}
 use Rattle.mux_tables.proofs.tables.Tables.remove.Goals as goal
 

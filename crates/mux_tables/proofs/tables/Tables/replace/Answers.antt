@@ -1,11 +1,6 @@
-use Rattle.std.proofs.Common.{◌≡◌, Some, List, sym, subst}
-use Rattle.mux_types.specs.declared.parts.Sub.{Sub}
-use Rattle.mux_config.specs.Configuration.{IsConfiguration, IsPlaced, sub_key}
-use Rattle.mux_config.specs.Tables.{entry_at}
-use Rattle.mux_config.proofs.Keeping.{entry_holds}
+use Rattle.mux_tables.proofs.Words.{◌≡◌, Counts, CountsIn, CountsOut, IsConfiguration, IsPlaced, List, Some, Span, Sub}
+use Rattle.mux_tables.proofs.Words.{entry_at, entry_holds, sub_key, subst, sym, users, with_sub_channels}
 use Rattle.mux_tables.proofs.Replacing.{replaced_keeps}
-use Rattle.mux_tables.specs.declared.span.Span.{Span}
-use Rattle.mux_tables.specs.Units.{Counts, CountsIn, CountsOut, users, with_sub_channels}
 use Rattle.mux_tables.proofs.Users.{counts_changed}
 use Rattle.mux_tables.proofs.tables.Tables.replace.Goals as goal
 

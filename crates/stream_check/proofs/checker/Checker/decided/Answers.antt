@@ -1,5 +1,4 @@
-use Rattle.std.proofs.Common.{◌∙◌, refl, ap}
-use Rattle.stream_check.specs.Following.{Checking}
+use Rattle.stream_check.proofs.Words.{◌∙◌, Checking, ap, refl}
 use Rattle.stream_check.proofs.Followed.{summed_so_far}
 use Rattle.stream_check.proofs.checker.Checker.decided.Goals as goal
 

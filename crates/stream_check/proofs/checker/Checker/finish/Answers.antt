@@ -1,5 +1,4 @@
-use Rattle.std.proofs.Common.{◌∙◌, length, sym, ap}
-use Rattle.stream_check.specs.Following.{Checking}
+use Rattle.stream_check.proofs.Words.{◌∙◌, Checking, ap, length, sym}
 use Rattle.stream_check.proofs.Followed.{summed}
 use Rattle.stream_check.proofs.checker.Checker.finish.Goals as goal
 

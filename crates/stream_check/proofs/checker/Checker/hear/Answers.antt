@@ -1,9 +1,5 @@
-use Rattle.std.proofs.Common.{refl, ◌∷◌, ◌++◌, ◌∙◌, [], List, ℕ, Bool, false, not, map, sym, subst}
-use Rattle.fib_codec.specs.Modes.{fib_count}
-use Rattle.stream_check.specs.Frames.{IsFramed, first_in}
-use Rattle.stream_check.specs.Hearing.{HearsFrame}
-use Rattle.stream_check.specs.Reported.{Unknown}
-use Rattle.stream_check.specs.Following.{Checking, Follows, FollowsFib}
+use Rattle.stream_check.proofs.Words.{[], ◌++◌, ◌∙◌, ◌∷◌, Bool, Checking, Follows, FollowsFib, HearsFrame, IsFramed}
+use Rattle.stream_check.proofs.Words.{List, Unknown, false, fib_count, first_in, map, not, refl, subst, sym, ℕ}
 use Rattle.stream_check.proofs.Followed.{two_fibs, skipped_where, next_where, cut_where, later_where, follows_skip}
 use Rattle.stream_check.proofs.Followed.{follows_hold, follows_frame, ends_frame, adds_skip, adds_hold, adds_frame}
 use Rattle.stream_check.proofs.Followed.{ends_at, cut_before, cut_after}

@@ -1,4 +1,4 @@
-use Rattle.std.proofs.Common.{refl}
+use Rattle.stream_check.proofs.Words.{refl}
 use Rattle.stream_check.proofs.Followed.{some_fibs, follows_nothing}
 use Rattle.stream_check.proofs.checker.Checker.new.Goals as goal
 

@@ -1,6 +1,4 @@
-use Rattle.std.proofs.Common.{◌∷◌, [], not, ap, subst, Bool}
-use Rattle.stream_check.specs.Sent.{entries_sent}
-use Rattle.stream_check.specs.Hearing.{Hears}
+use Rattle.stream_check.proofs.Words.{[], ◌∷◌, Bool, Hears, ap, entries_sent, not, subst}
 use Rattle.stream_check.proofs.Loops.{sets_out, goes_on, breaks_off}
 use Rattle.stream_check.proofs.checker_state.CheckerState.hear_entries.Goals as goal
 

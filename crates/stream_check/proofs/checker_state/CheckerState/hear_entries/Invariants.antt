@@ -1,5 +1,4 @@
-use Rattle.std.proofs.Common.{length}
-use Rattle.stream_check.specs.Sent.{entries_sent}
+use Rattle.stream_check.proofs.Words.{entries_sent, length}
 use Rattle.stream_check.proofs.Loops.{IsOnItsWay}
 use Rattle.stream_check.proofs.checker_state.CheckerState.hear_entries.Given as goal
 

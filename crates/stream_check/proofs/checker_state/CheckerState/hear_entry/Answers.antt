@@ -1,14 +1,9 @@
-use Rattle.std.proofs.Common.{◌≡◌, ◌≢◌, ◌∙◌, ◌==◌, sym, subst, map, ap}
-use Rattle.std.specs.Prelude.{if◌then◌else◌}
-use Rattle.std.proofs.lemmas.Bool.{eqb-true, false≢true}
-use Rattle.mux_types.specs.Entries.{EnsembleInformation}
-use Rattle.stream_check.specs.Reporting.{in_frame}
-use Rattle.stream_check.specs.Rules.{ensemble_findings, makes_swap}
-use Rattle.stream_check.specs.CheckerState.{known_in, with_ensemble, with_swap}
+use Rattle.stream_check.proofs.Words.{◌==◌, ◌∙◌, ◌≡◌, ◌≢◌, EnsembleInformation, ap, ensemble_findings, eqb-true}
+use Rattle.stream_check.proofs.Words.{false≢true, if◌then◌else◌, in_frame, known_in, makes_swap, map, subst, sym}
+use Rattle.stream_check.proofs.Words.{with_ensemble, with_more, with_swap}
 use Rattle.stream_check.proofs.Steps.{hears_ensemble}
 use Rattle.stream_check.proofs.Parting.{sends_ensemble, sends_member}
 use Rattle.stream_check.proofs.checker_state.CheckerState.hear_entry.Goals as goal
-use Rattle.stream_check.specs.Reported.{with_more}
 
 pub returns-then-is_ensemble-clause-heard : goal.returns-then-is_ensemble-clause-heard
 returns-then-is_ensemble-clause-heard g c =

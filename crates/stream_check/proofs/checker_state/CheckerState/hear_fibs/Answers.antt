@@ -1,6 +1,4 @@
-use Rattle.std.proofs.Common.{false, not, ap, subst, Bool, map}
-use Rattle.stream_check.specs.Sent.{fib_sent, fibs_sent, frame_sent}
-use Rattle.stream_check.specs.Hearing.{Hears}
+use Rattle.stream_check.proofs.Words.{Bool, Hears, ap, false, fib_sent, fibs_sent, frame_sent, map, not, subst}
 use Rattle.stream_check.proofs.Loops.{sets_out, goes_on, breaks_off}
 use Rattle.stream_check.proofs.Steps.{later_itself, later_twice}
 use Rattle.stream_check.proofs.checker_state.CheckerState.hear_fibs.Goals as goal

@@ -1,7 +1,4 @@
-use Rattle.std.proofs.Common.{length, map}
-use Rattle.stream_check.specs.Frames.{Reading}
-use Rattle.stream_check.specs.Sent.{frame_sent, fibs_sent}
-use Rattle.stream_check.specs.Hearing.{IsLater}
+use Rattle.stream_check.proofs.Words.{IsLater, Reading, fibs_sent, frame_sent, length, map}
 use Rattle.stream_check.proofs.Loops.{IsOnItsWay}
 use Rattle.stream_check.proofs.checker_state.CheckerState.hear_fibs.Given as goal
 

@@ -1,10 +1,5 @@
-use Rattle.std.proofs.Common.{◌≡◌, ◌∙◌, sym, ap, subst, map, not, false, Bool, List, ℕ}
-use Rattle.stream_check.specs.Sent.{frame_sent}
-use Rattle.stream_check.specs.Stream.{count_of_frame}
-use Rattle.stream_check.specs.CheckerState.{with_frame}
-use Rattle.stream_check.specs.Hearing.{Hears, HearsFrame}
-use Rattle.stream_check.specs.declared.reporting.FrameAt.{FrameAt}
-use Rattle.stream_check.specs.declared.checker_state.CheckerState.{CheckerState}
+use Rattle.stream_check.proofs.Words.{◌∙◌, ◌≡◌, Bool, CheckerState, FrameAt, Hears, HearsFrame, List, ap}
+use Rattle.stream_check.proofs.Words.{count_of_frame, false, frame_sent, map, not, subst, sym, with_frame, ℕ}
 use Rattle.stream_check.proofs.FrameEnd.{frame_done, frame_full}
 use Rattle.stream_check.proofs.checker_state.CheckerState.hear_frame.Goals as goal
 

@@ -1,6 +1,4 @@
-use Rattle.std.proofs.Common.{Bool, not, [], ◌∷◌, sym, subst}
-use Rattle.stream_check.specs.History.{items_of}
-use Rattle.stream_check.specs.Hearing.{HearsItems}
+use Rattle.stream_check.proofs.Words.{[], ◌∷◌, Bool, HearsItems, items_of, not, subst, sym}
 use Rattle.stream_check.proofs.Steps.{hears_passed, answered_current, answered_next}
 use Rattle.stream_check.proofs.checker_state.CheckerState.hear_member.Goals as goal
 

@@ -1,6 +1,4 @@
-use Rattle.std.specs.Prelude.{◌++◌}
-use Rattle.stream_check.specs.CheckerState.{known_in}
-use Rattle.stream_check.specs.Rules.{place_faults, swap_or_another, announcement, unannounced_findings}
+use Rattle.stream_check.proofs.Words.{◌++◌, announcement, known_in, place_faults, swap_or_another, unannounced_findings}
 use Rattle.stream_check.proofs.Chain.{more_pair, more_thrice}
 use Rattle.stream_check.proofs.checker_state.CheckerState.report_ensemble.Goals as goal
 

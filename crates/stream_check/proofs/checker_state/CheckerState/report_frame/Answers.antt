@@ -1,5 +1,4 @@
-use Rattle.std.specs.Prelude.{◌++◌, map}
-use Rattle.stream_check.specs.Stream.{first_line, size_findings, damaged_findings, missing_findings}
+use Rattle.stream_check.proofs.Words.{◌++◌, damaged_findings, first_line, map, missing_findings, size_findings}
 use Rattle.stream_check.proofs.Chain.{more_pair, more_thrice}
 use Rattle.stream_check.proofs.checker_state.CheckerState.report_frame.Goals as goal
 

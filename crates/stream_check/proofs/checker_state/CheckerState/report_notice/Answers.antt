@@ -1,5 +1,4 @@
-use Rattle.stream_check.specs.CheckerState.{known_in}
-use Rattle.stream_check.specs.Rules.{times_faults, heard_faults, flags_faults}
+use Rattle.stream_check.proofs.Words.{flags_faults, heard_faults, known_in, times_faults}
 use Rattle.stream_check.proofs.Chain.{more_thrice}
 use Rattle.stream_check.proofs.checker_state.CheckerState.report_notice.Goals as goal
 

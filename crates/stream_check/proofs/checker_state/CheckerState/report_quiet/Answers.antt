@@ -1,9 +1,7 @@
-use Rattle.std.proofs.Common.{◌∙◌, sym, ap, map}
-use Rattle.stream_check.specs.Reporting.{in_frame}
+use Rattle.stream_check.proofs.Words.{◌∙◌, ap, in_frame, map, sym, with_more}
 use Rattle.stream_check.proofs.Chain.{more_none}
 use Rattle.stream_check.proofs.Waiting.{none_quiet}
 use Rattle.stream_check.proofs.checker_state.CheckerState.report_quiet.Goals as goal
-use Rattle.stream_check.specs.Reported.{with_more}
 
 pub returns-then-is_too_soon : goal.returns-then-is_too_soon
 returns-then-is_too_soon g c =

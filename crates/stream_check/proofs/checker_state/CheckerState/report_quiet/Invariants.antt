@@ -1,10 +1,5 @@
-use Rattle.std.proofs.Common.{◌≡◌, ◌≢◌, length, map}
-use Rattle.std.specs.List.{AllByRecursion}
-use Rattle.stream_check.specs.Pictures.{Heard}
-use Rattle.stream_check.specs.Reporting.{in_frame}
-use Rattle.stream_check.specs.CheckerState.{quiet_findings}
+use Rattle.stream_check.proofs.Words.{◌≡◌, ◌≢◌, AllByRecursion, Heard, in_frame, length, map, quiet_findings, with_more}
 use Rattle.stream_check.proofs.checker_state.CheckerState.report_quiet.Given as goal
-use Rattle.stream_check.specs.Reported.{with_more}
 
 abbrev pub invariant-loop-entry : goal.invariant-loop-entry
 invariant-loop-entry g l = record {

@@ -1,5 +1,4 @@
-use Rattle.stream_check.specs.CheckerState.{known_in}
-use Rattle.stream_check.specs.Rules.{count_findings, notice_faults, unit_faults}
+use Rattle.stream_check.proofs.Words.{count_findings, known_in, notice_faults, unit_faults}
 use Rattle.stream_check.proofs.Chain.{more_thrice}
 use Rattle.stream_check.proofs.checker_state.CheckerState.report_swap.Goals as goal
 

@@ -1,6 +1,4 @@
-use Rattle.std.proofs.Common.{◌≡◌, ◌≤◌, ◌+◌, ◌∷◌, [], ◌∙◌, length, sym, ap, arith}
-use Rattle.std.proofs.lemmas.List.{length-append}
-use Rattle.stream_check.specs.Following.{is_empty}
+use Rattle.stream_check.proofs.Words.{[], ◌+◌, ◌∙◌, ◌∷◌, ◌≡◌, ◌≤◌, ap, arith, is_empty, length, length-append, sym}
 use Rattle.stream_check.proofs.FrameSeen.{seen_after, at_most_one}
 use Rattle.stream_check.proofs.frame.FrameFibs.push.Goals as goal
 

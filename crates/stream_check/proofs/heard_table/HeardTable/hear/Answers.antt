@@ -1,7 +1,4 @@
-use Rattle.std.proofs.Common.{◌≤◌, ◌∙◌, List, sym, ap, subst}
-use Rattle.std.specs.List.{AllByRecursion}
-use Rattle.stream_check.specs.Pictures.{Heard, raws}
-use Rattle.stream_check.specs.Lookup.{lookup}
+use Rattle.stream_check.proofs.Words.{◌∙◌, ◌≤◌, AllByRecursion, Heard, List, ap, lookup, raws, subst, sym}
 use Rattle.stream_check.proofs.Tables.{full_without_room, not_full}
 use Rattle.stream_check.proofs.Waiting.{kept_since}
 use Rattle.stream_check.proofs.heard_table.HeardTable.hear.Goals as goal

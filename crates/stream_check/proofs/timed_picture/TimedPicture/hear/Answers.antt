@@ -1,5 +1,4 @@
-use Rattle.std.proofs.Common.{◌≢◌}
-use Rattle.stream_check.specs.Pictures.{Heard}
+use Rattle.stream_check.proofs.Words.{◌≢◌, Heard}
 use Rattle.stream_check.proofs.Tables.{each_heard}
 use Rattle.stream_check.proofs.timed_picture.TimedPicture.hear.Goals as goal
 

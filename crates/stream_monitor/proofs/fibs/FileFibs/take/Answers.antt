@@ -1,7 +1,6 @@
-use Rattle.std.proofs.Common.{◌≡◌, ◌+◌, ◌<◌, min, length, drop, ap, ◌∙◌, subst, sym}
-use Rattle.std.specs.Io.KnownBytes.{IsAtEnd, prepend_known}
+use Rattle.stream_monitor.proofs.Words.{◌+◌, ◌<◌, ◌∙◌, ◌≡◌, Gives, IsAtEnd, ap, drop, length, min, prepend_known, subst}
+use Rattle.stream_monitor.proofs.Words.{sym}
 use Rattle.stream_monitor.specs.Buffered.{Buffered, left_of}
-use Rattle.stream_monitor.specs.Log.{Gives}
 use Rattle.stream_monitor.proofs.Taking.{rest_is, takes}
 use Rattle.stream_monitor.proofs.fibs.FileFibs.take.Goals as goal
 
