@@ -1,7 +1,6 @@
 -- Bytes have at most one fault, and have one exactly where they are not a code file; none is out of memory.
 use Rattle.std.proofs.Common.{◌≡◌, ℕ, List, [], ◌∷◌, length, Result, Ok, Err, refl, sym, ap, subst, ◌∙◌, arith}
 use Rattle.plan_code.specs.declared.fault.CodeFault.{CodeFault}
-use Rattle.plan_code.specs.declared.fault.CodeFault.TheVariants.{Truncated, Memory}
 use Rattle.plan_code.specs.Program.{Program}
 use Rattle.plan_code.specs.Faults.{AreBytes, IsNoFile, HasCodeFault, HasOneFault, HasFaultWithoutCode, BytesLackNoMemory}
 use Rattle.plan_code.specs.Reading.{code_of}

@@ -1,5 +1,5 @@
 -- The laws of the formats of labels, instructions and lines.
-use Rattle.std.proofs.Common.{◌≡◌, ℕ, zero, suc, ◌+◌, ◌-◌, ◌<◌, ◌≤◌, Bool, true, false, eqb, ltb, Option, Some, None, List, [], ◌∷◌, ◌++◌, length, Ok, Err, refl, sym, ap, subst, ◌∙◌, arith}
+use Rattle.std.proofs.Common.{◌≡◌, ℕ, zero, suc, ◌-◌, ◌<◌, ◌≤◌, Bool, true, false, eqb, ltb, Option, Some, None, List, [], ◌∷◌, ◌++◌, length, Ok, refl, sym, ap, subst, arith}
 use Rattle.std.specs.Prelude.{IfSome, ok_or}
 use Rattle.std.specs.Int.{w32, to_be_bytes}
 use Rattle.std.proofs.lemmas.Bool.{eqb-true, le-ltb, ne_eqb}
@@ -7,11 +7,10 @@ use Rattle.mux_types.specs.declared.parts.Carrier.{Carrier}
 use Rattle.mux_types.specs.declared.parts.Carrier.TheVariants.{Sub as BySub, Packet as ByPacket}
 use Rattle.mux_config.specs.declared.edit.Edit.TheVariants.{AddSub, DropSub, MoveSub, RateSub, AddService, DropService, AddComponent, DropComponent, AddPacket, DropPacket}
 use Rattle.mux_config.specs.declared.record.RecordFault.TheVariants.{Field}
-use Rattle.mux_config.specs.FieldReading.{Reads, ◌>>=◌, place, byte_at, number_at, judged}
-use Rattle.mux_config.proofs.FieldLaws.{IsBytes, Front, bind_ok, ok_is, byte_front, long_front, long_again}
+use Rattle.mux_config.specs.FieldReading.{◌>>=◌, place, byte_at, number_at, judged}
+use Rattle.mux_config.proofs.FieldLaws.{Front, bind_ok, ok_is, byte_front, long_front, long_again}
 use Rattle.mux_config.proofs.SteadyFields.{Goes, goes_bind, goes_fault, place_same, goes_byte, goes_number, goes_judged}
-use Rattle.mux_config.proofs.PlacedFields.{Placed, placed_bind, placed_number, placed_judged}
-use Rattle.plan_code.specs.declared.flags.Contacts.{Contacts}
+use Rattle.mux_config.proofs.PlacedFields.{Placed, placed_bind, placed_judged}
 use Rattle.plan_code.specs.declared.label.Label.{Label}
 use Rattle.plan_code.specs.declared.label.Swap.{Swap}
 use Rattle.plan_code.specs.declared.label.Swap.TheVariants.{Idle, Within, Perhaps}
@@ -20,8 +19,8 @@ use Rattle.plan_code.specs.declared.instr.Instr.TheVariants.{Wait, Until, WaitCo
 use Rattle.plan_code.specs.declared.opcode.Opcode.{Opcode}
 use Rattle.plan_code.specs.Opcodes.{opcode_byte, opcode_of}
 use Rattle.plan_code.specs.Program.{IsLabel, AreBounds, IsNewSub, IsNewPacket, IsCarrier, IsDayFrame, IsFrames, IsInstr, IsLine}
-use Rattle.plan_code.specs.Formats.{◌▸◌, byte_of, byte_from, any_u16, u16_from}
-use Rattle.plan_code.specs.Parts.{bounds, no_bound, swap_kind, swap_bytes, swap, label, contact, counter, contacts, sub_id, scid, start, times, delay, day_frame, no_day_frame, day_frame_number, some_or_none, day_frame_or_none, frames_number, some_number, frames_or_none, new_sub, new_packet, carrier_kind, carrier_bytes, carrier, instr_kind, instr_bytes, opcode, instr, line}
+use Rattle.plan_code.specs.Formats.{◌▸◌, byte_of, any_u16, u16_from}
+use Rattle.plan_code.specs.Parts.{bounds, no_bound, swap_kind, swap_bytes, swap, label, counter, contacts, times, delay, day_frame, no_day_frame, day_frame_number, some_or_none, day_frame_or_none, frames_number, some_number, frames_or_none, new_sub, new_packet, carrier_kind, carrier_bytes, carrier, instr_kind, instr_bytes, opcode, instr, line}
 use Rattle.plan_code.proofs.FormatLaws.{IsLawful, adapted, follows_is, ◌then◌, made_is, IsKind, kind_is, IsTagged, tagged_is, nothing_is, any_byte_is, byte_is, byte_below, any_u16_is, judged_is, IsFrom, u16_is, u32_is, u16_below, wide32, placed_wide, flag_is, protection_is, sid_is, component_is}
 use Rattle.plan_code.proofs.OpcodeLaws.{taken, some_given, opcode_only, opcode_again}
 

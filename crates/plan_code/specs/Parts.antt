@@ -12,7 +12,6 @@ use Rattle.mux_config.specs.declared.edit.Edit.{Edit}
 use Rattle.mux_config.specs.declared.edit.Edit.TheVariants.{AddSub, DropSub, MoveSub, RateSub, AddService, DropService, AddComponent, DropComponent, AddPacket, DropPacket}
 use Rattle.plan_code.specs.declared.limits.TheConstants.{LONGEST_DELAY, CONTACTS, COUNTERS, FRAMES_A_DAY}
 use Rattle.plan_code.specs.declared.flags.Contacts.{Contacts}
-use Rattle.plan_code.specs.declared.flags.Counters.{Counters}
 use Rattle.plan_code.specs.declared.label.Label.{Label}
 use Rattle.plan_code.specs.declared.label.Swap.{Swap}
 use Rattle.plan_code.specs.declared.label.Swap.TheVariants.{Idle, Within, Perhaps}
