@@ -22,12 +22,12 @@ use Rattle.plan_code.specs.declared.plan.Plan.{Plan}
 use Rattle.plan_code.specs.declared.label.Label.{Label}
 use Rattle.plan_code.specs.declared.instr.Line.{Line}
 use Rattle.plan_code.specs.Program.{Program, IsProgram, IsPlan, IsLabel, IsLine, label_key}
-use Rattle.plan_code.specs.Spelling.{magic, mode_bytes, layout_bytes, plan_bytes, header_bytes, label_bytes, line_bytes, code_bytes}
-use Rattle.plan_code.specs.Parts.{label_from, line_from}
+use Rattle.plan_code.specs.Formats.{byte_of}
+use Rattle.plan_code.specs.Spelling.{magic, mode_bytes, layout_bytes, plan_bytes, header_bytes, line_bytes, code_bytes}
+use Rattle.plan_code.specs.Parts.{label, label_bytes, label_from, line}
 use Rattle.plan_code.specs.Reading.{Parses, ◌>>=◌, refuse_code, read_from, in_file, magic_at, mode_of, reserving, reserving_at, layout_in, layout_at, plan_at, count_at, config_in, line_in, items_at, labels_in, Header, header_at, program_at, code_of, Gives}
-use Rattle.plan_code.proofs.Operands.{byte_of, word_reading, byte_from_reading}
-use Rattle.plan_code.proofs.LabelLaws.{label_front, label_again}
-use Rattle.plan_code.proofs.LineLaws.{line_front, line_again}
+use Rattle.plan_code.proofs.FormatLaws.{byte_is, any_u16_is}
+use Rattle.plan_code.proofs.PartLaws.{label_is, label_formed, formed_label, line_is}
 
 -- ---- steps without a fault
 
@@ -93,7 +93,7 @@ second_version : (total : ℕ) (bytes rest : List ℕ) (x : FrameLayout × List 
     → Front bytes (byte_of 2) rest → Front bytes (layout_bytes x.0) x.1
 second_version total bytes rest x e front =
     let n = then_ok (in_file (byte_within total 2 4 rest)) _ x e in
-    let fn = (byte_from_reading total 2 4).front rest n.0 front.rest_fits (read_ok 0 _ n.0 n.1) in
+    let fn = (byte_is 2 4).front total rest n.0 front.rest_fits (read_ok 0 _ n.0 n.1) in
     let found : FrameLayout × List ℕ = (Whole (mode_of n.0.0), n.0.1) in
     let both : Front bytes (2 ∷ n.0.0 ∷ []) n.0.1 = front_then bytes (byte_of 2) rest (byte_of n.0.0) n.0.1 front fn.0 in
     let here : Front bytes (mode_bytes (mode_of n.0.0)) n.0.1 = subst (λ (t : List ℕ). Front bytes t n.0.1) (sym (number_bytes n.0.0 fn.1.0 fn.1.1)) both in
@@ -114,10 +114,10 @@ third_version : (total : ℕ) (bytes rest : List ℕ) (x : FrameLayout × List �
 unfolding reserving_at
 third_version total bytes rest x e front =
     let n = then_ok (in_file (byte_within total 1 4 rest)) _ x e in
-    let fn = (byte_from_reading total 1 4).front rest n.0 front.rest_fits (read_ok 0 _ n.0 n.1) in
+    let fn = (byte_is 1 4).front total rest n.0 front.rest_fits (read_ok 0 _ n.0 n.1) in
     let most : ℕ = fib_count (mode_of n.0.0) - 2 in
     let r = then_ok (in_file (byte_within total 1 most n.0.1)) _ x n.2 in
-    let fr = (byte_from_reading total 1 most).front n.0.1 r.0 fn.0.rest_fits (read_ok 0 _ r.0 r.1) in
+    let fr = (byte_is 1 most).front total n.0.1 r.0 fn.0.rest_fits (read_ok 0 _ r.0 r.1) in
     let found : FrameLayout × List ℕ = (reserving (mode_of n.0.0) r.0.0, r.0.1) in
     let two : Front bytes (3 ∷ n.0.0 ∷ []) n.0.1 = front_then bytes (byte_of 3) rest (byte_of n.0.0) n.0.1 front fn.0 in
     let all : Front bytes (3 ∷ n.0.0 ∷ r.0.0 ∷ []) r.0.1 = front_then bytes (3 ∷ n.0.0 ∷ []) n.0.1 (byte_of r.0.0) r.0.1 two fr.0 in
@@ -165,13 +165,13 @@ plan_front total bytes x fits e =
     let m = then_ok (layout_at total bytes) _ x e in
     let fm = layout_front total bytes m.0 fits m.1 in
     let a = then_ok (in_file (number_at w16 m.0.1)) _ x m.2 in
-    let fa = word_reading.front m.0.1 a.0 fm.rest_fits (read_ok 0 _ a.0 a.1) in
+    let fa = any_u16_is.front 0 m.0.1 a.0 fm.rest_fits (read_ok 0 _ a.0 a.1) in
     let p = then_ok (in_file (byte_within total 1 60 a.0.1)) _ x a.2 in
-    let fp = (byte_from_reading total 1 60).front a.0.1 p.0 fa.0.rest_fits (read_ok 0 _ p.0 p.1) in
+    let fp = (byte_is 1 60).front total a.0.1 p.0 fa.0.rest_fits (read_ok 0 _ p.0 p.1) in
     let n = then_ok (in_file (byte_within total 12 248 p.0.1)) _ x p.2 in
-    let fn = (byte_from_reading total 12 248).front p.0.1 n.0 fp.0.rest_fits (read_ok 0 _ n.0 n.1) in
+    let fn = (byte_is 12 248).front total p.0.1 n.0 fp.0.rest_fits (read_ok 0 _ n.0 n.1) in
     let b = then_ok (in_file (byte_within total 1 255 n.0.1)) _ x n.2 in
-    let fb = (byte_from_reading total 1 255).front n.0.1 b.0 fn.0.rest_fits (read_ok 0 _ b.0 b.1) in
+    let fb = (byte_is 1 255).front total n.0.1 b.0 fn.0.rest_fits (read_ok 0 _ b.0 b.1) in
     let plan : Plan × List ℕ = (record { eid = a.0.0; layout = m.0.0; period = p.0.0; notice = n.0.0; budget = b.0.0 }, b.0.1) in
     let nb = front_then p.0.1 (byte_of n.0.0) n.0.1 (byte_of b.0.0) b.0.1 fn.0 fb.0 in
     let pnb = front_then a.0.1 (byte_of p.0.0) p.0.1 (byte_of n.0.0 ++ byte_of b.0.0) b.0.1 fp.0 nb in
@@ -189,10 +189,10 @@ plan_again total p rest is =
     ap (plan_at total) grouped
     ∙ rw (
       layout_again total p.layout (u16_bytes p.eid ++ (last ++ rest)),
-      ok_read 0 _ _ (word_reading.again p.eid (p.period ∷ p.notice ∷ p.budget ∷ rest) is.ensemble),
-      ok_read 0 _ _ ((byte_from_reading total 1 60).again p.period (p.notice ∷ p.budget ∷ rest) (is.period_from, is.period_to)),
-      ok_read 0 _ _ ((byte_from_reading total 12 248).again p.notice (p.budget ∷ rest) (is.notice_from, is.notice_to)),
-      ok_read 0 _ _ ((byte_from_reading total 1 255).again p.budget rest (is.budget_from, is.budget_to)),
+      ok_read 0 _ _ (any_u16_is.again 0 p.eid (p.period ∷ p.notice ∷ p.budget ∷ rest) is.ensemble),
+      ok_read 0 _ _ ((byte_is 1 60).again total p.period (p.notice ∷ p.budget ∷ rest) (is.period_from, is.period_to)),
+      ok_read 0 _ _ ((byte_is 12 248).again total p.notice (p.budget ∷ rest) (is.notice_from, is.notice_to)),
+      ok_read 0 _ _ ((byte_is 1 255).again total p.budget rest (is.budget_from, is.budget_to)),
     ) refl
 
 abbrev IsCount : ℕ → ℕ → Type 0
@@ -201,7 +201,7 @@ IsCount limit n = (1 ≤ n) × (n ≤ limit)
 count_front : (total limit : ℕ) (bytes : List ℕ) (x : ℕ × List ℕ) → IsBytes bytes → count_at total limit bytes ≡ Ok x → Front bytes (u16_bytes x.0) x.1 × IsCount limit x.0
 count_front total limit bytes x fits e =
     let a = then_ok (in_file (number_at w16 bytes)) _ x e in
-    let f = word_reading.front bytes a.0 fits (read_ok 0 _ a.0 a.1) in
+    let f = any_u16_is.front 0 bytes a.0 fits (read_ok 0 _ a.0 a.1) in
     let s = refuse_then (eqb a.0.0 0) (Field (place total bytes)) (λ some. refuse_code (ltb limit a.0.0) Limit >>= λ few. made a.0) x a.2 in
     let k = refuse_then (ltb limit a.0.0) Limit (λ few. made a.0) x s.1 in
     let some : a.0.0 ≢ 0 = eqb-false _ _ s.0 in
@@ -212,7 +212,7 @@ count_again : (total limit n : ℕ) (rest : List ℕ) → limit < 65536 → IsCo
 count_again total limit n rest small is =
     let some : eqb n 0 ≡ false = ne_eqb _ _ (λ e. omega (arith, e, is.0)) in
     let few : ltb limit n ≡ false = le-ltb _ _ is.1 in
-    rw (ok_read 0 _ _ (word_reading.again n rest (omega (arith, is.1, small))), some, few) refl
+    rw (ok_read 0 _ _ (any_u16_is.again 0 n rest (omega (arith, is.1, small))), some, few) refl
 
 -- ---- tables
 
@@ -224,8 +224,8 @@ config_parsing total = record {
 
 line_parsing : (total : ℕ) → IsParsing (line_in total) line_bytes IsLine
 line_parsing total = record {
-  front = λ bytes x fits e. line_front total bytes x fits (read_ok 0 (line_from total bytes) x e);
-  again = λ l rest formed. ok_read 0 _ (l, rest) (line_again total l rest formed);
+  front = λ bytes x fits e. line_is.front total bytes x fits (read_ok 0 (line.read total bytes) x e);
+  again = λ l rest formed. ok_read 0 _ (l, rest) (line_is.again total l rest formed);
 }
 
 -- what was read extends `before` by `count` items
@@ -334,9 +334,10 @@ is_row {T} spell P count bytes xs rest r =
 
 labels_row : (total count : ℕ) (n : ℕ) (bytes : List ℕ) (ls : List Label) (rest : List ℕ) → IsCount 256 count → IsBytes bytes → labels_in total count n bytes ≡ Ok (ls, rest)
     → IsRow label_bytes (IsLabel count) n bytes ls rest × IsAscending label_key ls
+unfolding label
 labels_row total count n bytes ls rest known fits e =
     let f = members_front label_key label_bytes (IsLabel count) (label_from total count)
-    (λ low b x is h. let r = label_front total count low b x known.0 known.1 is h in (r.front, r.from, r.formed))
+    (λ low b x is h. let r = (label_is count low).front total b x is h in (r.0, r.1.pc.0, label_formed count low x.0 known.0 r.1))
     0 [] n bytes (ls, rest) fits tt tt tt (read_ok 0 _ (ls, rest) e) in
     let front : Front bytes (flat_map label_bytes ls) rest = subst (λ (t : List ℕ). Front bytes t rest) (sym f.2) f.1 in
     (record { front = front; many = none_before (length ls) n f.3; formed = f.5 }, f.4)
@@ -451,8 +452,9 @@ header_again total h rest planned configurations labels lines =
 
 labels_again : (total count : ℕ) (ls : List Label) (rest : List ℕ) → count ≤ 256 → AllByRecursion (IsLabel count) ls → IsAscending label_key ls
     → labels_in total count (length ls) (flat_map label_bytes ls ++ rest) ≡ Ok (ls, rest)
+unfolding label
 labels_again total count ls rest few all up =
-    ok_read 0 _ (ls, rest) (members_again label_key label_bytes (IsLabel count) (label_from total count) (λ low l more is from. label_again total count low l more few is from) 0 [] ls rest up (any_place ls) all)
+    ok_read 0 _ (ls, rest) (members_again label_key label_bytes (IsLabel count) (label_from total count) (λ low l more is from. (label_is count low).again total l more (formed_label count low l few is from)) 0 [] ls rest up (any_place ls) all)
 
 abbrev header_of : Program → Header
 header_of p = record { plan = p.plan; configurations = length p.configurations; labels = length p.labels; lines = length p.lines }

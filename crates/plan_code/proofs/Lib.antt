@@ -1,18 +1,14 @@
 pub mod Ascending
 pub mod Bits
-pub mod EditLaws
 pub mod FaultLaws
 pub mod FileLaws
-pub mod LabelLaws
-pub mod LineLaws
+pub mod FormatLaws
 pub mod LoopLaws
 pub mod Loops
 pub mod Meeting
 pub mod OpcodeLaws
-pub mod Operands
+pub mod PartLaws
 pub mod PlacedFiles
-pub mod PlacedParts
-pub mod SteadyParts
 pub mod SteadyFiles
 pub mod Vectors
 mod VectorsOfAlternatives

@@ -10,7 +10,7 @@ use Rattle.plan_code.specs.Opcodes.{opcode_byte, opcodes, opcode_of, OpcodesAgre
 abbrev pub taken : Opcode × List ℕ → Reads Opcode
 taken x = Ok x
 
-opcode_again : (opcode : Opcode) → opcode_of (opcode_byte opcode) ≡ Some opcode
+pub opcode_again : (opcode : Opcode) → opcode_of (opcode_byte opcode) ≡ Some opcode
 unfolding opcode_of
 opcode_again Opcode.Wait = refl
 opcode_again Opcode.Until = refl

@@ -12,29 +12,29 @@ use Rattle.plan_code.specs.declared.fault.CodeFault.TheVariants.{Magic, Version,
 use Rattle.fib_codec.specs.Modes.{fib_count}
 use Rattle.plan_code.specs.Program.{Program, label_key}
 use Rattle.plan_code.specs.Spelling.{magic}
-use Rattle.plan_code.specs.Parts.{label_from, line_from}
+use Rattle.plan_code.specs.Parts.{label_from, line}
 use Rattle.plan_code.specs.Reading.{Parses, ◌>>=◌, refuse_code, read_from, in_file, magic_at, mode_of, reserving_at, layout_in, layout_at, plan_at, count_at, config_in, line_in, labels_in, items_at, Header, header_at, program_at, code_of}
 use Rattle.plan_code.specs.Faults.{HasCodeFault}
 use Rattle.plan_code.specs.FileFaults.{TruncatedBeforePlaces}
-use Rattle.plan_code.proofs.PlacedParts.{placed_label, placed_line}
+use Rattle.plan_code.proofs.PartLaws.{label_is, line_is}
 use Rattle.plan_code.proofs.SteadyFiles.{file_faults_are_first}
 
--- the offset in a fault is below `total`
-abbrev IsWithin : ℕ → CodeFault → Type 0
+-- the offset in a fault is below `total`, and the fault is not out of memory
+abbrev pub IsWithin : ℕ → CodeFault → Type 0
 IsWithin total Magic = Unit {0}
 IsWithin total Version = Unit {0}
 IsWithin total Truncated = Unit {0}
 IsWithin total (Field at) = at < total
 IsWithin total Limit = Unit {0}
 IsWithin total Trailing = Unit {0}
-IsWithin total Memory = Unit {0}
+IsWithin total Memory = ⊥
 
 -- a reading of some of `total` bytes leaves no more than those, and a fault has an offset among them
 abbrev Stands : {T : Type 0} → ℕ → Parses T → Type 0
 Stands total (Ok x) = length x.1 ≤ total
 Stands total (Err e) = IsWithin total e
 
-abbrev EndsWithin : ℕ → Result Program CodeFault → Type 0
+abbrev pub EndsWithin : ℕ → Result Program CodeFault → Type 0
 EndsWithin total (Ok p) = Unit {0}
 EndsWithin total (Err e) = IsWithin total e
 
@@ -135,8 +135,8 @@ stands_program : (total : ℕ) (header : Header) (bytes : List ℕ) → 0 < tota
 unfolding program_at
 stands_program total header bytes some left =
     stands_bind total (items_at (config_in total) [] header.configurations bytes) _ (stands_items total (config_in total) (stands_config total) [] header.configurations bytes left) (λ configurations after_configurations left_configurations.
-    stands_bind total (labels_in total header.configurations header.labels after_configurations) _ (stands_field total _ some (placed_members total label_key (label_from total header.configurations) (λ low b within. placed_label total header.configurations low b within) 0 [] header.labels after_configurations left_configurations)) (λ labels after_labels left_labels.
-    stands_bind total (items_at (line_in total) [] header.lines after_labels) _ (stands_items total (line_in total) (λ b within. stands_field total (line_from total b) some (placed_line total b within)) [] header.lines after_labels left_labels) (λ lines rest after. after)))
+    stands_bind total (labels_in total header.configurations header.labels after_configurations) _ (stands_field total _ some (placed_members total label_key (label_from total header.configurations) (λ low b within. (label_is header.configurations low).placed total b within) 0 [] header.labels after_configurations left_configurations)) (λ labels after_labels left_labels.
+    stands_bind total (items_at (line_in total) [] header.lines after_labels) _ (stands_items total (line_in total) (λ b within. stands_field total (line.read total b) some (line_is.placed total b within)) [] header.lines after_labels left_labels) (λ lines rest after. after)))
 
 -- ---- the file
 
@@ -144,14 +144,14 @@ ended : (total : ℕ) (p : Program) (test : Bool) → EndsWithin total (refuse_c
 ended total p true = tt
 ended total p false = tt
 
-within_code : (bytes : List ℕ) → 0 < length bytes → EndsWithin (length bytes) (code_of bytes)
+pub within_code : (bytes : List ℕ) → 0 < length bytes → EndsWithin (length bytes) (code_of bytes)
 unfolding code_of
 within_code bytes some =
     ends_bind (length bytes) _ _ (stands_header (length bytes) bytes some (omega arith)) (λ header after_header left_header.
     ends_bind (length bytes) _ _ (stands_program (length bytes) header after_header some left_header) (λ program rest after.
     ended (length bytes) program (not (eqb (length rest) 0))))
 
-none_read : code_of [] ≡ Err Truncated
+pub none_read : code_of [] ≡ Err Truncated
 unfolding code_of header_at
 none_read = refl
 

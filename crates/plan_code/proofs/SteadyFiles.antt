@@ -15,7 +15,7 @@ use Rattle.plan_code.specs.Spelling.{magic, code_bytes}
 use Rattle.plan_code.specs.Parts.{label_from}
 use Rattle.plan_code.specs.Reading.{Parses, ◌>>=◌, refuse_code, read_from, in_file, magic_at, mode_of, reserving_at, layout_in, layout_at, plan_at, count_at, config_in, line_in, items_at, Header, header_at, program_at, code_of}
 use Rattle.plan_code.specs.FileFaults.{CutsAreTruncated, FileFaultsStay, FileFaultsAreFirst}
-use Rattle.plan_code.proofs.SteadyParts.{goes_label, goes_line}
+use Rattle.plan_code.proofs.PartLaws.{label_is, line_is}
 use Rattle.plan_code.proofs.FileLaws.{code_again}
 
 -- ---- readings with appended bytes
@@ -24,32 +24,14 @@ use Rattle.plan_code.proofs.FileLaws.{code_again}
 -- except `Truncated` is a fault of the second
 abbrev Runs : {T : Type 0} → List ℕ → Parses T → Parses T → Type 0
 Runs more (Ok x) r = r ≡ Ok (x.0, x.1 ++ more)
-Runs more (Err Truncated) r = Unit {0}
-Runs more (Err Magic) r = r ≡ Err Magic
-Runs more (Err Version) r = r ≡ Err Version
-Runs more (Err (Field at)) r = r ≡ Err (Field at)
-Runs more (Err Limit) r = r ≡ Err Limit
-Runs more (Err Trailing) r = r ≡ Err Trailing
-Runs more (Err Memory) r = r ≡ Err Memory
+Runs more (Err e) r = e ≢ Truncated → r ≡ Err e
 
 runs_bind : {A B : Type 0} (more : List ℕ) (r s : Parses A) (k l : A × List ℕ → Parses B) → Runs more r s → ((x : A) (rest : List ℕ) → Runs more (k (x, rest)) (l (x, rest ++ more))) → Runs more (r >>= k) (s >>= l)
 runs_bind more (Ok x) s k l h f = subst (λ t. Runs more (k x) (t >>= l)) (sym h) (f x.0 x.1)
-runs_bind more (Err Truncated) s k l h f = tt
-runs_bind more (Err Magic) s k l h f = ap (λ t. t >>= l) h
-runs_bind more (Err Version) s k l h f = ap (λ t. t >>= l) h
-runs_bind more (Err (Field at)) s k l h f = ap (λ t. t >>= l) h
-runs_bind more (Err Limit) s k l h f = ap (λ t. t >>= l) h
-runs_bind more (Err Trailing) s k l h f = ap (λ t. t >>= l) h
-runs_bind more (Err Memory) s k l h f = ap (λ t. t >>= l) h
+runs_bind more (Err e) s k l h f = λ other. ap (λ t. t >>= l) (h other)
 
 runs_fault : (T : Type 0) (more : List ℕ) (f g : CodeFault) → f ≡ g → Runs {T = T} more (Err f) (Err g)
-runs_fault T more Truncated g e = tt
-runs_fault T more Magic g e = ap Err (sym e)
-runs_fault T more Version g e = ap Err (sym e)
-runs_fault T more (Field at) g e = ap Err (sym e)
-runs_fault T more Limit g e = ap Err (sym e)
-runs_fault T more Trailing g e = ap Err (sym e)
-runs_fault T more Memory g e = ap Err (sym e)
+runs_fault T more f g e = λ _. ap Err (sym e)
 
 runs_refuse : {T : Type 0} (more : List ℕ) (test : Bool) (f g : CodeFault) (k l : Parses T) → f ≡ g → Runs more k l → Runs more (refuse_code test f >>= λ _. k) (refuse_code test g >>= λ _. l)
 runs_refuse more true f g k l e h = runs_fault _ more f g e
@@ -62,9 +44,9 @@ runs_choice more false r s q t h k = k
 -- a part that begins at the same offset
 runs_part : {T : Type 0} (more : List ℕ) (at by : ℕ) (r s : Reads T) → at ≡ by → Goes more r s → Runs more (read_from at r) (read_from by s)
 runs_part more at by (Ok x) s e h = ap (read_from by) h
-runs_part more at by (Err Short) s e h = tt
-runs_part more at by (Err (FieldOfRecord p)) s e h = ap (read_from by) h ∙ ap (λ n. Err (Field (n + p))) (sym e)
-runs_part more at by (Err Order) s e h = ap (read_from by) h ∙ ap (λ n. Err (Field n)) (sym e)
+runs_part more at by (Err Short) s e h = λ other. absurd (other refl)
+runs_part more at by (Err (FieldOfRecord p)) s e h = λ _. ap (read_from by) h ∙ ap (λ n. Err (Field (n + p))) (sym e)
+runs_part more at by (Err Order) s e h = λ _. ap (read_from by) h ∙ ap (λ n. Err (Field n)) (sym e)
 
 runs_field : {T : Type 0} (more : List ℕ) (r s : Reads T) → Goes more r s → Runs more (in_file r) (in_file s)
 runs_field more r s h = runs_part more 0 0 r s refl h
@@ -129,8 +111,8 @@ runs_program : (total : ℕ) (header : Header) (bytes more : List ℕ) → Runs 
 unfolding program_at
 runs_program total header bytes more =
     runs_bind more _ _ _ _ (runs_items (config_in total) (config_in (total + length more)) more (λ b. runs_part more _ _ _ _ (place_same total b more) (goes_config b more)) [] header.configurations bytes) (λ configurations after_configurations.
-    runs_bind more _ _ _ _ (runs_field more _ _ (goes_members label_key (label_from total header.configurations) (label_from (total + length more) header.configurations) more (λ low b. goes_label total header.configurations low b more) 0 [] header.labels after_configurations)) (λ labels after_labels.
-    runs_bind more _ _ _ _ (runs_items (line_in total) (line_in (total + length more)) more (λ b. runs_field more _ _ (goes_line total b more)) [] header.lines after_labels) (λ lines rest. refl)))
+    runs_bind more _ _ _ _ (runs_field more _ _ (goes_members label_key (label_from total header.configurations) (label_from (total + length more) header.configurations) more (λ low b. (label_is header.configurations low).goes total b more) 0 [] header.labels after_configurations)) (λ labels after_labels.
+    runs_bind more _ _ _ _ (runs_items (line_in total) (line_in (total + length more)) more (λ b. runs_field more _ _ (line_is.goes total b more)) [] header.lines after_labels) (λ lines rest. refl)))
 
 -- ---- the file
 
@@ -138,23 +120,11 @@ runs_program total header bytes more =
 -- `Trailing`; and any fault of the first except `Truncated` is a fault of the second
 abbrev Ends : List ℕ → Result Program CodeFault → Result Program CodeFault → Type 0
 Ends more (Ok p) s = more ≢ [] → s ≡ Err Trailing
-Ends more (Err Truncated) s = Unit {0}
-Ends more (Err Magic) s = s ≡ Err Magic
-Ends more (Err Version) s = s ≡ Err Version
-Ends more (Err (Field at)) s = s ≡ Err (Field at)
-Ends more (Err Limit) s = s ≡ Err Limit
-Ends more (Err Trailing) s = s ≡ Err Trailing
-Ends more (Err Memory) s = s ≡ Err Memory
+Ends more (Err e) s = e ≢ Truncated → s ≡ Err e
 
 ends_bind : {A : Type 0} (more : List ℕ) (r s : Parses A) (k l : A × List ℕ → Result Program CodeFault) → Runs more r s → ((x : A) (rest : List ℕ) → Ends more (k (x, rest)) (l (x, rest ++ more))) → Ends more (r >>= k) (s >>= l)
 ends_bind more (Ok x) s k l h f = subst (λ t. Ends more (k x) (t >>= l)) (sym h) (f x.0 x.1)
-ends_bind more (Err Truncated) s k l h f = tt
-ends_bind more (Err Magic) s k l h f = ap (λ t. t >>= l) h
-ends_bind more (Err Version) s k l h f = ap (λ t. t >>= l) h
-ends_bind more (Err (Field at)) s k l h f = ap (λ t. t >>= l) h
-ends_bind more (Err Limit) s k l h f = ap (λ t. t >>= l) h
-ends_bind more (Err Trailing) s k l h f = ap (λ t. t >>= l) h
-ends_bind more (Err Memory) s k l h f = ap (λ t. t >>= l) h
+ends_bind more (Err e) s k l h f = λ other. ap (λ t. t >>= l) (h other)
 
 -- left-over bytes are refused
 refused : (p : Program) (n : ℕ) → 0 < n → (refuse_code (not (eqb n 0)) Trailing >>= λ _. Ok p) ≡ Err Trailing
@@ -165,7 +135,7 @@ ended p [] [] = λ some. absurd (some refl)
 ended p (m ∷ more) [] = λ some. refused p (length (m ∷ more)) (omega arith)
 ended p more (b ∷ rest) =
     subst (λ r. Ends more r (refuse_code (not (eqb (length (b ∷ rest ++ more)) 0)) Trailing >>= λ _. Ok p))
-    (sym (refused p (length (b ∷ rest)) (omega arith))) (refused p (length (b ∷ rest ++ more)) (omega arith))
+    (sym (refused p (length (b ∷ rest)) (omega arith))) (λ _. refused p (length (b ∷ rest ++ more)) (omega arith))
 
 ends_code : (bytes more : List ℕ) → Ends more (code_of bytes) (code_of (bytes ++ more))
 unfolding code_of
@@ -175,15 +145,18 @@ ends_code bytes more =
     ends_bind more _ _ _ _ (subst (λ (n : ℕ). Runs more (program_at (length bytes) header after_header) (program_at n header (after_header ++ more))) whole (runs_program (length bytes) header after_header more)) (λ program rest.
     ended program more rest))
 
+truncated_or_other : (f : CodeFault) → (f ≡ Truncated) ⊎ (f ≢ Truncated)
+truncated_or_other Truncated = inl refl
+truncated_or_other Magic = inr (λ e. absurd cc)
+truncated_or_other Version = inr (λ e. absurd cc)
+truncated_or_other (Field at) = inr (λ e. absurd cc)
+truncated_or_other Limit = inr (λ e. absurd cc)
+truncated_or_other Trailing = inr (λ e. absurd cc)
+truncated_or_other Memory = inr (λ e. absurd cc)
+
 stays_by : (more : List ℕ) (r s : Result Program CodeFault) (fault : CodeFault) → Ends more r s → r ≡ Err fault → fault ≢ Truncated → s ≡ Err fault
 stays_by more (Ok p) s fault h e other = absurd (cc)
-stays_by more (Err Truncated) s fault h e other = absurd (let same : Truncated ≡ fault = cc in other (sym same))
-stays_by more (Err Magic) s fault h e other = h ∙ e
-stays_by more (Err Version) s fault h e other = h ∙ e
-stays_by more (Err (Field at)) s fault h e other = h ∙ e
-stays_by more (Err Limit) s fault h e other = h ∙ e
-stays_by more (Err Trailing) s fault h e other = h ∙ e
-stays_by more (Err Memory) s fault h e other = h ∙ e
+stays_by more (Err f) s fault h e other = let same : f ≡ fault = cc in h (λ short. other (sym same ∙ short)) ∙ e
 
 no_file : (bytes : List ℕ) (fault : CodeFault) → code_of bytes ≡ Err fault → (p : Program) → IsProgram p → bytes ≡ code_bytes p → ⊥
 no_file bytes fault e p is spelled = let again = code_again p is in let read : code_of bytes ≡ code_of (code_bytes p) = ap code_of spelled in absurd (cc)
@@ -195,13 +168,11 @@ file_faults_stay bytes more fault h other =
 
 cut_by : (more : List ℕ) (p : Program) (r s : Result Program CodeFault) → Ends more r s → s ≡ Ok p → more ≢ [] → r ≡ Err Truncated
 cut_by more p (Ok q) s h e some = let trailing = h some in absurd (cc)
-cut_by more p (Err Truncated) s h e some = refl
-cut_by more p (Err Magic) s h e some = absurd (cc)
-cut_by more p (Err Version) s h e some = absurd (cc)
-cut_by more p (Err (Field at)) s h e some = absurd (cc)
-cut_by more p (Err Limit) s h e some = absurd (cc)
-cut_by more p (Err Trailing) s h e some = absurd (cc)
-cut_by more p (Err Memory) s h e some = absurd (cc)
+cut_by more p (Err f) s h e some =
+    elim (truncated_or_other f) [
+      | inl short ↦ ap Err short
+      | inr other ↦ let failed : s ≡ Err f = h other in absurd (cc)
+    ]
 
 pub cuts_are_truncated : CutsAreTruncated
 cuts_are_truncated p n is less =
@@ -219,13 +190,11 @@ first_by [] (Ok p) s fault h same e other = inr (same refl ∙ e)
 first_by (m ∷ more) (Ok p) s fault h same e other =
     let trailing : s ≡ Err Trailing = h (λ none. absurd cc) in
     absurd (let it : fault ≡ Trailing = cc in other it)
-first_by more (Err Truncated) s fault h same e other = inl refl
-first_by more (Err Magic) s fault h same e other = inr (sym h ∙ e)
-first_by more (Err Version) s fault h same e other = inr (sym h ∙ e)
-first_by more (Err (Field at)) s fault h same e other = inr (sym h ∙ e)
-first_by more (Err Limit) s fault h same e other = inr (sym h ∙ e)
-first_by more (Err Trailing) s fault h same e other = inr (sym h ∙ e)
-first_by more (Err Memory) s fault h same e other = inr (sym h ∙ e)
+first_by more (Err f) s fault h same e other =
+    elim (truncated_or_other f) [
+      | inl short ↦ inl (ap Err short)
+      | inr long ↦ inr (sym (h long) ∙ e)
+    ]
 
 pub file_faults_are_first : FileFaultsAreFirst
 file_faults_are_first bytes n fault h other =

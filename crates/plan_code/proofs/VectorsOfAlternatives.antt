@@ -10,8 +10,7 @@ use Rattle.plan_code.specs.Flags.{any_closed, any_open}
 use Rattle.plan_code.specs.Program.{IsInstr}
 use Rattle.plan_code.specs.Machine.{is_in_window, IsWindow}
 use Rattle.plan_code.specs.Opcodes.{opcode_of}
-use Rattle.plan_code.specs.Parts.{instr_from, instr_of, wait_any_at}
-use Rattle.plan_code.specs.Spelling.{instr_bytes}
+use Rattle.plan_code.specs.Parts.{instr_bytes, instr}
 
 abbrev contacts : ℕ → Contacts
 contacts set = record { 0 = set }
@@ -69,13 +68,13 @@ any_bytes : instr_bytes (WaitAny (contacts 8) no_contacts (Some 42) (Some 750)) 
 any_bytes = refl
 
 abbrev read : ℕ → List ℕ → Reads Instr
-read total bytes = instr_from total bytes
+read total bytes = instr.read total bytes
 
 any_read : read 11 (0x09 ∷ 0 ∷ 8 ∷ 0 ∷ 8 ∷ 0xff ∷ 0xff ∷ 0xff ∷ 0xff ∷ 0 ∷ 0 ∷ []) ≡ Ok (WaitAny (contacts 8) (contacts 8) None None, [])
-unfolding opcode_of instr_from instr_of wait_any_at
+unfolding opcode_of instr
 any_read = refl
 
 -- a frame past the day is refused where it begins, even where the file ends behind it
 past_the_day : read 9 (0x09 ∷ 0 ∷ 8 ∷ 0 ∷ 0 ∷ 0 ∷ 0x36 ∷ 0xee ∷ 0x80 ∷ []) ≡ Err (Field 5)
-unfolding opcode_of instr_from instr_of wait_any_at
+unfolding opcode_of instr
 past_the_day = refl

@@ -1,6 +1,7 @@
 pub mod Faults
 pub mod FileFaults
 pub mod Flags
+pub mod Formats
 pub mod Machine
 pub mod Opcodes
 pub mod Parts

@@ -1,8 +1,8 @@
--- Reading a label, and a line with its instruction, in order up to the first fault: a field whose bytes are missing, or
--- one that is out of range.
-use Rattle.std.specs.Prelude.{ℕ, zero, suc, ◌-◌, ◌==◌, if◌then◌else◌, Bool, true, false, List, Option, Some, None, ok_or, Ok}
-use Rattle.std.specs.Int.{w16, w32}
-use Rattle.mux_config.specs.FieldReading.{Reads, ◌>>=◌, place, byte_at, number_at, judged, byte_within, u16_in_range, flag_at, protection_at, sid_at, component_at}
+-- The formats of a label, of an instruction and of a line: the fields of each in order, with their ranges.
+use Rattle.std.specs.Prelude.{ℕ, zero, suc, ◌-◌, ◌==◌, if◌then◌else◌, Bool, true, false, List, [], ◌∷◌, ◌++◌, Option, Some, None, ok_or, Ok}
+use Rattle.std.specs.Int.{w32, to_be_bytes}
+use Rattle.mux_config.specs.FieldReading.{Reads, ◌>>=◌, place, byte_at, number_at, judged}
+use Rattle.mux_config.specs.FieldSpelling.{u16_bytes}
 use Rattle.mux_config.specs.declared.record.RecordFault.TheVariants.{Field}
 use Rattle.mux_types.specs.declared.parts.Sub.{Sub}
 use Rattle.mux_types.specs.declared.parts.Carrier.{Carrier}
@@ -10,8 +10,8 @@ use Rattle.mux_types.specs.declared.parts.Carrier.TheVariants.{Sub as BySub, Pac
 use Rattle.mux_types.specs.declared.parts.Packet.{Packet}
 use Rattle.mux_config.specs.declared.edit.Edit.{Edit}
 use Rattle.mux_config.specs.declared.edit.Edit.TheVariants.{AddSub, DropSub, MoveSub, RateSub, AddService, DropService, AddComponent, DropComponent, AddPacket, DropPacket}
+use Rattle.plan_code.specs.declared.limits.TheConstants.{LONGEST_DELAY, CONTACTS, COUNTERS, FRAMES_A_DAY}
 use Rattle.plan_code.specs.declared.flags.Contacts.{Contacts}
-use Rattle.plan_code.specs.declared.flags.Counters.{Counters}
 use Rattle.plan_code.specs.declared.label.Label.{Label}
 use Rattle.plan_code.specs.declared.label.Swap.{Swap}
 use Rattle.plan_code.specs.declared.label.Swap.TheVariants.{Idle, Within, Perhaps}
@@ -19,248 +19,189 @@ use Rattle.plan_code.specs.declared.instr.Instr.{Instr}
 use Rattle.plan_code.specs.declared.instr.Instr.TheVariants.{Wait, Until, WaitContact, WaitAny, CommitIn, CommitAt, Join, Settle, End, Edit as Edits, Test, TestTime, Jump, Set, Loop}
 use Rattle.plan_code.specs.declared.instr.Line.{Line}
 use Rattle.plan_code.specs.declared.opcode.Opcode.{Opcode}
-use Rattle.plan_code.specs.Opcodes.{opcode_of}
-use Rattle.plan_code.specs.Spelling.{no_day_frame}
+use Rattle.plan_code.specs.Opcodes.{opcode_byte, opcode_of}
+use Rattle.plan_code.specs.Formats.{Format, follows, ◌▸◌, made, Kind, kind, tagged_at, nothing, any_byte, byte_from, any_u16, number_from, u16_from, flag, protection, sid, component}
 
 -- ---- labels
 
--- the bounds of a swap, by its kind
-abbrev pub bounds_of : (total kind : ℕ) → List ℕ → Reads Swap
-bounds_of total zero bytes = do
-  low ← u16_in_range total 0 0 bytes
-  high ← u16_in_range total 0 0 low.1
-  Ok (Idle, high.1)
-bounds_of total (suc zero) bytes = do
-  low ← u16_in_range total 1 65535 bytes
-  high ← u16_in_range total low.0 65535 low.1
-  Ok (Within low.0 high.0, high.1)
-bounds_of total (suc (suc more)) bytes = do
-  low ← u16_in_range total 0 0 bytes
-  high ← u16_in_range total 1 65535 low.1
-  Ok (Perhaps high.0, high.1)
+-- the least and the greatest number of frames until a swap that is pending
+abbrev pub bounds : Format (ℕ × ℕ)
+bounds = follows (u16_from 1 65535) (λ low. u16_from low 65535)
 
-unfoldable pub swap_at : (total : ℕ) → List ℕ → Reads Swap
-swap_at total bytes = do
-  kind ← byte_within total 0 2 bytes
-  bounds_of total kind.0 kind.1
+-- where there is no bound
+abbrev pub no_bound : Format (Unit {0})
+no_bound = made (λ _. tt) (λ _. 0) (u16_from 0 0)
+
+-- the kind of a swap, by its number
+abbrev pub swap_kind : ℕ → Kind Swap
+swap_kind zero = kind (no_bound ▸ no_bound) (λ _. Idle)
+swap_kind (suc zero) = kind bounds (λ b. Within b.0 b.1)
+swap_kind (suc (suc more)) = kind (no_bound ▸ u16_from 1 65535) (λ b. Perhaps b.1)
+
+abbrev pub swap_bytes : Swap → List ℕ
+swap_bytes Idle = 0 ∷ u16_bytes 0 ++ u16_bytes 0
+swap_bytes (Within lo hi) = 1 ∷ u16_bytes lo ++ u16_bytes hi
+swap_bytes (Perhaps hi) = 2 ∷ u16_bytes 0 ++ u16_bytes hi
+
+unfoldable pub swap : Format Swap
+swap = record { read = tagged_at (byte_from 0 2) swap_kind; spell = swap_bytes }
 
 -- a label with a pc of at least `low`, with this many configurations in the table
-unfoldable pub label_from : (total count low : ℕ) → List ℕ → Reads Label
-label_from total count low bytes = do
-  pc ← u16_in_range total low 65535 bytes
-  cur ← u16_in_range total 0 (count - 1) pc.1
-  next ← u16_in_range total 0 (count - 1) cur.1
-  pending ← swap_at total next.1
-  counters ← byte_at pending.1
-  cost ← byte_within total 1 255 counters.1
-  let set : Counters = record { 0 = counters.0 } in
-      Ok (record { pc = pc.0; cur = cur.0; next = next.0; pending = pending.0; counters = set; cost = cost.0 }, cost.1)
+unfoldable pub label : (count low : ℕ) → Format Label
+label count low =
+    made (λ x. record { pc = x.0.0.0.0.0; cur = x.0.0.0.0.1; next = x.0.0.0.1; pending = x.0.0.1; counters = record { 0 = x.0.1 }; cost = x.1 })
+    (λ l. (((((l.pc, l.cur), l.next), l.pending), l.counters.0), l.cost))
+    (u16_from low 65535 ▸ u16_from 0 (count - 1) ▸ u16_from 0 (count - 1) ▸ swap ▸ any_byte ▸ byte_from 1 255)
+
+-- its bytes depend on none of these numbers
+abbrev pub label_bytes : Label → List ℕ
+label_bytes l = (label 1 0).spell l
+
+abbrev pub label_from : (total count low : ℕ) → List ℕ → Reads Label
+label_from total count low bytes = (label count low).read total bytes
 
 -- ---- operands
 
-abbrev pub contact_at : (total : ℕ) → List ℕ → Reads ℕ
-contact_at total bytes = byte_within total 0 15 bytes
+abbrev pub contact : Format ℕ
+contact = byte_from 0 (CONTACTS - 1)
 
-abbrev pub counter_at : (total : ℕ) → List ℕ → Reads ℕ
-counter_at total bytes = byte_within total 0 7 bytes
+abbrev pub counter : Format ℕ
+counter = byte_from 0 (COUNTERS - 1)
 
-abbrev pub sub_id_at : (total : ℕ) → List ℕ → Reads ℕ
-sub_id_at total bytes = byte_within total 0 63 bytes
+abbrev pub contacts : Format Contacts
+contacts = made (λ n. record { 0 = n }) (λ set. set.0) any_u16
 
-abbrev pub type_at : (total : ℕ) → List ℕ → Reads ℕ
-type_at total bytes = byte_within total 0 63 bytes
+abbrev pub sub_id : Format ℕ
+sub_id = byte_from 0 63
 
-abbrev pub scid_at : (total : ℕ) → List ℕ → Reads ℕ
-scid_at total bytes = u16_in_range total 0 4095 bytes
+abbrev pub scid : Format ℕ
+scid = u16_from 0 4095
 
-abbrev pub start_at : (total : ℕ) → List ℕ → Reads ℕ
-start_at total bytes = u16_in_range total 0 1023 bytes
+abbrev pub start : Format ℕ
+start = u16_from 0 1023
 
--- any number of two bytes
-abbrev pub any_u16 : List ℕ → Reads ℕ
-any_u16 bytes = number_at w16 bytes
+-- how many frames, or times: 1 or more
+abbrev pub times : Format ℕ
+times = u16_from 1 65535
 
--- 1 or more
-abbrev pub times_at : (total : ℕ) → List ℕ → Reads ℕ
-times_at total bytes = u16_in_range total 1 65535 bytes
+abbrev pub delay : Format ℕ
+delay = u16_from 1 LONGEST_DELAY
 
-abbrev pub delay_at : (total : ℕ) → List ℕ → Reads ℕ
-delay_at total bytes = u16_in_range total 1 60000 bytes
+abbrev pub day_frame : Format ℕ
+day_frame = number_from w32 0 (FRAMES_A_DAY - 1)
 
-abbrev pub day_frame_at : (total : ℕ) → List ℕ → Reads ℕ
-day_frame_at total bytes = number_at w32 bytes >>= judged (place total bytes) 0 3599999
+-- the number that is written where a wait has no frame of the day
+abbrev pub no_day_frame : ℕ
+no_day_frame = 0xFFFFFFFF
+
+abbrev pub day_frame_number : Option ℕ → ℕ
+day_frame_number None = no_day_frame
+day_frame_number (Some t) = t
 
 -- a frame of the day, or none
 abbrev pub some_or_none : (at : ℕ) → ℕ × List ℕ → (none : Bool) → Reads (Option ℕ)
 some_or_none at n true = Ok (None, n.1)
-some_or_none at n false = judged at 0 3599999 n >>= λ frame. Ok (Some frame.0, frame.1)
+some_or_none at n false = judged at 0 (FRAMES_A_DAY - 1) n >>= λ frame. Ok (Some frame.0, frame.1)
 
-abbrev pub day_frame_or_none_at : (total : ℕ) → List ℕ → Reads (Option ℕ)
-day_frame_or_none_at total bytes = number_at w32 bytes >>= λ n. some_or_none (place total bytes) n (n.0 == no_day_frame)
+abbrev pub day_frame_or_none : Format (Option ℕ)
+day_frame_or_none = record {
+  read = λ total bytes. number_at w32 bytes >>= λ n. some_or_none (place total bytes) n (n.0 == no_day_frame);
+  spell = λ frame. to_be_bytes w32 (day_frame_number frame);
+}
 
--- a number of frames, or none for 0
-abbrev pub frames_or_none : ℕ → Option ℕ
-frames_or_none n = if n == 0 then None else Some n
+-- a number of frames, or none, written as 0
+abbrev pub frames_number : Option ℕ → ℕ
+frames_number None = 0
+frames_number (Some n) = n
 
-abbrev pub frames_or_none_at : List ℕ → Reads (Option ℕ)
-frames_or_none_at bytes = any_u16 bytes >>= λ n. Ok (frames_or_none n.0, n.1)
+abbrev pub some_number : ℕ → Option ℕ
+some_number n = if n == 0 then None else Some n
 
-abbrev pub contacts_at : List ℕ → Reads Contacts
-contacts_at bytes = any_u16 bytes >>= λ n. let set : Contacts = record { 0 = n.0 } in Ok (set, n.1)
+abbrev pub frames_or_none : Format (Option ℕ)
+frames_or_none = made some_number frames_number any_u16
 
-unfoldable pub new_sub_at : (total : ℕ) → List ℕ → Reads Sub
-new_sub_at total bytes = do
-  id ← sub_id_at total bytes
-  start ← start_at total id.1
-  protection ← protection_at total start.1
-  kbits ← any_u16 protection.1
-  Ok (record { id = id.0; start = start.0; protection = protection.0; kbits = kbits.0 }, kbits.1)
+unfoldable pub new_sub : Format Sub
+new_sub =
+    made (λ x. record { id = x.0.0.0; start = x.0.0.1; protection = x.0.1; kbits = x.1 }) (λ s. (((s.id, s.start), s.protection), s.kbits))
+    (sub_id ▸ start ▸ protection ▸ any_u16)
 
-unfoldable pub new_packet_at : (total : ℕ) → List ℕ → Reads Packet
-new_packet_at total bytes = do
-  scid ← scid_at total bytes
-  dg ← flag_at total scid.1
-  ty ← type_at total dg.1
-  sub ← sub_id_at total ty.1
-  address ← any_u16 sub.1
-  Ok (record { scid = scid.0; dg = dg.0; ty = ty.0; sub = sub.0; address = address.0 }, address.1)
+unfoldable pub new_packet : Format Packet
+new_packet =
+    made (λ x. record { scid = x.0.0.0.0; dg = x.0.0.0.1; ty = x.0.0.1; sub = x.0.1; address = x.1 }) (λ p. ((((p.scid, p.dg), p.ty), p.sub), p.address))
+    (scid ▸ flag ▸ byte_from 0 63 ▸ sub_id ▸ any_u16)
 
--- a sub-channel as a carrier: its identifier in two bytes
-abbrev pub wide_sub_id_at : (total : ℕ) → List ℕ → Reads ℕ
-wide_sub_id_at total bytes = u16_in_range total 0 63 bytes
+-- a carrier by its number: the identifier of a sub-channel has two bytes here
+abbrev pub carrier_kind : ℕ → Kind Carrier
+carrier_kind zero = kind (u16_from 0 63) BySub
+carrier_kind (suc more) = kind scid ByPacket
 
-abbrev pub carrier_of_kind : (total kind : ℕ) → List ℕ → Reads Carrier
-carrier_of_kind total zero bytes = wide_sub_id_at total bytes >>= λ id. Ok (BySub id.0, id.1)
-carrier_of_kind total (suc k) bytes = scid_at total bytes >>= λ scid. Ok (ByPacket scid.0, scid.1)
+abbrev pub carrier_bytes : Carrier → List ℕ
+carrier_bytes (BySub id) = 0 ∷ u16_bytes id
+carrier_bytes (ByPacket scid) = 1 ∷ u16_bytes scid
 
-unfoldable pub carrier_at : (total : ℕ) → List ℕ → Reads Carrier
-carrier_at total bytes = do
-  kind ← byte_within total 0 1 bytes
-  carrier_of_kind total kind.0 kind.1
+unfoldable pub carrier : Format Carrier
+carrier = record { read = tagged_at (byte_from 0 1) carrier_kind; spell = carrier_bytes }
 
--- ---- edits, after their opcodes
+-- ---- instructions
 
-unfoldable pub add_sub_at : (total : ℕ) → List ℕ → Reads Edit
-add_sub_at total bytes = do
-  sub ← new_sub_at total bytes
-  Ok (AddSub sub.0, sub.1)
+-- the operands of an instruction, in order, by its opcode
+abbrev pub instr_kind : Opcode → Kind Instr
+instr_kind Opcode.Wait = kind times Wait
+instr_kind Opcode.Until = kind day_frame Until
+instr_kind Opcode.WaitContact = kind (contact ▸ flag) (λ x. WaitContact x.0 x.1)
+instr_kind Opcode.CommitIn = kind delay CommitIn
+instr_kind Opcode.CommitAt = kind any_u16 CommitAt
+instr_kind Opcode.Join = kind nothing (λ _. Join)
+instr_kind Opcode.End = kind nothing (λ _. End)
+instr_kind Opcode.Settle = kind nothing (λ _. Settle)
+instr_kind Opcode.WaitAny = kind (contacts ▸ contacts ▸ day_frame_or_none ▸ frames_or_none) (λ x. WaitAny x.0.0.0 x.0.0.1 x.0.1 x.1)
+instr_kind Opcode.AddSub = kind new_sub (λ s. Edits (AddSub s))
+instr_kind Opcode.DropSub = kind sub_id (λ id. Edits (DropSub id))
+instr_kind Opcode.MoveSub = kind (sub_id ▸ start) (λ x. Edits (MoveSub x.0 x.1))
+instr_kind Opcode.RateSub = kind (sub_id ▸ any_u16) (λ x. Edits (RateSub x.0 x.1))
+instr_kind Opcode.AddService = kind sid (λ s. Edits (AddService s))
+instr_kind Opcode.DropService = kind sid (λ s. Edits (DropService s))
+instr_kind Opcode.AddComponent = kind (sid ▸ component) (λ x. Edits (AddComponent x.0 x.1))
+instr_kind Opcode.DropComponent = kind (sid ▸ carrier) (λ x. Edits (DropComponent x.0 x.1))
+instr_kind Opcode.AddPacket = kind new_packet (λ p. Edits (AddPacket p))
+instr_kind Opcode.DropPacket = kind scid (λ id. Edits (DropPacket id))
+instr_kind Opcode.Test = kind (contact ▸ any_u16) (λ x. Test x.0 x.1)
+instr_kind Opcode.Jump = kind any_u16 Jump
+instr_kind Opcode.Set = kind (counter ▸ times) (λ x. Set x.0 x.1)
+instr_kind Opcode.Loop = kind (counter ▸ any_u16) (λ x. Loop x.0 x.1)
+instr_kind Opcode.TestTime = kind (day_frame ▸ day_frame ▸ any_u16) (λ x. TestTime x.0.0 x.0.1 x.1)
 
-unfoldable pub drop_sub_at : (total : ℕ) → List ℕ → Reads Edit
-drop_sub_at total bytes = do
-  id ← sub_id_at total bytes
-  Ok (DropSub id.0, id.1)
+abbrev pub spelled : (opcode : Opcode) → (instr_kind opcode).Parts → List ℕ
+spelled opcode x = opcode_byte opcode ∷ (instr_kind opcode).format.spell x
 
-unfoldable pub move_sub_at : (total : ℕ) → List ℕ → Reads Edit
-move_sub_at total bytes = do
-  id ← sub_id_at total bytes
-  start ← start_at total id.1
-  Ok (MoveSub id.0 start.0, start.1)
+abbrev pub edit_bytes : Edit → List ℕ
+edit_bytes (AddSub s) = spelled Opcode.AddSub s
+edit_bytes (DropSub id) = spelled Opcode.DropSub id
+edit_bytes (MoveSub id to) = spelled Opcode.MoveSub (id, to)
+edit_bytes (RateSub id kbits) = spelled Opcode.RateSub (id, kbits)
+edit_bytes (AddService s) = spelled Opcode.AddService s
+edit_bytes (DropService s) = spelled Opcode.DropService s
+edit_bytes (AddComponent s m) = spelled Opcode.AddComponent (s, m)
+edit_bytes (DropComponent s c) = spelled Opcode.DropComponent (s, c)
+edit_bytes (AddPacket p) = spelled Opcode.AddPacket p
+edit_bytes (DropPacket id) = spelled Opcode.DropPacket id
 
-unfoldable pub rate_sub_at : (total : ℕ) → List ℕ → Reads Edit
-rate_sub_at total bytes = do
-  id ← sub_id_at total bytes
-  kbits ← any_u16 id.1
-  Ok (RateSub id.0 kbits.0, kbits.1)
-
-unfoldable pub add_service_at : (total : ℕ) → List ℕ → Reads Edit
-add_service_at total bytes = do
-  sid ← sid_at total bytes
-  Ok (AddService sid.0, sid.1)
-
-unfoldable pub drop_service_at : (total : ℕ) → List ℕ → Reads Edit
-drop_service_at total bytes = do
-  sid ← sid_at total bytes
-  Ok (DropService sid.0, sid.1)
-
-unfoldable pub add_component_at : (total : ℕ) → List ℕ → Reads Edit
-add_component_at total bytes = do
-  sid ← sid_at total bytes
-  component ← component_at total sid.1
-  Ok (AddComponent sid.0 component.0, component.1)
-
-unfoldable pub drop_component_at : (total : ℕ) → List ℕ → Reads Edit
-drop_component_at total bytes = do
-  sid ← sid_at total bytes
-  carrier ← carrier_at total sid.1
-  Ok (DropComponent sid.0 carrier.0, carrier.1)
-
-unfoldable pub add_packet_at : (total : ℕ) → List ℕ → Reads Edit
-add_packet_at total bytes = do
-  packet ← new_packet_at total bytes
-  Ok (AddPacket packet.0, packet.1)
-
-unfoldable pub drop_packet_at : (total : ℕ) → List ℕ → Reads Edit
-drop_packet_at total bytes = do
-  scid ← scid_at total bytes
-  Ok (DropPacket scid.0, scid.1)
-
--- ---- the other instructions, after their opcodes
-
-unfoldable pub wait_at : (total : ℕ) → List ℕ → Reads Instr
-wait_at total bytes = do
-  frames ← times_at total bytes
-  Ok (Wait frames.0, frames.1)
-
-unfoldable pub until_at : (total : ℕ) → List ℕ → Reads Instr
-until_at total bytes = do
-  frame ← day_frame_at total bytes
-  Ok (Until frame.0, frame.1)
-
-unfoldable pub wait_contact_at : (total : ℕ) → List ℕ → Reads Instr
-wait_contact_at total bytes = do
-  contact ← contact_at total bytes
-  closed ← flag_at total contact.1
-  Ok (WaitContact contact.0 closed.0, closed.1)
-
-unfoldable pub wait_any_at : (total : ℕ) → List ℕ → Reads Instr
-wait_any_at total bytes = do
-  closed ← contacts_at bytes
-  opened ← contacts_at closed.1
-  until ← day_frame_or_none_at total opened.1
-  frames ← frames_or_none_at until.1
-  Ok (WaitAny closed.0 opened.0 until.0 frames.0, frames.1)
-
-unfoldable pub commit_in_at : (total : ℕ) → List ℕ → Reads Instr
-commit_in_at total bytes = do
-  delay ← delay_at total bytes
-  Ok (CommitIn delay.0, delay.1)
-
-unfoldable pub commit_at_at : List ℕ → Reads Instr
-commit_at_at bytes = do
-  count ← any_u16 bytes
-  Ok (CommitAt count.0, count.1)
-
-unfoldable pub test_at : (total : ℕ) → List ℕ → Reads Instr
-test_at total bytes = do
-  contact ← contact_at total bytes
-  target ← any_u16 contact.1
-  Ok (Test contact.0 target.0, target.1)
-
-unfoldable pub jump_at : List ℕ → Reads Instr
-jump_at bytes = do
-  target ← any_u16 bytes
-  Ok (Jump target.0, target.1)
-
-unfoldable pub set_at : (total : ℕ) → List ℕ → Reads Instr
-set_at total bytes = do
-  counter ← counter_at total bytes
-  times ← times_at total counter.1
-  Ok (Set counter.0 times.0, times.1)
-
-unfoldable pub loop_at : (total : ℕ) → List ℕ → Reads Instr
-loop_at total bytes = do
-  counter ← counter_at total bytes
-  target ← any_u16 counter.1
-  Ok (Loop counter.0 target.0, target.1)
-
-unfoldable pub test_time_at : (total : ℕ) → List ℕ → Reads Instr
-test_time_at total bytes = do
-  from ← day_frame_at total bytes
-  to ← day_frame_at total from.1
-  target ← any_u16 to.1
-  Ok (TestTime from.0 to.0 target.0, target.1)
-
--- ---- any instruction, and its line
+abbrev pub instr_bytes : Instr → List ℕ
+instr_bytes (Wait n) = spelled Opcode.Wait n
+instr_bytes (Until t) = spelled Opcode.Until t
+instr_bytes (WaitContact c closed) = spelled Opcode.WaitContact (c, closed)
+instr_bytes (WaitAny closed opened until frames) = spelled Opcode.WaitAny (((closed, opened), until), frames)
+instr_bytes (CommitIn k) = spelled Opcode.CommitIn k
+instr_bytes (CommitAt n) = spelled Opcode.CommitAt n
+instr_bytes Join = spelled Opcode.Join tt
+instr_bytes End = spelled Opcode.End tt
+instr_bytes Settle = spelled Opcode.Settle tt
+instr_bytes (Edits e) = edit_bytes e
+instr_bytes (Test c target) = spelled Opcode.Test (c, target)
+instr_bytes (Jump target) = spelled Opcode.Jump target
+instr_bytes (Set r n) = spelled Opcode.Set (r, n)
+instr_bytes (Loop r target) = spelled Opcode.Loop (r, target)
+instr_bytes (TestTime from to target) = spelled Opcode.TestTime ((from, to), target)
 
 abbrev pub opcode_at : (total : ℕ) → List ℕ → Reads Opcode
 opcode_at total bytes = do
@@ -268,44 +209,13 @@ opcode_at total bytes = do
   opcode ← ok_or (opcode_of byte.0) (Field (place total bytes))
   Ok (opcode, byte.1)
 
--- an edit as an instruction
-abbrev pub edit_instr : Reads Edit → Reads Instr
-edit_instr read = read >>= λ edit. Ok (Edits edit.0, edit.1)
+abbrev pub opcode : Format Opcode
+opcode = record { read = opcode_at; spell = λ o. opcode_byte o ∷ [] }
 
--- an instruction, after its opcode
-unfoldable pub instr_of : (total : ℕ) → Opcode → List ℕ → Reads Instr
-instr_of total Opcode.Wait bytes = wait_at total bytes
-instr_of total Opcode.Until bytes = until_at total bytes
-instr_of total Opcode.WaitContact bytes = wait_contact_at total bytes
-instr_of total Opcode.CommitIn bytes = commit_in_at total bytes
-instr_of total Opcode.CommitAt bytes = commit_at_at bytes
-instr_of total Opcode.Join bytes = Ok (Join, bytes)
-instr_of total Opcode.End bytes = Ok (End, bytes)
-instr_of total Opcode.Settle bytes = Ok (Settle, bytes)
-instr_of total Opcode.WaitAny bytes = wait_any_at total bytes
-instr_of total Opcode.AddSub bytes = edit_instr (add_sub_at total bytes)
-instr_of total Opcode.DropSub bytes = edit_instr (drop_sub_at total bytes)
-instr_of total Opcode.MoveSub bytes = edit_instr (move_sub_at total bytes)
-instr_of total Opcode.RateSub bytes = edit_instr (rate_sub_at total bytes)
-instr_of total Opcode.AddService bytes = edit_instr (add_service_at total bytes)
-instr_of total Opcode.DropService bytes = edit_instr (drop_service_at total bytes)
-instr_of total Opcode.AddComponent bytes = edit_instr (add_component_at total bytes)
-instr_of total Opcode.DropComponent bytes = edit_instr (drop_component_at total bytes)
-instr_of total Opcode.AddPacket bytes = edit_instr (add_packet_at total bytes)
-instr_of total Opcode.DropPacket bytes = edit_instr (drop_packet_at total bytes)
-instr_of total Opcode.Test bytes = test_at total bytes
-instr_of total Opcode.Jump bytes = jump_at bytes
-instr_of total Opcode.Set bytes = set_at total bytes
-instr_of total Opcode.Loop bytes = loop_at total bytes
-instr_of total Opcode.TestTime bytes = test_time_at total bytes
+-- an instruction: its opcode, and its operands
+unfoldable pub instr : Format Instr
+instr = record { read = tagged_at opcode instr_kind; spell = instr_bytes }
 
-unfoldable pub instr_from : (total : ℕ) → List ℕ → Reads Instr
-instr_from total bytes = do
-  opcode ← opcode_at total bytes
-  instr_of total opcode.0 opcode.1
-
-unfoldable pub line_from : (total : ℕ) → List ℕ → Reads Line
-line_from total bytes = do
-  number ← any_u16 bytes
-  instr ← instr_from total number.1
-  Ok (record { number = number.0; instr = instr.0 }, instr.1)
+-- its source line number, and the instruction
+unfoldable pub line : Format Line
+line = made (λ x. record { number = x.0; instr = x.1 }) (λ l. (l.number, l.instr)) (any_u16 ▸ instr)

@@ -18,7 +18,7 @@ use Rattle.plan_code.specs.declared.label.Label.{Label}
 use Rattle.plan_code.specs.declared.plan.Plan.{Plan}
 use Rattle.plan_code.specs.Program.{Program, label_key}
 use Rattle.plan_code.specs.Spelling.{magic}
-use Rattle.plan_code.specs.Parts.{label_from, line_from}
+use Rattle.plan_code.specs.Parts.{label_from, line}
 
 -- a value and the bytes after it, or the first fault
 abbrev pub Parses : Type 0 → Type 0
@@ -140,7 +140,7 @@ abbrev pub config_in : (total : ℕ) → List ℕ → Parses Configuration
 config_in total bytes = read_from (place total bytes) (config_at bytes)
 
 abbrev pub line_in : (total : ℕ) → List ℕ → Parses Line
-line_in total bytes = in_file (line_from total bytes)
+line_in total bytes = in_file (line.read total bytes)
 
 -- `count` more items after those in `before`
 unfoldable pub items_at : {T : Type 0} → (item_at : List ℕ → Parses T) → (before : List T) → (count : ℕ) → List ℕ → Parses (List T)

@@ -3,11 +3,12 @@
 ghost use Rattle.std.specs.Prelude.{◌≡◌, ◌++◌, ◌∷◌, [], Ok, OnOk, IfOk};
 ghost use Rattle.std.specs.List.{flat_map};
 ghost use Rattle.mux_config.specs.FieldSpelling.{u16_bytes};
-ghost use Rattle.mux_config.specs.Spelling.{sub_record, packet_record, config_bytes};
+ghost use Rattle.mux_config.specs.Spelling.{config_bytes};
 ghost use Rattle.plan_code.specs.Opcodes.{opcode_byte};
 ghost use Rattle.plan_code.specs.Program.{IsProgram};
 ghost use Rattle.plan_code.specs.declared.instr.Instr.TheVariants.{WaitAny, TestTime};
-ghost use Rattle.plan_code.specs.Spelling.{mode_bytes, layout_bytes, mode_number, plan_bytes, swap_bytes, label_bytes, carrier_bytes, edit_bytes, day_frame_number, frames_number, instr_bytes, line_bytes, code_bytes};
+ghost use Rattle.plan_code.specs.Spelling.{mode_bytes, layout_bytes, mode_number, plan_bytes, line_bytes, code_bytes};
+ghost use Rattle.plan_code.specs.Parts.{swap_bytes, label_bytes, carrier_bytes, new_sub, new_packet, edit_bytes, day_frame_number, frames_number, instr_bytes};
 ghost use Rattle.plan_code.specs.Reading.{code_of};
 
 use crate::code::Code;
@@ -91,18 +92,20 @@ fn put_swap(out: &mut Vec<u8>, swap: Swap) -> Result<(), AllocError>
     }
 }
 
-fn put_new_sub(out: &mut Vec<u8>, new_sub: NewSub) -> Result<(), AllocError>
-    ensures { OnOk result (out.new.items ≡ out.old.items ++ sub_record new_sub) }
+#[tactic(auto, unfolding(crate::specs::Parts::new_sub))]
+fn put_new_sub(out: &mut Vec<u8>, sub: NewSub) -> Result<(), AllocError>
+    ensures { OnOk result (out.new.items ≡ out.old.items ++ new_sub.spell sub) }
 {
-    let sub = new_sub.get();
+    let sub = sub.get();
     out.push(sub.id.get())?;
     put_u16(out, sub.start)?;
     put_protection(out, sub.protection)?;
     put_u16(out, sub.kbits)
 }
 
+#[tactic(auto, unfolding(crate::specs::Parts::new_packet))]
 fn put_new_packet(out: &mut Vec<u8>, packet: Packet) -> Result<(), AllocError>
-    ensures { OnOk result (out.new.items ≡ out.old.items ++ packet_record packet) }
+    ensures { OnOk result (out.new.items ≡ out.old.items ++ new_packet.spell packet) }
 {
     put_u16(out, packet.scid.get())?;
     out.extend_from_slice(&[u8::from(packet.dg), packet.ty.get(), packet.sub.get()])?;
@@ -155,6 +158,7 @@ fn put_with_both(out: &mut Vec<u8>, opcode: Opcode, byte: u8, number: u16) -> Re
     put_u16(out, number)
 }
 
+#[tactic(auto, unfolding(crate::specs::Parts::carrier))]
 fn put_edit(out: &mut Vec<u8>, edit: Edit) -> Result<(), AllocError>
     ensures { OnOk result (out.new.items ≡ out.old.items ++ edit_bytes edit) }
 {
@@ -302,6 +306,7 @@ fn put_labels(out: &mut Vec<u8>, labels: &[Label]) -> Result<(), AllocError>
     Ok(())
 }
 
+#[tactic(auto, unfolding(crate::specs::Parts::line, crate::specs::Parts::instr))]
 fn put_lines(out: &mut Vec<u8>, lines: &[Line]) -> Result<(), AllocError>
     ensures { OnOk result (out.new.items ≡ out.old.items ++ flat_map line_bytes lines.now) }
 {
@@ -312,6 +317,7 @@ fn put_lines(out: &mut Vec<u8>, lines: &[Line]) -> Result<(), AllocError>
     Ok(())
 }
 
+#[tactic(auto, unfolding(crate::specs::Parts::label, crate::specs::Parts::swap))]
 fn put_label(out: &mut Vec<u8>, label: Label) -> Result<(), AllocError>
     ensures { OnOk result (out.new.items ≡ out.old.items ++ label_bytes label) }
 {

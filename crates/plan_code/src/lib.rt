@@ -2,7 +2,8 @@
 //!
 //! Every field of the value is within its limits. `Code` is a plan, a table of configurations, a table of labels and
 //! the instructions; `decode` and `encode` read and write its file. What an instruction does, and what it needs so as
-//! not to trap, is defined in `specs/Machine.antt`; the file format in `specs/Spelling.antt` and `specs/Reading.antt`.
+//! not to trap, is defined in `specs/Machine.antt`; the file format in `specs/Parts.antt`, `specs/Spelling.antt` and
+//! `specs/Reading.antt`.
 #![tactic(auto)]
 
 pub mod code;
@@ -20,7 +21,6 @@ mod opcode;
 mod operand;
 pub mod plan;
 mod ranges;
-mod read_edit;
 mod read_label;
 mod read_line;
 

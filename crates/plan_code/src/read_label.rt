@@ -1,18 +1,17 @@
 //! Reading a label.
 
-ghost use Rattle.std.specs.Prelude.{◌≡◌, ◌≤◌};
-ghost use Rattle.mux_config.specs.FieldReading.{Takes, u16_in_range};
-ghost use Rattle.plan_code.specs.Parts.{swap_at, label_from};
+ghost use Rattle.std.specs.Prelude.{◌≤◌};
+ghost use Rattle.plan_code.specs.Formats.{Reading, u16_from};
+ghost use Rattle.plan_code.specs.Parts.{swap, label};
 
 use crate::flags::Counters;
 use crate::label::{Label, Swap};
 use mux_config::{Reader, RecordFault};
 
 /// Reads what a label declares of a swap.
-#[tactic(auto, unfolding(crate::specs::Parts::swap_at))]
+#[tactic(auto, unfolding(crate::specs::Parts::swap))]
 fn swap(reader: &mut Reader) -> Result<Swap, RecordFault>
-    ensures read { Takes (swap_at reader.old.total reader.old.rest) result reader.new }
-    ensures total { reader.new.total ≡ reader.old.total }
+    ensures { Reading swap.read reader.old result reader.new }
 {
     match reader.byte_within(0, 2)? {
         0 => {
@@ -35,9 +34,7 @@ fn swap(reader: &mut Reader) -> Result<Swap, RecordFault>
 
 /// Reads the pc of a label, at least `low`.
 fn pc_from(reader: &mut Reader, low: u32) -> Result<u16, RecordFault>
-    ensures read { Takes (u16_in_range reader.old.total low 65535 reader.old.rest) result
-        reader.new }
-    ensures total { reader.new.total ≡ reader.old.total }
+    ensures { Reading (u16_from low 65535).read reader.old result reader.new }
 {
     let offset = reader.place();
     let pc = reader.u16()?;
@@ -48,12 +45,10 @@ fn pc_from(reader: &mut Reader, low: u32) -> Result<u16, RecordFault>
 }
 
 /// Reads a label with a pc of at least `low`, with this many configurations in the table.
-#[tactic(auto, unfolding(crate::specs::Parts::label_from))]
+#[tactic(auto, unfolding(crate::specs::Parts::label))]
 pub(crate) fn label(reader: &mut Reader, configs: u16, low: u32) -> Result<Label, RecordFault>
     requires { 1 ≤ configs }
-    ensures read { Takes (label_from reader.old.total configs low reader.old.rest) result
-        reader.new }
-    ensures total { reader.new.total ≡ reader.old.total }
+    ensures { Reading (label configs low).read reader.old result reader.new }
 {
     let pc = pc_from(reader, low)?;
     let cur = reader.u16_within(0, configs - 1)?;

@@ -1,52 +1,27 @@
 //! Reading a line: its source line number and its instruction.
 
-ghost use Rattle.std.specs.Prelude.{◌≡◌};
-ghost use Rattle.mux_config.specs.FieldReading.{Takes};
-ghost use Rattle.plan_code.specs.Parts.{wait_at, until_at, wait_contact_at, wait_any_at, commit_in_at, commit_at_at, test_at, jump_at, set_at, loop_at, test_time_at, opcode_at, instr_of, instr_from, line_from};
+ghost use Rattle.plan_code.specs.Formats.{Reading};
+ghost use Rattle.plan_code.specs.declared.opcode.Opcode.{Opcode};
+ghost use Rattle.plan_code.specs.Parts.{opcode, instr_kind, instr, line};
 
 use crate::instr::{Instr, Line};
 use crate::opcode::{Opcode, UnknownOpcode};
 use crate::operand::{
-    contact, contacts, counter, day_frame, day_frame_or_none, delay, frames, frames_or_none, times,
+    carrier, contact, contacts, counter, day_frame, day_frame_or_none, delay, frames,
+    frames_or_none, new_packet, new_sub, start, times,
 };
-use crate::read_edit::{
-    add_component, add_packet, add_service, add_sub, drop_component, drop_packet, drop_service,
-    drop_sub, move_sub, rate_sub,
-};
-use mux_config::{Reader, RecordFault};
+use mux_config::{Edit, Reader, RecordFault};
 
-#[tactic(auto, unfolding(crate::specs::Parts::wait_at))]
-fn wait(reader: &mut Reader) -> Result<Instr, RecordFault>
-    ensures read { Takes (wait_at reader.old.total reader.old.rest) result reader.new }
-    ensures total { reader.new.total ≡ reader.old.total }
-{
-    let frames = frames(reader)?;
-    Ok(Instr::Wait(frames))
-}
-
-#[tactic(auto, unfolding(crate::specs::Parts::until_at))]
-fn until(reader: &mut Reader) -> Result<Instr, RecordFault>
-    ensures read { Takes (until_at reader.old.total reader.old.rest) result reader.new }
-    ensures total { reader.new.total ≡ reader.old.total }
-{
-    let frame = day_frame(reader)?;
-    Ok(Instr::Until(frame))
-}
-
-#[tactic(auto, unfolding(crate::specs::Parts::wait_contact_at))]
 fn wait_contact(reader: &mut Reader) -> Result<Instr, RecordFault>
-    ensures read { Takes (wait_contact_at reader.old.total reader.old.rest) result reader.new }
-    ensures total { reader.new.total ≡ reader.old.total }
+    ensures { Reading (instr_kind Opcode.WaitContact).read reader.old result reader.new }
 {
     let contact = contact(reader)?;
     let closed = reader.flag()?;
     Ok(Instr::WaitContact { contact, closed })
 }
 
-#[tactic(auto, unfolding(crate::specs::Parts::wait_any_at))]
 fn wait_any(reader: &mut Reader) -> Result<Instr, RecordFault>
-    ensures read { Takes (wait_any_at reader.old.total reader.old.rest) result reader.new }
-    ensures total { reader.new.total ≡ reader.old.total }
+    ensures { Reading (instr_kind Opcode.WaitAny).read reader.old result reader.new }
 {
     let closed = contacts(reader)?;
     let opened = contacts(reader)?;
@@ -60,67 +35,32 @@ fn wait_any(reader: &mut Reader) -> Result<Instr, RecordFault>
     })
 }
 
-#[tactic(auto, unfolding(crate::specs::Parts::commit_in_at))]
-fn commit_in(reader: &mut Reader) -> Result<Instr, RecordFault>
-    ensures read { Takes (commit_in_at reader.old.total reader.old.rest) result reader.new }
-    ensures total { reader.new.total ≡ reader.old.total }
-{
-    let delay = delay(reader)?;
-    Ok(Instr::CommitIn(delay))
-}
-
-#[tactic(auto, unfolding(crate::specs::Parts::commit_at_at))]
-fn commit_at(reader: &mut Reader) -> Result<Instr, RecordFault>
-    ensures read { Takes (commit_at_at reader.old.rest) result reader.new }
-    ensures total { reader.new.total ≡ reader.old.total }
-{
-    let count = reader.u16()?;
-    Ok(Instr::CommitAt(count))
-}
-
-#[tactic(auto, unfolding(crate::specs::Parts::test_at))]
 fn test(reader: &mut Reader) -> Result<Instr, RecordFault>
-    ensures read { Takes (test_at reader.old.total reader.old.rest) result reader.new }
-    ensures total { reader.new.total ≡ reader.old.total }
+    ensures { Reading (instr_kind Opcode.Test).read reader.old result reader.new }
 {
     let contact = contact(reader)?;
     let target = reader.u16()?;
     Ok(Instr::Test { contact, target })
 }
 
-#[tactic(auto, unfolding(crate::specs::Parts::jump_at))]
-fn jump(reader: &mut Reader) -> Result<Instr, RecordFault>
-    ensures read { Takes (jump_at reader.old.rest) result reader.new }
-    ensures total { reader.new.total ≡ reader.old.total }
-{
-    let target = reader.u16()?;
-    Ok(Instr::Jump(target))
-}
-
-#[tactic(auto, unfolding(crate::specs::Parts::set_at))]
 fn set(reader: &mut Reader) -> Result<Instr, RecordFault>
-    ensures read { Takes (set_at reader.old.total reader.old.rest) result reader.new }
-    ensures total { reader.new.total ≡ reader.old.total }
+    ensures { Reading (instr_kind Opcode.Set).read reader.old result reader.new }
 {
     let counter = counter(reader)?;
     let times = times(reader)?;
     Ok(Instr::Set { counter, times })
 }
 
-#[tactic(auto, unfolding(crate::specs::Parts::loop_at))]
 fn loop_back(reader: &mut Reader) -> Result<Instr, RecordFault>
-    ensures read { Takes (loop_at reader.old.total reader.old.rest) result reader.new }
-    ensures total { reader.new.total ≡ reader.old.total }
+    ensures { Reading (instr_kind Opcode.Loop).read reader.old result reader.new }
 {
     let counter = counter(reader)?;
     let target = reader.u16()?;
     Ok(Instr::Loop { counter, target })
 }
 
-#[tactic(auto, unfolding(crate::specs::Parts::test_time_at))]
 fn test_time(reader: &mut Reader) -> Result<Instr, RecordFault>
-    ensures read { Takes (test_time_at reader.old.total reader.old.rest) result reader.new }
-    ensures total { reader.new.total ≡ reader.old.total }
+    ensures { Reading (instr_kind Opcode.TestTime).read reader.old result reader.new }
 {
     let from = day_frame(reader)?;
     let to = day_frame(reader)?;
@@ -128,47 +68,75 @@ fn test_time(reader: &mut Reader) -> Result<Instr, RecordFault>
     Ok(Instr::TestTime { from, to, target })
 }
 
+fn move_sub(reader: &mut Reader) -> Result<Instr, RecordFault>
+    ensures { Reading (instr_kind Opcode.MoveSub).read reader.old result reader.new }
+{
+    let id = reader.sub_id()?;
+    let start = start(reader)?;
+    Ok(Instr::Edit(Edit::MoveSub { id, start }))
+}
+
+fn rate_sub(reader: &mut Reader) -> Result<Instr, RecordFault>
+    ensures { Reading (instr_kind Opcode.RateSub).read reader.old result reader.new }
+{
+    let id = reader.sub_id()?;
+    let kbits = reader.u16()?;
+    Ok(Instr::Edit(Edit::RateSub { id, kbits }))
+}
+
+fn add_component(reader: &mut Reader) -> Result<Instr, RecordFault>
+    ensures { Reading (instr_kind Opcode.AddComponent).read reader.old result reader.new }
+{
+    let sid = reader.sid()?;
+    let component = reader.component()?;
+    Ok(Instr::Edit(Edit::AddComponent { sid, component }))
+}
+
+fn drop_component(reader: &mut Reader) -> Result<Instr, RecordFault>
+    ensures { Reading (instr_kind Opcode.DropComponent).read reader.old result reader.new }
+{
+    let sid = reader.sid()?;
+    let carrier = carrier(reader)?;
+    Ok(Instr::Edit(Edit::DropComponent { sid, carrier }))
+}
+
 /// Reads an opcode.
 fn opcode(reader: &mut Reader) -> Result<Opcode, RecordFault>
-    ensures read { Takes (opcode_at reader.old.total reader.old.rest) result reader.new }
-    ensures total { reader.new.total ≡ reader.old.total }
+    ensures { Reading opcode.read reader.old result reader.new }
 {
     let offset = reader.place();
-    let byte = reader.byte()?;
-    match Opcode::try_from(byte) {
+    match Opcode::try_from(reader.byte()?) {
         Ok(opcode) => Ok(opcode),
         Err(UnknownOpcode) => Err(RecordFault::Field(offset)),
     }
 }
 
-/// Reads the rest of an instruction after its opcode.
-#[tactic(auto, unfolding(crate::specs::Parts::instr_of))]
+/// Reads the operands of an instruction with this opcode.
 fn instr_of(reader: &mut Reader, opcode: Opcode) -> Result<Instr, RecordFault>
-    ensures read { Takes (instr_of reader.old.total opcode reader.old.rest) result reader.new }
-    ensures total { reader.new.total ≡ reader.old.total }
+    ensures { Reading (instr_kind opcode).read reader.old result reader.new }
 {
     match opcode {
-        Opcode::Wait => wait(reader),
-        Opcode::Until => until(reader),
+        Opcode::Wait => Ok(Instr::Wait(frames(reader)?)),
+        Opcode::Until => Ok(Instr::Until(day_frame(reader)?)),
         Opcode::WaitContact => wait_contact(reader),
-        Opcode::CommitIn => commit_in(reader),
-        Opcode::CommitAt => commit_at(reader),
+        Opcode::CommitIn => Ok(Instr::CommitIn(delay(reader)?)),
+        Opcode::CommitAt => Ok(Instr::CommitAt(reader.u16()?)),
         Opcode::Join => Ok(Instr::Join),
         Opcode::End => Ok(Instr::End),
         Opcode::Settle => Ok(Instr::Settle),
         Opcode::WaitAny => wait_any(reader),
-        Opcode::AddSub => Ok(Instr::Edit(add_sub(reader)?)),
-        Opcode::DropSub => Ok(Instr::Edit(drop_sub(reader)?)),
-        Opcode::MoveSub => Ok(Instr::Edit(move_sub(reader)?)),
-        Opcode::RateSub => Ok(Instr::Edit(rate_sub(reader)?)),
-        Opcode::AddService => Ok(Instr::Edit(add_service(reader)?)),
-        Opcode::DropService => Ok(Instr::Edit(drop_service(reader)?)),
-        Opcode::AddComponent => Ok(Instr::Edit(add_component(reader)?)),
-        Opcode::DropComponent => Ok(Instr::Edit(drop_component(reader)?)),
-        Opcode::AddPacket => Ok(Instr::Edit(add_packet(reader)?)),
-        Opcode::DropPacket => Ok(Instr::Edit(drop_packet(reader)?)),
+        Opcode::AddSub => Ok(Instr::Edit(Edit::AddSub(new_sub(reader)?))),
+        Opcode::DropSub => Ok(Instr::Edit(Edit::DropSub(reader.sub_id()?))),
+        Opcode::MoveSub => move_sub(reader),
+        Opcode::RateSub => rate_sub(reader),
+        Opcode::AddService => Ok(Instr::Edit(Edit::AddService(reader.sid()?))),
+        Opcode::DropService => Ok(Instr::Edit(Edit::DropService(reader.sid()?))),
+        Opcode::AddComponent => add_component(reader),
+        Opcode::DropComponent => drop_component(reader),
+        Opcode::AddPacket => Ok(Instr::Edit(Edit::AddPacket(new_packet(reader)?))),
+        Opcode::DropPacket => Ok(Instr::Edit(Edit::DropPacket(reader.sc_id()?))),
         Opcode::Test => test(reader),
-        Opcode::Jump => jump(reader),
+        Opcode::Jump => Ok(Instr::Jump(reader.u16()?)),
         Opcode::Set => set(reader),
         Opcode::Loop => loop_back(reader),
         Opcode::TestTime => test_time(reader),
@@ -176,20 +144,18 @@ fn instr_of(reader: &mut Reader, opcode: Opcode) -> Result<Instr, RecordFault>
 }
 
 /// Reads an instruction.
-#[tactic(auto, unfolding(crate::specs::Parts::instr_from))]
+#[tactic(auto, unfolding(crate::specs::Parts::instr))]
 fn instr(reader: &mut Reader) -> Result<Instr, RecordFault>
-    ensures read { Takes (instr_from reader.old.total reader.old.rest) result reader.new }
-    ensures total { reader.new.total ≡ reader.old.total }
+    ensures { Reading instr.read reader.old result reader.new }
 {
     let opcode = opcode(reader)?;
     instr_of(reader, opcode)
 }
 
 /// Reads a line.
-#[tactic(auto, unfolding(crate::specs::Parts::line_from))]
+#[tactic(auto, unfolding(crate::specs::Parts::line))]
 pub(crate) fn line(reader: &mut Reader) -> Result<Line, RecordFault>
-    ensures read { Takes (line_from reader.old.total reader.old.rest) result reader.new }
-    ensures total { reader.new.total ≡ reader.old.total }
+    ensures { Reading line.read reader.old result reader.new }
 {
     let number = reader.u16()?;
     let instr = instr(reader)?;

@@ -1,6 +1,6 @@
 use Rattle.std.proofs.Common.{◌≡◌, ◌++◌, take}
 use Rattle.std.specs.List.{flat_map}
-use Rattle.plan_code.specs.Spelling.{label_bytes}
+use Rattle.plan_code.specs.Parts.{label_bytes}
 use Rattle.plan_code.proofs.code_writer.put_labels.Given as goal
 
 abbrev pub invariant-loop-label : goal.invariant-loop-label
