@@ -13,3 +13,4 @@ pub mod SteadyFiles
 pub mod Vectors
 mod VectorsOfAlternatives
 pub mod Windows
+mod Words

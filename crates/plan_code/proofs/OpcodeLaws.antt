@@ -1,10 +1,7 @@
 -- Opcodes and their bytes determine each other.
-use Rattle.std.proofs.Common.{◌≡◌, ℕ, eqb, List, [], ◌∷◌, Option, Some, None, Ok, refl, subst, inl, inr}
-use Rattle.std.specs.Prelude.{find, ok_or}
-use Rattle.std.proofs.lemmas.Bool.{cases_eq, eq-eqb, ne_eqb}
-use Rattle.mux_config.specs.FieldReading.{Reads}
-use Rattle.plan_code.specs.declared.opcode.Opcode.{Opcode}
-use Rattle.plan_code.specs.Opcodes.{opcode_byte, opcodes, opcode_of, OpcodesAgree}
+use Rattle.plan_code.proofs.Words.{[], ◌∷◌, ◌≡◌, List, None, Ok, Opcode, OpcodesAgree, Option, Reads, Some, cases_eq}
+use Rattle.plan_code.proofs.Words.{eq-eqb, eqb, find, inl, inr, ne_eqb, ok_or, opcode_byte, opcodes, refl, subst, ℕ}
+use Rattle.plan_code.specs.Opcodes.{opcode_of}
 
 -- an opcode, and the bytes after it
 abbrev pub taken : Opcode × List ℕ → Reads Opcode
@@ -40,7 +37,8 @@ opcode_again Opcode.TestTime = refl
 some_is : (x y : Opcode) → Some x ≡ Some y → x ≡ y
 some_is x y e = cc
 
-has_byte : (byte : ℕ) (xs : List Opcode) (opcode : Opcode) → find (λ o. eqb byte (opcode_byte o)) xs ≡ Some opcode → byte ≡ opcode_byte opcode
+has_byte : (byte : ℕ) (xs : List Opcode) (opcode : Opcode) → find (λ o. eqb byte (opcode_byte o)) xs ≡ Some opcode
+    → byte ≡ opcode_byte opcode
 has_byte byte [] opcode e = absurd cc
 has_byte byte (x ∷ xs) opcode e =
     elim (cases_eq byte (opcode_byte x)) [
@@ -55,6 +53,7 @@ opcode_only byte opcode e = has_byte byte opcodes opcode e
 pub opcodes_agree : OpcodesAgree
 opcodes_agree = record { again = opcode_again; only = opcode_only }
 
-pub some_given : {E : Type 0} (o : Option Opcode) (fault : E) (opcode : Opcode) → ok_or o fault ≡ Ok opcode → o ≡ Some opcode
+pub some_given : {E : Type 0} (o : Option Opcode) (fault : E) (opcode : Opcode) → ok_or o fault ≡ Ok opcode
+    → o ≡ Some opcode
 some_given None fault opcode e = absurd cc
 some_given (Some x) fault opcode e = cc

@@ -1,21 +1,13 @@
 -- Instructions, their effects and traps, on small states that the checker computes.
-use Rattle.std.proofs.Common.{◌≡◌, ℕ, ◌+◌, ◌%◌, ◌≤◌, [], ◌∷◌, Option, Some, None, Ok, Err, refl, arith}
-use Rattle.std.proofs.lemmas.Bool.{false≢true}
+use Rattle.plan_code.proofs.Words.{[], ◌%◌, ◌+◌, ◌∷◌, ◌≡◌, ◌≤◌, AddService, AddSub, CommitAt, CommitIn, Configuration}
+use Rattle.plan_code.proofs.Words.{Contacts, Err, Field, I, IsAllowed, IsLeastFrom, Join, Loop, None, Ok, Option, Plan}
+use Rattle.plan_code.proofs.Words.{ReserveOne, Running, Some, State, Whole, arith, effect, false≢true, refl, ℕ}
 use Rattle.mux_eep.specs.declared.sizes.EepSet.TheVariants.{A}
 use Rattle.mux_types.specs.declared.parts.Sub.{Sub}
 use Rattle.mux_types.specs.declared.numbers.Sid.TheVariants.{Short}
-use Rattle.mux_config.specs.declared.edit.Edit.TheVariants.{AddSub, AddService}
-use Rattle.mux_config.specs.Configuration.{Configuration}
 use Rattle.fib_codec.specs.declared.modes.Mode.{Mode}
-use Rattle.fib_codec.specs.declared.modes.Mode.TheVariants.{I}
-use Rattle.fib_codec.specs.declared.frame_layout.FrameLayout.TheVariants.{Whole, ReserveOne}
-use Rattle.plan_code.specs.declared.plan.Plan.{Plan}
-use Rattle.plan_code.specs.declared.flags.Contacts.{Contacts}
-use Rattle.plan_code.specs.declared.hold.Hold.TheVariants.{Running}
-use Rattle.plan_code.specs.declared.instr.Instr.TheVariants.{CommitIn, CommitAt, Join, Edit as Edits, Loop}
+use Rattle.plan_code.specs.declared.instr.Instr.TheVariants.{Edit as Edits}
 use Rattle.plan_code.specs.Reading.{layout_at, reserving_at}
-use Rattle.plan_code.specs.declared.fault.CodeFault.TheVariants.{Field}
-use Rattle.plan_code.specs.Machine.{State, effect, IsAllowed, IsLeastFrom}
 
 abbrev pub plan : Mode → Plan
 plan mode = record { eid = 0xe1c5; layout = Whole mode; period = 4; notice = 24; budget = 20 }
@@ -66,7 +58,8 @@ commits_in_mode_one = refl
 commits_a_turn_later : (effect (plan I) (CommitAt 24) changed).left ≡ Some 5023
 commits_a_turn_later = refl
 
-loops_back : effect (plan I) (Loop 2 4) idle ≡ (let s : State = record idle { counters = 0 ∷ 0 ∷ 2 ∷ 0 ∷ 0 ∷ 0 ∷ 0 ∷ 1 ∷ []; pc = 4 } in s)
+loops_back : effect (plan I) (Loop 2 4) idle
+    ≡ (let s : State = record idle { counters = 0 ∷ 0 ∷ 2 ∷ 0 ∷ 0 ∷ 0 ∷ 0 ∷ 1 ∷ []; pc = 4 } in s)
 loops_back = refl
 
 -- ---- traps

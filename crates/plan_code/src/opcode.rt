@@ -1,7 +1,7 @@
 //! Opcodes: the first byte of an instruction in a code file.
 
 /// The opcode of an instruction.
-#[derive(Clone, Copy, Debug, PartialEq, Eq)]
+#[derive(Clone, Copy)]
 pub(crate) enum Opcode {
     /// Suspends for a number of frames.
     Wait = 0x01,
@@ -54,7 +54,7 @@ pub(crate) enum Opcode {
 }
 
 /// A byte that is not an opcode.
-#[derive(Clone, Copy, Debug, PartialEq, Eq)]
+#[derive(Clone, Copy)]
 pub(crate) struct UnknownOpcode;
 
 impl From<Opcode> for u8 {

@@ -1,4 +1,4 @@
-use Rattle.std.proofs.Common.{◌↔◌, drop}
+use Rattle.plan_code.proofs.Words.{◌↔◌, drop}
 use Rattle.plan_code.proofs.Ascending.{AreLabels}
 use Rattle.plan_code.proofs.code.are_labels.Given as goal
 

@@ -1,5 +1,4 @@
-use Rattle.std.proofs.Common.{sym, arith}
-use Rattle.plan_code.specs.Program.{label_key}
+use Rattle.plan_code.proofs.Words.{arith, label_key, sym}
 use Rattle.plan_code.proofs.Ascending.{below_middle, above_middle, find_at, find_between}
 use Rattle.plan_code.proofs.code.search.Goals as goal
 
@@ -19,8 +18,10 @@ loop-low-preserved c = record {
   ordered = omega arith;
   within = omega arith;
   below = c.loop-low.invariant.below;
-  above = above_middle label_key c.args.pc c.args.labels.now _ _ c.requires (omega arith) c.if-label-pc.false c.if-label-pc-2.false;
+  above = above_middle label_key c.args.pc c.args.labels.now _ _ c.requires (omega arith) c.if-label-pc.false
+      c.if-label-pc-2.false;
 }
 
 pub returns : goal.returns
-returns c = sym (find_between label_key c.args.pc c.args.labels.now c.loop-low.low c.loop-low.high c.loop-low-test.false c.loop-low.invariant.below c.loop-low.invariant.above)
+returns c = sym (find_between label_key c.args.pc c.args.labels.now c.loop-low.low c.loop-low.high c.loop-low-test.false
+    c.loop-low.invariant.below c.loop-low.invariant.above)

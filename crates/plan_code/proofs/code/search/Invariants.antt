@@ -1,5 +1,4 @@
-use Rattle.std.proofs.Common.{ℕ, ◌-◌, ◌<◌, ◌≤◌, length, get_or}
-use Rattle.plan_code.specs.declared.label.Label.{Label}
+use Rattle.plan_code.proofs.Words.{◌-◌, ◌<◌, ◌≤◌, Label, get_or, length, ℕ}
 use Rattle.plan_code.proofs.code.search.Given as goal
 
 abbrev pub invariant-loop-low : goal.invariant-loop-low

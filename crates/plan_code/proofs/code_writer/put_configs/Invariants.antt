@@ -1,6 +1,4 @@
-use Rattle.std.proofs.Common.{◌≡◌, ◌++◌, take}
-use Rattle.std.specs.List.{flat_map}
-use Rattle.mux_config.specs.Spelling.{config_bytes}
+use Rattle.plan_code.proofs.Words.{◌++◌, ◌≡◌, config_bytes, flat_map, take}
 use Rattle.plan_code.proofs.code_writer.put_configs.Given as goal
 
 abbrev pub invariant-loop-config : goal.invariant-loop-config

@@ -1,6 +1,4 @@
-use Rattle.std.proofs.Common.{◌≡◌, ◌++◌, take}
-use Rattle.std.specs.List.{flat_map}
-use Rattle.plan_code.specs.Parts.{label_bytes}
+use Rattle.plan_code.proofs.Words.{◌++◌, ◌≡◌, flat_map, label_bytes, take}
 use Rattle.plan_code.proofs.code_writer.put_labels.Given as goal
 
 abbrev pub invariant-loop-label : goal.invariant-loop-label

@@ -1,6 +1,4 @@
-use Rattle.std.proofs.Common.{◌≡◌, ◌++◌, take}
-use Rattle.std.specs.List.{flat_map}
-use Rattle.plan_code.specs.Spelling.{line_bytes}
+use Rattle.plan_code.proofs.Words.{◌++◌, ◌≡◌, flat_map, line_bytes, take}
 use Rattle.plan_code.proofs.code_writer.put_lines.Given as goal
 
 abbrev pub invariant-loop-line : goal.invariant-loop-line

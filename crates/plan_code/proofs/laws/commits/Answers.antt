@@ -1,6 +1,4 @@
-use Rattle.std.proofs.Common.{arith}
-use Rattle.fib_codec.specs.declared.modes.Mode.TheVariants.{I, II, III, IV}
-use Rattle.plan_code.specs.Machine.{SwapsInTime}
+use Rattle.plan_code.proofs.Words.{I, II, III, IV, SwapsInTime, arith}
 use Rattle.plan_code.proofs.laws.commits.Goals as goal
 
 in_time : SwapsInTime
@@ -13,4 +11,8 @@ pub returns-clause-in_time : goal.returns-clause-in_time
 returns-clause-in_time c = in_time
 
 pub returns-clause-at_count : goal.returns-clause-at_count
-returns-clause-at_count c = λ count least at lt. record { reached = omega arith; holds = omega arith; first = λ q from here. omega arith }
+returns-clause-at_count c = λ count least at lt. record {
+  reached = omega arith;
+  holds = omega arith;
+  first = λ q from here. omega arith;
+}

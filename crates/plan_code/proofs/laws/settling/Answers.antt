@@ -1,6 +1,5 @@
-use Rattle.std.proofs.Common.{◌≡◌, ℕ, true, false, Option, Some, None, IsSome, ap, refl}
-use Rattle.plan_code.specs.Machine.{State, settle, suspend, advance, AlwaysSettles}
-use Rattle.plan_code.specs.declared.hold.Hold.TheVariants.{WaitsSwap}
+use Rattle.plan_code.proofs.Words.{◌≡◌, AlwaysSettles, IsSome, None, Option, Some, State, WaitsSwap, advance, ap, false}
+use Rattle.plan_code.proofs.Words.{refl, settle, suspend, true, ℕ}
 use Rattle.plan_code.proofs.laws.settling.Goals as goal
 
 at_once : (s : State) (left : Option ℕ) → left ≡ None → settle left s ≡ advance s

@@ -1,6 +1,4 @@
-use Rattle.std.proofs.Common.{take}
-use Rattle.std.specs.List.{AllByRecursion}
-use Rattle.plan_code.specs.Program.{IsLine}
+use Rattle.plan_code.proofs.Words.{AllByRecursion, IsLine, take}
 use Rattle.plan_code.proofs.ranges.lines_in_range.Given as goal
 
 abbrev pub invariant-loop-line : goal.invariant-loop-line

@@ -1,4 +1,4 @@
-use Rattle.std.proofs.Common.{◌∙◌, arith}
+use Rattle.plan_code.proofs.Words.{◌∙◌, arith}
 use Rattle.plan_code.proofs.Meeting.{meets}
 use Rattle.plan_code.proofs.flags.Contacts.any_closed.Goals as goal
 

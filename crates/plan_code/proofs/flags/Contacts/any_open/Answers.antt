@@ -1,4 +1,4 @@
-use Rattle.std.proofs.Common.{◌∙◌, ap, not, arith}
+use Rattle.plan_code.proofs.Words.{◌∙◌, ap, arith, not}
 use Rattle.plan_code.proofs.Meeting.{lacks}
 use Rattle.plan_code.proofs.flags.Contacts.any_open.Goals as goal
 
