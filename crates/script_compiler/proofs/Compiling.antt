@@ -1,21 +1,7 @@
 -- The result of compiling a block or a statement, from its parts.
-use Rattle.std.proofs.Common.{◌≡◌, ℕ, ◌≤◌, Bool, Result, Ok, Err, inl, sym, subst}
-use Rattle.std.specs.Prelude.{IfOk, IfErr, OnOk}
-use Rattle.script_front.specs.Block.{Block, nothing, apply}
-use Rattle.script_compiler.specs.Judged.{IsJudged}
-use Rattle.script_compiler.specs.Refused.{IsRefusedIn}
-use Rattle.script_compiler.specs.declared.context.Context.{Context}
-use Rattle.plan_verifier.specs.declared.cause.Cause.{Cause}
-use Rattle.script_compiler.specs.declared.fault.CodeLimit.{CodeLimit}
-use Rattle.script_compiler.specs.declared.fault.CompileFault.{CompileFault}
-use Rattle.script_compiler.specs.declared.fault.CompileFault.TheVariants.{Refused, Limit, Memory}
-use Rattle.script_compiler.specs.Working.{Work}
-use Rattle.script_compiler.specs.Emission.{Left}
-use Rattle.script_compiler.specs.Compiling.{Fails, Compiles}
-use Rattle.script_compiler.specs.Refusals.{IsLimitAt, IfRefused, IfLimit}
-use Rattle.script_compiler.specs.Space.{IsInLimits, CanEmit}
+use Rattle.script_compiler.proofs.Words.{◌≡◌, ◌≤◌, Block, Bool, CanEmit, Cause, CodeLimit, CompileFault, Compiles, Context, Err, Fails, IfErr, IfLimit, IfOk, IfRefused, IsInLimits, IsJudged, IsLimitAt, IsRefusedIn, Left, Limit, Memory, Ok, OnOk, Refused, Result, Work, apply, inl, nothing, subst, sym, ℕ}
 use Rattle.script_compiler.proofs.Emitted.{left_apply}
-use Rattle.script_compiler.proofs.Reasons.{refused_map}
+use Rattle.script_compiler.proofs.Refusing.{refused_map}
 use Rattle.script_compiler.proofs.Spaces.{limit_map}
 use Rattle.script_compiler.proofs.Fitting.{can_apply}
 
@@ -38,6 +24,16 @@ module _ (c : Context) (b : Block) (v : Work) where
   fails_at (Limit at k) line h g refused why limited = record { refused = λ is _. is; why = tt; limited = limited k g.1 }
   fails_at Memory line h g refused why limited = record { refused = λ is _. is; why = tt; limited = tt }
 
+-- a fault in a part of the block
+pub fails_within : (c : Context) (b : Block) (v : Work) {d : Context} {part : Block} {w : Work} {e : CompileFault} → Fails d part w e → (IsJudged c.plan.now b v.now → IsJudged d.plan.now part w.now) →
+    ((at : ℕ) (given : Cause) → IsRefusedIn d.plan.now part w.now at given → IsRefusedIn c.plan.now b v.now at given) →
+    ((k : CodeLimit) → CanEmit k c.plan.now c.counters b v → CanEmit k d.plan.now d.counters part w) → Fails c b v e
+fails_within c b v {d} {part} {w} {e} h judged why room = record {
+  refused = λ is j. h.refused is (judged j);
+  why = refused_map e why h.why;
+  limited = limit_map e (λ at k full can. full (room k can)) h.limited;
+}
+
 -- the same block, written in another way
 pub compiles_as : (c : Context) (b b' rest : Block) (v w : Work) (x : Result Bool CompileFault) → b ≡ b' → Compiles c b' rest v w x → Compiles c b rest v w x
 compiles_as c b b' rest v w x same h = subst (λ z. Compiles c z rest v w x) (sym same) h
@@ -49,8 +45,6 @@ compiles_applied c d line number named rest v w (Ok f) plan counters deep h = re
   left = left_apply c.plan.now c.counters line number named rest v w f deep (subst (λ p. Left p c.counters named v w f nothing) plan (subst (λ r. Left d.plan.now r named v w f nothing) counters h.left));
   limits = h.limits;
 }
-compiles_applied c d line number named rest v w (Err e) plan counters deep h = record {
-  refused = λ is judged. h.refused is (subst (λ p. IsJudged p named v.now) (sym plan) judged.0);
-  why = refused_map e (λ at given k. inl (subst (λ p. IsRefusedIn p named v.now at given) plan k)) h.why;
-  limited = limit_map e (λ at limit full can. full (subst (λ p. CanEmit limit p d.counters named v) (sym plan) (subst (λ r. CanEmit limit c.plan.now r named v) (sym counters) (can_apply limit c.plan.now c.counters line number named rest v can)))) h.limited;
-}
+compiles_applied c d line number named rest v w (Err e) plan counters deep h =
+    fails_within c (apply line number named rest) v h (λ judged. subst (λ p. IsJudged p named v.now) (sym plan) judged.0) (λ at given k. inl (subst (λ p. IsRefusedIn p named v.now at given) plan k))
+    (λ limit can. subst (λ p. CanEmit limit p d.counters named v) (sym plan) (subst (λ r. CanEmit limit c.plan.now r named v) (sym counters) (can_apply limit c.plan.now c.counters line number named rest v can)))

@@ -1,13 +1,5 @@
 -- The search for the pcs that can be reached in a frame finds them all.
-use Rattle.std.proofs.Common.{◌≡◌, ℕ, zero, suc, ◌+◌, ◌<◌, ◌≤◌, ◌⊎◌, inl, inr, Bool, true, false, List, [], ◌∷◌, ◌++◌, length, Option, Some, None, refl, sym, ap, ◌∙◌, subst, arith, length-append, get_or}
-use Rattle.std.specs.Prelude.{slice_get, slice_set}
-use Rattle.std.proofs.lemmas.Option.{slice_get_within}
-use Rattle.plan_code.specs.declared.instr.Instr.{Instr}
-use Rattle.plan_code.specs.declared.instr.Line.{Line}
-use Rattle.script_compiler.specs.Need.{StepsTo}
-use Rattle.script_compiler.specs.Compiled.{instrs_of}
-use Rattle.script_compiler.specs.Costs.{CanReach, CanRevisit}
-use Rattle.script_compiler.specs.Reaching.{IsAt, IsIn, trues, GrowsBy, IsExpanded, Searched}
+use Rattle.script_compiler.proofs.Words.{[], ◌++◌, ◌+◌, ◌<◌, ◌∙◌, ◌∷◌, ◌≡◌, ◌≤◌, ◌⊎◌, Bool, CanReach, CanRevisit, GrowsBy, Instr, IsAt, IsExpanded, IsIn, Line, List, None, Option, Searched, Some, StepsTo, ap, arith, false, get_or, inl, inr, instrs_of, length, length-append, refl, slice_get, slice_get_within, slice_set, subst, suc, sym, true, trues, zero, ℕ}
 
 -- ---- lists
 
@@ -195,10 +187,6 @@ module _ (code : List Instr) (pc : ℕ) where
         count = (let x = g.grows.count in let y = s.count in let z = ap length e ∙ length-append ws (place ∷ []) in omega (arith, x, y, z));
       }
 
-  -- if the first pc is found, the machine can come back to it; and once none waits, conversely
-  pub search_sound : (n : ℕ) (places : List Bool) (waiting : List ℕ) → Searched code pc n places waiting → IsAt places pc → CanRevisit code pc
-  search_sound n places waiting s h = s.sound pc h
-
   pub search_complete : (n : ℕ) (places : List Bool) (waiting : List ℕ) → pc < length code → waiting ≡ [] → Searched code pc n places waiting → CanRevisit code pc → IsAt places pc
   search_complete n places waiting lt none s back =
       stays_reached code places pc lt (λ k h. elim (s.closed k h) [ inl waits ↦ absurd (subst (λ (l : List ℕ). IsIn k l) none waits) | inr leads ↦ leads ]) back.0 pc s.start back.1
@@ -222,7 +210,3 @@ pub instr_there : (lines : List Line) (pc : ℕ) (l : Line) → slice_get lines 
 instr_there [] pc l e = cc
 instr_there (x ∷ lines) zero l e = (let same : x ≡ l = cc in ap (λ (y : Line). Some y.instr) same)
 instr_there (x ∷ lines) (suc pc) l e = instr_there lines pc l e
-
-pub instrs_long : (lines : List Line) → length (instrs_of lines) ≡ length lines
-instrs_long [] = refl
-instrs_long (l ∷ lines) = (let e = instrs_long lines in omega (arith, e))

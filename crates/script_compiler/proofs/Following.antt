@@ -1,28 +1,8 @@
 -- The code of a block does what the block means, over any number of instructions and from any state.
-use Rattle.std.proofs.Common.{◌≡◌, ℕ, zero, suc, ◌+◌, ◌-◌, ◌<◌, ◌≤◌, Bool, true, false, if◌then◌else◌, List, [], ◌∷◌, ◌++◌, length, Option, Some, None, refl, sym, ap, ◌∙◌, subst, arith, inl, inr, length-append}
-use Rattle.std.specs.Prelude.{slice_get, slice_index, slice_set, nat_lt}
-use Rattle.std.proofs.lemmas.Bool.{lt-ltb, le-ltb, cases_lt}
-use Rattle.std.proofs.lemmas.List.{get_or-set_same, get_or-set_other, length-set}
-use Rattle.plan_code.specs.declared.instr.Instr.{Instr}
-use Rattle.plan_code.specs.declared.instr.Instr.TheVariants.{End, Jump, Set, Loop}
-use Rattle.plan_code.specs.Flags.{is_closed}
-use Rattle.plan_code.specs.Program.{Program, IsInstr, instr_at}
-use Rattle.plan_code.specs.Machine.{State, effect, effect_of, step, IsAllowed, StepIsAllowed}
-use Rattle.plan_verifier.specs.Flows.{after_instr}
-use Rattle.plan_runs.specs.Frames.{is_running}
-use Rattle.script_front.specs.Block.{Block, nothing, basic, stop, when, either, repeat, forever, apply}
-use Rattle.script_compiler.specs.declared.flow.ProgramPoint.{ProgramPoint}
-use Rattle.script_front.specs.declared.tree.Condition.{Condition}
-use Rattle.script_compiler.specs.Alternatives.{test_of}
+use Rattle.script_compiler.proofs.Words.{[], ◌++◌, ◌+◌, ◌-◌, ◌<◌, ◌∙◌, ◌∷◌, ◌≡◌, ◌≤◌, Block, Bool, Condition, End, Instr, IsAllowed, IsFineToDo, IsInstr, Jump, List, Loop, None, Option, Performs, PlacedInstr, Program, ProgramPoint, Reading, Scene, Set, Some, State, StepIsAllowed, after_instr, alone, ap, apply, arith, at_label, basic, cases_lt, effect, effect_of, either, falls_out, false, first_done, followed, forever, get_or-set_other, get_or-set_same, head, holds, if◌then◌else◌, inl, inr, instr_at, instr_of_act, is_running, join, le-ltb, length, length-append, length-set, lt-ltb, meet, nat_lt, nothing, onward, placed_instr, places, point_after, reading, refl, repeat, same_Some, scene_of, slice_get, slice_index, slice_set, step, stop, subst, suc, sym, test_of, true, when, without_label, zero, ℕ}
 use Rattle.script_front.specs.declared.tree.Condition.TheVariants.{Contact as IfContact, Time as IfTime}
-use Rattle.script_compiler.specs.Scheme.{PlacedInstr, without_label, at_label, meet, join, onward, head, falls_out, instr_of_act, point_after, placed_instr, alone, places}
-use Rattle.script_compiler.specs.Meaning.{acts_as, Scene, Reading, reading, scene_of, followed, first_done, IsFineToDo, Performs, holds}
-use Rattle.script_compiler.proofs.Scenes.{acts_as_compiled, act_scene, act_place, act_fine}
-use Rattle.script_compiler.proofs.Continuing.{after_falls}
-use Rattle.script_compiler.proofs.Places.{Stand, stand_front, stand_back, jump_length, meets_some, joins_first, joins_second}
-
-some_same : {A : Type 0} (x y : A) → Some x ≡ Some y → x ≡ y
-some_same x y e = cc
+use Rattle.script_compiler.proofs.Scenes.{act_scene, act_place, act_fine}
+use Rattle.script_compiler.proofs.Places.{after_falls, Stand, stand_front, stand_back, jump_length, meets_some, joins_first, joins_second}
 
 -- ---- counters
 
@@ -77,7 +57,7 @@ module _ (p : Program) where
   by_instr : (n pc : ℕ) (cs : List ℕ) (b : Block) (i : Instr) → instr_at p pc ≡ Some i →
       ((d : State) → is_running d.hold ≡ true → IsAllowed p.plan i (at pc cs d) → Next n b d (effect p.plan i (at pc cs d))) → Follows (suc n) pc cs b
   by_instr n pc cs b i h f = λ d runs ok.
-      let same : ok.instr ≡ i = some_same ok.instr i (sym ok.within ∙ h) in
+      let same : ok.instr ≡ i = same_Some ok.instr i (sym ok.within ∙ h) in
       let allowed : IsAllowed p.plan i (at pc cs d) = subst (λ (x : Instr). IsAllowed p.plan x (at pc cs d)) same ok.allowed in
       subst (λ (o : Option Instr). Next n b d (effect_of p.plan o (at pc cs d))) (sym h) (f d runs allowed)
 
@@ -143,7 +123,7 @@ module _ (p : Program) where
         (slice_get whole pc ≡ Some (placed_instr line i q u)) × Stand whole (pc + 1) (more u)
     there_after line i q pc more None u e st = cc
     there_after line i q pc more (Some v) u e st =
-        let same : v ≡ u = some_same v u e in
+        let same : v ≡ u = same_Some v u e in
         subst (λ x. (slice_get whole pc ≡ Some (placed_instr line i q x)) × Stand whole (pc + 1) (more x)) same st
 
     module _ (n : ℕ) (ih : (m : ℕ) → m ≤ n → (b : Block) → Plays m b) (line r pc : ℕ) (low : r < 8) (body rest k : Block) (start : ProgramPoint) (cs0 : List ℕ) where
@@ -204,12 +184,12 @@ module _ (p : Program) where
     by_block (suc n) ih (basic line act rest) r pc s k cs st eight go =
         let t = without_label (after_instr p.plan (instr_of_act act) s.flow) in
         let e : pc + length (places p.plan r pc (basic line act rest) s) ≡ pc + 1 + length (places p.plan r (pc + 1) rest t) = omega arith in
-        by_instr n pc cs (basic line act (followed rest k)) (acts_as act) (there pc (placed_instr line (instr_of_act act) r s) st.0 ∙ ap Some (acts_as_compiled act)) (λ d runs ok.
+        by_instr n pc cs (basic line act (followed rest k)) (instr_of_act act) (there pc (placed_instr line (instr_of_act act) r s) st.0) (λ d runs ok.
         let there' = act_place p.plan act (at pc cs d) in
         let follows : Follows n (pc + 1) cs (followed rest k) = ih n (omega arith) rest r (pc + 1) t k cs st.1 eight (λ m le u ds eu same. go_at (suc n) _ _ r (point_after p.plan rest t) cs k e go m (omega (arith, le)) u ds eu same) in
-        let follows' : Follows n (effect p.plan (acts_as act) (at pc cs d)).pc (effect p.plan (acts_as act) (at pc cs d)).counters (followed rest k) =
-        subst (λ x. Follows n (effect p.plan (acts_as act) (at pc cs d)).pc x (followed rest k)) (sym there'.1) (subst (λ x. Follows n x cs (followed rest k)) (sym there'.0) follows) in
-        (followed rest k, comes_by (basic line act (followed rest k)) (followed rest k) (scene_of d) (scene_of (effect p.plan (acts_as act) (at pc cs d))) runs (act_fine p.plan act (at pc cs d) ok) (ap (reading (followed rest k)) (sym (act_scene p.plan act (at pc cs d)))), follows'))
+        let follows' : Follows n (effect p.plan (instr_of_act act) (at pc cs d)).pc (effect p.plan (instr_of_act act) (at pc cs d)).counters (followed rest k) =
+        subst (λ x. Follows n (effect p.plan (instr_of_act act) (at pc cs d)).pc x (followed rest k)) (sym there'.1) (subst (λ x. Follows n x cs (followed rest k)) (sym there'.0) follows) in
+        (followed rest k, comes_by (basic line act (followed rest k)) (followed rest k) (scene_of d) (scene_of (effect p.plan (instr_of_act act) (at pc cs d))) runs ((act_fine p.plan act (at pc cs d)).0 ok) (ap (reading (followed rest k)) (sym (act_scene p.plan act (at pc cs d)))), follows'))
     by_block (suc n) ih (stop line rest) r pc s k cs st eight go =
         let h = there pc (placed_instr line End r s) st.0 in
         by_instr n pc cs (stop line (followed rest k)) End h (λ d runs ok.

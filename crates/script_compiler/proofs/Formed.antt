@@ -1,41 +1,14 @@
 -- The code of a script has every field in range.
-use Rattle.std.proofs.Common.{◌≡◌, ◌≢◌, ℕ, zero, suc, ◌+◌, ◌≤◌, ◌<◌, Bool, true, false, if◌then◌else◌, List, [], ◌∷◌, ◌++◌, length, get_or, Option, Some, None, refl, sym, ap, ◌∙◌, subst, arith}
-use Rattle.std.specs.Prelude.{slice_get, slice_index, Contains}
-use Rattle.std.specs.Option.{option_map}
-use Rattle.std.proofs.lemmas.Option.{slice_get-map, slice_get_within}
-use Rattle.mux_config.specs.Configuration.{Configuration, IsConfiguration}
-use Rattle.std.specs.List.{AllByRecursion}
+use Rattle.script_compiler.proofs.Words.{[], ◌+◌, ◌<◌, ◌∙◌, ◌∷◌, ◌≡◌, ◌≢◌, ◌≤◌, AllByRecursion, AreBounds, AreLabelsOf, Bool, CompileFault, Configuration, Contains, IfLimit, Instr, IsConfiguration, IsDeepAtMost, IsJudged, IsLabel, IsLine, IsPlan, IsProgram, IsRefusal, IsScript, Label, Limit, Line, List, Memory, PlacedInstr, Plan, Refused, Some, Tree, UnpricedLabel, ap, arith, beginning, body_of, false, first_counters, get_or, if◌then◌else◌, instrs_of, label_key, length, lines_of_placed, longest, nested, opening_of, option_map, placed_instrs, refl, slice_get, slice_get-map, slice_get_within, slice_index, subst, suc, sym, true, unpriced_label, unpriced_labels, zero, ℕ}
 use Rattle.plan_code.proofs.Ascending.{AscendsFrom, from_ascends}
-use Rattle.plan_code.specs.Program.{IsPlan, AreBounds, IsLabel, IsLine, IsProgram, label_key}
 use Rattle.plan_code.specs.declared.flags.Counters.{Counters}
-use Rattle.plan_code.specs.declared.instr.Instr.{Instr}
-use Rattle.plan_code.specs.declared.instr.Instr.TheVariants.{End}
-use Rattle.plan_code.specs.declared.instr.Line.{Line}
-use Rattle.plan_code.specs.declared.label.Label.{Label}
-use Rattle.plan_code.specs.declared.label.Swap.{Swap}
-use Rattle.plan_code.specs.declared.label.Swap.TheVariants.{Idle, Within, Perhaps}
-use Rattle.plan_code.specs.declared.plan.Plan.{Plan}
-use Rattle.script_front.specs.Tree.{Tree, IsScript}
-use Rattle.plan_code.specs.Program.{IsPlan}
-use Rattle.script_compiler.specs.declared.flow.UnpricedLabel.{UnpricedLabel}
-use Rattle.script_compiler.specs.declared.flow.ProgramPoint.{ProgramPoint}
-use Rattle.script_compiler.specs.Scheme.{PlacedInstr, unpriced_label, unpriced_labels, point_after, alone, onward, places}
-use Rattle.script_compiler.specs.Judged.{IsJudged}
-use Rattle.script_compiler.specs.Compiled.{body_of, beginning, opening_of, placed_instrs, lines_of_placed, instrs_of, first_counters, nested, Tabled, AreLabelsOf}
-use Rattle.script_compiler.specs.declared.fault.CompileFault.{CompileFault}
-use Rattle.script_compiler.specs.declared.fault.CompileFault.TheVariants.{Refused, Limit, Memory}
-use Rattle.script_compiler.specs.Longest.{longest}
-use Rattle.script_compiler.specs.Refusals.{IsRefusal, IfLimit}
-use Rattle.script_compiler.specs.Room.{IsDeepAtMost}
-use Rattle.script_compiler.proofs.Accepting.{labels_length}
-use Rattle.script_compiler.proofs.Bounded.{IsBounded, AllWay, AllBounded, after_bounded, places_bounded}
-use Rattle.script_compiler.proofs.Deep.{nested_deep}
-use Rattle.script_compiler.proofs.First.{first_of_all}
+use Rattle.script_compiler.proofs.Making.{labels_length, Parts, code_from, lines_are, marks_are}
+use Rattle.script_compiler.proofs.Ranged.{bounds_at, all_bounds}
+use Rattle.script_compiler.proofs.Rooms.{nested_deep}
+use Rattle.script_compiler.proofs.Places.{first_of_all}
 use Rattle.script_compiler.proofs.Labelled.{label_contained}
 use Rattle.script_compiler.proofs.Emitted.{length_lines}
-use Rattle.script_compiler.proofs.Making.{Parts, code_from, places_are, lines_are}
 use Rattle.script_compiler.proofs.Paths.{one_least}
-use Rattle.script_compiler.proofs.Ranged.{IsRanged, AllRanged, instrs_from_lines, all_ranged}
 
 -- ---- properties of all members of a list
 
@@ -79,41 +52,6 @@ module _ (table : List Configuration) where
   counters_within (m ∷ ms) (l ∷ ls) are deep =
       (subst (λ (c : Counters). c.0 < 256) (sym are.0.counters) (counters_few m.repeats deep.0), counters_within ms ls are.1 deep.1)
 
--- ---- swaps at instructions
-
-bounded_both : (ps qs : List PlacedInstr) → AllBounded ps → AllBounded qs → AllBounded (ps ++ qs)
-bounded_both [] qs h k = k
-bounded_both (p ∷ ps) qs h k = (h.0, bounded_both ps qs h.1 k)
-
-bounded_alone : (w : Option ProgramPoint) (line : ℕ) (i : Instr) (r : ℕ) → AllWay w → AllBounded (onward w [] (alone line i r))
-bounded_alone None line i r h = tt
-bounded_alone (Some u) line i r h = (h, tt)
-
-bounded_at : (ps : List PlacedInstr) (i : ℕ) (p : PlacedInstr) → AllBounded ps → AllRanged ps → slice_get ps i ≡ Some p → IsBounded p.point.flow.pending × IsRanged p.point.flow.pending
-bounded_at [] i p h k e = cc
-bounded_at (q ∷ ps) zero p h k e = let same : q ≡ p = cc in subst (λ (x : PlacedInstr). IsBounded x.point.flow.pending × IsRanged x.point.flow.pending) same (h.0, k.0)
-bounded_at (q ∷ ps) (suc i) p h k e = bounded_at ps i p h.1 k.1 e
-
-are_bounds : (p : Swap) → IsBounded p → IsRanged p → AreBounds p
-are_bounds Idle h k = tt
-are_bounds (Within lo hi) h k = (h.0, h.1, k)
-are_bounds (Perhaps hi) h k = (h, k)
-
-module _ (s : Tree) (script : IsScript s) (judged : IsJudged s.header (body_of s) (beginning (opening_of s))) where
-  abbrev start : ProgramPoint
-  start = beginning (opening_of s)
-
-  places_in_bounds : AllBounded (placed_instrs s)
-  places_in_bounds =
-      let least : 1 ≤ s.header.notice = let n = script.headed.notice_from in omega (arith, n) in
-      let plan = s.header in
-      let a = point_after plan (body_of s) start in
-      bounded_both (places plan 0 0 (body_of s) start) (onward a [] (alone s.last_line End 0)) (places_bounded plan (body_of s) 0 0 start least judged tt)
-      (bounded_alone a s.last_line End 0 (after_bounded plan (body_of s) start least judged tt))
-
-  places_in_range : AllByRecursion IsLine (lines_of_placed (placed_instrs s)) → AllRanged (placed_instrs s)
-  places_in_range h = all_ranged s.header s.last_line (body_of s) start script.headed.notice_to (instrs_from_lines (placed_instrs s) h) tt
-
 -- ---- counts
 
 some_marks : (p : PlacedInstr) (ps qs : List PlacedInstr) → qs ≡ p ∷ ps → p.point.labelled ≡ true → 1 ≤ length (unpriced_labels 0 qs)
@@ -139,21 +77,18 @@ pub record IsKept (s : Tree) (configs : List Configuration) : Type 0 where
   pub labels : length (unpriced_labels 0 (placed_instrs s)) ≤ 1024
   pub configurations : length configs ≤ 256
 
-module _ (s : Tree) (plan : Plan) (config : Configuration) (lines : List Line) (unpriced : List UnpricedLabel) (needs : List ℕ) (configs : List Configuration) (labels : List Label) (p : Parts s plan config lines unpriced needs configs labels) (script : IsScript s) (kept : IsKept s configs) where
+module _ {s : Tree} {plan : Plan} {config : Configuration} {lines : List Line} {unpriced : List UnpricedLabel} {needs : List ℕ} {configs : List Configuration} {labels : List Label} (p : Parts s plan config lines unpriced needs configs labels) (script : IsScript s) (kept : IsKept s configs) where
   abbrev all : List PlacedInstr
   all = placed_instrs s
 
   lines_of_all : lines ≡ lines_of_placed all
-  lines_of_all = lines_are s plan config lines unpriced needs configs labels p
+  lines_of_all = lines_are p
 
   labels_of_all : AreLabelsOf configs (unpriced_labels 0 all) labels
-  labels_of_all = subst (λ (ms : List UnpricedLabel). AreLabelsOf configs ms labels) (p.marked ∙ ap (λ ps. unpriced_labels 0 ps) (places_are s plan config lines unpriced needs configs labels p)) p.labelled
-
-  table_of_all : Tabled [] (unpriced_labels 0 all) configs
-  table_of_all = subst (λ (ms : List UnpricedLabel). Tabled [] ms configs) (p.marked ∙ ap (λ ps. unpriced_labels 0 ps) (places_are s plan config lines unpriced needs configs labels p)) p.tabled
+  labels_of_all = subst (λ (ms : List UnpricedLabel). AreLabelsOf configs ms labels) (marks_are p) p.labelled
 
   budget_most : plan.budget ≤ 255
-  budget_most = let h = script.headed.budget_to in let e = ap (λ (q : Plan). q.budget) p.plan_is in omega (arith, h, e)
+  budget_most = let h = script.headed.budget_to in let e = ap (λ (q : Plan). q.budget) p.made_from.plan_is in omega (arith, h, e)
 
   label_cost : (l : Label) → Contains labels l → (i : Instr) → slice_get (instrs_of lines) l.pc ≡ Some i → (1 ≤ l.cost) × (l.cost ≤ 255)
   label_cost l has i there =
@@ -174,14 +109,14 @@ module _ (s : Tree) (plan : Plan) (config : Configuration) (lines : List Line) (
       let within = slice_get_within all at.index at.place at.there in
       let few = kept.instructions in
       let pc = at.is.place in
-      let bounds = bounded_at all at.index at.place (places_in_bounds s script kept.judged) (places_in_range s script kept.judged (subst (λ (ls : List Line). AllByRecursion IsLine ls) lines_of_all formed)) at.there in
+      let bounds = all_bounds s.header (let n = script.headed.notice_from in omega (arith, n)) script.headed.notice_to s.last_line (body_of s) (beginning (opening_of s)) kept.judged (subst (λ (ls : List Line). AllByRecursion IsLine ls) lines_of_all formed) tt in
       let pc_is : at.index ≡ l.pc = omega (arith, pc) in
       let cost = label_cost l has at.place.instr (subst (λ k. slice_get (instrs_of lines) k ≡ Some at.place.instr) pc_is (instr_there at.index at.place at.there)) in
       record {
         place = omega (arith, pc, within, few);
         current = slice_get_within configs l.cur at.place.point.flow.current at.is.current;
         following = slice_get_within configs l.next at.place.point.flow.next at.is.following;
-        bounds = subst AreBounds (sym at.is.pending) (are_bounds at.place.point.flow.pending bounds.0 bounds.1);
+        bounds = subst AreBounds (sym at.is.pending) (bounds_at all at.index at.place bounds at.there);
         set = each_at (λ (x : Label). x.counters.0 < 256) labels has.0 l l (counters_within configs (unpriced_labels 0 all) labels labels_of_all (nested_deep s.header s.last_line (body_of s) (beginning (opening_of s)) kept.repeats)) has.1 has.2;
         cost_from = cost.0;
         cost_to = cost.1;
@@ -201,7 +136,7 @@ module _ (s : Tree) (plan : Plan) (config : Configuration) (lines : List Line) (
       let some_lines = some_places first.place first.rest all first.is in
       let few_lines = kept.instructions in
       record {
-        planned = subst IsPlan (sym p.plan_is) script.headed;
+        planned = subst IsPlan (sym p.made_from.plan_is) script.headed;
         configurations_from = some_table (length configs) labels some_labels labels_are;
         configurations_to = kept.configurations;
         configurations_formed = made;

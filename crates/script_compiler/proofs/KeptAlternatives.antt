@@ -1,16 +1,9 @@
 -- The sets of contacts of a wait are those of its alternatives.
-use Rattle.std.proofs.Common.{◌≡◌, ◌≢◌, ℕ, zero, suc, ◌<◌, Bool, true, false, ◌==◌, ◌&&◌, ◌||◌, List, [], ◌∷◌, refl, sym, ap, ◌∙◌, subst, arith}
+use Rattle.script_compiler.proofs.Words.{[], ◌&&◌, ◌<◌, ◌==◌, ◌||◌, ◌∙◌, ◌∷◌, ◌≡◌, ◌≢◌, AllByRecursion, Alternative, AlternativesAreKept, Bool, Contacts, List, ap, arith, contacts_change_alone, false, is_for, is_in, is_level, list_any, nat_tests, no_contacts, refl, subst, sym, true, with_alternative, with_alternatives, with_contact, with_level, ℕ}
 use Rattle.std.proofs.Math.Bool.{or-false, or_assoc}
-use Rattle.std.proofs.lemmas.Bool.Decides.{nat_tests}
 use Rattle.std.proofs.lemmas.Nat.Bits.{bit_at-zero}
-use Rattle.std.specs.List.{AllByRecursion, list_any}
-use Rattle.plan_code.specs.declared.flags.Contacts.{Contacts}
-use Rattle.plan_code.specs.Flags.{with_contact, is_in}
-use Rattle.plan_code.proofs.Bits.{contacts_change_alone}
-use Rattle.script_front.specs.declared.alternatives.Alternative.{Alternative}
 use Rattle.script_front.specs.declared.alternatives.Alternative.TheVariants.{Contact, Until, Frames}
 use Rattle.script_front.specs.Waits.{IsAlternative}
-use Rattle.script_compiler.specs.Alternatives.{no_contacts, with_level, with_alternative, with_alternatives, contacts_in, is_level, is_for, AlternativesAreKept}
 
 any_or_true : (b : Bool) → (b || true) ≡ true
 any_or_true true = refl

@@ -1,12 +1,5 @@
 -- One step of emission.
-use Rattle.std.proofs.Common.{◌≡◌, ℕ, List, [], ◌∷◌, ◌++◌, length, Result, Ok, Err, refl, sym, ap, ◌∙◌, arith, length-append}
-use Rattle.std.specs.Prelude.{OnOk}
-use Rattle.std.proofs.lemmas.List.{append_cancel_left}
-use Rattle.plan_code.specs.declared.instr.Instr.{Instr}
-use Rattle.script_compiler.specs.declared.flow.ProgramPoint.{ProgramPoint}
-use Rattle.script_compiler.specs.Scheme.{alone, unpriced_labels}
-use Rattle.script_compiler.specs.Working.{Work}
-use Rattle.script_compiler.specs.Emission.{Emits, line_of_instr}
+use Rattle.script_compiler.proofs.Words.{[], ◌++◌, ◌∙◌, ◌∷◌, ◌≡◌, Emits, Err, Instr, List, Ok, OnOk, ProgramPoint, Result, Work, alone, ap, append_cancel_left, arith, length, length-append, line_of_instr, refl, sym, unpriced_labels, ℕ}
 
 pub on_ok_map : {A E : Type 0} (x : Result A E) {P Q : Type 0} → (P → Q) → OnOk x P → OnOk x Q
 on_ok_map (Ok a) m h = m h

@@ -1,14 +1,8 @@
--- Room in the table of configurations.
-use Rattle.std.proofs.Common.{◌≡◌, ◌≢◌, ℕ, zero, suc, ◌+◌, ◌≤◌, inl, inr, List, [], ◌∷◌, ◌++◌, length, Some, refl, sym, ap, ◌∙◌, subst, arith, append_assoc, length-append}
-use Rattle.std.specs.Prelude.{slice_get}
-use Rattle.std.proofs.lemmas.Bool.{cases_lt}
-use Rattle.mux_config.specs.Configuration.{Configuration}
-use Rattle.script_compiler.specs.declared.flow.UnpricedLabel.{UnpricedLabel}
-use Rattle.script_compiler.specs.Compiled.{IsInTable, Added, Tabled}
-use Rattle.script_compiler.specs.Room.{AreNew, HasRoomFor, named_by, Leaves}
+-- The limits of a code: room in the table of configurations, and how deep repeats are nested.
+use Rattle.script_compiler.proofs.Words.{[], ◌++◌, ◌+◌, ◌<◌, ◌∙◌, ◌∷◌, ◌≡◌, ◌≢◌, ◌≤◌, ◌⊎◌, Added, AreNew, Block, Bool, CodeLimit, Configuration, Configurations, Contains, CostsItsNeeds, Counters, End, HasRoomFor, Instructions, IsAccepted, IsDeepAtMost, IsInTable, IsNeed, IsWithin, Jump, Keeps, Label, Labels, Leaves, Line, List, Loop, None, Option, PlacedInstr, Plan, Priced, Program, ProgramPoint, Some, Tabled, Tree, UnpricedLabel, after_instr, all_places, alone, ap, append_assoc, apply, arith, at_label, basic, body_of, cases_lt, either, falls_out, false, forever, get_or, head, if◌then◌else◌, inl, inr, instr_of_act, instrs_of, join, length, length-append, length-map, longest, map, meet, named_by, nested, nothing, onward, option_map, placed_instr, placed_instrs, places, point_after, print_of, refl, repeat, same_Some, slice_get, slice_get-get_or, slice_get-map, slice_get_within, slice_index, stop, subst, suc, sym, true, unpriced_label, unpriced_labels, when, without_label, zero, ℕ}
+use Rattle.script_compiler.proofs.Paths.{within_from, is_need}
 
-some_same : (x y : Configuration) → Some x ≡ Some y → x ≡ y
-some_same x y e = cc
+-- ---- room in the table of configurations
 
 none_in_nothing : (c : Configuration) → IsInTable c [] → ⊥
 none_in_nothing c h = let e = h.1 in cc
@@ -39,7 +33,7 @@ out_of table cs [] x n h t = none_in_nothing x h
 out_of table cs (y ∷ ys) x n h t = by (λ k. out_of table cs ys x n.3 k t) h.0 h.1
   where
     by : (IsInTable x ys → ⊥) → (i : ℕ) → slice_get (y ∷ ys) i ≡ Some x → ⊥
-    by ih zero e = n.1 (subst (λ z. IsInTable z table) (sym (some_same y x e)) t)
+    by ih zero e = n.1 (subst (λ z. IsInTable z table) (sym (same_Some y x e)) t)
     by ih (suc i) e = ih (i, e)
 
 new_wider : (table one cs xs : List Configuration) → ((x : Configuration) → IsInTable x table → IsInTable x one) → AreNew one cs xs → AreNew table cs xs
@@ -98,7 +92,7 @@ room_two table a b na nb differs room =
     let k = room (a ∷ b ∷ []) ((0, refl), na, (λ h. apart h.0 h.1), ((1, refl), nb, (λ h. none_in_nothing b h), tt)) in omega (arith, k)
   where
     apart : (i : ℕ) → slice_get (b ∷ []) i ≡ Some a → ⊥
-    apart zero e = differs (some_same b a e)
+    apart zero e = differs (same_Some b a e)
     apart (suc i) e = none_in_nothing a (i, e)
 
 -- ---- a table for all labels
@@ -127,7 +121,7 @@ without_keeps i [] c d e differs h = absurd (none_in_nothing d h)
 without_keeps zero (x ∷ xs) c d e differs h = by h.0 h.1
   where
     by : (j : ℕ) → slice_get (x ∷ xs) j ≡ Some d → IsInTable d xs
-    by zero f = absurd (differs (sym (some_same x d f) ∙ some_same x c e))
+    by zero f = absurd (differs (sym (same_Some x d f) ∙ same_Some x c e))
     by (suc j) f = (j, f)
 without_keeps (suc i) (x ∷ xs) c d e differs h = by (λ k. without_keeps i xs c d e differs k) h.0 h.1
   where
@@ -170,9 +164,9 @@ tabled_names : (ms : List UnpricedLabel) (table new : List Configuration) → Ta
 tabled_names [] table new t d i e = absurd (none_in_nothing d (i, e))
 tabled_names (m ∷ ms) table new t d zero e =
     let point_here = grows_stands m.flow.next t.0 t.1 t.3 m.flow.current (added_stands m.flow.current table t.0 t.2) in
-    subst (λ x. IsInTable x new) (some_same m.flow.current d e) (tabled_keeps ms t.1 new t.4 m.flow.current point_here)
+    subst (λ x. IsInTable x new) (same_Some m.flow.current d e) (tabled_keeps ms t.1 new t.4 m.flow.current point_here)
 tabled_names (m ∷ ms) table new t d (suc zero) e =
-    subst (λ x. IsInTable x new) (some_same m.flow.next d e) (tabled_keeps ms t.1 new t.4 m.flow.next (added_stands m.flow.next t.0 t.1 t.3))
+    subst (λ x. IsInTable x new) (same_Some m.flow.next d e) (tabled_keeps ms t.1 new t.4 m.flow.next (added_stands m.flow.next t.0 t.1 t.3))
 tabled_names (m ∷ ms) table new t d (suc (suc i)) e = tabled_names ms t.1 new t.4 d i e
 
 new_differ : (table cs new xs : List Configuration) → ((d : Configuration) → IsInTable d cs → IsInTable d new) → AreNew table cs xs → AllDiffer new xs
@@ -191,3 +185,138 @@ room_from ms most = λ xs n.
   where
     stable : (a b : ℕ) → ((a ≤ b → ⊥) → ⊥) → a ≤ b
     stable a b h = elim (cases_lt b a) [ inl gt ↦ absurd (h (λ le. absurd (omega (arith, gt, le)))) | inr le ↦ le ]
+
+-- ---- how deep the repeats of a script are nested, and when its code is within the limits
+
+-- each of these is in at most eight repeats
+abbrev AreDeep : List PlacedInstr → Type 0
+AreDeep [] = Unit {0}
+AreDeep (p ∷ ps) = (p.repeats ≤ 8) × AreDeep ps
+
+deep_both : (ps qs : List PlacedInstr) → AreDeep ps → AreDeep qs → AreDeep (ps ++ qs)
+deep_both [] qs h k = k
+deep_both (p ∷ ps) qs h k = (h.0, deep_both ps qs h.1 k)
+
+deep_onward : (w : Option ProgramPoint) (emit : ProgramPoint → List PlacedInstr) → ((u : ProgramPoint) → AreDeep (emit u)) → AreDeep (onward w [] emit)
+deep_onward None emit h = tt
+deep_onward (Some u) emit h = h u
+
+places_deep : (plan : Plan) (b : Block) (r pc : ℕ) (s : ProgramPoint) → r + nested b ≤ 8 → AreDeep (places plan r pc b s)
+places_deep plan nothing r pc s h = tt
+places_deep plan (basic line act rest) r pc s h = (omega (arith, h), places_deep plan rest r (pc + 1) (without_label (after_instr plan (instr_of_act act) s.flow)) (omega (arith, h)))
+places_deep plan (stop line rest) r pc s h = (omega (arith, h), tt)
+places_deep plan (when line c first rest) r pc s h =
+    let firsts = places plan r (pc + 1) first (without_label s.flow) in (
+      omega (arith, h),
+      deep_both firsts _ (places_deep plan first r (pc + 1) (without_label s.flow) (omega (arith, h)))
+          (deep_onward (meet (point_after plan first (without_label s.flow)) (Some s)) (λ u. places plan r (pc + 1 + length firsts) rest u) (λ u. places_deep plan rest r (pc + 1 + length firsts) u (omega (arith, h)))),
+    )
+places_deep plan (either line c first second rest) r pc s h =
+    let firsts = places plan r (pc + 1) first (without_label s.flow) in
+    let a = point_after plan first (without_label s.flow) in
+    let start = pc + 1 + length firsts + (if falls_out first then 1 else 0) in
+    let seconds = places plan r start second (at_label s.flow) in
+    let b = point_after plan second (at_label s.flow) in
+    let end = start + length seconds in
+    let jumps = onward a [] (alone line (Jump end) r) in
+    let rests = onward (join a b) [] (λ u. places plan r end rest u) in
+    let low : r ≤ 8 = omega (arith, h) in (
+      low,
+      deep_both firsts (jumps ++ (seconds ++ rests)) (places_deep plan first r (pc + 1) (without_label s.flow) (omega (arith, h)))
+          (deep_both jumps (seconds ++ rests) (deep_onward a (alone line (Jump end) r) (λ u. (low, tt)))
+          (deep_both seconds rests (places_deep plan second r start (at_label s.flow) (omega (arith, h))) (deep_onward (join a b) (λ u. places plan r end rest u) (λ u. places_deep plan rest r end u (omega (arith, h)))))),
+    )
+places_deep plan (repeat line n body rest) r pc s h =
+    let start = head body (without_label s.flow) in
+    let bodies = places plan (r + 1) (pc + 1) body start in
+    let end = pc + 1 + length bodies in (
+      omega (arith, h),
+      deep_both bodies _ (places_deep plan body (r + 1) (pc + 1) start (omega (arith, h)))
+          (deep_onward (point_after plan body start) (λ u. placed_instr line (Loop r (pc + 1)) (r + 1) u ∷ places plan r (end + 1) rest (without_label u.flow))
+          (λ u. (omega (arith, h), places_deep plan rest r (end + 1) (without_label u.flow) (omega (arith, h))))),
+    )
+places_deep plan (forever line body rest) r pc s h =
+    let start = head body s in
+    let bodies = places plan r pc body start in
+    let low : r ≤ 8 = omega (arith, h) in
+    deep_both bodies _ (places_deep plan body r pc start (omega (arith, h))) (deep_onward (point_after plan body start) (alone line (Jump pc) r) (λ u. (low, tt)))
+places_deep plan (apply line k named rest) r pc s h =
+    let names = places plan r pc named s in
+    deep_both names _ (places_deep plan named r pc s (omega (arith, h)))
+    (deep_onward (point_after plan named s) (λ u. places plan r (pc + length names) rest u) (λ u. places_deep plan rest r (pc + length names) u (omega (arith, h))))
+
+deep_marks : (pc : ℕ) (ps : List PlacedInstr) → AreDeep ps → IsDeepAtMost 8 (unpriced_labels pc ps)
+deep_marks pc [] h = tt
+deep_marks pc (p ∷ ps) h = by p.point.labelled (deep_marks (pc + 1) ps h.1)
+  where
+    by : (b : Bool) → IsDeepAtMost 8 (unpriced_labels (pc + 1) ps) → IsDeepAtMost 8 (if b then unpriced_label pc p ∷ unpriced_labels (pc + 1) ps else unpriced_labels (pc + 1) ps)
+    by true k = (h.0, k)
+    by false k = k
+
+-- each label is in at most eight repeats, so there are counters for them
+pub nested_deep : (plan : Plan) (last : ℕ) (b : Block) (t : ProgramPoint) → nested b ≤ 8 → IsDeepAtMost 8 (unpriced_labels 0 (all_places plan last b t))
+nested_deep plan last b t deep =
+    deep_marks 0 (all_places plan last b t) (deep_both (places plan 0 0 b t) _ (places_deep plan b 0 0 t (omega (arith, deep))) (deep_onward (point_after plan b t) (alone last End 0) (λ u. (omega arith, tt))))
+
+-- a code within a limit satisfies what the compiler tests
+pub within_keeps : (k : CodeLimit) (s : Tree) → IsWithin k s → Keeps k (nested (body_of s)) (placed_instrs s)
+within_keeps Instructions s h = h
+within_keeps Labels s h = h
+within_keeps Configurations s h = room_from (unpriced_labels 0 (placed_instrs s)) (λ table t. h table t)
+within_keeps Counters s h = h
+
+-- the code of an accepted script is within each limit
+pub accepted_within : (k : CodeLimit) (s : Tree) → IsAccepted s → IsWithin k s
+accepted_within Instructions s a = a.instructions
+accepted_within Labels s a = a.labels
+accepted_within Configurations s a = λ table t. a.configurations table t
+accepted_within Counters s a = a.repeats
+
+-- ---- the table of configurations grows at its end
+
+pub last_new : (c : Configuration) (table new : List Configuration) (i : ℕ) → i ≡ length table → new ≡ table ++ c ∷ [] → slice_get new i ≡ Some c
+last_new c table new i e f = ap (λ xs. slice_get xs i) f ∙ ap (λ n. slice_get (table ++ c ∷ []) n) e ∙ stands_last table c
+
+-- not among the first `k + 1`
+none_at : (xs : List Configuration) (k : ℕ) (c : Configuration) → slice_get xs k ≢ Some c → ((i : ℕ) → i < k → slice_get xs i ≢ Some c) → (i : ℕ) → i < k + 1 → slice_get xs i ≢ Some c
+none_at xs k c differs before i le e = elim (below i k (omega (arith, le))) [
+  | inl less ↦ before i less e
+  | inr same ↦ differs (ap (λ n. slice_get xs n) (sym same) ∙ e)
+]
+  where
+    below : (i k : ℕ) → i ≤ k → (i < k) ⊎ (i ≡ k)
+    below zero zero le = inr refl
+    below zero (suc k) le = inl (omega arith)
+    below (suc i) zero le = absurd (omega (arith, le))
+    below (suc i) (suc k) le = elim (below i k (omega (arith, le))) [ inl less ↦ inl (omega (arith, less)) | inr same ↦ inr (ap (λ n. suc n) same) ]
+
+pub none_more : (xs : List Configuration) (k : ℕ) (x c : Configuration) → x ≡ get_or xs k x → k < length xs → (x ≡ c → ⊥) → ((i : ℕ) → i < k → slice_get xs i ≢ Some c) → (i : ℕ) → i < k + 1 → slice_get xs i ≢ Some c
+none_more xs k x c is lt differs = none_at xs k c (λ e.
+    let point_here : Some (get_or xs k x) ≡ Some c = sym (slice_get-get_or xs k x lt) ∙ e in
+    let h : get_or xs k x ≡ c = cc in
+    differs (is ∙ h))
+
+-- a configuration is not at an index with another fingerprint
+pub none_by_print : (xs : List Configuration) (prints : List ℕ) (k print : ℕ) (c : Configuration) → prints ≡ map print_of xs → print ≡ print_of c → k < length prints → (get_or prints k 0 ≡ print → ⊥)
+    → ((i : ℕ) → i < k → slice_get xs i ≢ Some c) → (i : ℕ) → i < k + 1 → slice_get xs i ≢ Some c
+none_by_print xs prints k print c all one lt differs = none_at xs k c (λ e.
+    let point_here : slice_get prints k ≡ option_map print_of (slice_get xs k) = ap (λ ps. slice_get ps k) all ∙ slice_get-map print_of xs k in
+    let there : Some (get_or prints k 0) ≡ Some (print_of c) = sym (slice_get-get_or prints k 0 lt) ∙ point_here ∙ ap (option_map print_of) e in
+    let h : get_or prints k 0 ≡ print_of c = cc in
+    differs (h ∙ sym one))
+
+pub as_many : (xs : List Configuration) (prints : List ℕ) → prints ≡ map print_of xs → length prints ≡ length xs
+as_many xs prints all = ap length all ∙ length-map xs print_of
+
+pub none_of_all : (xs : List Configuration) (k : ℕ) (c : Configuration) → length xs ≤ k → ((i : ℕ) → i < k → slice_get xs i ≢ Some c) → (i : ℕ) → slice_get xs i ≢ Some c
+none_of_all xs k c le before i e = let lt = slice_get_within xs i c e in before i (omega (arith, le, lt)) e
+
+-- labels priced by the longest paths cost what the code needs, if these are within the budget
+pub costs_needs : (code : Program) (lines : List Line) (labels : List Label) (needs : List ℕ) (budget : ℕ) → code.lines ≡ lines → code.labels ≡ labels
+    → ((pc : ℕ) → slice_index needs pc ≡ longest (instrs_of lines) (budget + 1) pc) → ((pc : ℕ) → slice_index needs pc ≤ budget) → Priced needs labels → CostsItsNeeds code
+costs_needs code lines labels needs budget same_lines same_labels each within priced l has =
+    let has' : Contains labels l = subst (λ (ls : List Label). Contains ls l) same_labels has in
+    let all = within_from (instrs_of lines) budget (λ pc. let e = each pc in let h = within pc in omega (arith, e, h)) in
+    let cost : l.cost ≡ longest (instrs_of lines) (budget + 1) l.pc = priced l has' ∙ each l.pc in
+    let need : IsNeed (instrs_of lines) l.pc l.cost = subst (λ n. IsNeed (instrs_of lines) l.pc n) (sym cost) (is_need (instrs_of lines) budget l.pc all) in
+    subst (λ (ls : List Line). IsNeed (instrs_of ls) l.pc l.cost) (sym same_lines) need

@@ -1,15 +1,6 @@
 -- The scene after an instruction or a frame depends on the scene before alone.
-use Rattle.std.proofs.Common.{◌≡◌, ℕ, ◌+◌, Bool, true, false, if◌then◌else◌, Option, Some, None, refl, sym, ap, ◌∙◌}
-use Rattle.plan_code.specs.declared.hold.Hold.{Hold}
-use Rattle.plan_code.specs.declared.hold.Hold.TheVariants.{Running, Waits, WaitsDay, WaitsContact, WaitsAny, WaitsSwap, Ended}
-use Rattle.plan_code.specs.declared.plan.Plan.{Plan}
-use Rattle.plan_code.specs.Program.{Program}
-use Rattle.plan_code.specs.Machine.{State, effect, settle, IsAllowed}
-use Rattle.plan_runs.specs.Frames.{is_due, with_swap, with_due_swap, is_here, with_hold_ended, ready, after_burst, is_first_noticed, shown}
-use Rattle.script_front.specs.declared.tree.Act.{Act}
+use Rattle.script_compiler.proofs.Words.{◌+◌, ◌∙◌, ◌≡◌, Act, Bool, Ended, Hold, IsAllowed, None, Option, Plan, Program, Running, ScenesSuffice, Some, State, Waits, WaitsAny, WaitsContact, WaitsDay, WaitsSwap, acts, after_burst, ap, effect, false, if◌then◌else◌, instr_of_act, is_due, is_first_noticed, is_here, opens, ready, refl, scene_of, settle, shown, state_of_scene, sym, true, with_due_swap, with_hold_ended, with_swap, ℕ}
 use Rattle.script_front.specs.declared.tree.Act.TheVariants.{Edit, Wait, WaitContact, Until, WaitAny, CommitIn, CommitAt, Join, Settle}
-use Rattle.script_compiler.specs.Scheme.{instr_of_act}
-use Rattle.script_compiler.specs.Meaning.{acts_as, scene_of, state_of_scene, acts, opens, ScenesSuffice}
 
 -- a state with the same scene, the rest of which is fixed
 abbrev plain : State → State
@@ -72,18 +63,6 @@ shown_scene p s = turned (is_first_noticed p.plan.notice (after_burst p s).left)
 
 -- ---- a statement that is one instruction
 
--- it compiles to that instruction
-pub acts_as_compiled : (a : Act) → instr_of_act a ≡ acts_as a
-acts_as_compiled (Edit edit) = refl
-acts_as_compiled (Wait frames) = refl
-acts_as_compiled (WaitContact contact closed) = refl
-acts_as_compiled (Until moment) = refl
-acts_as_compiled (WaitAny all) = refl
-acts_as_compiled (CommitIn delay) = refl
-acts_as_compiled (CommitAt count) = refl
-acts_as_compiled Join = refl
-acts_as_compiled Settle = refl
-
 settles_by : (o : Option ℕ) (s : State) → scene_of (settle o s) ≡ scene_of (settle o (plain s))
 settles_by None s = refl
 settles_by (Some left) s = refl
@@ -92,7 +71,7 @@ settles_at : (o : Option ℕ) (s : State) → ((settle o s).pc ≡ s.pc + 1) × 
 settles_at None s = (refl, refl)
 settles_at (Some left) s = (refl, refl)
 
-pub act_scene : (plan : Plan) (a : Act) (s : State) → scene_of (effect plan (acts_as a) s) ≡ acts plan (acts_as a) (scene_of s)
+pub act_scene : (plan : Plan) (a : Act) (s : State) → scene_of (effect plan (instr_of_act a) s) ≡ acts plan (instr_of_act a) (scene_of s)
 act_scene plan (Edit edit) s = refl
 act_scene plan (Wait frames) s = refl
 act_scene plan (WaitContact contact closed) s = refl
@@ -103,7 +82,7 @@ act_scene plan (CommitAt count) s = refl
 act_scene plan Join s = refl
 act_scene plan Settle s = settles_by s.left s
 
-pub act_place : (plan : Plan) (a : Act) (s : State) → ((effect plan (acts_as a) s).pc ≡ s.pc + 1) × ((effect plan (acts_as a) s).counters ≡ s.counters)
+pub act_place : (plan : Plan) (a : Act) (s : State) → ((effect plan (instr_of_act a) s).pc ≡ s.pc + 1) × ((effect plan (instr_of_act a) s).counters ≡ s.counters)
 act_place plan (Edit edit) s = (refl, refl)
 act_place plan (Wait frames) s = (refl, refl)
 act_place plan (WaitContact contact closed) s = (refl, refl)
@@ -114,27 +93,16 @@ act_place plan (CommitAt count) s = (refl, refl)
 act_place plan Join s = (refl, refl)
 act_place plan Settle s = settles_at s.left s
 
-pub act_fine : (plan : Plan) (a : Act) (s : State) → IsAllowed plan (acts_as a) s → IsAllowed plan (acts_as a) (plain s)
-act_fine plan (Edit edit) s h = h
-act_fine plan (Wait frames) s h = tt
-act_fine plan (WaitContact contact closed) s h = tt
-act_fine plan (Until moment) s h = tt
-act_fine plan (WaitAny all) s h = tt
-act_fine plan (CommitIn delay) s h = (record { idle = h.0.idle; sound = h.0.sound; changes = h.0.changes }, h.1)
-act_fine plan (CommitAt count) s h = (record { idle = h.0.idle; sound = h.0.sound; changes = h.0.changes }, h.1)
-act_fine plan Join s h = h
-act_fine plan Settle s h = tt
-
-fine_act : (plan : Plan) (a : Act) (s : State) → IsAllowed plan (acts_as a) (plain s) → IsAllowed plan (acts_as a) s
-fine_act plan (Edit edit) s h = h
-fine_act plan (Wait frames) s h = tt
-fine_act plan (WaitContact contact closed) s h = tt
-fine_act plan (Until moment) s h = tt
-fine_act plan (WaitAny all) s h = tt
-fine_act plan (CommitIn delay) s h = (record { idle = h.0.idle; sound = h.0.sound; changes = h.0.changes }, h.1)
-fine_act plan (CommitAt count) s h = (record { idle = h.0.idle; sound = h.0.sound; changes = h.0.changes }, h.1)
-fine_act plan Join s h = h
-fine_act plan Settle s h = tt
+pub act_fine : (plan : Plan) (a : Act) (s : State) → (IsAllowed plan (instr_of_act a) s → IsAllowed plan (instr_of_act a) (plain s)) × (IsAllowed plan (instr_of_act a) (plain s) → IsAllowed plan (instr_of_act a) s)
+act_fine plan (Edit edit) s = (λ h. h, λ h. h)
+act_fine plan (Wait frames) s = (λ h. tt, λ h. tt)
+act_fine plan (WaitContact contact closed) s = (λ h. tt, λ h. tt)
+act_fine plan (Until moment) s = (λ h. tt, λ h. tt)
+act_fine plan (WaitAny all) s = (λ h. tt, λ h. tt)
+act_fine plan (CommitIn delay) s = (λ h. (record { idle = h.0.idle; sound = h.0.sound; changes = h.0.changes }, h.1), λ h. (record { idle = h.0.idle; sound = h.0.sound; changes = h.0.changes }, h.1))
+act_fine plan (CommitAt count) s = (λ h. (record { idle = h.0.idle; sound = h.0.sound; changes = h.0.changes }, h.1), λ h. (record { idle = h.0.idle; sound = h.0.sound; changes = h.0.changes }, h.1))
+act_fine plan Join s = (λ h. h, λ h. h)
+act_fine plan Settle s = (λ h. tt, λ h. tt)
 
 pub scenes_suffice : ScenesSuffice
 scenes_suffice plan s = record {
@@ -142,5 +110,5 @@ scenes_suffice plan s = record {
   closed = refl;
   ended = refl;
   acted = λ a. act_scene plan a s;
-  allowed = λ a. (act_fine plan a s, fine_act plan a s);
+  allowed = λ a. act_fine plan a s;
 }

@@ -1,29 +1,10 @@
 -- If a block is judged, each of its instructions is fine, and each path continues to a point that it fits.
-use Rattle.std.proofs.Common.{◌≡◌, ℕ, zero, suc, ◌+◌, ◌<◌, ◌≤◌, Bool, true, false, if◌then◌else◌, List, [], ◌∷◌, ◌++◌, length, Option, Some, None, is_some, refl, sym, ap, ◌∙◌, subst, arith, inl, inr, ◌⊎◌, length-append}
-use Rattle.std.specs.Prelude.{slice_get}
+use Rattle.script_compiler.proofs.Words.{[], ◌++◌, ◌+◌, ◌<◌, ◌∙◌, ◌∷◌, ◌≡◌, ◌≤◌, ◌⊎◌, Act, Block, Bool, BranchesAgree, Condition, End, FitsEntry, FitsFlow, FitsSwap, Flow, Idle, Instr, IsFine, IsJudged, Jump, Known, List, Loop, None, Option, Perhaps, PlacedInstr, Plan, ProgramPoint, Reached, Set, Some, Swap, WaysAgree, Within, after_instr, all_places, alone, ap, apply, arith, at_label, basic, continues, counters_change_alone, either, falls_out, false, first_counters, forever, head, if◌then◌else◌, inl, inr, instr_of_act, is_set, is_some, join, known_at, known_with, length, length-append, meet, merged, nested, nothing, onward, placed_instr, places, point_after, refl, repeat, same_Some, set_after, slice_get, stop, subst, suc, sym, target_of, test_of, true, when, without_counter, without_label, zero, ℕ}
 use Rattle.plan_code.specs.declared.flags.Counters.{Counters}
-use Rattle.plan_code.specs.declared.instr.Instr.{Instr}
-use Rattle.plan_code.specs.declared.instr.Instr.TheVariants.{End, Jump, Set, Loop}
-use Rattle.plan_code.specs.declared.label.Swap.{Swap}
-use Rattle.plan_code.specs.declared.label.Swap.TheVariants.{Idle, Within, Perhaps}
-use Rattle.plan_code.specs.declared.plan.Plan.{Plan}
-use Rattle.plan_code.specs.Flags.{is_set, without_counter}
-use Rattle.plan_code.proofs.Bits.{counters_change_alone}
-use Rattle.plan_verifier.specs.Rules.{Known, IsFine, FitsSwap, continues, target_of}
-use Rattle.plan_verifier.specs.Flows.{Flow, known_at, known_with, after_instr, set_after, merged, FitsFlow}
 use Rattle.plan_verifier.proofs.Finding.{commit_fine}
-use Rattle.script_front.specs.declared.tree.Act.{Act}
 use Rattle.script_front.specs.declared.tree.Act.TheVariants.{Edit as Edits, Wait as Waits, WaitContact as WaitsContact, Until as WaitsUntil, WaitAny as WaitsAny, CommitIn as CommitsIn, CommitAt as CommitsAt, Join as Joins, Settle as Settles}
-use Rattle.script_front.specs.Block.{Block, nothing, basic, stop, when, either, repeat, forever, apply}
-use Rattle.script_compiler.specs.declared.flow.ProgramPoint.{ProgramPoint}
-use Rattle.script_front.specs.declared.tree.Condition.{Condition}
-use Rattle.script_compiler.specs.Alternatives.{test_of}
 use Rattle.script_front.specs.declared.tree.Condition.TheVariants.{Contact as IfContact, Time as IfTime}
-use Rattle.script_compiler.specs.Scheme.{PlacedInstr, without_label, at_label, meet, join, onward, head, point_after, placed_instr, alone, places, all_places, instr_of_act, falls_out}
-use Rattle.script_compiler.specs.Judged.{IsJudged, WaysAgree, BranchesAgree, FitsEntry, Reached}
-use Rattle.script_compiler.specs.Compiled.{first_counters, nested}
-use Rattle.script_compiler.proofs.Continuing.{after_falls}
-use Rattle.script_compiler.proofs.Places.{Stand, stand_front, stand_back, stand_all}
+use Rattle.script_compiler.proofs.Places.{after_falls, Stand, stand_front, stand_back, stand_all}
 
 pub falls_from : (plan : Plan) (b : Block) (s u : ProgramPoint) → point_after plan b s ≡ Some u → falls_out b ≡ true
 falls_from plan b s u e = sym (after_falls plan b s) ∙ ap (λ w. is_some w) e
@@ -122,9 +103,6 @@ Exit code pc r w = (u : ProgramPoint) → w ≡ Some u → Lands code pc r u
 no_target : {A : Type 0} (to : ℕ) (o : Option ℕ) → o ≡ None → o ≡ Some to → A
 no_target to o e h = let f : None ≡ Some to = sym e ∙ h in cc
 
-some_same : (s u : ProgramPoint) → Some s ≡ Some u → s ≡ u
-some_same s u e = cc
-
 some_number : (m n : ℕ) → Some m ≡ Some n → m ≡ n
 some_number m n e = cc
 
@@ -159,10 +137,6 @@ module _ (plan : Plan) (code : List PlacedInstr) where
   exit_moved : (a b : ℕ) → a ≡ b → (r : ℕ) (w : Option ProgramPoint) → Exit code a r w → Exit code b r w
   exit_moved a b e r w h = subst (λ n. Exit code n r w) e h
 
-  -- what holds of a block that is compiled from this point on
-  abbrev Good : ℕ → ℕ → List PlacedInstr → ProgramPoint → Type 0
-  Good r pc ps s = AllHold plan code pc ps × Lands code pc r s
-
   -- the rest of a block, if it can be reached
   rest_holds : (q r pc : ℕ) (emit : ProgramPoint → List PlacedInstr) (jump_past : ProgramPoint → Option ProgramPoint) (rest : Block) (judged : ProgramPoint → Type 0) (w : Option ProgramPoint) →
       ((s : ProgramPoint) → w ≡ Some s → judged s → Stand code pc (emit s) → Exit code (pc + length (emit s)) r (jump_past s) → AllHold plan code pc (emit s) × Lands code pc q s) →
@@ -171,13 +145,13 @@ module _ (plan : Plan) (code : List PlacedInstr) where
   rest_holds q r pc emit jump_past rest judged None ih j st ex = (tt, λ u e. cc)
   rest_holds q r pc emit jump_past rest judged (Some s) ih j st ex =
       let g = ih s refl j st ex in
-      (g.0, λ u e. let same : s ≡ u = some_same s u e in subst (λ x. Lands code pc q x) same g.1)
+      (g.0, λ u e. let same : s ≡ u = same_Some s u e in subst (λ x. Lands code pc q x) same g.1)
 
   -- an instruction after a block, if that falls out
   back_exit : (line : ℕ) (i : Instr) (q pc : ℕ) (more : ProgramPoint → List PlacedInstr) (w : Option ProgramPoint) → Stand code pc (onward w [] (λ u. placed_instr line i q u ∷ more u)) → Exit code pc q w
   back_exit line i q pc more None st u e = cc
   back_exit line i q pc more (Some s) st u e =
-      let same : s ≡ u = some_same s u e in subst (λ x. Lands code pc q x) same (lands_at line pc q i s st.0)
+      let same : s ≡ u = same_Some s u e in subst (λ x. Lands code pc q x) same (lands_at line pc q i s st.0)
 
   -- one iteration of a loop
   comes_round : (w : Option ProgramPoint) (start u : ProgramPoint) → FitsEntry w start → w ≡ Some u → FitsFlow u.flow start.flow
@@ -208,38 +182,17 @@ module _ (plan : Plan) (code : List PlacedInstr) where
       let m = meets_left b (Some s) u h e in
       meets_lands pc r u (lands_meets pc r (at_label m.flow) u.flow (ex (at_label m.flow) m.there) refl m.fits)
 
-  act_target : (a : Act) → target_of (instr_of_act a) ≡ None
-  act_target (Edits edit) = refl
-  act_target (Waits frames) = refl
-  act_target (WaitsContact contact closed) = refl
-  act_target (WaitsUntil moment) = refl
-  act_target (WaitsAny all) = refl
-  act_target (CommitsIn delay) = refl
-  act_target (CommitsAt count) = refl
-  act_target Joins = refl
-  act_target Settles = refl
-
-  act_counted : (a : Act) (r : ℕ) → counted (instr_of_act a) r ≡ r
-  act_counted (Edits edit) r = refl
-  act_counted (Waits frames) r = refl
-  act_counted (WaitsContact contact closed) r = refl
-  act_counted (WaitsUntil moment) r = refl
-  act_counted (WaitsAny all) r = refl
-  act_counted (CommitsIn delay) r = refl
-  act_counted (CommitsAt count) r = refl
-  act_counted Joins r = refl
-  act_counted Settles r = refl
-
-  act_sets : (a : Act) (c : Counters) → set_after (instr_of_act a) c ≡ c
-  act_sets (Edits edit) c = refl
-  act_sets (Waits frames) c = refl
-  act_sets (WaitsContact contact closed) c = refl
-  act_sets (WaitsUntil moment) c = refl
-  act_sets (WaitsAny all) c = refl
-  act_sets (CommitsIn delay) c = refl
-  act_sets (CommitsAt count) c = refl
-  act_sets Joins c = refl
-  act_sets Settles c = refl
+  -- a statement that is one instruction neither jumps nor counts
+  act_goes_on : (a : Act) → (target_of (instr_of_act a) ≡ None) × ((r : ℕ) → counted (instr_of_act a) r ≡ r) × ((c : Counters) → set_after (instr_of_act a) c ≡ c)
+  act_goes_on (Edits edit) = (refl, λ r. refl, λ c. refl)
+  act_goes_on (Waits frames) = (refl, λ r. refl, λ c. refl)
+  act_goes_on (WaitsContact contact closed) = (refl, λ r. refl, λ c. refl)
+  act_goes_on (WaitsUntil moment) = (refl, λ r. refl, λ c. refl)
+  act_goes_on (WaitsAny all) = (refl, λ r. refl, λ c. refl)
+  act_goes_on (CommitsIn delay) = (refl, λ r. refl, λ c. refl)
+  act_goes_on (CommitsAt count) = (refl, λ r. refl, λ c. refl)
+  act_goes_on Joins = (refl, λ r. refl, λ c. refl)
+  act_goes_on Settles = (refl, λ r. refl, λ c. refl)
 
   act_fine : (a : Act) (t : Flow) (c : Counters) (n : ℕ) → IsFine plan (instr_of_act a) (known_at t) → IsFine plan (instr_of_act a) (known_with t c n)
   act_fine (Edits edit) t c n h = h
@@ -255,9 +208,9 @@ module _ (plan : Plan) (code : List PlacedInstr) where
   basic_holds : (line : ℕ) (a : Act) (r pc : ℕ) (s : ProgramPoint) → IsFine plan (instr_of_act a) (known_at s.flow) → Lands code (pc + 1) r (without_label (after_instr plan (instr_of_act a) s.flow)) → Holds plan code pc (placed_instr line (instr_of_act a) r s)
   basic_holds line a r pc s h l = record {
     fine = λ n. act_fine a s.flow (first_counters r) n h;
-    onward = λ _. subst (λ q. Lands code (pc + 1) q (without_label (after_instr plan (instr_of_act a) s.flow))) (sym (act_counted a r)) l;
-    targets = λ to e. no_target to (target_of (instr_of_act a)) (act_target a) e;
-    counters = act_sets a (first_counters r) ∙ ap first_counters (sym (act_counted a r));
+    onward = λ _. subst (λ q. Lands code (pc + 1) q (without_label (after_instr plan (instr_of_act a) s.flow))) (sym ((act_goes_on a).1 r)) l;
+    targets = λ to e. no_target to (target_of (instr_of_act a)) (act_goes_on a).0 e;
+    counters = (act_goes_on a).2 (first_counters r) ∙ ap first_counters (sym ((act_goes_on a).1 r));
   }
 
   end_holds : (line : ℕ) (r pc : ℕ) (s : ProgramPoint) → Holds plan code pc (placed_instr line End r s)

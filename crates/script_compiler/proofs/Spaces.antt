@@ -1,33 +1,11 @@
--- Room for the code still to be emitted.
-use Rattle.std.proofs.Common.{◌≡◌, ℕ, zero, suc, ◌+◌, ◌<◌, ◌≤◌, inl, inr, Bool, true, false, if◌then◌else◌, List, [], ◌∷◌, ◌++◌, length, Option, Some, None, is_some, Result, Ok, Err, refl, sym, ap, ◌∙◌, subst, arith, append_assoc, length-append}
-use Rattle.std.specs.Prelude.{slice_get, IfErr}
-use Rattle.mux_config.specs.Configuration.{Configuration}
-use Rattle.plan_code.specs.declared.instr.Instr.{Instr}
-use Rattle.plan_code.specs.declared.instr.Instr.TheVariants.{Jump}
-use Rattle.plan_code.specs.declared.label.Swap.{Swap}
-use Rattle.plan_code.specs.declared.label.Swap.TheVariants.{Idle, Within, Perhaps}
-use Rattle.plan_code.specs.declared.plan.Plan.{Plan}
-use Rattle.plan_verifier.specs.declared.cause.Cause.{Cause}
-use Rattle.plan_verifier.specs.Flows.{Flow, known_at, merged, FitsFlow}
-use Rattle.plan_verifier.specs.Rules.{FitsSwap}
-use Rattle.script_front.specs.Block.{Block}
-use Rattle.script_compiler.specs.declared.flow.UnpricedLabel.{UnpricedLabel}
-use Rattle.script_compiler.specs.declared.flow.ProgramPoint.{ProgramPoint}
-use Rattle.script_compiler.specs.Scheme.{PlacedInstr, placed_instr, alone, onward, at_label, meet, point_after, places, unpriced_label, unpriced_labels}
-use Rattle.script_compiler.specs.Compiled.{IsInTable, Added, Tabled, lines_of_placed}
-use Rattle.script_compiler.specs.Working.{Work}
-use Rattle.script_compiler.specs.declared.fault.CodeLimit.{CodeLimit}
-use Rattle.script_compiler.specs.declared.fault.CodeLimit.TheVariants.{Instructions, Labels, Configurations, Counters}
-use Rattle.script_compiler.specs.declared.fault.CompileFault.{CompileFault}
-use Rattle.script_compiler.specs.declared.fault.CompileFault.TheVariants.{Refused, Limit, Memory}
-use Rattle.script_compiler.specs.Refusals.{IsLimitAt, IfRefused, IfLimit}
-use Rattle.script_compiler.specs.Emission.{Emits, jumping, way}
-use Rattle.script_compiler.specs.Room.{HasRoomFor, Leaves, named_by}
-use Rattle.script_compiler.specs.Space.{count_of_labels, names_of, HasSpace, HasTable, IsCovered, Covers}
-use Rattle.script_compiler.proofs.First.{first_of}
+-- Room for the code still to be emitted, and for labels at numbered configurations.
+use Rattle.script_compiler.proofs.Words.{[], ◌++◌, ◌+◌, ◌<◌, ◌∙◌, ◌∷◌, ◌≡◌, ◌≤◌, Added, Block, Bool, Cause, CodeLimit, CompileFault, Configuration, Configurations, Counters, Covers, Emits, Err, FitsFlow, FitsSwap, Flow, HasRoomFor, HasSpace, HasTable, Idle, IfErr, IfLimit, IfRefused, IndexedLabel, IndexedPoint, Instr, Instructions, IsCovered, IsInTable, IsLimitAt, Jump, Labels, Leaves, Limit, List, Memory, None, Ok, Option, Perhaps, PlacedInstr, Plan, ProgramPoint, Refused, Result, Some, Swap, Tabled, UnpricedLabel, UnpricedTable, Within, Work, alone, ap, append_assoc, arith, at_label, configuration_at, count_of_labels, false, if◌then◌else◌, inl, inr, is_some, jumping, known_at, length, length-append, lines_of_placed, meet, merged, named_by, names_of, onward, placed_instr, places, point_after, point_in, refl, slice_get, subst, suc, sym, true, unpriced_in, unpriced_label, unpriced_labels, way, zero, ℕ}
+use Rattle.script_compiler.proofs.Places.{first_of}
 use Rattle.script_compiler.proofs.Emitted.{laid_length, length_lines}
-use Rattle.script_compiler.proofs.Labelling.{tabled_more}
+use Rattle.script_compiler.proofs.Labelling.{tabled_more, mark_is, one_mark}
 use Rattle.script_compiler.proofs.Rooms.{stays, room_fewer, room_added, named_both, leaves_mark, leaves_both}
+
+-- ---- room for the code still to be emitted
 
 -- ---- labels of instructions
 
@@ -124,9 +102,6 @@ some_of (Some s) e = (s, refl)
 pub met_labelled : (v : Option ProgramPoint) (t u : ProgramPoint) → meet v (Some t) ≡ Some u → u.labelled ≡ true
 met_labelled None t u e = let is : at_label t.flow ≡ u = cc in ap (λ (s : ProgramPoint). s.labelled) (sym is)
 met_labelled (Some s) t u e = let is : at_label (merged s.flow t.flow) ≡ u = cc in ap (λ (s : ProgramPoint). s.labelled) (sym is)
-
-some_same : (x y : Configuration) → Some x ≡ Some y → x ≡ y
-some_same x y e = cc
 
 -- a flow that fits another one has no configurations that the other lacks
 two_same : (a b x y : Configuration) → a ≡ x → b ≡ y → (c : Configuration) → IsInTable c (a ∷ b ∷ []) → IsInTable c (x ∷ y ∷ [])
@@ -259,3 +234,38 @@ pub space_restored : (k : CodeLimit) (v w : Work) (falls : Bool) (m n : ℕ) (i 
 space_restored k v w falls m n i ps lines unpriced now h =
     let there = space_as k w v (onward (way falls w) [] (alone m i n) ++ ps) (ap (λ x. length x.items) lines) (ap (λ x. x.items) unpriced) h in
     subst (λ (s : ProgramPoint). HasSpace k v (onward (if falls then Some s else None) [] (alone m i n) ++ ps)) (sym now) there
+
+-- ---- what a label emitted at a program point with numbered configurations is
+
+pub table_as : (v w : Work) → w.unpriced ≡ v.unpriced → HasTable v → HasTable w
+table_as v w e h = record {
+  few = subst (λ (m : UnpricedTable). length m.table ≤ 256) (sym e) h.few;
+  labels = subst (λ (m : UnpricedTable). length m.items ≤ 1024) (sym e) h.labels;
+  room = subst (λ (m : UnpricedTable). Leaves [] m.table m.items) (sym e) h.room;
+  tabled = subst (λ (m : UnpricedTable). Tabled [] m.items m.table) (sym e) h.tabled;
+}
+
+-- the table has room for the configurations of a label at the current point
+pub room_here : (w : Work) (s : IndexedPoint) (ps : List PlacedInstr) → point_in w.pool s ≡ w.now → HasTable w → IsCovered w.now.flow ps → HasSpace Configurations w ps
+    → HasRoomFor w.unpriced.table (configuration_at w.pool s.flow.current ∷ configuration_at w.pool s.flow.next ∷ [])
+room_here w s ps same table cover space =
+    subst (λ (x : ProgramPoint). HasRoomFor w.unpriced.table (x.flow.current ∷ x.flow.next ∷ [])) (sym same) (room_names w w.now.flow ps table cover space)
+
+abbrev pub mark_with : ℕ → ℕ → ProgramPoint → UnpricedLabel
+mark_with pc r s = record { pc = pc; flow = s.flow; repeats = r }
+
+abbrev pub short_with : ℕ → ℕ → ℕ → ℕ → IndexedPoint → IndexedLabel
+short_with pc cur next r s = record { pc = pc; cur = cur; next = next; pending = s.flow.pending; repeats = r }
+
+-- the unpriced label that was added is that of the current point
+pub marked_as : (w : Work) (s : IndexedPoint) (table : List Configuration) (cur next pc r : ℕ) (items : List UnpricedLabel) → point_in w.pool s ≡ w.now
+    → slice_get table cur ≡ Some (configuration_at w.pool s.flow.current) → slice_get table next ≡ Some (configuration_at w.pool s.flow.next)
+    → items ≡ w.unpriced.items ++ unpriced_in table (short_with pc cur next r s) ∷ [] → items ≡ w.unpriced.items ++ mark_with pc r w.now ∷ []
+marked_as w s table cur next pc r items same e f is =
+    is ∙ ap (λ (m : UnpricedLabel). w.unpriced.items ++ m ∷ []) (mark_is table (short_with pc cur next r s) (configuration_at w.pool s.flow.current) (configuration_at w.pool s.flow.next) e f)
+    ∙ ap (λ (x : ProgramPoint). w.unpriced.items ++ mark_with pc r x ∷ []) same
+
+pub marked_here : (w : Work) (pc r line : ℕ) (i : Instr) (items : List UnpricedLabel) → w.now.labelled ≡ true → pc ≡ length w.lines.items
+    → items ≡ w.unpriced.items ++ mark_with pc r w.now ∷ [] → items ≡ w.unpriced.items ++ unpriced_labels (length w.lines.items) (alone line i r w.now)
+marked_here w pc r line i items labelled at is =
+    is ∙ ap (λ (ms : List UnpricedLabel). w.unpriced.items ++ ms) (one_mark (length w.lines.items) pc (placed_instr line i r w.now) labelled at)

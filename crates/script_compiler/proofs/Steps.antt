@@ -1,26 +1,9 @@
--- The statements with blocks, step by step as the compiler processes them.
-use Rattle.std.proofs.Common.{◌≡◌, ℕ, zero, suc, ◌+◌, map, take, Vec, Global, Result, Ok, Err, ◌<◌, ◌≤◌, Bool, true, false, if◌then◌else◌, List, [], ◌∷◌, ◌++◌, ◌&&◌, length, Option, Some, None, is_some, refl, sym, ap, ◌∙◌, subst, arith, append-nil, drop, get_or}
-use Rattle.std.specs.Prelude.{IfOk, OnOk}
-use Rattle.plan_code.specs.declared.instr.Instr.TheVariants.{Jump, Set, Loop}
-use Rattle.plan_code.specs.declared.plan.Plan.{Plan}
-use Rattle.plan_verifier.specs.Flows.{known_at, after_instr}
-use Rattle.plan_verifier.specs.Rules.{IsFine}
-use Rattle.script_front.specs.declared.tree.Act.{Act}
-use Rattle.script_front.specs.declared.tree.Statement.{Statement}
-use Rattle.script_front.specs.Block.{Block, nothing, basic, stop, when, either, repeat, forever, apply, named_at, before, block_of}
-use Rattle.script_compiler.specs.declared.flow.ProgramPoint.{ProgramPoint}
-use Rattle.script_front.specs.declared.tree.Condition.{Condition}
-use Rattle.script_compiler.specs.Alternatives.{test_of}
-use Rattle.script_compiler.specs.Scheme.{without_label, onward, alone, point_after, places, instr_of_act, falls_out}
-use Rattle.script_compiler.specs.Judged.{IsJudged, Reached}
-use Rattle.script_compiler.specs.Compiled.{nested}
-use Rattle.script_compiler.specs.Working.{Work}
-use Rattle.script_compiler.specs.declared.fault.CompileFault.{CompileFault}
-use Rattle.script_compiler.specs.Emission.{Emits, Left, Forks, ClosesIf, StartsElse, ClosesLoop, IsAfterBranches, points_of, way, tables, has_no_instr, facts_of}
-use Rattle.script_compiler.specs.declared.context.BlockFacts.{BlockFacts}
-use Rattle.script_compiler.proofs.Trees.{statements_cut}
-use Rattle.script_compiler.proofs.Emitted.{left_act, left_when, left_either, left_repeat, left_forever, left_then, left_apply, left_start}
-use Rattle.script_compiler.proofs.Weight.{tables_take, tables_length}
+-- Statements with blocks and whole scripts, step by step as the compiler processes them.
+use Rattle.script_compiler.proofs.Words.{[], ◌&&◌, ◌++◌, ◌+◌, ◌<◌, ◌∙◌, ◌∷◌, ◌≡◌, ◌≤◌, Act, Block, BlockFacts, Bool, CompileFault, Emits, End, Err, Global, IfOk, IsFine, IsJudged, Left, List, None, Ok, OnOk, Plan, ProgramPoint, Reached, Result, Some, Statement, Vec, Work, after_instr, all_places, alone, ap, append-nil, apply, arith, basic, before, block_of, drop, either, facts_of, false, forever, get_or, has_no_instr, instr_of_act, known_at, length, lines_of_placed, map, named_at, nested, nothing, onward, places, point_after, refl, repeat, stop, subst, suc, sym, tables, take, true, unpriced_labels, way, when, without_label, zero, ℕ}
+use Rattle.script_compiler.proofs.Trees.{statements_cut, tables_take, tables_length}
+use Rattle.script_compiler.proofs.Emitted.{left_act, left_apply, left_start, Whole, whole_of, whole_length, lines_both, marks_both}
+
+-- ---- the statements with blocks, step by step as the compiler processes them
 
 pub ok_map : (x : Result Bool CompileFault) {P Q : Bool → Type 0} → ((f : Bool) → P f → Q f) → IfOk x P → IfOk x Q
 ok_map (Ok f) m h = m f h
@@ -38,63 +21,11 @@ ok_both (Err y) C D h k = h
 pub act_step : (plan : Plan) (r line : ℕ) (a : Act) (rest : Block) (v w : Work) (x : Result Bool CompileFault) → IfOk x (λ f. f ≡ true) → OnOk x (Emits v w (alone line (instr_of_act a) r v.now)) → OnOk x (w.now ≡ without_label (after_instr plan (instr_of_act a) v.now.flow)) → OnOk x (IsFine plan (instr_of_act a) (known_at v.now.flow)) → IfOk x (λ f. Left plan r (basic line a rest) v w f rest)
 act_step plan r line a rest v w x goes emits now fine = ok_true x _ _ goes (ok_both x _ _ emits (ok_both x _ _ now fine)) (λ (all : Emits v w (alone line (instr_of_act a) r v.now) × ((w.now ≡ without_label (after_instr plan (instr_of_act a) v.now.flow)) × IsFine plan (instr_of_act a) (known_at v.now.flow))). left_act plan r line a rest v w all.0 all.1.0 all.1.1)
 
-module _ (plan : Plan) (r line : ℕ) (c : Condition) (at : ℕ) (first rest : Block) (w0 w2 w3 w5 : Work) (f : Bool) (x : Result Bool CompileFault) where
-  pub when_step :
-      r ≤ 8 → at ≡ length w0.lines.items → Forks line (test_of c 0) r w0 w2 → Left plan r first w2 w3 f nothing → IfOk x (λ g. g ≡ true) →
-      OnOk x ((front : List ProgramPoint) (entry : ProgramPoint) → w3.saved.items ≡ front ++ entry ∷ [] → ClosesIf f line c at front entry w3 w5) →
-      IfOk x (λ g. Left plan r (when line c first rest) w0 w5 g rest)
-  when_step deep ea fork left goes closes = ok_true x _ _ goes closes (λ h. left_when plan r line c first rest w0 w2 w3 w5 f deep fork left (λ front entry e. subst (λ n. ClosesIf f line c n front entry w3 w5) ea (h front entry e)))
-
-module _ (plan : Plan) (r line : ℕ) (c : Condition) (at jump : ℕ) (first second : Block) (w0 w2 w3 w6 w7 w8 : Work) (f1 f2 f : Bool) where
-  pub either_step :
-      r ≤ 8 → at ≡ length w0.lines.items → jump ≡ length w3.lines.items → Forks line (test_of c 0) r w0 w2 → Left plan r first w2 w3 f1 nothing →
-      ((front : List ProgramPoint) (entry : ProgramPoint) → w3.saved.items ≡ front ++ entry ∷ [] → StartsElse f1 line r c at front entry w3 w6) →
-      Left plan r second w6 w7 f2 nothing →
-      ((front : List ProgramPoint) (a : Option ProgramPoint) → f1 ≡ is_some a → w7.saved.items ≡ front ++ points_of a → IsAfterBranches a (way f2 w7) front line jump w7 w8 f) →
-      (rest : Block) → Left plan r (either line c first second rest) w0 w8 f rest
-  either_step deep ea ej fork left starts_else left2 arrives rest =
-      left_either plan r line c first second rest w0 w2 w3 w6 w7 w8 f1 f2 f deep fork left
-      (λ front entry e. subst (λ n. StartsElse f1 line r c n front entry w3 w6) ea (starts_else front entry e)) left2
-      (λ front a g e. subst (λ n. IsAfterBranches a (way f2 w7) front line n w7 w8 f) ej (arrives front a g e))
-
-module _ (plan : Plan) (r line n : ℕ) (body : Block) (w0 w1 w2 w3 w4 : Work) (f falls : Bool) (at k : ℕ) where
-  pub repeat_step :
-      r + 1 ≤ 8 → k ≡ r → Emits w0 w1 (alone line (Set k n) r w0.now) → w1.now ≡ without_label w0.now.flow → at ≡ length w1.lines.items →
-      falls ≡ falls_out body → w2.lines ≡ w1.lines → w2.unpriced ≡ w1.unpriced →
-      w2.now ≡ record { flow = w1.now.flow; labelled = if falls then true else w1.now.labelled } → w2.saved.items ≡ w1.saved.items ++ w2.now ∷ [] →
-      Left plan (r + 1) body w2 w3 f nothing →
-      ((front : List ProgramPoint) (entry : ProgramPoint) → w3.saved.items ≡ front ++ entry ∷ [] → ClosesLoop f line (r + 1) (Loop k at) front entry w3 w4) →
-      (rest : Block) → Left plan r (repeat line n body rest) w0 w4 f rest
-  repeat_step deep ek l1 n1 ea ef c2 m2 n2 s2 left g rest =
-      let round = g w1.saved.items w2.now (left.emits.saved ∙ s2) in
-      let now2 = n2 ∙ ap (λ b. let t : ProgramPoint = record { flow = w1.now.flow; labelled = if b then true else w1.now.labelled } in t) ef in
-      left_repeat plan r line n body rest w0 w1 w2 w3 w4 f deep (subst (λ m. Emits w0 w1 (alone line (Set m n) r w0.now)) ek l1) n1 (ap (λ v. v.items) c2) (ap (λ v. v.items) m2) now2 left
-      (subst (λ m. ClosesLoop f line (r + 1) (Loop r m) w1.saved.items w2.now w3 w4) ea (subst (λ m. ClosesLoop f line (r + 1) (Loop m at) w1.saved.items w2.now w3 w4) ek round))
-
-module _ (plan : Plan) (r line : ℕ) (body : Block) (w0 w2 w3 w4 : Work) (f falls : Bool) (at : ℕ) where
-  pub forever_step :
-      r ≤ 8 → at ≡ length w0.lines.items → falls ≡ falls_out body → w2.lines ≡ w0.lines → w2.unpriced ≡ w0.unpriced →
-      w2.now ≡ record { flow = w0.now.flow; labelled = if falls then true else w0.now.labelled } → w2.saved.items ≡ w0.saved.items ++ w2.now ∷ [] →
-      Left plan r body w2 w3 f nothing →
-      ((front : List ProgramPoint) (entry : ProgramPoint) → w3.saved.items ≡ front ++ entry ∷ [] → ClosesLoop f line r (Jump at) front entry w3 w4) →
-      (rest : Block) → Left plan r (forever line body rest) w0 w4 false rest
-  forever_step deep ea ef c2 m2 n2 s2 left g rest =
-      let round = g w0.saved.items w2.now (left.emits.saved ∙ s2) in
-      let now2 = n2 ∙ ap (λ b. let t : ProgramPoint = record { flow = w0.now.flow; labelled = if b then true else w0.now.labelled } in t) ef in
-      left_forever plan r line body rest w0 w2 w3 w4 f deep (ap (λ v. v.items) c2) (ap (λ v. v.items) m2) now2 left
-      (subst (λ m. ClosesLoop f line r (Jump m) w0.saved.items w2.now w3 w4) ea round)
-
--- ---- a block's statements
-
-module _ (plan : Plan) (r : ℕ) (table : List Block) (ss : List Statement) (k : ℕ) (s : Statement) (u v w : Work) (g f : Bool) where
-  step_from : s ≡ get_or ss k s → k < length ss → g ≡ true → Left plan r (block_of table ss) u v g (block_of table (drop k ss)) → Left plan r (block_of table ss) u v true (before table s (block_of table (drop (k + 1) ss)))
-  step_from is lt e l =
-      let cut : block_of table (drop k ss) ≡ before table s (block_of table (drop (k + 1) ss)) = statements_cut table ss k s lt ∙ ap (λ x. before table x (block_of table (drop (k + 1) ss))) (sym is) in
-      subst (λ b. Left plan r (block_of table ss) u v true b) cut (subst (λ x. Left plan r (block_of table ss) u v x (block_of table (drop k ss))) e l)
-
-  pub block_step : s ≡ get_or ss k s → k < length ss → g ≡ true → Left plan r (block_of table ss) u v g (block_of table (drop k ss)) →
-      ((rest : Block) → Left plan r (before table s rest) v w f rest) → Left plan r (block_of table ss) u w f (block_of table (drop (k + 1) ss))
-  block_step is lt e l h = left_then plan r (block_of table ss) (before table s (block_of table (drop (k + 1) ss))) (block_of table (drop (k + 1) ss)) u v w f (step_from is lt e l) (h (block_of table (drop (k + 1) ss)))
+-- the statements before one have been compiled: it is left, with the rest of the block
+pub left_before : (plan : Plan) (r : ℕ) (table : List Block) (ss : List Statement) (k : ℕ) (s : Statement) (v w : Work) (f g : Bool) → s ≡ get_or ss k s → k < length ss → f ≡ g →
+    Left plan r (block_of table ss) v w f (block_of table (drop k ss)) → Left plan r (block_of table ss) v w g (before table s (block_of table (drop (k + 1) ss)))
+left_before plan r table ss k s v w f g is lt e left =
+    subst (λ b. Left plan r (block_of table ss) v w g b) (statements_cut table ss k s is lt) (subst (λ x. Left plan r (block_of table ss) v w x (block_of table (drop k ss))) e left)
 
 -- ---- blocks by number
 
@@ -178,3 +109,39 @@ unnamed_step plan r line bs s name k w deep e ek le rest =
     let without_label : named_at (tables bs) name ≡ nothing = named_past (tables bs) name (omega (arith, tables_length bs, ek, le)) in
     let h = left_apply plan r line name nothing rest w w true deep (left_start plan r nothing w) in
     subst (λ b. Left plan r b w w true rest) (sym (e rest ∙ ap (λ b. apply line name b rest) without_label)) h
+
+-- ---- a whole script
+
+pub record LaidWhole (plan : Plan) (last : ℕ) (b : Block) (t : ProgramPoint) (w : Work) : Type 0 where
+  pub lines : w.lines.items ≡ lines_of_placed (all_places plan last b t)
+  pub unpriced : w.unpriced.items ≡ unpriced_labels 0 (all_places plan last b t)
+  pub judged : IsJudged plan b t
+  pub repeats : nested b ≤ 8
+
+-- nothing has been emitted before the block of a script, which starts at this point
+pub record Starts (b c : Block) (t : ProgramPoint) (w0 : Work) : Type 0 where
+  pub same : c ≡ b
+  pub lines : w0.lines.items ≡ []
+  pub unpriced : w0.unpriced.items ≡ []
+  pub now : w0.now ≡ t
+
+module _ {b c : Block} {t : ProgramPoint} {w0 w1 : Work} {f : Bool} (starts : Starts b c t w0) where
+  pub whole_start : (plan : Plan) → Left plan 0 c w0 w1 f nothing → Whole plan 0 0 b t w0 w1 f
+  whole_start plan left = whole_of plan 0 0 b t w0 w1 f (ap length starts.lines) starts.now (subst (λ x. Left plan 0 x w0 w1 f nothing) starts.same left)
+
+pub laid_whole : (plan : Plan) (last : ℕ) (w1 w2 : Work) (f : Bool) {b c : Block} {t : ProgramPoint} {w0 : Work} → Starts b c t w0 → Left plan 0 c w0 w1 f nothing →
+    Emits w1 w2 (onward (way f w1) [] (alone last End 0)) → LaidWhole plan last b t w2
+laid_whole plan last w1 w2 f {b} {c} {t} {w0} starts left emits =
+    let h = whole_start starts plan left in
+    let body = places plan 0 0 b t in
+    let ending = onward (point_after plan b t) [] (alone last End 0) in
+    let ending_is : onward (way f w1) [] (alone last End 0) ≡ ending = ap (λ w. onward w [] (alone last End 0)) (sym h.leads) in
+    let code1 : w1.lines.items ≡ lines_of_placed body = h.lines ∙ ap (λ xs. xs ++ lines_of_placed body) starts.lines in
+    let labels1 : w1.unpriced.items ≡ unpriced_labels 0 body = h.unpriced ∙ ap (λ xs. xs ++ unpriced_labels 0 body) starts.unpriced in
+    let at : length w1.lines.items ≡ 0 + length body = whole_length h (ap length starts.lines) in
+    record {
+      lines = emits.lines ∙ ap (λ ps. w1.lines.items ++ lines_of_placed ps) ending_is ∙ ap (λ xs. xs ++ lines_of_placed ending) code1 ∙ sym (lines_both body ending);
+      unpriced = emits.unpriced ∙ ap (λ ps. w1.unpriced.items ++ unpriced_labels (length w1.lines.items) ps) ending_is ∙ ap (λ n. w1.unpriced.items ++ unpriced_labels n ending) at ∙ ap (λ xs. xs ++ unpriced_labels (0 + length body) ending) labels1 ∙ sym (marks_both 0 body ending);
+      judged = h.judged;
+      repeats = let k = h.repeats (omega arith) in omega (arith, k);
+    }

@@ -1,78 +1,33 @@
 -- The code of a judged script whose needs are within the budget is typed.
-use Rattle.std.proofs.Common.{◌≡◌, ℕ, zero, suc, ◌+◌, ◌-◌, ◌<◌, ◌≤◌, Bool, true, false, if◌then◌else◌, List, [], ◌∷◌, length, Option, Some, None, refl, sym, ap, ◌∙◌, subst, arith, inl, inr}
-use Rattle.std.specs.Prelude.{slice_get, Contains}
-use Rattle.std.specs.Option.{option_map}
-use Rattle.std.proofs.lemmas.Bool.{cases_lt}
-use Rattle.std.proofs.lemmas.Option.{slice_get_within}
-use Rattle.mux_config.specs.Configuration.{Configuration}
-use Rattle.mux_config.specs.Sound.{IsSound}
+use Rattle.script_compiler.proofs.Words.{[], ◌+◌, ◌-◌, ◌<◌, ◌∙◌, ◌∷◌, ◌≡◌, ◌≤◌, AreLabelsOf, Block, Bool, CommitAt, CommitIn, Configuration, Contains, CostsItsNeeds, Edit, End, FitsFlow, FitsSwap, Flow, Idle, Instr, IsAccepted, IsCodeOf, IsFine, IsJudged, IsLabelOf, IsNeed, IsSound, IsWithinBudget, Join, Jump, Known, Label, List, Loop, None, Option, Perhaps, PlacedInstr, Plan, Program, ProgramPoint, Set, Settle, Some, StepsTo, Swap, Test, TestTime, Tree, Until, Wait, WaitAny, WaitContact, Within, after_instr, all_places, ap, arith, beginning, body_of, cases_lt, continues, false, first_counters, if◌then◌else◌, inl, inr, instr_at, instrs_of, is_set, known_at, known_with, label_at, leaves, left_over, length, lines_of_placed, longest, nested, opening_of, option_map, pages_alone, placed_instrs, refl, rests, same_Some, slice_get, slice_get_within, spent, subst, suc, suspends, sym, target_of, true, unpriced_label, unpriced_labels, without_label, zero, ℕ}
 use Rattle.plan_code.specs.declared.flags.Counters.{Counters}
-use Rattle.plan_code.specs.declared.instr.Instr.{Instr}
-use Rattle.plan_code.specs.declared.instr.Instr.TheVariants.{Wait, Until, WaitContact, WaitAny, CommitIn, CommitAt, Join, Settle, End, Edit, Test, TestTime, Jump, Set, Loop}
-use Rattle.plan_code.specs.declared.label.Label.{Label}
-use Rattle.plan_code.specs.declared.label.Swap.{Swap}
-use Rattle.plan_code.specs.declared.label.Swap.TheVariants.{Idle, Within, Perhaps}
-use Rattle.plan_code.specs.declared.plan.Plan.{Plan}
-use Rattle.plan_code.specs.Flags.{is_set}
-use Rattle.plan_code.specs.Program.{Program, instr_at, label_at}
-use Rattle.plan_verifier.specs.Rules.{Known, FitsSwap, IsFine, spent, leaves, target_of, continues, pages_alone, suspends}
-use Rattle.plan_verifier.specs.Flows.{Flow, known_at, after_instr, FitsFlow, known_with, rests, left_over}
 use Rattle.plan_verifier.proofs.Leaving.{leaves_known}
 use Rattle.plan_verifier.specs.Typing.{Declares, CanEnter, Arrives, HasOpening, IsLabelTyped, Reaches, IsAfter, IsSafe, IsTyped}
-use Rattle.script_front.specs.Block.{Block}
-use Rattle.script_front.specs.Tree.{Tree}
-use Rattle.script_compiler.specs.declared.flow.ProgramPoint.{ProgramPoint}
-use Rattle.script_compiler.specs.Scheme.{PlacedInstr, without_label, all_places, unpriced_label, unpriced_labels}
-use Rattle.script_compiler.specs.Judged.{IsJudged}
-use Rattle.script_compiler.specs.Need.{StepsTo, IsNeed, IsWithinBudget}
-use Rattle.script_compiler.specs.Compiled.{beginning, opening_of, body_of, placed_instrs, lines_of_placed, instrs_of, first_counters, nested, IsLabelOf, AreLabelsOf, IsCodeOf, CostsItsNeeds, IsAccepted}
-use Rattle.script_compiler.specs.Longest.{longest}
-use Rattle.script_compiler.proofs.Paths.{one_least, need_most, need_onward, is_need}
+use Rattle.script_compiler.proofs.Paths.{one_least, need_most, need_onward, is_need, one_need}
 use Rattle.script_compiler.proofs.Emitted.{length_lines}
-use Rattle.script_compiler.proofs.Places.{Stand, stand_all}
+use Rattle.script_compiler.proofs.Places.{Stand, stand_all, first_of_all}
 use Rattle.script_compiler.proofs.Sound.{counted, Lands, Meets, Holds, AllHold, all_hold, opens, fits_same}
-use Rattle.script_compiler.proofs.Connected.{Connected, all_connected}
-use Rattle.script_compiler.proofs.Labelled.{Found, label_found, label_contained, found_contained, label_place}
-use Rattle.script_compiler.proofs.First.{first_of_all}
-
-some_same : {A : Type 0} (x y : A) → Some x ≡ Some y → x ≡ y
-some_same x y e = cc
+use Rattle.script_compiler.proofs.Labelled.{Connected, all_connected, Found, label_found, label_contained, found_contained, label_place}
 
 -- ---- successors of an instruction
 
-is_reached : (i : Instr) → continues i ≡ true → rests i ≡ false → suspends i ≡ false
-is_reached (Wait frames) h k = k
-is_reached (Until day) h k = k
-is_reached (WaitContact contact closed) h k = k
-is_reached (WaitAny closed opened until frames) h k = k
-is_reached (CommitIn delay) h k = refl
-is_reached (CommitAt count) h k = refl
-is_reached Join h k = k
-is_reached Settle h k = refl
-is_reached End h k = cc
-is_reached (Edit edit) h k = refl
-is_reached (Test contact target) h k = refl
-is_reached (TestTime from until target) h k = refl
-is_reached (Jump target) h k = refl
-is_reached (Set counter times) h k = refl
-is_reached (Loop counter target) h k = refl
-
-targets_run : (i : Instr) (to : ℕ) → target_of i ≡ Some to → suspends i ≡ false
-targets_run (Wait frames) to h = cc
-targets_run (Until day) to h = cc
-targets_run (WaitContact contact closed) to h = cc
-targets_run (WaitAny closed opened until frames) to h = cc
-targets_run (CommitIn delay) to h = cc
-targets_run (CommitAt count) to h = cc
-targets_run Join to h = cc
-targets_run Settle to h = cc
-targets_run End to h = cc
-targets_run (Edit edit) to h = cc
-targets_run (Test contact target) to h = refl
-targets_run (TestTime from until target) to h = refl
-targets_run (Jump target) to h = refl
-targets_run (Set counter times) to h = cc
-targets_run (Loop counter target) to h = refl
+-- an instruction that goes on in the same frame, to the next one or to its target, does not suspend
+runs_on : (i : Instr) → (continues i ≡ true → rests i ≡ false → suspends i ≡ false) × ((to : ℕ) → target_of i ≡ Some to → suspends i ≡ false)
+runs_on (Wait frames) = (λ h k. k, λ to h. (cc))
+runs_on (Until day) = (λ h k. k, λ to h. (cc))
+runs_on (WaitContact contact closed) = (λ h k. k, λ to h. (cc))
+runs_on (WaitAny closed opened until frames) = (λ h k. k, λ to h. (cc))
+runs_on (CommitIn delay) = (λ h k. refl, λ to h. (cc))
+runs_on (CommitAt count) = (λ h k. refl, λ to h. (cc))
+runs_on Join = (λ h k. k, λ to h. (cc))
+runs_on Settle = (λ h k. refl, λ to h. (cc))
+runs_on End = (λ h k. (cc), λ to h. (cc))
+runs_on (Edit edit) = (λ h k. refl, λ to h. (cc))
+runs_on (Test contact target) = (λ h k. refl, λ to h. refl)
+runs_on (TestTime from until target) = (λ h k. refl, λ to h. refl)
+runs_on (Jump target) = (λ h k. refl, λ to h. refl)
+runs_on (Set counter times) = (λ h k. refl, λ to h. (cc))
+runs_on (Loop counter target) = (λ h k. refl, λ to h. refl)
 
 -- ---- states that fit labels
 
@@ -87,24 +42,21 @@ swap_known (Perhaps hi) Idle s t c d a b h = h
 swap_known (Perhaps hi) (Within l2 h2) s t c d a b h = h
 swap_known (Perhaps hi) (Perhaps h2) s t c d a b h = h
 
-one_need : (instrs : List Instr) (pc a b : ℕ) → IsNeed instrs pc a → IsNeed instrs pc b → a ≡ b
-one_need instrs pc a b h k = let x = k.longest a h.path in let y = h.longest b k.path in omega (arith, x, y)
-
 -- ---- instructions of a code
 
 instr_of_place : (ps : List PlacedInstr) (pc : ℕ) (p : PlacedInstr) → slice_get ps pc ≡ Some p → slice_get (instrs_of (lines_of_placed ps)) pc ≡ Some p.instr
 instr_of_place [] pc p e = cc
-instr_of_place (q ∷ ps) zero p e = ap (λ (x : PlacedInstr). Some x.instr) (some_same q p e)
+instr_of_place (q ∷ ps) zero p e = ap (λ (x : PlacedInstr). Some x.instr) (same_Some q p e)
 instr_of_place (q ∷ ps) (suc pc) p e = instr_of_place ps pc p e
 
 place_of : (ps : List PlacedInstr) (pc : ℕ) (i : Instr) → option_map (λ l. l.instr) (slice_get (lines_of_placed ps) pc) ≡ Some i → (p : PlacedInstr) × (slice_get ps pc ≡ Some p) × (p.instr ≡ i)
 place_of [] pc i e = cc
-place_of (p ∷ ps) zero i e = (p, refl, some_same p.instr i e)
+place_of (p ∷ ps) zero i e = (p, refl, same_Some p.instr i e)
 place_of (p ∷ ps) (suc pc) i e = place_of ps pc i e
 
 instr_line : (ps : List PlacedInstr) (pc : ℕ) (p : PlacedInstr) → slice_get ps pc ≡ Some p → option_map (λ l. l.instr) (slice_get (lines_of_placed ps) pc) ≡ Some p.instr
 instr_line [] pc p e = cc
-instr_line (q ∷ ps) zero p e = ap (λ (x : PlacedInstr). Some x.instr) (some_same q p e)
+instr_line (q ∷ ps) zero p e = ap (λ (x : PlacedInstr). Some x.instr) (same_Some q p e)
 instr_line (q ∷ ps) (suc pc) p e = instr_line ps pc p e
 
 got : {A : Type 0} (xs : List A) (i : ℕ) → i < length xs → (x : A) × (slice_get xs i ≡ Some x)
@@ -157,11 +109,11 @@ module _ (code : Program) (whole : List PlacedInstr) where
 
     next_head : (came pc : ℕ) (ps : List PlacedInstr) (q : PlacedInstr) → slice_get ps 0 ≡ Some q → slice_get (knowns came pc ps) 0 ≡ Some (known_there pc q came)
     next_head came pc [] q h = cc
-    next_head came pc (p ∷ ps) q h = ap (λ x. Some (known_there pc x came)) (some_same p q h)
+    next_head came pc (p ∷ ps) q h = ap (λ x. Some (known_there pc x came)) (same_Some p q h)
 
     follows_head : (came : Bool) (ps : List PlacedInstr) (q : PlacedInstr) → Connected came ps → slice_get ps 0 ≡ Some q → q.point.labelled ≡ false → came ≡ true
     follows_head came [] q c h = cc
-    follows_head came (p ∷ ps) q c h = let same : p ≡ q = some_same p q h in subst (λ (x : PlacedInstr). x.point.labelled ≡ false → came ≡ true) same c.0
+    follows_head came (p ∷ ps) q c h = let same : p ≡ q = same_Some p q h in subst (λ (x : PlacedInstr). x.point.labelled ≡ false → came ≡ true) same c.0
 
     at_head : (q : PlacedInstr) (ps : List PlacedInstr) (k came : ℕ) (c : Bool) → Connected c (q ∷ ps) → (c ≡ true → need k ≤ came) →
         At k q (known_there k q came) (slice_get ps 0) (slice_get (knowns (left_over plan q.instr (known_there k q came).allowance) (k + 1) ps) 0)
@@ -180,8 +132,8 @@ module _ (code : Program) (whole : List PlacedInstr) where
         let after_it = slice_get (knowns (left_over plan q.instr (known_there k q came).allowance) (k + 1) ps) 0 in
         let point_here : k ≡ k + 0 = omega arith in
         let first = at_head q ps k came c co h in
-        let as_p = subst (λ x. At k x (known_there k q came) (slice_get ps 0) after_it) (some_same q p e) first in
-        let as_t = subst (λ x. At k p x (slice_get ps 0) after_it) (some_same (known_there k q came) t f) as_p in
+        let as_p = subst (λ x. At k x (known_there k q came) (slice_get ps 0) after_it) (same_Some q p e) first in
+        let as_t = subst (λ x. At k p x (slice_get ps 0) after_it) (same_Some (known_there k q came) t f) as_p in
         subst (λ n. At n p t (slice_get ps 0) after_it) point_here as_t
     at_each (q ∷ ps) k came c st co h (suc j) p t e f =
         let a = (known_there k q came).allowance in
@@ -189,7 +141,7 @@ module _ (code : Program) (whole : List PlacedInstr) where
         let point_here : k + 1 + j ≡ k + suc j = omega arith in
         let further : suc (j + 1) ≡ suc j + 1 = omega arith in
         let afford = head_affords k came q.point.labelled (λ e. h (co.0 e)) in
-        let ih = at_each ps (k + 1) came' (continues q.instr) st.1 co.1 (λ g. enough k (k + 1) q a st.0 afford (λ s. (is_reached q.instr g s, inl (g, refl)))) j p t e f in
+        let ih = at_each ps (k + 1) came' (continues q.instr) st.1 co.1 (λ g. enough k (k + 1) q a st.0 afford (λ s. ((runs_on q.instr).0 g s, inl (g, refl)))) j p t e f in
         let at_here = subst (λ n. At n p t (slice_get ps (j + 1)) (slice_get (knowns came' (k + 1) ps) (j + 1))) point_here ih in
         subst (λ n. At (k + suc j) p t (slice_get (q ∷ ps) n) (slice_get (knowns came k (q ∷ ps)) n)) further at_here
 
@@ -206,7 +158,7 @@ module _ (code : Program) (whole : List PlacedInstr) where
       hold_at : (ps : List PlacedInstr) (k j : ℕ) (p : PlacedInstr) → AllHold plan whole k ps → slice_get ps j ≡ Some p → Holds plan whole (k + j) p
       hold_at [] k j p h e = cc
       hold_at (q ∷ ps) k zero p h e = let point_here : k ≡ k + 0 = omega arith in
-          subst (λ n. Holds plan whole n p) point_here (subst (λ x. Holds plan whole k x) (some_same q p e) h.0)
+          subst (λ n. Holds plan whole n p) point_here (subst (λ x. Holds plan whole k x) (same_Some q p e) h.0)
       hold_at (q ∷ ps) k (suc j) p h e = let point_here : k + 1 + j ≡ k + suc j = omega arith in
           subst (λ n. Holds plan whole n p) point_here (hold_at ps (k + 1) j p h.1 e)
 
@@ -297,11 +249,11 @@ module _ (code : Program) (whole : List PlacedInstr) where
               inside = λ g. let l = h.onward g in let n = ap length lines_are in let m = length_lines whole in omega (arith, slice_get_within whole (pc + 1) l.place l.there, n, m);
               onward = λ g.
                   let l = h.onward g in
-                  let n = enough pc (pc + 1) p t.allowance e a.affords (λ s. (is_reached p.instr g s, inl (g, refl))) in
+                  let n = enough pc (pc + 1) p t.allowance e a.affords (λ s. ((runs_on p.instr).0 g s, inl (g, refl))) in
                   subst (λ x. Arrives code typing (pc + 1) (label_at code (pc + 1)) x) (sym left)
                   (arrives_at (pc + 1) (counted p.instr p.repeats) (left_over plan p.instr t.allowance) (after_instr plan p.instr p.point.flow) n l (a.onward l.place l.there) l.place.point.labelled refl);
               targets = λ to g.
-                  let more = need_onward instrs plan.budget pc to p.instr within (instr_of_place whole pc p e) (targets_run p.instr to g, inr g) in
+                  let more = need_onward instrs plan.budget pc to p.instr within (instr_of_place whole pc p e) ((runs_on p.instr).1 to g, inr g) in
                   let n : need to ≤ t.allowance - 1 = omega (arith, more, a.affords) in
                   subst (λ x. Reaches code to (spent x)) (sym a.known) (meets_reaches to p (t.allowance - 1) n (h.targets to g));
             }
@@ -392,7 +344,7 @@ typed_from code last b c lines_are labels_are costs sound period deep judged wit
     let first = first_of_all code.plan last b s in
     let there : slice_get whole 0 ≡ Some first.place = ap (λ xs. slice_get xs 0) first.is in
     let m = opens code.plan last b s deep judged refl in
-    let same : m.place ≡ first.place = some_same m.place first.place (sym m.there ∙ there) in
+    let same : m.place ≡ first.place = same_Some m.place first.place (sym m.there ∙ there) in
     let repeats : first.place.repeats ≡ 0 = sym (ap (λ (x : PlacedInstr). x.repeats) same) ∙ m.repeats in
     typed_by code whole within st co holds lines_are labels_are costs
     (opening_by code whole within st co holds lines_are labels_are costs first.place c there (first.labelled refl) first.flow repeats sound period)

@@ -1,28 +1,8 @@
 -- Only excessive costs are refused with `Cost`, and at which line.
-use Rattle.std.proofs.Common.{◌≡◌, ℕ, ◌+◌, ◌<◌, ◌≤◌, inl, inr, List, [], ◌∷◌, Option, Some, None, IsSome, refl, sym, ◌∙◌, arith, rules, zero, suc}
-use Rattle.std.specs.Prelude.{slice_get}
-use Rattle.mux_config.specs.Configuration.{Configuration}
-use Rattle.mux_config.specs.Edits.{edit_fault}
-use Rattle.mux_config.specs.Sound.{first_fault}
-use Rattle.plan_code.specs.declared.plan.Plan.{Plan}
-use Rattle.plan_code.specs.declared.instr.Instr.{Instr}
-use Rattle.plan_code.specs.declared.instr.Instr.TheVariants.{Wait, Until, WaitContact, WaitAny, CommitIn, CommitAt, Join, Settle, End, Edit as Edits, Test, TestTime, Jump, Set, Loop}
-use Rattle.plan_code.specs.declared.instr.Line.{Line}
-use Rattle.plan_verifier.specs.declared.cause.Cause.{Cause}
-use Rattle.plan_verifier.specs.declared.cause.Cause.TheVariants.{Edit as OfEdit, Config as OfConfig, Pending, NoChange, Notice, Count, JoinIdle, SwapUncertain, Round, Table, Mismatch, Cost}
-use Rattle.plan_verifier.specs.Rules.{Known}
-use Rattle.plan_verifier.specs.Flows.{known_at}
-use Rattle.plan_verifier.specs.Causes.{WhereSome, CommitRefused, FlowRefused}
-use Rattle.script_front.specs.declared.tree.Item.{Item}
-use Rattle.script_front.specs.Block.{Block, nothing, basic, stop, when, either, repeat, forever, apply}
-use Rattle.script_compiler.specs.declared.flow.ProgramPoint.{ProgramPoint}
-use Rattle.script_compiler.specs.Scheme.{instr_of_act}
-use Rattle.script_compiler.specs.Compiled.{instrs_of}
-use Rattle.script_compiler.specs.Need.{HasPath}
-use Rattle.script_compiler.specs.Refused.{IsUnreached, IsMismatch, IsRefusedAfter, IsRefusedIn, IsItemRefused, IsOpeningRefused}
-use Rattle.mux_config.specs.Edits.{changed}
-use Rattle.script_compiler.specs.Costs.{ClosesCycle, IsCostlyAt, HasCostAt}
-use Rattle.script_compiler.specs.Longest.{longest}
+use Rattle.script_compiler.proofs.Words.{[], ◌+◌, ◌<◌, ◌∙◌, ◌∷◌, ◌≡◌, ◌≤◌, Block, Cause, ClosesCycle, CommitAt, CommitIn, CommitRefused, Configuration, Cost, Count, End, FlowRefused, HasCostAt, HasPath, Instr, IsCostlyAt, IsItemRefused, IsMismatch, IsRefusedAfter, IsRefusedIn, IsSome, IsUnreached, Item, Join, JoinIdle, Jump, Known, Line, List, Loop, Mismatch, NoChange, None, Notice, Option, Pending, Plan, ProgramPoint, Round, Set, Settle, Some, SwapUncertain, Table, Test, TestTime, Until, Wait, WaitAny, WaitContact, WhereSome, apply, arith, basic, either, first_fault, forever, inl, inr, instr_of_act, instrs_of, known_at, longest, nothing, refl, repeat, rules, slice_get, stop, suc, sym, when, zero, ℕ}
+use Rattle.mux_config.specs.Edits.{edit_fault, changed}
+use Rattle.plan_code.specs.declared.instr.Instr.TheVariants.{Edit as Edits}
+use Rattle.plan_verifier.specs.declared.cause.Cause.TheVariants.{Edit as OfEdit, Config as OfConfig}
 use Rattle.script_compiler.proofs.Paths.{has_longest, longest_most, shorter}
 
 -- ---- no other refusal has this cause
@@ -76,14 +56,7 @@ table_uncosted : (given : Cause) → given ≡ Table → given ≡ Cost → ⊥
 table_uncosted given h e = (let x : Table ≡ Cost = sym h ∙ e in cc)
 
 unreached_uncosted : (b : Block) (at : ℕ) (given : Cause) → IsUnreached b at given → given ≡ Cost → ⊥
-unreached_uncosted nothing at given h e = h
-unreached_uncosted (basic line act rest) at given h e = table_uncosted given h.1 e
-unreached_uncosted (stop line rest) at given h e = table_uncosted given h.1 e
-unreached_uncosted (when line condition first rest) at given h e = table_uncosted given h.1 e
-unreached_uncosted (either line condition first second rest) at given h e = table_uncosted given h.1 e
-unreached_uncosted (repeat line times body rest) at given h e = table_uncosted given h.1 e
-unreached_uncosted (forever line body rest) at given h e = table_uncosted given h.1 e
-unreached_uncosted (apply line number named rest) at given h e = table_uncosted given h.1 e
+unreached_uncosted b at given h e = table_uncosted given h.1 e
 
 mismatch_uncosted : (line : ℕ) (agree : Type 0) (at : ℕ) (given : Cause) → IsMismatch line agree at given → given ≡ Cost → ⊥
 mismatch_uncosted line agree at given h e = (let x : Mismatch ≡ Cost = sym h.2 ∙ e in cc)
@@ -140,12 +113,6 @@ item_uncosted [] c at given h e = h
 item_uncosted (item ∷ items) c at given h e = elim h [
   | inl a ↦ edit_uncosted (edit_fault item.edit c) given a.1 e
   | inr b ↦ item_uncosted items (changed item.edit c) at given b.1 e
-]
-
-pub opening_uncosted : (plan : Plan) (c : Configuration) (given : Cause) → IsOpeningRefused plan c given → given ≡ Cost → ⊥
-opening_uncosted plan c given h e = elim h [
-  | inl a ↦ config_uncosted (first_fault c) given a e
-  | inr b ↦ (let x : Round ≡ Cost = sym b.1.1 ∙ e in cc)
 ]
 
 -- ---- the pc and the line

@@ -1,25 +1,12 @@
 -- Test vectors: small scripts, and what their statements, frames and events result in, and what not.
-use Rattle.std.proofs.Common.{◌≡◌, ℕ, zero, suc, true, false, List, [], ◌∷◌, Some, None, inl, inr, refl, sym, ap, ◌∙◌, arith}
-use Rattle.mux_config.specs.Configuration.{nothing as no_configuration}
-use Rattle.plan_code.specs.declared.flags.Contacts.{Contacts}
-use Rattle.plan_code.specs.declared.hold.Hold.{Hold}
-use Rattle.plan_code.specs.declared.hold.Hold.TheVariants.{Running, Waits, Ended}
-use Rattle.plan_code.specs.declared.instr.Instr.{Instr}
-use Rattle.plan_code.specs.declared.instr.Instr.TheVariants.{Wait as WaitInstr, End}
-use Rattle.plan_code.specs.declared.instr.Line.{Line}
-use Rattle.plan_code.specs.Program.{Program, IsProgram}
-use Rattle.plan_code.specs.Machine.{State}
-use Rattle.plan_verifier.proofs.Samples.{plan, label, code as labelled, first_is}
+use Rattle.script_compiler.proofs.Words.{[], ◌∙◌, ◌∷◌, ◌≡◌, Block, Contact, Contacts, End, Ended, Frame, Hold, Instr, IsCodeOf, IsProgram, Line, List, None, Performs, PerformsAll, PlaysAsItReads, Program, Reading, Running, Scene, Some, Start, State, Tree, Waits, ap, apply, arith, basic, begins, either, false, first_is, inl, inr, label, nothing, plan, reading, refl, suc, sym, true, zero, ℕ}
 use Rattle.plan_verifier.proofs.OneVerdict.{typed_if}
-use Rattle.plan_runs.specs.declared.event.Event.TheVariants.{Contact, Frame}
-use Rattle.plan_runs.specs.declared.event.Start.{Start}
 use Rattle.plan_runs.proofs.Samples.{all_open, start_at, in_range, first_state, it_starts}
 use Rattle.script_front.specs.declared.tree.Act.TheVariants.{Wait, Join}
+use Rattle.mux_config.specs.Configuration.{nothing as no_configuration}
+use Rattle.plan_code.specs.declared.instr.Instr.TheVariants.{Wait as WaitInstr}
+use Rattle.plan_verifier.proofs.Samples.{code as labelled}
 use Rattle.script_front.specs.declared.tree.Condition.TheVariants.{Contact as IfContact}
-use Rattle.script_front.specs.Block.{Block, nothing, basic, either, apply}
-use Rattle.script_front.specs.Tree.{Tree}
-use Rattle.script_compiler.specs.Compiled.{IsCodeOf}
-use Rattle.script_compiler.specs.Meaning.{Scene, Reading, reading, Performs, PerformsAll, begins, PlaysAsItReads}
 use Rattle.script_compiler.proofs.Playing.{performs_one, all_one, scripts_play}
 
 -- ---- values shared by these vectors

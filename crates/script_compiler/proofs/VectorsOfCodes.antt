@@ -1,32 +1,11 @@
 -- Test vectors: small scripts for which each definition holds, and for which it fails.
-use Rattle.std.proofs.Common.{◌≡◌, ◌≢◌, ◌++◌, ◌∙◌, length-append, ℕ, zero, suc, ◌+◌, ◌≤◌, Bool, true, false, List, [], ◌∷◌, map, length, Some, None, inl, inr, refl, sym, ap, subst, arith, rules}
-use Rattle.mux_config.specs.Configuration.{Configuration, nothing as no_configuration}
-use Rattle.mux_config.specs.declared.edit.Edit.TheVariants.{AddSub}
-use Rattle.mux_config.specs.declared.fault.EditFault.TheVariants.{IdUsed}
+use Rattle.script_compiler.proofs.Words.{[], ◌++◌, ◌+◌, ◌∙◌, ◌∷◌, ◌≡◌, ◌≢◌, ◌≤◌, AddSub, Added, Alternative, AreFine, AreLabelsOf, Block, Bool, BranchesAgree, Configuration, CostsItsNeeds, End, FitsEntry, FitsFlow, Flow, IdUsed, Idle, Instr, IsAccepted, IsCodeOf, IsDone, IsInTable, IsJudged, IsLabelOf, IsNeed, IsWithinBudget, Item, Label, List, Loop, None, Perhaps, Program, ProgramPoint, Reached, Set, Some, StepsTo, Swap, Tabled, Test, Tree, UnpricedLabel, Wait, WaitAny, WaysAgree, Within, all_places, ap, arith, at_label, basic, beginning, falls_out, false, forever, inl, inr, instrs_of, length, length-append, lines_of_placed, map, nested, nothing, one_sub, placed_instrs, plan, point_after, refl, repeat, rules, stop, sub, subst, suc, suspends, sym, true, unpriced_labels, widest, without_label, zero, ℕ}
 use Rattle.mux_config.proofs.Sounding.{sound_told}
-use Rattle.plan_code.specs.declared.label.Label.{Label}
-use Rattle.plan_code.specs.declared.label.Swap.{Swap}
-use Rattle.plan_code.specs.declared.label.Swap.TheVariants.{Idle, Within, Perhaps}
-use Rattle.plan_code.specs.declared.instr.Instr.{Instr}
-use Rattle.plan_code.specs.declared.instr.Instr.TheVariants.{Wait, WaitAny, End, Test, Set, Loop}
-use Rattle.plan_code.specs.Program.{Program}
 use Rattle.plan_code.specs.declared.limits.TheConstants.{MOST_CONFIGURATIONS}
-use Rattle.plan_verifier.proofs.Samples.{plan, sub, one_sub}
-use Rattle.plan_verifier.specs.Flows.{Flow, widest, FitsFlow}
-use Rattle.plan_verifier.specs.Rules.{suspends}
-use Rattle.script_front.specs.declared.tree.Act.TheVariants.{Wait as Waits, WaitAny as WaitsAny, Join as Joins}
-use Rattle.script_front.specs.declared.tree.Item.{Item}
-use Rattle.script_front.specs.Block.{Block, nothing, basic, stop, repeat, forever}
-use Rattle.script_front.specs.Tree.{Tree}
-use Rattle.script_front.specs.declared.alternatives.Alternative.{Alternative}
 use Rattle.script_front.specs.declared.moment.MomentForm.TheVariants.{Early}
+use Rattle.mux_config.specs.Configuration.{nothing as no_configuration}
+use Rattle.script_front.specs.declared.tree.Act.TheVariants.{Wait as Waits, WaitAny as WaitsAny, Join as Joins}
 use Rattle.script_front.specs.declared.alternatives.Alternative.TheVariants.{Contact as OfContact, Until as OfMoment}
-use Rattle.script_compiler.specs.declared.flow.UnpricedLabel.{UnpricedLabel}
-use Rattle.script_compiler.specs.declared.flow.ProgramPoint.{ProgramPoint}
-use Rattle.script_compiler.specs.Scheme.{at_label, without_label, falls_out, point_after, all_places, unpriced_labels}
-use Rattle.script_compiler.specs.Judged.{WaysAgree, BranchesAgree, FitsEntry, IsDone, Reached, IsJudged}
-use Rattle.script_compiler.specs.Need.{StepsTo, IsWithinBudget, IsNeed}
-use Rattle.script_compiler.specs.Compiled.{AreFine, IsInTable, Added, Tabled, IsLabelOf, AreLabelsOf, IsCodeOf, CostsItsNeeds, IsAccepted, beginning, lines_of_placed, instrs_of, nested, placed_instrs}
 
 -- ---- values shared by these vectors
 

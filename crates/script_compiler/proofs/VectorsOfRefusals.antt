@@ -1,22 +1,13 @@
--- Test vectors: small scripts that are refused, with the line and the cause, and wrong lines and causes.
-use Rattle.std.proofs.Common.{◌≡◌, ◌≢◌, ℕ, List, [], ◌∷◌, Some, None, inl, inr, refl, ap, arith}
-use Rattle.mux_config.specs.Configuration.{Configuration, nothing as no_configuration}
-use Rattle.mux_config.specs.declared.edit.Edit.TheVariants.{AddSub}
-use Rattle.mux_config.specs.declared.fault.EditFault.TheVariants.{IdUsed}
+-- Test vectors of refusals, and of the result of compiling the block without statements.
+use Rattle.script_compiler.proofs.Words.{[], ◌+◌, ◌∷◌, ◌≡◌, ◌≢◌, ◌≤◌, AddSub, CanCompile, Cause, Compiles, Configuration, Context, Cost, Counters, FitsEntry, HasTable, IdUsed, IfLimitAt, IfMismatchAt, Instr, Instructions, IsInLimits, IsItemRefused, IsLimitAt, IsMismatch, IsOpeningRefused, IsRefused, IsRefusedAfter, IsRefusedIn, Item, JoinIdle, Labels, LacksSpace, Limit, List, Mismatch, None, Ok, ProgramPoint, Refused, Some, Table, Tree, Work, ap, arith, basic, beginning, block_in, false, forever, inl, inr, length, nothing, one_sub, placed_instr, plan, point_after, refl, stop, sub, true, ℕ}
 use Rattle.mux_config.specs.declared.fault.ConfigFault.TheVariants.{Overlap}
 use Rattle.mux_types.specs.declared.parts.Sub.{Sub}
-use Rattle.plan_verifier.proofs.Samples.{plan, sub, one_sub}
-use Rattle.plan_verifier.specs.declared.cause.Cause.{Cause}
-use Rattle.plan_verifier.specs.declared.cause.Cause.TheVariants.{Table, Edit as OfEdit, Config as OfConfig, JoinIdle, Mismatch}
+use Rattle.mux_config.specs.Configuration.{nothing as no_configuration}
+use Rattle.plan_verifier.specs.declared.cause.Cause.TheVariants.{Edit as OfEdit, Config as OfConfig}
 use Rattle.script_front.specs.declared.tree.Act.TheVariants.{Edit as Edits, Wait as Waits, Join as Joins}
-use Rattle.script_front.specs.declared.tree.Item.{Item}
-use Rattle.script_front.specs.Block.{nothing, basic, stop, forever}
-use Rattle.script_front.specs.Tree.{Tree}
-use Rattle.script_compiler.specs.declared.flow.ProgramPoint.{ProgramPoint}
-use Rattle.script_compiler.specs.Scheme.{point_after}
-use Rattle.script_compiler.specs.Judged.{FitsEntry}
-use Rattle.script_compiler.specs.Compiled.{beginning}
-use Rattle.script_compiler.specs.Refused.{IsMismatch, IsRefusedAfter, IsRefusedIn, IsItemRefused, IsOpeningRefused, IsRefused}
+use Rattle.script_compiler.proofs.Emitted.{left_start}
+
+-- ---- test vectors: small scripts that are refused, with the line and the cause, and wrong lines and causes
 
 abbrev start : ProgramPoint
 start = beginning no_configuration
@@ -93,3 +84,53 @@ not_the_opening (inl (inr h)) = by h.1
     by (inl h) = let e : 4 ≡ 3 = h.0 in absurd (omega (arith, e))
     by (inr h) = h.1
 not_the_opening (inr h) = let e : Some IdUsed ≡ None = h.0.1.0 in absurd cc
+
+-- ---- the result of compiling the block without statements, and faults and limits
+
+module _ (c : Context) (w : Work) where
+  no_statements : block_in c [] ≡ nothing
+  no_statements = refl
+
+  -- there is no counter for a ninth repeat
+  nine_repeats : c.counters ≡ 9 → CanCompile c w → ⊥
+  nine_repeats nine can = let few = can.counters in omega (arith, nine, few)
+
+  -- nothing is emitted, and control reaches the end
+  compiled : CanCompile c w → Compiles c nothing nothing w w (Ok true)
+  compiled can = record { left = left_start c.plan.now c.counters nothing w; limits = can.limits }
+
+  goes_on : Compiles c nothing nothing w w (Ok false) → ⊥
+  goes_on h = let leads : Some w.now ≡ None = h.left.leads in cc
+
+  -- ---- limits
+
+  no_code : w.lines.items ≡ [] → HasTable w → IsInLimits w
+  no_code none table = record { room = let n = ap length none in omega (arith, n); table = table }
+
+  one_too_many : length w.lines.items ≡ 4097 → IsInLimits w → ⊥
+  one_too_many many h = let room = h.room in omega (arith, many, room)
+
+  no_space : length w.lines.items ≡ 4096 → LacksSpace Instructions w
+  no_space full p ps at space = let more : length w.lines.items + length (p ∷ ps) ≤ 4096 = space in omega (arith, full, more)
+
+  -- repeats need no space
+  space_for_counters : (i : Instr) → LacksSpace Counters w → ⊥
+  space_for_counters i none = none (placed_instr 0 i 0 w.now) [] refl tt
+
+limit_at_5 : IsLimitAt 5 (λ k. k ≡ Labels) (Limit 5 Labels)
+limit_at_5 = (refl, refl)
+
+limit_at_6 : IsLimitAt 5 (λ k. k ≡ Labels) (Limit 6 Labels) → ⊥
+limit_at_6 h = let same : 6 ≡ 5 = h.0 in omega (arith, same)
+
+mismatch_at_5 : IfMismatchAt 5 (Labels ≡ Labels) (Refused 5 Mismatch)
+mismatch_at_5 = (refl, (refl, refl))
+
+cost_at_5 : IfMismatchAt 5 (Labels ≡ Labels) (Refused 5 Cost) → ⊥
+cost_at_5 h = let same : Cost ≡ Mismatch = h.1.0 in cc
+
+exceeded_at_5 : IfLimitAt 5 (λ k. k ≡ Labels) (Limit 5 Labels)
+exceeded_at_5 = (refl, refl)
+
+exceeded_at_6 : IfLimitAt 5 (λ k. k ≡ Labels) (Limit 6 Labels) → ⊥
+exceeded_at_6 h = let same : 6 ≡ 5 = h.0 in omega (arith, same)

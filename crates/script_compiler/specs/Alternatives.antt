@@ -1,14 +1,17 @@
--- The alternatives of a wait as its instruction has them: the contacts that are to be closed and those that are to be
--- open, as sets, the frame of the day of its moment, and its number of frames. Also the test of a condition.
+-- Statements that are one instruction, and the test of a condition. The alternatives of a wait as its instruction has
+-- them: the contacts that are to be closed and those that are to be open, as sets, the frame of the day of its moment,
+-- and its number of frames.
 use Rattle.std.specs.Prelude.{◌≡◌, ℕ, ◌<◌, Bool, true, false, ◌==◌, ◌&&◌, List, [], ◌∷◌, Option, Some, None}
 use Rattle.std.specs.List.{AllByRecursion, list_any}
 use Rattle.plan_code.specs.declared.flags.Contacts.{Contacts}
 use Rattle.plan_code.specs.declared.instr.Instr.{Instr}
-use Rattle.plan_code.specs.declared.instr.Instr.TheVariants.{Test, TestTime}
+use Rattle.plan_code.specs.declared.instr.Instr.TheVariants.{Wait, Until as UntilFrame, WaitContact, WaitAny, CommitIn, CommitAt, Join, Settle, Edit, Test, TestTime}
 use Rattle.plan_code.specs.declared.limits.TheConstants.{CONTACTS}
 use Rattle.plan_code.specs.Flags.{with_contact, is_in}
 use Rattle.script_front.specs.declared.alternatives.Alternative.{Alternative}
 use Rattle.script_front.specs.declared.alternatives.Alternative.TheVariants.{Contact, Until, Frames}
+use Rattle.script_front.specs.declared.tree.Act.{Act}
+use Rattle.script_front.specs.declared.tree.Act.TheVariants.{Edit as Edits, Wait as Waits, WaitContact as WaitsContact, Until as WaitsUntil, WaitAny as WaitsAny, CommitIn as CommitsIn, CommitAt as CommitsAt, Join as Joins, Settle as Settles}
 use Rattle.script_front.specs.declared.tree.Condition.{Condition}
 use Rattle.script_front.specs.declared.tree.Condition.TheVariants.{Contact as IfContact, Time as IfTime}
 use Rattle.script_front.specs.Times.{frame_at}
@@ -59,6 +62,20 @@ abbrev pub frames_in : List Alternative → Option ℕ
 frames_in [] = None
 frames_in (Frames frames ∷ others) = Some frames
 frames_in (a ∷ others) = frames_in others
+
+-- ---- statements that are one instruction
+
+-- an edit, a wait, a commit, `join` and `settle` act as the instruction of the same name
+abbrev pub instr_of_act : Act → Instr
+instr_of_act (Edits edit) = Edit edit
+instr_of_act (Waits frames) = Wait frames
+instr_of_act (WaitsContact contact closed) = WaitContact contact closed
+instr_of_act (WaitsUntil moment) = UntilFrame (moment_frame moment)
+instr_of_act (WaitsAny all) = WaitAny (contacts_in true all) (contacts_in false all) (moment_in all) (frames_in all)
+instr_of_act (CommitsIn delay) = CommitIn delay
+instr_of_act (CommitsAt count) = CommitAt count
+instr_of_act Joins = Join
+instr_of_act Settles = Settle
 
 -- ---- conditions
 

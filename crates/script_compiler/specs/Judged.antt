@@ -5,7 +5,8 @@ use Rattle.plan_verifier.specs.Rules.{IsFine}
 use Rattle.plan_verifier.specs.Flows.{known_at, after_instr, merged, FitsFlow}
 use Rattle.script_front.specs.Block.{Block, nothing, basic, stop, when, either, repeat, forever, apply}
 use Rattle.script_compiler.specs.declared.flow.ProgramPoint.{ProgramPoint}
-use Rattle.script_compiler.specs.Scheme.{at_label, without_label, meet, join, head, instr_of_act, point_after}
+use Rattle.script_compiler.specs.Alternatives.{instr_of_act}
+use Rattle.script_compiler.specs.Scheme.{at_label, without_label, meet, join, head, point_after}
 
 -- paths that merge both fit what is known at the label there; a single path always does
 abbrev pub WaysAgree : Option ProgramPoint → Option ProgramPoint → Type 0

@@ -7,7 +7,7 @@ use Rattle.plan_code.specs.declared.flags.Contacts.{Contacts}
 use Rattle.plan_code.specs.declared.hold.Hold.{Hold}
 use Rattle.plan_code.specs.declared.hold.Hold.TheVariants.{Running}
 use Rattle.plan_code.specs.declared.instr.Instr.{Instr}
-use Rattle.plan_code.specs.declared.instr.Instr.TheVariants.{End, Edit as DoesEdit, Wait as DoesWait, WaitContact as DoesWaitContact, Until as DoesUntil, WaitAny as DoesWaitAny, CommitIn as DoesCommitIn, CommitAt as DoesCommitAt, Join as DoesJoin, Settle as DoesSettle}
+use Rattle.plan_code.specs.declared.instr.Instr.TheVariants.{End}
 use Rattle.plan_code.specs.declared.plan.Plan.{Plan}
 use Rattle.plan_code.specs.Flags.{is_closed, with_contact}
 use Rattle.plan_code.specs.Program.{Program, IsProgram}
@@ -19,14 +19,12 @@ use Rattle.plan_runs.specs.declared.event.Start.{Start}
 use Rattle.plan_runs.specs.Frames.{is_running, ready, with_next_counts}
 use Rattle.plan_runs.specs.Runs.{StartIsInRange, IsEvent, IsStart, run}
 use Rattle.script_front.specs.declared.tree.Act.{Act}
-use Rattle.script_front.specs.declared.tree.Act.TheVariants.{Edit, Wait, WaitContact, Until, WaitAny, CommitIn, CommitAt, Join, Settle}
 use Rattle.script_front.specs.declared.tree.Condition.{Condition}
 use Rattle.script_front.specs.declared.tree.Condition.TheVariants.{Contact as IfContact, Time as IfTime}
 use Rattle.script_front.specs.Block.{Block, nothing, basic, stop, when, either, repeat, forever, apply}
 use Rattle.script_front.specs.Times.{frame_at}
-use Rattle.script_front.specs.Waits.{moment_frame}
 use Rattle.script_front.specs.Tree.{Tree}
-use Rattle.script_compiler.specs.Alternatives.{contacts_in, moment_in, frames_in}
+use Rattle.script_compiler.specs.Alternatives.{instr_of_act}
 use Rattle.script_compiler.specs.Compiled.{IsCodeOf, body_of, opening_of}
 
 -- ---- the state of a script
@@ -85,18 +83,6 @@ state_of_scene x =
 
 -- ---- one statement
 
--- an edit, a wait, a commit, `join` and `settle` act as the instruction of the same name
-abbrev pub acts_as : Act → Instr
-acts_as (Edit edit) = DoesEdit edit
-acts_as (Wait frames) = DoesWait frames
-acts_as (WaitContact contact closed) = DoesWaitContact contact closed
-acts_as (Until moment) = DoesUntil (moment_frame moment)
-acts_as (WaitAny all) = DoesWaitAny (contacts_in true all) (contacts_in false all) (moment_in all) (frames_in all)
-acts_as (CommitIn delay) = DoesCommitIn delay
-acts_as (CommitAt count) = DoesCommitAt count
-acts_as Join = DoesJoin
-acts_as Settle = DoesSettle
-
 -- the scene after an instruction
 abbrev pub acts : Plan → Instr → Scene → Scene
 acts plan i x = scene_of (effect plan i (state_of_scene x))
@@ -122,7 +108,7 @@ followed (apply line number named rest) more = apply line number named (followed
 abbrev pub first_done : Plan → Block → Scene → Reading
 first_done plan nothing x = reading nothing (acts plan End x)
 first_done plan (stop line rest) x = reading nothing (acts plan End x)
-first_done plan (basic line act rest) x = reading rest (acts plan (acts_as act) x)
+first_done plan (basic line act rest) x = reading rest (acts plan (instr_of_act act) x)
 first_done plan (when line condition first rest) x =
     reading (if holds condition x then followed first rest else rest) x
 first_done plan (either line condition first second rest) x =
@@ -134,7 +120,7 @@ first_done plan (apply line number named rest) x = reading (followed named rest)
 
 -- the first statement does not trap
 abbrev pub IsFineToDo : Plan → Block → Scene → Type 0
-IsFineToDo plan (basic line act rest) x = IsAllowed plan (acts_as act) (state_of_scene x)
+IsFineToDo plan (basic line act rest) x = IsAllowed plan (instr_of_act act) (state_of_scene x)
 IsFineToDo plan _ x = Unit {0}
 
 -- ---- frames and events
@@ -180,8 +166,8 @@ pub record SceneSuffices (plan : Plan) (s : State) : Type 0 where
   pub opened : scene_of (ready s) ≡ opens (scene_of s)
   pub closed : scene_of (with_next_counts plan s) ≡ closes plan (scene_of s)
   pub ended : scene_of (effect plan End s) ≡ acts plan End (scene_of s)
-  pub acted : (a : Act) → scene_of (effect plan (acts_as a) s) ≡ acts plan (acts_as a) (scene_of s)
-  pub allowed : (a : Act) → IsAllowed plan (acts_as a) s ↔ IsAllowed plan (acts_as a) (state_of_scene (scene_of s))
+  pub acted : (a : Act) → scene_of (effect plan (instr_of_act a) s) ≡ acts plan (instr_of_act a) (scene_of s)
+  pub allowed : (a : Act) → IsAllowed plan (instr_of_act a) s ↔ IsAllowed plan (instr_of_act a) (state_of_scene (scene_of s))
 
 abbrev pub ScenesSuffice : Type 0
 ScenesSuffice = (plan : Plan) (s : State) → SceneSuffices plan s

@@ -13,7 +13,8 @@ use Rattle.script_front.specs.declared.tree.Item.{Item}
 use Rattle.script_front.specs.Block.{Block, nothing, basic, stop, when, either, repeat, forever, apply}
 use Rattle.script_front.specs.Tree.{Tree}
 use Rattle.script_compiler.specs.declared.flow.ProgramPoint.{ProgramPoint}
-use Rattle.script_compiler.specs.Scheme.{at_label, without_label, meet, join, head, instr_of_act, point_after}
+use Rattle.script_compiler.specs.Alternatives.{instr_of_act}
+use Rattle.script_compiler.specs.Scheme.{at_label, without_label, meet, join, head, point_after}
 use Rattle.script_compiler.specs.Judged.{IsJudged, WaysAgree, BranchesAgree, FitsEntry}
 use Rattle.script_compiler.specs.Need.{IsWithinBudget}
 use Rattle.script_compiler.specs.Compiled.{AreFine, opening_of, body_of, beginning, placed_instrs, lines_of_placed, instrs_of}
@@ -33,14 +34,7 @@ IsLine (apply at number named rest) line = at ≡ line
 
 -- the first statement is unreachable: `Table`, at its line
 abbrev pub IsUnreached : Block → ℕ → Cause → Type 0
-IsUnreached nothing at given = ⊥
-IsUnreached (basic line act rest) at given = (at ≡ line) × (given ≡ Table)
-IsUnreached (stop line rest) at given = (at ≡ line) × (given ≡ Table)
-IsUnreached (when line condition first rest) at given = (at ≡ line) × (given ≡ Table)
-IsUnreached (either line condition first second rest) at given = (at ≡ line) × (given ≡ Table)
-IsUnreached (repeat line times body rest) at given = (at ≡ line) × (given ≡ Table)
-IsUnreached (forever line body rest) at given = (at ≡ line) × (given ≡ Table)
-IsUnreached (apply line number named rest) at given = (at ≡ line) × (given ≡ Table)
+IsUnreached b at given = IsLine b at × (given ≡ Table)
 
 -- paths that merge, or the end and the entry of a loop, do not agree: `Mismatch`, at the line of the statement
 abbrev pub IsMismatch : ℕ → Type 0 → ℕ → Cause → Type 0

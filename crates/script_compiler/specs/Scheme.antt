@@ -2,13 +2,11 @@
 use Rattle.std.specs.Prelude.{ℕ, ◌+◌, Bool, true, false, if◌then◌else◌, ◌&&◌, ◌||◌, List, [], ◌∷◌, ◌++◌, length, Option, Some, None}
 use Rattle.plan_code.specs.declared.plan.Plan.{Plan}
 use Rattle.plan_code.specs.declared.instr.Instr.{Instr}
-use Rattle.plan_code.specs.declared.instr.Instr.TheVariants.{Wait, Until, WaitContact, WaitAny, CommitIn, CommitAt, Join, Settle, End, Edit, Jump, Set, Loop}
+use Rattle.plan_code.specs.declared.instr.Instr.TheVariants.{End, Jump, Set, Loop}
 use Rattle.plan_verifier.specs.Flows.{Flow, after_instr, merged}
-use Rattle.script_front.specs.declared.tree.Act.{Act}
-use Rattle.script_front.specs.declared.tree.Act.TheVariants.{Edit as Edits, Wait as Waits, WaitContact as WaitsContact, Until as WaitsUntil, WaitAny as WaitsAny, CommitIn as CommitsIn, CommitAt as CommitsAt, Join as Joins, Settle as Settles}
 use Rattle.script_front.specs.Block.{Block, nothing, basic, stop, when, either, repeat, forever, apply}
-use Rattle.script_front.specs.Waits.{moment_frame}
-use Rattle.script_compiler.specs.Alternatives.{contacts_in, moment_in, frames_in, test_of}
+use Rattle.script_compiler.specs.Alternatives.{test_of}
+pub use Rattle.script_compiler.specs.Alternatives.{instr_of_act}
 use Rattle.script_compiler.specs.declared.flow.UnpricedLabel.{UnpricedLabel}
 use Rattle.script_compiler.specs.declared.flow.ProgramPoint.{ProgramPoint}
 
@@ -40,17 +38,6 @@ onward None none some = none
 onward (Some s) none some = some s
 
 -- ---- instructions
-
-abbrev pub instr_of_act : Act → Instr
-instr_of_act (Edits edit) = Edit edit
-instr_of_act (Waits frames) = Wait frames
-instr_of_act (WaitsContact contact closed) = WaitContact contact closed
-instr_of_act (WaitsUntil moment) = Until (moment_frame moment)
-instr_of_act (WaitsAny all) = WaitAny (contacts_in true all) (contacts_in false all) (moment_in all) (frames_in all)
-instr_of_act (CommitsIn delay) = CommitIn delay
-instr_of_act (CommitsAt count) = CommitAt count
-instr_of_act Joins = Join
-instr_of_act Settles = Settle
 
 -- control reaches the end of the block
 abbrev pub falls_out : Block → Bool

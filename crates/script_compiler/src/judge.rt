@@ -5,7 +5,7 @@ ghost use Rattle.mux_config.specs.Configuration.{Configuration};
 ghost use Rattle.plan_verifier.specs.Rules.{IsFine};
 ghost use Rattle.plan_verifier.specs.Flows.{known_at, after_instr};
 ghost use Rattle.plan_verifier.specs.Indexed.{IsTracked};
-ghost use Rattle.script_compiler.specs.Scheme.{instr_of_act};
+ghost use Rattle.script_compiler.specs.Alternatives.{instr_of_act};
 ghost use Rattle.script_compiler.specs.Refusals.{IsRefusedAs};
 
 use crate::fault::CompileFault;

@@ -4,7 +4,8 @@ ghost use Rattle.std.specs.Prelude.{◌≡◌, ◌↔◌, ◌+◌, ◌<◌, true
 ghost use Rattle.plan_verifier.specs.Flows.{known_at, merged, after_instr, FitsFlow};
 ghost use Rattle.plan_verifier.specs.Rules.{IsFine};
 ghost use Rattle.script_compiler.specs.declared.flow.ProgramPoint.{ProgramPoint};
-ghost use Rattle.script_compiler.specs.Scheme.{without_label, meet, instr_of_act};
+ghost use Rattle.script_compiler.specs.Alternatives.{instr_of_act};
+ghost use Rattle.script_compiler.specs.Scheme.{without_label, meet};
 ghost use Rattle.script_compiler.specs.Judged.{WaysAgree};
 ghost use Rattle.script_compiler.specs.Compiled.{beginning};
 ghost use Rattle.script_compiler.specs.Pool.{Extends, IsInPool, point_in};

@@ -1,17 +1,5 @@
 -- Atoms that are not names, profiles, times or decimals in range.
-use Rattle.std.proofs.Common.{◌≡◌, ◌≢◌, ◌⊎◌, inl, inr, ℕ, ◌+◌, ◌*◌, ◌/◌, ◌%◌, ◌<◌, ◌≤◌, true, false, List, [], ◌∷◌, length, get_or, refl, sym, ap, ◌∙◌, subst, arith}
-use Rattle.std.specs.Prelude.{Result, Ok, Err, OnErr}
-use Rattle.std.proofs.lemmas.Bool.{false≢true}
-use Rattle.std.proofs.lemmas.Bool.Decides.{nat_tests}
-use Rattle.std.specs.Char.{is_ascii_digit}
-use Rattle.std.specs.Fmt.{decimal}
-use Rattle.std.proofs.lemmas.Fmt.{decimal_injective}
-use Rattle.mux_eep.specs.declared.sizes.EepSet.{EepSet}
-use Rattle.mux_eep.specs.declared.sizes.EepSet.TheVariants.{A, B}
-use Rattle.mux_eep.specs.Sizes.{Profile}
-use Rattle.script_tokens.specs.Keywords.{IsName}
-use Rattle.script_tokens.specs.Spelling.{set_letter, profile_text, two_digits, time_text}
-use Rattle.script_tokens.specs.Reading.{Spelled, BeginsWith}
+use Rattle.script_tokens.proofs.Words.{[], ◌%◌, ◌*◌, ◌+◌, ◌/◌, ◌<◌, ◌∙◌, ◌∷◌, ◌≡◌, ◌≢◌, ◌≤◌, ◌⊎◌, A, B, BeginsWith, EepSet, Err, IsName, List, Ok, OnErr, Profile, Result, Spelled, ap, arith, decimal, decimal_injective, false, false≢true, get_or, inl, inr, is_ascii_digit, length, nat_tests, profile_text, refl, set_letter, subst, sym, time_text, true, two_digits, ℕ}
 
 -- ---- the first of two lists
 

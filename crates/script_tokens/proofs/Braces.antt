@@ -1,8 +1,5 @@
 -- A brace is not an atom.
-use Rattle.std.proofs.Common.{◌≡◌, ℕ, List, subst}
-use Rattle.script_tokens.specs.declared.token.Kind.TheVariants.{Brace, Letter}
-use Rattle.script_tokens.specs.declared.keyword.Keyword.TheVariants.{OpenBrace, CloseBrace}
-use Rattle.script_tokens.specs.Texts.{AreLetters}
+use Rattle.script_tokens.proofs.Words.{◌≡◌, AreLetters, Brace, CloseBrace, Letter, List, OpenBrace, subst, ℕ}
 use Rattle.script_tokens.specs.Keywords.{letters}
 
 pub no_open : (w : List ℕ) → w ≡ letters OpenBrace → AreLetters w → ⊥

@@ -1,13 +1,7 @@
 -- Readings made of others read as is spelled, where the others do.
-use Rattle.std.proofs.Common.{◌≡◌, ◌⊎◌, inl, inr, ℕ, ◌+◌, ◌<◌, ◌≤◌, Bool, true, false, if◌then◌else◌, [], ◌∷◌, ◌++◌, drop, refl, sym, ap, ◌∙◌, subst, append_assoc, arith}
-use Rattle.std.specs.Prelude.{Option, Some, None}
-use Rattle.std.specs.Fmt.{decimal}
-use Rattle.script_tokens.specs.declared.keyword.Keyword.{Keyword}
-use Rattle.script_tokens.specs.declared.keyword.Keyword.TheVariants.{Closed, Open}
-use Rattle.script_tokens.specs.Keywords.{letters}
-use Rattle.script_tokens.specs.Reading.{Spelled, Reads, is_next, after, keyed, both, giving, built, either, ReadsAsSpelled}
-use Rattle.script_tokens.specs.Spelling.{level_text}
-use Rattle.script_tokens.specs.Taking.{number_at, level_at, ValuesAreRead}
+use Rattle.script_tokens.proofs.Words.{[], ◌++◌, ◌+◌, ◌<◌, ◌∙◌, ◌∷◌, ◌≡◌, ◌≤◌, ◌⊎◌, Bool, Closed, Keyword, None, Open, Option, Reads, ReadsAsSpelled, Some, Spelled, ValuesAreRead, ap, append_assoc, arith, both, built, decimal, drop, either, false, giving, if◌then◌else◌, inl, inr, is_next, keyed, letters, level_text, number_at, refl, subst, sym, true, ℕ}
+use Rattle.script_tokens.specs.Reading.{after}
+use Rattle.script_tokens.specs.Taking.{level_at}
 use Rattle.script_tokens.proofs.Keys.{letters_injective}
 use Rattle.script_tokens.proofs.Taking.{bind_some, next_itself, after_itself, next_begins, after_begins, not_next, number_law, eid_law, sid_law, profile_law, time_law, name_law}
 

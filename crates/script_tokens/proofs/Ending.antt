@@ -1,8 +1,5 @@
 -- The lines of tokens, and the last token of a text.
-use Rattle.std.proofs.Common.{◌≡◌, ℕ, zero, suc, ◌+◌, ◌-◌, min, List, [], ◌∷◌, ◌++◌, length, slice_get, get_or, Some, refl, sym, ap, ◌∙◌, append_assoc, arith}
-use Rattle.std.proofs.Math.Nat.{min-eq_left}
-use Rattle.script_tokens.specs.declared.token.Token.{Token}
-use Rattle.script_tokens.specs.Reading.{AreOnScriptLines, AreLastOf, lines_of, shown_lines, lexemes_of, line_of_left}
+use Rattle.script_tokens.proofs.Words.{[], ◌++◌, ◌+◌, ◌-◌, ◌∙◌, ◌∷◌, ◌≡◌, AreLastOf, AreOnScriptLines, List, Some, Token, ap, append_assoc, arith, get_or, length, lexemes_of, line_of_left, lines_of, min, min-eq_left, refl, shown_lines, slice_get, suc, sym, zero, ℕ}
 
 -- the line of the token at this index
 pub line_at : (k : ℕ) (ts : List Token) (t : Token) → slice_get ts k ≡ Some t → min t.position.line 65535 ≡ get_or (shown_lines ts) k 0

@@ -1,23 +1,19 @@
 -- The first keyword of some tokens: what is found begins them, and what begins them is found.
-use Rattle.std.proofs.Common.{◌≡◌, Bool, true, false, if◌then◌else◌, List, ℕ, [], ◌∷◌, drop, refl, sym, ap, ◌∙◌}
-use Rattle.std.specs.Prelude.{Option, Some, None, IfSome}
-use Rattle.std.specs.Str.{bytes_eq}
-use Rattle.std.proofs.lemmas.Slice.Eq.{bytes_eq-Decides}
-use Rattle.script_tokens.specs.declared.keyword.Keyword.{Keyword}
-use Rattle.script_tokens.specs.declared.keyword.Keyword.TheVariants as the
+use Rattle.script_tokens.proofs.Words.{[], ◌>>=◌, ◌∙◌, ◌∷◌, ◌≡◌, BeginsWith, Bool, FirstKeywordsAreFound, IfSome, IsNoKeyword, Keyword, Lexeme, List, None, Option, Some, Spelled, ap, bytes_eq, bytes_eq-Decides, drop, false, if◌then◌else◌, key_of, keywords, letters, lexeme_among, refl, sym, true, ℕ}
 use Rattle.script_tokens.specs.declared.first_keyword.ComponentKeyword.{ComponentKeyword}
-use Rattle.script_tokens.specs.declared.first_keyword.ComponentKeyword.TheVariants as component
 use Rattle.script_tokens.specs.declared.first_keyword.ItemKeyword.{ItemKeyword}
-use Rattle.script_tokens.specs.declared.first_keyword.ItemKeyword.TheVariants as item
 use Rattle.script_tokens.specs.declared.first_keyword.EditKeyword.{EditKeyword}
-use Rattle.script_tokens.specs.declared.first_keyword.EditKeyword.TheVariants as edit
 use Rattle.script_tokens.specs.declared.first_keyword.ActKeyword.{ActKeyword}
-use Rattle.script_tokens.specs.declared.first_keyword.ActKeyword.TheVariants as act
 use Rattle.script_tokens.specs.declared.first_keyword.StatementKeyword.{StatementKeyword}
-use Rattle.script_tokens.specs.declared.first_keyword.StatementKeyword.TheVariants as statement
 use Rattle.script_tokens.specs.First.{component_keyword, item_keyword, edit_keyword, act_keyword, statement_keyword, statement_of, item_of}
-use Rattle.script_tokens.specs.Keywords.{Lexeme, the as keyword, text as bare, word_of, letters, lexeme_among, keywords, IsNoKeyword}
-use Rattle.script_tokens.specs.Reading.{Spelled, ◌>>=◌, key_of, first_key, first_statement, first_item, BeginsWith, FirstKeywordsAreFound}
+use Rattle.script_tokens.specs.Keywords.{the as keyword, text as bare, word_of}
+use Rattle.script_tokens.specs.Reading.{first_key, first_statement, first_item}
+use Rattle.script_tokens.specs.declared.keyword.Keyword.TheVariants as the
+use Rattle.script_tokens.specs.declared.first_keyword.ComponentKeyword.TheVariants as component
+use Rattle.script_tokens.specs.declared.first_keyword.ItemKeyword.TheVariants as item
+use Rattle.script_tokens.specs.declared.first_keyword.EditKeyword.TheVariants as edit
+use Rattle.script_tokens.specs.declared.first_keyword.ActKeyword.TheVariants as act
+use Rattle.script_tokens.specs.declared.first_keyword.StatementKeyword.TheVariants as statement
 use Rattle.script_tokens.proofs.Keys.{word_the, word_text}
 use Rattle.script_tokens.proofs.Taking.{bind_some}
 

@@ -1,21 +1,11 @@
 -- The keywords of the grammar have different letters.
-use Rattle.std.proofs.Common.{◌≡◌, ◌≢◌, ℕ, true, false, ◌<◌, List, [], ◌∷◌, ◌++◌, refl, sym, ap, ◌∙◌, subst, arith}
-use Rattle.std.specs.Str.{bytes_eq, all_ascii_digits}
+use Rattle.script_tokens.proofs.Words.{[], ◌++◌, ◌<◌, ◌∙◌, ◌∷◌, ◌≡◌, ◌≢◌, Address, Apply, At, Audio, Begin, Bool, Budget, Carry, CloseBrace, Closed, Commit, Component, Contact, Data, Define, Drop, Early, Eep, Else, End, Ensemble, Forever, Groups, If, IfSome, In, IsNoKeyword, IsNoneOf, Join, Keyword, List, Mode, Move, None, Notice, Open, OpenBrace, Option, Or, Packet, Period, Rate, Raw, Repeat, Reserve, Service, Settle, Some, Spelled, Sub, Time, To, TypeWord, Until, Wait, all_ascii_digits, ap, arith, bytes_eq, bytes_eq-Decides, change_keywords, decimal, digits_decimal, false, false≢true, flow_keywords, head_keywords, item_keywords, keywords, level_text, lexeme_among, packet_keywords, refl, subst, sym, text, the, true, wait_keywords, ℕ}
 use denote.Enum.Bare.{sameb}
 use denote.Enum.Declared.{tag_of}
 use Rattle.std.specs.Cmp.{nat_eq_equiv}
 use Rattle.script_tokens.specs.contracts.keyword.Keyword.{the_type}
-use Rattle.std.specs.Prelude.{Bool, Option, Some, None, IfSome}
-use Rattle.std.proofs.lemmas.Bool.{false≢true}
-use Rattle.std.proofs.lemmas.Slice.Eq.{bytes_eq-Decides}
-use Rattle.std.proofs.lemmas.Fmt.{digits_decimal}
+use Rattle.script_tokens.specs.Keywords.{letters, word_of}
 use Rattle.script_tokens.proofs.Digits.{own}
-use Rattle.std.specs.Fmt.{decimal}
-use Rattle.script_tokens.specs.declared.keyword.Keyword.{Keyword}
-use Rattle.script_tokens.specs.declared.keyword.Keyword.TheVariants.{Ensemble, Mode, Period, Notice, Budget, Reserve, Define, Begin, Sub, At, Eep, Service, Audio, In, Data, Carry, Packet, Groups, Raw, TypeWord, Address, Drop, Component, Move, Rate, Wait, Contact, Closed, Open, Until, Early, Or, Time, To, Commit, Join, Settle, End, If, Else, Repeat, Forever, Apply, OpenBrace, CloseBrace}
-use Rattle.script_tokens.specs.Keywords.{the, text, letters, head_keywords, item_keywords, packet_keywords, change_keywords, wait_keywords, flow_keywords, keywords, lexeme_among, word_of, IsNoneOf, IsNoKeyword}
-use Rattle.script_tokens.specs.Reading.{Spelled}
-use Rattle.script_tokens.specs.Spelling.{level_text}
 
 pub word_the : (k : Keyword) → word_of (letters k) ≡ the k
 unfolding letters word_of

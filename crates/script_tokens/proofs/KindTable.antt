@@ -1,10 +1,6 @@
 -- The table of the kinds of bytes.
-use Rattle.std.proofs.Common.{◌≡◌, ℕ, zero, suc, ◌+◌, ◌<◌, ◌==◌, ◌&&◌, Bool, true, List, [], ◌∷◌, length, get_or, refl, ap, ◌∙◌, arith}
-use Rattle.std.proofs.lemmas.Bool.{and_parts, eqb-true}
-use Rattle.script_tokens.specs.declared.token.Kind.{Kind}
-use Rattle.script_tokens.specs.declared.token.Kind.TheVariants.{Blank, LineEnd, Hash, Brace, Letter, Bad}
+use Rattle.script_tokens.proofs.Words.{[], ◌&&◌, ◌+◌, ◌<◌, ◌==◌, ◌∙◌, ◌∷◌, ◌≡◌, Bad, Blank, Bool, Brace, Hash, Kind, Letter, LineEnd, List, and_parts, ap, arith, eqb-true, get_or, kind_numbered, kind_of, length, refl, suc, true, zero, ℕ}
 use Rattle.script_tokens.specs.declared.kinds.TheConstants.{KINDS}
-use Rattle.script_tokens.specs.Bytes.{kind_of, kind_numbered}
 
 abbrev number_of : Kind → ℕ
 number_of Blank = 0

@@ -1,18 +1,6 @@
 -- A step of the lexer: the tokens that it puts before those of the rest.
-use Rattle.std.proofs.Common.{◌≡◌, ◌≢◌, ℕ, ◌+◌, ◌<◌, ◌≤◌, Bool, true, false, cond, List, [], ◌∷◌, ◌++◌, length, get_or, drop, refl, sym, ap, ◌∙◌, add-one, arith}
-use Rattle.std.proofs.Math.Seq.{drop-cons}
-use Rattle.std.proofs.lemmas.List.{append-nil, drop_all}
-use Rattle.std.specs.Prelude.{if◌then◌else◌, Result, Ok, Err}
-use Rattle.script_tokens.specs.declared.token.Token.{Token}
-use Rattle.script_tokens.specs.declared.token.Limits.{Limits}
-use Rattle.script_tokens.specs.declared.token.Inside.{Inside}
-use Rattle.script_tokens.specs.declared.token.Kind.{Kind}
-use Rattle.script_tokens.specs.declared.token.Kind.TheVariants.{Blank, LineEnd, Hash, Brace, Letter, Bad}
-use Rattle.script_tokens.specs.declared.token.Place.{Place}
-use Rattle.script_tokens.specs.declared.fault.ScriptFault.{ScriptFault}
-use Rattle.script_tokens.specs.declared.fault.ScriptFault.TheVariants.{Byte, Number, Expected, Depth, NameUsed, NameUnknown, Limit, Memory}
-use Rattle.script_tokens.specs.Bytes.{kind_of, position_after}
-use Rattle.script_tokens.specs.Lexing.{inside_after, is_bad, IsQuiet, atom_ended, made, fits, added, tokens_before, lexed, Pushes}
+use Rattle.script_tokens.proofs.Words.{[], ◌++◌, ◌+◌, ◌<◌, ◌∙◌, ◌∷◌, ◌≡◌, ◌≢◌, ◌≤◌, Bad, Blank, Bool, Brace, Byte, Depth, Err, Expected, Hash, Inside, IsQuiet, Kind, Letter, Limit, Limits, LineEnd, List, Memory, NameUnknown, NameUsed, Number, Ok, Place, Pushes, Result, ScriptFault, Token, add-one, added, ap, append-nil, arith, atom_ended, cond, drop, drop-cons, drop_all, false, fits, get_or, if◌then◌else◌, inside_after, is_bad, kind_of, length, made, position_after, refl, sym, tokens_before, true, ℕ}
+use Rattle.script_tokens.specs.Lexing.{lexed}
 
 pub cut_at : (bs : List ℕ) (i : ℕ) → i < length bs → drop i bs ≡ get_or bs i 0 ∷ drop (i + 1) bs
 cut_at bs i lt = rw (add-one, drop-cons bs i 0 lt) refl

@@ -14,3 +14,4 @@ pub mod Wording
 pub mod Taking
 pub mod Combining
 pub mod FirstKeywords
+mod Words

@@ -1,8 +1,5 @@
 -- Hexadecimal digits and times, and their values.
-use Rattle.std.proofs.Common.{◌≡◌, ◌⊎◌, inl, inr, sym, take, drop, ℕ, ◌+◌, ◌-◌, ◌*◌, ◌/◌, ◌%◌, ◌<◌, ◌≤◌, List, [], ◌∷◌, ◌++◌, length, get_or, refl, ap, ◌∙◌, lt-ltb, le-ltb, arith}
-use Rattle.std.proofs.lemmas.Bool.{cases_lt}
-use Rattle.std.proofs.lemmas.List.{take_at, drop_at}
-use Rattle.script_tokens.specs.Spelling.{hex_digit, hex_byte, hex_text, hex_long, two_digits, time_text}
+use Rattle.script_tokens.proofs.Words.{[], ◌%◌, ◌*◌, ◌++◌, ◌+◌, ◌-◌, ◌/◌, ◌<◌, ◌∙◌, ◌∷◌, ◌≡◌, ◌≤◌, ◌⊎◌, List, ap, arith, cases_lt, drop, drop_at, get_or, hex_byte, hex_digit, hex_long, hex_text, inl, inr, le-ltb, length, lt-ltb, refl, sym, take, take_at, time_text, two_digits, ℕ}
 
 pub low_digit : (b : ℕ) → 48 ≤ b → b ≤ 57 → b ≡ hex_digit (b - 48)
 low_digit b from to = let lt : b - 48 < 10 = omega arith in rw (lt-ltb (b - 48) 10 lt) (omega arith)

@@ -1,19 +1,6 @@
 -- The lexer cuts a text into the tokens of its pieces.
-use Rattle.std.proofs.Common.{◌≡◌, ◌≢◌, ◌⊎◌, inl, inr, ℕ, ◌+◌, ◌≤◌, Bool, true, false, cond, List, [], ◌∷◌, ◌++◌, length, refl, sym, ap, ◌∙◌, subst, arith}
-use Rattle.std.specs.Prelude.{Result, Ok, Err}
-use Rattle.script_tokens.specs.declared.token.Token.{Token}
-use Rattle.script_tokens.specs.declared.token.Limits.{Limits}
-use Rattle.script_tokens.specs.declared.token.Kind.{Kind}
-use Rattle.script_tokens.specs.declared.token.Kind.TheVariants.{Blank, LineEnd, Hash, Brace, Letter, Bad}
-use Rattle.script_tokens.specs.declared.token.Inside.{Inside}
-use Rattle.script_tokens.specs.declared.token.Inside.TheVariants.{Nothing, Comment, Atom}
-use Rattle.script_tokens.specs.declared.token.Place.{Place}
-use Rattle.script_tokens.specs.declared.fault.ScriptFault.{ScriptFault}
-use Rattle.script_tokens.specs.declared.fault.ScriptFault.TheVariants.{Byte, Limit}
-use Rattle.script_tokens.specs.Bytes.{kind_of, position_after, position_past, first_position, token_at}
-use Rattle.script_tokens.specs.Lexing.{inside_after, is_bad, atom_ended, made, fits, added, tokens_before, lexed}
-use Rattle.script_tokens.specs.Texts.{Piece, blank, comment, brace, atom, text_of, AreLetters, HaveNoLineEnd, CanPrecede, AreText, tokens_of, TokensFit, IsCutInto, TextsAreCut}
-use Rattle.std.proofs.lemmas.Bool.{eqb-true}
+use Rattle.script_tokens.proofs.Words.{[], ◌++◌, ◌+◌, ◌∙◌, ◌∷◌, ◌≡◌, ◌≢◌, ◌≤◌, ◌⊎◌, AreLetters, AreText, Atom, Bad, Blank, Bool, Brace, Byte, CanPrecede, Comment, Err, Hash, HaveNoLineEnd, Inside, IsCutInto, Kind, Letter, Limit, Limits, LineEnd, List, Nothing, Ok, Piece, Place, Result, ScriptFault, TextsAreCut, Token, TokensFit, added, ap, arith, atom, atom_ended, blank, brace, comment, cond, eqb-true, false, first_position, fits, inl, inr, inside_after, is_bad, kind_of, length, made, position_after, position_past, refl, subst, sym, text_of, token_at, tokens_before, tokens_of, true, ℕ}
+use Rattle.script_tokens.specs.Lexing.{lexed}
 use Rattle.script_tokens.proofs.Lexing.{Cuts}
 
 abbrev head_of : List ℕ → ℕ

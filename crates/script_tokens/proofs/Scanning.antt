@@ -1,20 +1,7 @@
 -- A scan of bytes up to the end of the first token.
-use Rattle.std.proofs.Common.{◌≡◌, ◌⊎◌, inl, inr, ℕ, ◌+◌, ◌<◌, ◌≤◌, false, List, [], ◌∷◌, length, get_or, drop, refl, sym, ap, subst, ◌∙◌, arith}
-use Rattle.std.specs.Prelude.{Option, None, Some, Result, Ok, Err}
-use Rattle.std.proofs.lemmas.List.{drop_all}
-use Rattle.script_tokens.specs.declared.token.Token.{Token}
-use Rattle.script_tokens.specs.declared.token.Limits.{Limits}
-use Rattle.script_tokens.specs.declared.token.Inside.{Inside}
-use Rattle.script_tokens.specs.declared.token.Inside.TheVariants.{Nothing, Comment, Atom}
-use Rattle.script_tokens.specs.declared.token.Kind.{Kind}
-use Rattle.script_tokens.specs.declared.token.Kind.TheVariants.{Blank, LineEnd, Hash, Brace, Letter, Bad}
-use Rattle.script_tokens.specs.declared.token.Place.{Place}
+use Rattle.script_tokens.proofs.Words.{[], ◌+◌, ◌<◌, ◌∙◌, ◌∷◌, ◌≡◌, ◌≤◌, ◌⊎◌, Atom, Bad, Blank, Brace, Byte, Comment, Err, FindsFirst, Fits, Hash, Inside, IsFurther, IsPlaceIn, Kind, Letter, Limits, LineEnd, List, None, Nothing, Ok, Option, Place, Result, ScriptFault, Some, Token, ap, arith, drop, drop_all, false, get_or, inl, inr, inside_after, is_bad, kind_of, length, made, position_after, refl, role_of, subst, sym, token_at, tokens_before, ℕ}
 use Rattle.script_tokens.specs.declared.scanner.Role.TheVariants.{Passed, Ends, Brace as IsBrace, Bad as IsBad}
-use Rattle.script_tokens.specs.declared.fault.ScriptFault.{ScriptFault}
-use Rattle.script_tokens.specs.declared.fault.ScriptFault.TheVariants.{Byte}
-use Rattle.script_tokens.specs.Bytes.{kind_of, position_after, token_at}
-use Rattle.script_tokens.specs.Lexing.{inside_after, is_bad, made, tokens_before, lexed}
-use Rattle.script_tokens.specs.Scanning.{role_of, IsPlaceIn, Fits, FindsFirst, IsFurther}
+use Rattle.script_tokens.specs.Lexing.{lexed}
 use Rattle.script_tokens.proofs.Lexing.{Cuts, cut_at}
 
 -- the atom that is looked for begins before the place

@@ -1,19 +1,6 @@
 -- The tokens of a text are in order within the text, and on lines within the limit.
-use Rattle.std.proofs.Common.{◌≡◌, ℕ, ◌+◌, ◌<◌, ◌≤◌, Bool, true, false, cond, List, [], ◌∷◌, ◌++◌, length, refl, sym, ap, ◌∙◌, subst, arith}
-use Rattle.std.specs.Prelude.{Ok, Err}
-use Rattle.std.proofs.lemmas.Bool.Decides.{nat_tests}
-use Rattle.script_tokens.specs.declared.token.Token.{Token}
-use Rattle.script_tokens.specs.declared.token.Limits.{Limits}
-use Rattle.script_tokens.specs.declared.token.Kind.{Kind}
-use Rattle.script_tokens.specs.declared.token.Kind.TheVariants.{Blank, LineEnd, Hash, Brace, Letter, Bad}
-use Rattle.script_tokens.specs.declared.token.Inside.{Inside}
-use Rattle.script_tokens.specs.declared.token.Inside.TheVariants.{Nothing, Comment, Atom}
-use Rattle.script_tokens.specs.declared.token.Place.{Place}
-use Rattle.script_tokens.specs.declared.fault.ScriptFault.TheVariants.{Byte}
-use Rattle.script_tokens.specs.Bytes.{kind_of, position_after, first_position}
-use Rattle.script_tokens.specs.Reading.{AreWithin, AreOnScriptLines}
-use Rattle.script_tokens.specs.Lexing.{inside_after, is_bad, atom_ended, made, fits, tokens_before, lexed, InOrder}
-use Rattle.script_tokens.specs.Texts.{TokensFit}
+use Rattle.script_tokens.proofs.Words.{[], ◌++◌, ◌+◌, ◌<◌, ◌∙◌, ◌∷◌, ◌≡◌, ◌≤◌, AreOnScriptLines, AreWithin, Atom, Bad, Blank, Bool, Brace, Byte, Comment, Err, Hash, InOrder, Inside, Kind, Letter, Limits, LineEnd, List, Nothing, Ok, Place, Token, TokensFit, ap, arith, atom_ended, cond, false, first_position, fits, inside_after, is_bad, kind_of, length, made, nat_tests, position_after, refl, subst, sym, tokens_before, true, ℕ}
+use Rattle.script_tokens.specs.Lexing.{lexed}
 use Rattle.script_tokens.proofs.Lexing.{Cuts}
 use Rattle.script_tokens.proofs.Pieces.{parts, both_fit}
 

@@ -1,24 +1,7 @@
 -- What is read as a value is spelled so, and what is spelled so is read as it.
-use Rattle.std.proofs.Common.{◌≡◌, ◌≢◌, inl, inr, ℕ, ◌+◌, ◌-◌, ◌*◌, ◌/◌, ◌%◌, ◌<◌, ◌≤◌, Bool, true, false, ◌&&◌, if◌then◌else◌, List, [], ◌∷◌, length, drop, refl, sym, ap, ◌∙◌, subst, lt-ltb, le-ltb, arith}
-use Rattle.std.specs.Prelude.{Option, Some, None, nat_le}
-use Rattle.std.specs.Str.{bytes_eq}
-use Rattle.std.specs.Fmt.{decimal}
-use Rattle.std.proofs.lemmas.Bool.{cases_lt, false≢true, le-leb}
-use Rattle.std.proofs.lemmas.Bool.Decides.{nat_tests}
-use Rattle.std.proofs.lemmas.Fmt.{digits_value-decimal}
-use Rattle.std.proofs.lemmas.Slice.Eq.{bytes_eq-Decides}
-use Rattle.mux_eep.specs.declared.sizes.EepSet.{EepSet}
-use Rattle.mux_eep.specs.declared.sizes.EepSet.TheVariants.{A, B}
-use Rattle.mux_eep.specs.Sizes.{Profile}
-use Rattle.mux_types.specs.declared.numbers.Sid.{Sid}
-use Rattle.mux_types.specs.declared.numbers.Sid.TheVariants.{Short, Long}
-use Rattle.mux_config.specs.Configuration.{IsSid}
-use Rattle.script_tokens.specs.declared.keyword.Keyword.{Keyword}
-use Rattle.script_tokens.specs.Keywords.{word_of, letters, has_name_letters, IsNoKeyword, IsName}
-use Rattle.script_tokens.specs.Texts.{AreLetters}
-use Rattle.script_tokens.specs.Reading.{Spelled, Reads, ◌>>=◌, is_next, after, BeginsWith, ReadsAsSpelled}
-use Rattle.script_tokens.specs.Spelling.{hex_digit, hex_text, sid_text, set_letter, profile_text, two_digits, time_text}
-use Rattle.script_tokens.specs.Taking.{number_of, digit_of, four_of, sid_of, set_of, profile_of, two_of, time_of, value_at, is_number, number_at, is_eid, eid_at, is_sid, sid_at, is_profile, profile_at, is_time, time_at, is_bare, is_name, name_next}
+use Rattle.script_tokens.proofs.Words.{[], ◌%◌, ◌&&◌, ◌*◌, ◌+◌, ◌-◌, ◌/◌, ◌<◌, ◌>>=◌, ◌∙◌, ◌∷◌, ◌≡◌, ◌≢◌, ◌≤◌, A, AreLetters, B, BeginsWith, Bool, EepSet, IsName, IsNoKeyword, IsSid, Keyword, List, Long, None, Option, Profile, Reads, ReadsAsSpelled, Short, Sid, Some, Spelled, ap, arith, bytes_eq, bytes_eq-Decides, cases_lt, decimal, digit_of, digits_value-decimal, drop, false, false≢true, four_of, has_name_letters, hex_digit, hex_text, if◌then◌else◌, inl, inr, is_bare, is_eid, is_name, is_number, is_profile, is_sid, is_time, le-leb, le-ltb, length, letters, lt-ltb, nat_le, nat_tests, number_of, profile_of, profile_text, refl, set_letter, set_of, sid_of, sid_text, subst, sym, time_of, time_text, true, two_digits, two_of, word_of, ℕ}
+use Rattle.script_tokens.specs.Reading.{is_next, after}
+use Rattle.script_tokens.specs.Taking.{value_at, number_at, eid_at, sid_at, profile_at, time_at, name_next}
 use Rattle.script_tokens.proofs.Digits.{own}
 use Rattle.script_tokens.proofs.Keys.{word_the, word_text, first_is}
 use Rattle.script_tokens.proofs.Wording.{decimal_letters, hex_letters, sid_letters, profile_letters, time_letters}

@@ -1,21 +1,12 @@
 -- Short texts that have tokens, and some that have none.
-use Rattle.std.proofs.Common.{◌≡◌, List, [], ◌∷◌, refl, arith, Ok}
-use Rattle.std.specs.Prelude.{None, Some}
-use Rattle.script_tokens.specs.declared.token.Token.{Token}
-use Rattle.script_tokens.specs.declared.token.Place.{Place}
-use Rattle.script_tokens.specs.declared.fault.ScriptFault.TheVariants.{Byte}
-use Rattle.script_tokens.specs.Bytes.{first_position, token_at}
+use Rattle.script_tokens.proofs.Words.{[], ◌∷◌, ◌≡◌, AreTokens, Byte, FindsNext, List, None, Ok, Place, Scan, Some, Token, arith, decimal, first_item, first_position, first_statement, number_at, refl, script_limits, token_at, tokens_left}
 use Rattle.script_tokens.specs.Lexing.{lexed}
-use Rattle.script_tokens.specs.Scanning.{Scan, FindsNext, tokens_left}
-use Rattle.script_tokens.specs.Texts.{AreTokens, script_limits}
-use Rattle.script_tokens.proofs.Pieces.{cut_into, not_cut}
-use Rattle.std.specs.Fmt.{decimal}
+use Rattle.script_tokens.specs.Keywords.{letters, word_of}
+use Rattle.script_tokens.specs.Taking.{name_next}
 use Rattle.script_tokens.specs.declared.keyword.Keyword.TheVariants as the
 use Rattle.script_tokens.specs.declared.first_keyword.ItemKeyword.TheVariants as item
 use Rattle.script_tokens.specs.declared.first_keyword.StatementKeyword.TheVariants as statement
-use Rattle.script_tokens.specs.Keywords.{letters, word_of}
-use Rattle.script_tokens.specs.Reading.{first_statement, first_item}
-use Rattle.script_tokens.specs.Taking.{number_at, name_next}
+use Rattle.script_tokens.proofs.Pieces.{cut_into, not_cut}
 use Rattle.script_tokens.proofs.FirstKeywords.{statement_found, item_found}
 use Rattle.script_tokens.proofs.Taking.{number_law, number_out}
 

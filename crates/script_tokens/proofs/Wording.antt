@@ -1,33 +1,9 @@
 -- Which lists of bytes are tokens, each a brace or an atom; the letters of values and names.
-use Rattle.std.proofs.Common.{◌≡◌, ◌⊎◌, inl, inr, ℕ, zero, suc, ◌+◌, ◌/◌, ◌%◌, ◌<◌, ◌≤◌, Bool, true, false, ◌&&◌, ◌||◌, nat_le, if◌then◌else◌, List, [], ◌∷◌, ◌++◌, length, refl, sym, ap, ◌∙◌, subst, lt-ltb, le-ltb, arith}
-use Rattle.std.proofs.lemmas.Bool.{cases_lt, false≢true}
-use Rattle.std.specs.Str.{bytes_eq}
-use Rattle.std.proofs.lemmas.Slice.Eq.{bytes_eq-Decides}
-use Rattle.std.proofs.lemmas.Bool.Decides.{nat_tests}
-use Rattle.std.specs.Fmt.{decimal}
-use Rattle.std.specs.Char.{is_ascii_digit}
-use Rattle.std.specs.Str.{all_ascii_digits}
+use Rattle.script_tokens.proofs.Words.{[], ◌%◌, ◌&&◌, ◌++◌, ◌+◌, ◌/◌, ◌<◌, ◌==◌, ◌||◌, ◌∙◌, ◌∷◌, ◌≡◌, ◌≤◌, ◌⊎◌, A, AreLetters, B, Bad, Blank, Bool, Brace, EepSet, Hash, IsName, IsSid, IsUtf8, Keyword, Kind, Letter, Lexeme, LineEnd, List, Long, Profile, Short, Sid, Spelled, all_ascii_digits, ap, arith, bytes_eq, bytes_eq-Decides, cases_lt, decimal, decimal_nonempty, digits_decimal, eqb-true, false, false≢true, hex_digit, hex_text, if◌then◌else◌, inl, inr, is_ascii_digit, is_lower, is_name_byte, keywords, kind_of, le-ltb, length, lexeme_among, lt-ltb, nat_le, nat_tests, profile_text, refl, set_letter, sid_text, slice_index_or, subst, suc, sym, the, time_text, true, two_digits, zero, ℕ}
 use Rattle.std.specs.List.{list_all}
-use Rattle.std.proofs.lemmas.Fmt.{digits_decimal, decimal_nonempty}
-use Rattle.script_tokens.specs.declared.token.Kind.{Kind}
-use Rattle.script_tokens.specs.declared.token.Kind.TheVariants.{Blank, LineEnd, Hash, Brace, Letter, Bad}
-use Rattle.script_tokens.specs.declared.keyword.Keyword.{Keyword}
-use Rattle.script_tokens.specs.Bytes.{kind_of}
-use Rattle.script_tokens.specs.Texts.{AreLetters}
-use Rattle.script_tokens.specs.Keywords.{Lexeme, the, letters, keywords, lexeme_among, word_of, is_lower, is_name_byte, IsName}
-use Rattle.script_tokens.specs.Spelling.{hex_digit, hex_text, sid_text, set_letter, profile_text, two_digits, time_text}
-use Rattle.mux_eep.specs.declared.sizes.EepSet.{EepSet}
-use Rattle.mux_eep.specs.declared.sizes.EepSet.TheVariants.{A, B}
-use Rattle.mux_eep.specs.Sizes.{Profile}
-use Rattle.mux_types.specs.declared.numbers.Sid.{Sid}
-use Rattle.mux_types.specs.declared.numbers.Sid.TheVariants.{Short, Long}
-use Rattle.mux_config.specs.Configuration.{IsSid}
-use Rattle.std.specs.Prelude.{◌==◌, slice_index_or}
-use Rattle.std.specs.Str.{IsUtf8}
 use Rattle.std.proofs.lemmas.Str.{IsUtf8-from_ascii}
 use Rattle.std.proofs.lemmas.Str.Ascii.{IsAscii-from_all}
-use Rattle.std.proofs.lemmas.Bool.{eqb-true}
-use Rattle.script_tokens.specs.Reading.{Spelled}
+use Rattle.script_tokens.specs.Keywords.{letters, word_of}
 use Rattle.script_tokens.proofs.Digits.{own, digit_range}
 use Rattle.script_tokens.proofs.Keys.{word_the}
 

@@ -1,8 +1,5 @@
-use Rattle.std.proofs.Common.{ap, ◌∙◌, take}
-use Rattle.script_front.specs.Block.{block_of}
-use Rattle.script_compiler.specs.Scheme.{falls_out}
-use Rattle.script_compiler.specs.Emission.{tables, has_no_instr}
-use Rattle.script_compiler.proofs.Blocks.{facts_more}
+use Rattle.script_compiler.proofs.Words.{◌∙◌, ap, block_of, falls_out, has_no_instr, tables, take}
+use Rattle.script_compiler.proofs.Trees.{facts_more}
 use Rattle.script_compiler.proofs.compiler.facts_of.Goals as goal
 
 pub loop-block-preserved : goal.loop-block-preserved

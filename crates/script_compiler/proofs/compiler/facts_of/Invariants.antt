@@ -1,5 +1,4 @@
-use Rattle.std.proofs.Common.{◌≡◌, map, take}
-use Rattle.script_compiler.specs.Emission.{tables, facts_of}
+use Rattle.script_compiler.proofs.Words.{◌≡◌, facts_of, map, tables, take}
 use Rattle.script_compiler.proofs.compiler.facts_of.Given as goal
 
 abbrev pub invariant-loop-block : goal.invariant-loop-block

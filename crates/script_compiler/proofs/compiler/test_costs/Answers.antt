@@ -1,9 +1,5 @@
-use Rattle.std.proofs.Common.{ℕ, ◌<◌, ◌≤◌, ◌+◌, arith}
-use Rattle.plan_verifier.specs.declared.cause.Cause.TheVariants.{Cost}
-use Rattle.script_compiler.specs.Compiled.{instrs_of}
-use Rattle.script_compiler.specs.Costs.{HasCostAt}
-use Rattle.script_compiler.specs.Longest.{longest}
-use Rattle.script_compiler.proofs.Reasons.{refused_here}
+use Rattle.script_compiler.proofs.Words.{◌+◌, ◌<◌, ◌≤◌, Cost, HasCostAt, arith, instrs_of, longest, ℕ}
+use Rattle.script_compiler.proofs.Refusing.{refused_here}
 use Rattle.script_compiler.proofs.Uncosted.{cost_at}
 use Rattle.script_compiler.proofs.compiler.test_costs.Goals as goal
 

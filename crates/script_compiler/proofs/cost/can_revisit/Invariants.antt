@@ -1,5 +1,4 @@
-use Rattle.script_compiler.specs.Compiled.{instrs_of}
-use Rattle.script_compiler.specs.Reaching.{Searched}
+use Rattle.script_compiler.proofs.Words.{Searched, instrs_of}
 use Rattle.script_compiler.proofs.cost.can_revisit.Given as goal
 
 abbrev pub invariant-loop-step : goal.invariant-loop-step

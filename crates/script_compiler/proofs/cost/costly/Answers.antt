@@ -1,4 +1,4 @@
-use Rattle.script_compiler.specs.Compiled.{instrs_of}
+use Rattle.script_compiler.proofs.Words.{instrs_of}
 use Rattle.script_compiler.proofs.Uncosted.{first_costly}
 use Rattle.script_compiler.proofs.cost.costly.Goals as goal
 

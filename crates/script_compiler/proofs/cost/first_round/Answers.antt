@@ -1,9 +1,5 @@
-use Rattle.std.proofs.Common.{◌≡◌, inl, inr, sym, ◌∙◌, arith, subst}
-use Rattle.std.proofs.lemmas.Bool.{cases_lt, false≢true}
-use Rattle.std.proofs.lemmas.Option.{slice_get_within}
-use Rattle.script_compiler.specs.Compiled.{instrs_of}
-use Rattle.script_compiler.specs.Costs.{ClosesCycle}
-use Rattle.script_compiler.proofs.Cycles.{instrs_long}
+use Rattle.script_compiler.proofs.Words.{◌∙◌, ◌≡◌, ClosesCycle, arith, cases_lt, false≢true, inl, inr, instrs_of, slice_get_within, subst, sym}
+use Rattle.script_compiler.proofs.Paths.{instrs_length}
 use Rattle.script_compiler.proofs.cost.first_round.Goals as goal
 
 pub loop-pc-preserved : goal.loop-pc-preserved
@@ -18,5 +14,5 @@ loop-pc-preserved c = λ k lt closes. elim (cases_lt k c.loop-pc.pc) [
 pub returns-clause-none : goal.returns-clause-none
 returns-clause-none c = λ _ k closes.
     let lt = slice_get_within (instrs_of c.args.lines.now) k closes.instr closes.there in
-    let e = instrs_long c.args.lines.now in
+    let e = instrs_length c.args.lines.now in
     c.loop-pc.invariant k (omega (arith, lt, e, c.loop-pc-test.false)) closes

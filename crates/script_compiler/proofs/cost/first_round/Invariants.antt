@@ -1,6 +1,4 @@
-use Rattle.std.proofs.Common.{◌<◌, ℕ}
-use Rattle.script_compiler.specs.Compiled.{instrs_of}
-use Rattle.script_compiler.specs.Costs.{ClosesCycle}
+use Rattle.script_compiler.proofs.Words.{◌<◌, ClosesCycle, instrs_of, ℕ}
 use Rattle.script_compiler.proofs.cost.first_round.Given as goal
 
 abbrev pub invariant-loop-pc : goal.invariant-loop-pc

@@ -1,5 +1,4 @@
-use Rattle.std.proofs.Common.{◌∷◌, [], false, length-append, ap, ◌∙◌, arith, length}
-use Rattle.script_compiler.specs.Reaching.{trues}
+use Rattle.script_compiler.proofs.Words.{[], ◌∙◌, ◌∷◌, ap, arith, false, length, length-append, trues}
 use Rattle.script_compiler.proofs.Cycles.{none_true, none_at}
 use Rattle.script_compiler.proofs.cost.no_flags.Goals as goal
 

@@ -1,5 +1,4 @@
-use Rattle.std.proofs.Common.{◌≡◌, length}
-use Rattle.script_compiler.specs.Reaching.{trues}
+use Rattle.script_compiler.proofs.Words.{◌≡◌, length, trues}
 use Rattle.script_compiler.proofs.cost.no_flags.Given as goal
 
 abbrev pub invariant-loop-place : goal.invariant-loop-place

@@ -1,10 +1,6 @@
-use Rattle.std.proofs.Common.{List, ℕ, ◌∙◌, sym, subst}
-use Rattle.plan_code.specs.declared.instr.Line.{Line}
-use Rattle.script_compiler.specs.Need.{StepsTo}
-use Rattle.script_compiler.specs.Compiled.{instrs_of}
-use Rattle.script_compiler.specs.Reaching.{GrowsBy}
-use Rattle.script_compiler.proofs.Cycles.{instrs_long, search_begins}
-use Rattle.script_compiler.proofs.Paths.{instr_at}
+use Rattle.script_compiler.proofs.Words.{◌∙◌, GrowsBy, Line, List, StepsTo, instrs_of, subst, sym, ℕ}
+use Rattle.script_compiler.proofs.Cycles.{search_begins}
+use Rattle.script_compiler.proofs.Paths.{instrs_length, instr_at}
 use Rattle.script_compiler.proofs.cost.reached_from.Goals as goal
 
 pub returns : goal.returns
@@ -16,4 +12,4 @@ returns c =
     let r = c.add_following.new.self in
     let there = instr_at lines pc line c.index-lines-pc.is c.requires.within in
     let grows = subst (λ (ws : List ℕ). GrowsBy ps r.places.items ws r.waiting.items (StepsTo line.instr pc)) c.new.ensures.items (subst (λ (l : Line). GrowsBy ps r.places.items c.new.result.items r.waiting.items (StepsTo l.instr pc)) (sym c.index-lines-pc.is) c.in_ok-add_following.ensures) in
-    search_begins (instrs_of lines) pc ps r.places.items r.waiting.items line.instr (c.in_ok-no_flags.ensures.long ∙ sym (instrs_long lines)) c.in_ok-no_flags.ensures.count there grows
+    search_begins (instrs_of lines) pc ps r.places.items r.waiting.items line.instr (c.in_ok-no_flags.ensures.long ∙ sym (instrs_length lines)) c.in_ok-no_flags.ensures.count there grows

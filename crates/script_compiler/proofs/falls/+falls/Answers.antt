@@ -1,6 +1,4 @@
-use Rattle.std.proofs.Common.{◌+◌, sym, ap, ◌∙◌, ◌&&◌, drop}
-use Rattle.script_front.specs.Block.{block_of}
-use Rattle.script_compiler.specs.Scheme.{falls_out}
+use Rattle.script_compiler.proofs.Words.{◌&&◌, ◌+◌, ◌∙◌, ap, block_of, drop, falls_out, sym}
 use Rattle.script_compiler.proofs.Trees.{falls_cut, none_left}
 use Rattle.script_compiler.proofs.falls.+falls.Goals as goal
 

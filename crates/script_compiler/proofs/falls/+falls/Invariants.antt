@@ -1,7 +1,4 @@
-use Rattle.std.proofs.Common.{◌≡◌, map, List, drop}
-use Rattle.script_front.specs.Block.{Block, block_of}
-use Rattle.script_compiler.specs.Scheme.{falls_out}
-use Rattle.script_compiler.specs.Emission.{facts_of}
+use Rattle.script_compiler.proofs.Words.{◌≡◌, Block, List, block_of, drop, facts_of, falls_out, map}
 use Rattle.script_compiler.proofs.falls.+falls.Given as goal
 
 abbrev pub invariant-all_fall-loop-statement : goal.invariant-all_fall-loop-statement

@@ -1,6 +1,4 @@
-use Rattle.std.proofs.Common.{◌+◌, sym, ap, ◌∙◌, ◌&&◌, drop}
-use Rattle.script_front.specs.Block.{block_of}
-use Rattle.script_compiler.specs.Emission.{has_no_instr}
+use Rattle.script_compiler.proofs.Words.{◌&&◌, ◌+◌, ◌∙◌, ap, block_of, drop, has_no_instr, sym}
 use Rattle.script_compiler.proofs.Trees.{silent_cut, none_left}
 use Rattle.script_compiler.proofs.falls.all_silent.Goals as goal
 

@@ -1,6 +1,4 @@
-use Rattle.std.proofs.Common.{◌≡◌, map, List, drop}
-use Rattle.script_front.specs.Block.{Block, block_of}
-use Rattle.script_compiler.specs.Emission.{has_no_instr, facts_of}
+use Rattle.script_compiler.proofs.Words.{◌≡◌, Block, List, block_of, drop, facts_of, has_no_instr, map}
 use Rattle.script_compiler.proofs.falls.all_silent.Given as goal
 
 abbrev pub invariant-loop-statement : goal.invariant-loop-statement

@@ -1,6 +1,5 @@
-use Rattle.std.proofs.Common.{◌∙◌, ◌+◌, sym, ap, drop, arith}
-use Rattle.script_compiler.specs.Fingerprint.{mix, mix_all, packet_bits}
-use Rattle.script_compiler.proofs.Printing.{mixed_more, mixed_end}
+use Rattle.script_compiler.proofs.Words.{◌+◌, ◌∙◌, ap, arith, drop, mix, mix_all, packet_bits, sym}
+use Rattle.script_compiler.proofs.Labelling.{mixed_more, mixed_end}
 use Rattle.script_compiler.proofs.fingerprint.mixed_packets.Goals as goal
 
 pub loop-place-preserved : goal.loop-place-preserved

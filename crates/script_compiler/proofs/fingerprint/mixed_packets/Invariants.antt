@@ -1,5 +1,4 @@
-use Rattle.std.proofs.Common.{◌≡◌, drop}
-use Rattle.script_compiler.specs.Fingerprint.{mix_all, packet_bits}
+use Rattle.script_compiler.proofs.Words.{◌≡◌, drop, mix_all, packet_bits}
 use Rattle.script_compiler.proofs.fingerprint.mixed_packets.Given as goal
 
 abbrev pub invariant-loop-place : goal.invariant-loop-place

@@ -1,5 +1,4 @@
-use Rattle.std.proofs.Common.{◌≡◌, drop}
-use Rattle.script_compiler.specs.Fingerprint.{mix_all, component_number, service_bits}
+use Rattle.script_compiler.proofs.Words.{◌≡◌, component_number, drop, mix_all, service_bits}
 use Rattle.script_compiler.proofs.fingerprint.service_bits.Given as goal
 
 abbrev pub invariant-loop-component : goal.invariant-loop-component

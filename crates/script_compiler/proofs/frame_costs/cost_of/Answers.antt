@@ -1,9 +1,4 @@
-use Rattle.std.proofs.Common.{◌≡◌, ◌+◌, subst, arith, ap, get_or}
-use Rattle.std.specs.Prelude.{IfSome}
-use Rattle.script_compiler.specs.Compiled.{instrs_of}
-use Rattle.script_compiler.specs.Costs.{ClosesCycle, IsFirst}
-use Rattle.script_compiler.specs.Longest.{longest}
-use Rattle.script_compiler.specs.Need.{HasPath}
+use Rattle.script_compiler.proofs.Words.{◌+◌, ◌≡◌, ClosesCycle, HasPath, IfSome, IsFirst, ap, arith, get_or, instrs_of, longest, subst}
 use Rattle.script_compiler.proofs.Paths.{has_longest, longest_bound}
 use Rattle.script_compiler.proofs.Uncosted.{line_there}
 use Rattle.script_compiler.proofs.frame_costs.cost_of.Goals as goal

@@ -1,5 +1,4 @@
-use Rattle.std.proofs.Common.{◌≡◌, drop}
-use Rattle.script_compiler.specs.Alternatives.{with_alternatives, contacts_in}
+use Rattle.script_compiler.proofs.Words.{◌≡◌, contacts_in, drop, with_alternatives}
 use Rattle.script_compiler.proofs.instructions.contacts_of.Given as goal
 
 abbrev pub invariant-loop-alternative : goal.invariant-loop-alternative

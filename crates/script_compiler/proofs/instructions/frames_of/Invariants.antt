@@ -1,5 +1,4 @@
-use Rattle.std.proofs.Common.{◌≡◌, drop}
-use Rattle.script_compiler.specs.Alternatives.{frames_in}
+use Rattle.script_compiler.proofs.Words.{◌≡◌, drop, frames_in}
 use Rattle.script_compiler.proofs.instructions.frames_of.Given as goal
 
 abbrev pub invariant-loop-alternative : goal.invariant-loop-alternative

@@ -1,5 +1,4 @@
-use Rattle.std.proofs.Common.{◌≡◌, drop}
-use Rattle.script_compiler.specs.Alternatives.{moment_in}
+use Rattle.script_compiler.proofs.Words.{◌≡◌, drop, moment_in}
 use Rattle.script_compiler.proofs.instructions.moment_of.Given as goal
 
 abbrev pub invariant-loop-alternative : goal.invariant-loop-alternative

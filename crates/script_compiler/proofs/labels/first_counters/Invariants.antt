@@ -1,5 +1,4 @@
-use Rattle.std.proofs.Common.{◌≡◌}
-use Rattle.script_compiler.specs.Compiled.{first_counters}
+use Rattle.script_compiler.proofs.Words.{◌≡◌, first_counters}
 use Rattle.script_compiler.proofs.labels.first_counters.Given as goal
 
 abbrev pub invariant-loop-number : goal.invariant-loop-number

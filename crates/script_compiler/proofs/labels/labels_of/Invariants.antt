@@ -1,5 +1,4 @@
-use Rattle.std.proofs.Common.{◌≡◌, map, take}
-use Rattle.script_compiler.specs.Unpriced.{priced_label}
+use Rattle.script_compiler.proofs.Words.{◌≡◌, map, priced_label, take}
 use Rattle.script_compiler.proofs.labels.labels_of.Given as goal
 
 abbrev pub invariant-loop-unpriced_label : goal.invariant-loop-unpriced_label

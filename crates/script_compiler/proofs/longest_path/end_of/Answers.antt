@@ -1,12 +1,5 @@
-use Rattle.std.proofs.Common.{◌≡◌, ◌+◌, ◌<◌, ℕ, suc, length, Some, sym, ap, ◌∙◌, subst, arith, get_or}
-use Rattle.std.specs.Prelude.{slice_get}
-use Rattle.plan_code.specs.declared.instr.Line.{Line}
-use Rattle.script_compiler.specs.Compiled.{instrs_of}
-use Rattle.script_compiler.specs.Need.{StepsTo}
-use Rattle.script_compiler.specs.FrameCosts.{RunsTo}
-use Rattle.script_compiler.specs.Longest.{need_at}
-use Rattle.script_compiler.proofs.Paths.{instr_at, instrs_length}
-use Rattle.script_compiler.proofs.LongestPaths.{need_somewhere, runs_more, some_within}
+use Rattle.script_compiler.proofs.Words.{◌+◌, ◌<◌, ◌∙◌, ◌≡◌, Line, RunsTo, Some, StepsTo, ap, arith, get_or, instrs_of, length, need_at, slice_get, subst, suc, sym, ℕ}
+use Rattle.script_compiler.proofs.Paths.{instr_at, instrs_length, need_somewhere, runs_more, some_within}
 use Rattle.script_compiler.proofs.longest_path.end_of.Goals as goal
 
 pub loop-step-preserved : goal.loop-step-preserved

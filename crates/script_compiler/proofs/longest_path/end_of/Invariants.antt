@@ -1,6 +1,4 @@
-use Rattle.std.proofs.Common.{◌≡◌, ◌<◌, ◌+◌, length, get_or}
-use Rattle.script_compiler.specs.Compiled.{instrs_of}
-use Rattle.script_compiler.specs.FrameCosts.{RunsTo}
+use Rattle.script_compiler.proofs.Words.{◌+◌, ◌<◌, ◌≡◌, RunsTo, get_or, instrs_of, length}
 use Rattle.script_compiler.proofs.longest_path.end_of.Given as goal
 
 abbrev pub invariant-loop-step : goal.invariant-loop-step

@@ -1,11 +1,5 @@
-use Rattle.std.proofs.Common.{◌≡◌, ◌+◌, ◌<◌, ◌≤◌, ℕ, length, sym, ◌∙◌, subst, arith, get_or}
-use Rattle.std.specs.Prelude.{slice_get}
-use Rattle.script_compiler.specs.Compiled.{instrs_of}
-use Rattle.script_compiler.specs.FrameCosts.{RunsTo}
-use Rattle.script_compiler.specs.Longest.{longest}
-use Rattle.script_compiler.specs.Need.{IsWithinBudget}
-use Rattle.script_compiler.proofs.Paths.{instrs_length, need_same}
-use Rattle.script_compiler.proofs.LongestPaths.{needs_follow, none_longer}
+use Rattle.script_compiler.proofs.Words.{◌+◌, ◌<◌, ◌∙◌, ◌≡◌, ◌≤◌, IsWithinBudget, RunsTo, arith, get_or, instrs_of, length, longest, slice_get, subst, sym, ℕ}
+use Rattle.script_compiler.proofs.Paths.{instrs_length, need_same, needs_follow, none_longer}
 use Rattle.script_compiler.proofs.longest_path.longest_in.Goals as goal
 
 pub end_of-last-requires-clause-needs : goal.end_of-last-requires-clause-needs

@@ -1,4 +1,4 @@
-use Rattle.std.proofs.Common.{ℕ, ◌<◌, ◌≤◌, get_or}
+use Rattle.script_compiler.proofs.Words.{◌<◌, ◌≤◌, get_or, ℕ}
 use Rattle.script_compiler.proofs.needs.first_over.Given as goal
 
 abbrev pub invariant-loop-pc : goal.invariant-loop-pc

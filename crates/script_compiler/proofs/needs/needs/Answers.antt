@@ -1,5 +1,4 @@
-use Rattle.std.proofs.Common.{◌+◌, arith, ap, sym, ◌∙◌, get_or}
-use Rattle.script_compiler.specs.Compiled.{instrs_of}
+use Rattle.script_compiler.proofs.Words.{◌+◌, ◌∙◌, ap, arith, get_or, instrs_of, sym}
 use Rattle.script_compiler.proofs.Paths.{next_round, round_last, longest_bound}
 use Rattle.script_compiler.proofs.needs.needs.Goals as goal
 

@@ -1,6 +1,4 @@
-use Rattle.std.proofs.Common.{◌≡◌, ℕ, get_or}
-use Rattle.script_compiler.specs.Compiled.{instrs_of}
-use Rattle.script_compiler.specs.Longest.{longest}
+use Rattle.script_compiler.proofs.Words.{◌≡◌, get_or, instrs_of, longest, ℕ}
 use Rattle.script_compiler.proofs.needs.needs.Given as goal
 
 abbrev pub invariant-loop-iteration : goal.invariant-loop-iteration

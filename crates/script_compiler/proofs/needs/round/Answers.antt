@@ -1,6 +1,4 @@
-use Rattle.std.proofs.Common.{arith, ◌≡◌, ◌<◌, ◌∙◌, ◌+◌, ℕ, List, ap, get_or, length}
-use Rattle.std.proofs.lemmas.List.{length_push}
-use Rattle.script_compiler.specs.Compiled.{instrs_of}
+use Rattle.script_compiler.proofs.Words.{◌+◌, ◌<◌, ◌∙◌, ◌≡◌, List, ap, arith, get_or, instrs_of, length, length_push, ℕ}
 use Rattle.script_compiler.proofs.Paths.{each_round, instrs_length, round_each}
 use Rattle.script_compiler.proofs.needs.round.Goals as goal
 

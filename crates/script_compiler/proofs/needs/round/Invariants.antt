@@ -1,7 +1,4 @@
-use Rattle.std.proofs.Common.{◌≡◌, ℕ, ◌<◌, length, get_or}
-use Rattle.std.specs.Prelude.{slice_get}
-use Rattle.script_compiler.specs.Compiled.{instrs_of}
-use Rattle.script_compiler.specs.Longest.{need_at}
+use Rattle.script_compiler.proofs.Words.{◌<◌, ◌≡◌, get_or, instrs_of, length, need_at, slice_get, ℕ}
 use Rattle.script_compiler.proofs.needs.round.Given as goal
 
 abbrev pub invariant-loop-pc : goal.invariant-loop-pc

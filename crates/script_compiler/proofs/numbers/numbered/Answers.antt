@@ -1,5 +1,5 @@
-use Rattle.std.proofs.lemmas.Option.{slice_get_within}
-use Rattle.script_compiler.proofs.Pooled.{flow_is, stays_in}
+use Rattle.script_compiler.proofs.Words.{slice_get_within}
+use Rattle.script_compiler.proofs.Labelling.{flow_is, stays_in}
 use Rattle.script_compiler.proofs.numbers.numbered.Goals as goal
 
 pub returns-clause-same : goal.returns-clause-same

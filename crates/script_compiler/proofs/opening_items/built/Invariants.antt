@@ -1,8 +1,5 @@
-use Rattle.std.proofs.Common.{◌≡◌, ℕ, drop}
+use Rattle.script_compiler.proofs.Words.{◌≡◌, AreFine, Cause, IsItemRefused, drop, with_items, ℕ}
 use Rattle.mux_config.specs.Configuration.{nothing}
-use Rattle.plan_verifier.specs.declared.cause.Cause.{Cause}
-use Rattle.script_compiler.specs.Refused.{IsItemRefused}
-use Rattle.script_compiler.specs.Compiled.{with_items, AreFine}
 use Rattle.script_compiler.proofs.opening_items.built.Given as goal
 
 abbrev pub invariant-loop-item : goal.invariant-loop-item

@@ -1,5 +1,5 @@
-use Rattle.std.proofs.Common.{refl, sym}
-use Rattle.script_compiler.proofs.Opened.{opening_why}
+use Rattle.script_compiler.proofs.Words.{refl, sym}
+use Rattle.script_compiler.proofs.Refusing.{opening_why}
 use Rattle.script_compiler.proofs.opening_items.test.Goals as goal
 
 pub returns-in-Err-clause-why : goal.returns-in-Err-clause-why

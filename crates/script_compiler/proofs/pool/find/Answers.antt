@@ -1,6 +1,5 @@
-use Rattle.std.proofs.Common.{◌<◌, ◌≤◌, length, arith}
-use Rattle.std.proofs.lemmas.Bool.{false≢true}
-use Rattle.script_compiler.proofs.Tabling.{none_more, none_by_print, none_of_all, as_many}
+use Rattle.script_compiler.proofs.Words.{◌<◌, ◌≤◌, arith, false≢true, length}
+use Rattle.script_compiler.proofs.Rooms.{none_more, none_by_print, none_of_all, as_many}
 use Rattle.script_compiler.proofs.pool.find.Goals.{then-other-print+else-is_same, else-other-print}
 use Rattle.script_compiler.proofs.pool.find.Goals as goal
 

@@ -1,5 +1,4 @@
-use Rattle.std.proofs.Common.{◌≢◌, ◌<◌, ℕ, Some}
-use Rattle.std.specs.Prelude.{slice_get}
+use Rattle.script_compiler.proofs.Words.{◌<◌, ◌≢◌, Some, slice_get, ℕ}
 use Rattle.script_compiler.proofs.pool.find.Given as goal
 
 abbrev pub invariant-loop-index : goal.invariant-loop-index

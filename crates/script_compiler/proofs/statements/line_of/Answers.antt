@@ -1,6 +1,6 @@
-use Rattle.std.proofs.Common.{refl, sym, subst}
+use Rattle.script_compiler.proofs.Words.{refl, subst, sym}
 use Rattle.script_compiler.specs.Refused.{IsLine}
-use Rattle.script_compiler.proofs.Arms.{is_act, is_end, is_if, is_if_else, is_repeat, is_forever, is_apply}
+use Rattle.script_compiler.proofs.Trees.{is_act, is_end, is_if, is_if_else, is_repeat, is_forever, is_apply}
 use Rattle.script_compiler.proofs.statements.line_of.Goals as goal
 
 pub returns-in-Act : goal.returns-in-Act

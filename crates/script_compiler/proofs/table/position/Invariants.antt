@@ -1,5 +1,4 @@
-use Rattle.std.proofs.Common.{◌≢◌, ◌+◌, ◌≤◌, ℕ, Some, length}
-use Rattle.std.specs.Prelude.{slice_get}
+use Rattle.script_compiler.proofs.Words.{◌+◌, ◌≢◌, ◌≤◌, Some, length, slice_get, ℕ}
 use Rattle.script_compiler.proofs.table.position.Given as goal
 
 abbrev pub invariant-loop-taken : goal.invariant-loop-taken

@@ -1,10 +1,5 @@
-use Rattle.std.proofs.Common.{◌≡◌, ◌<◌, ◌++◌, ◌∷◌, [], List, Some, get_or, length, rules, sym, ap, ◌∙◌}
-use Rattle.std.proofs.lemmas.List.{map_more}
-use Rattle.std.proofs.lemmas.Option.{slice_get-get_or}
-use Rattle.mux_config.specs.Configuration.{Configuration}
-use Rattle.script_compiler.specs.Unpriced.{configuration_at}
-use Rattle.script_compiler.proofs.Labelling.{at_some}
-use Rattle.script_compiler.proofs.Pooled.{below_at}
+use Rattle.script_compiler.proofs.Words.{[], ◌++◌, ◌<◌, ◌∙◌, ◌∷◌, ◌≡◌, Configuration, List, Some, ap, configuration_at, get_or, length, map_more, rules, slice_get-get_or, sym}
+use Rattle.script_compiler.proofs.Labelling.{at_some, below_at}
 use Rattle.script_compiler.proofs.table.select.Goals as goal
 
 pub offset_bounds-configs-number : goal.offset_bounds-configs-number

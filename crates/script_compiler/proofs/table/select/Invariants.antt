@@ -1,5 +1,4 @@
-use Rattle.std.proofs.Common.{◌≡◌, map, take}
-use Rattle.script_compiler.specs.Unpriced.{configuration_at}
+use Rattle.script_compiler.proofs.Words.{◌≡◌, configuration_at, map, take}
 use Rattle.script_compiler.proofs.table.select.Given as goal
 
 abbrev pub invariant-loop-number : goal.invariant-loop-number

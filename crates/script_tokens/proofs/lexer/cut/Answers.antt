@@ -1,9 +1,4 @@
-use Rattle.std.proofs.Common.{sym, ap, ◌∙◌, arith}
-use Rattle.std.proofs.lemmas.Result.{err_from_is_err_and}
-use Rattle.script_tokens.specs.declared.token.Inside.TheVariants.{Nothing}
-use Rattle.script_tokens.specs.declared.token.Kind.TheVariants.{Blank}
-use Rattle.script_tokens.specs.Bytes.{first_position}
-use Rattle.script_tokens.specs.Lexing.{lexed, made, atom_ended}
+use Rattle.script_tokens.proofs.Words.{◌∙◌, Blank, Nothing, ap, arith, atom_ended, err_from_is_err_and, first_position, lexed, made, sym}
 use Rattle.script_tokens.proofs.Lexing.{cut_on, quiet_on, fault_pushed, bad_here, cut_end, fault_at_end, its_fault, follows}
 use Rattle.script_tokens.proofs.Spans.{within}
 use Rattle.script_tokens.proofs.lexer.cut.Goals as goal

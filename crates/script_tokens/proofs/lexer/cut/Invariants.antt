@@ -1,7 +1,4 @@
-use Rattle.std.proofs.Common.{◌≡◌, ◌+◌, ◌≤◌, drop}
-use Rattle.script_tokens.specs.declared.token.Inside.TheVariants.{Nothing}
-use Rattle.script_tokens.specs.Bytes.{first_position}
-use Rattle.script_tokens.specs.Lexing.{lexed}
+use Rattle.script_tokens.proofs.Words.{◌+◌, ◌≡◌, ◌≤◌, Nothing, drop, first_position, lexed}
 use Rattle.script_tokens.proofs.Lexing.{CutSoFar}
 use Rattle.script_tokens.proofs.lexer.cut.Given as goal
 

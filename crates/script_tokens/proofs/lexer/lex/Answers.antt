@@ -1,5 +1,4 @@
-use Rattle.std.proofs.lemmas.Result.{err_from_is_err_and}
-use Rattle.script_tokens.specs.Texts.{script_limits}
+use Rattle.script_tokens.proofs.Words.{err_from_is_err_and, script_limits}
 use Rattle.script_tokens.proofs.Pieces.{not_cut}
 use Rattle.script_tokens.proofs.lexer.lex.Goals as goal
 

@@ -1,8 +1,7 @@
-use Rattle.std.proofs.Common.{◌+◌, ◌*◌, ℕ, length, get_or, subst, refl, sym, ◌∙◌, arith}
-use Rattle.std.proofs.lemmas.Bool.{eqb-true}
+use Rattle.script_tokens.proofs.Words.{◌*◌, ◌+◌, ◌∙◌, arith, eqb-true, get_or, length, refl, subst, sym, ℕ}
 use Rattle.script_tokens.proofs.Digits.{Reading, no_digit, reads_on, found_all, value_small, too_long, empty, zero_first, digit_range, nonzero}
-use Rattle.script_tokens.proofs.number.decimal.Goals as goal
 use Rattle.script_tokens.proofs.number.decimal.Goals.{then-atom-eq48+else-atom-gt1, else-atom-eq48}
+use Rattle.script_tokens.proofs.number.decimal.Goals as goal
 
 pub returns-then-is_empty-clause-none : goal.returns-then-is_empty-clause-none
 returns-then-is_empty-clause-none c = λ e. empty c.args.atom.now (eqb-true _ 0 (sym c.is_empty.ensures ∙ c.if-is_empty.true))

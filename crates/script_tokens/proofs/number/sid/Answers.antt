@@ -1,4 +1,4 @@
-use Rattle.std.proofs.Common.{◌∙◌}
+use Rattle.script_tokens.proofs.Words.{◌∙◌}
 use Rattle.script_tokens.proofs.Numerals.{eight_bytes}
 use Rattle.script_tokens.proofs.number.sid.Goals as goal
 

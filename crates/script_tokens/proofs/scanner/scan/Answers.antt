@@ -1,6 +1,4 @@
-use Rattle.std.proofs.Common.{drop, sym, ◌∙◌, arith}
-use Rattle.script_tokens.specs.declared.token.Inside.TheVariants.{Nothing}
-use Rattle.script_tokens.specs.Lexing.{lexed}
+use Rattle.script_tokens.proofs.Words.{◌∙◌, Nothing, arith, drop, lexed, sym}
 use Rattle.script_tokens.proofs.Lexing.{Cuts, follows}
 use Rattle.script_tokens.proofs.Scanning.{passed_on, stays_open, found_ended, found_brace, bad_found, ended_last, none_found}
 use Rattle.script_tokens.proofs.scanner.scan.Goals as goal

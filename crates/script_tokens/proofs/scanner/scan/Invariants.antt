@@ -1,7 +1,4 @@
-use Rattle.std.proofs.Common.{length, drop, ◌-◌, ◌≡◌}
-use Rattle.script_tokens.specs.Lexing.{lexed}
-use Rattle.script_tokens.specs.Scanning.{IsPlaceIn}
-use Rattle.script_tokens.specs.declared.token.Inside.TheVariants.{Nothing}
+use Rattle.script_tokens.proofs.Words.{◌-◌, ◌≡◌, IsPlaceIn, Nothing, drop, length, lexed}
 use Rattle.script_tokens.proofs.Scanning.{IsOpen}
 use Rattle.script_tokens.proofs.scanner.scan.Given as goal
 

@@ -1,4 +1,4 @@
-use Rattle.std.proofs.Common.{ℕ, List, ◌∷◌, ap, ◌∙◌, arith}
+use Rattle.script_tokens.proofs.Words.{◌∙◌, ◌∷◌, List, ap, arith, ℕ}
 use Rattle.script_tokens.proofs.Atoms.{decimal_below, decimal_above}
 use Rattle.script_tokens.proofs.Taking.{onward, number_next}
 use Rattle.script_tokens.proofs.values.decimal.Goals as goal

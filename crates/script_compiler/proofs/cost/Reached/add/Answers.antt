@@ -1,4 +1,4 @@
-use Rattle.std.proofs.Common.{◌≡◌, ◌<◌, ◌++◌, ◌∷◌, [], false, get_or, length, rules, refl, arith}
+use Rattle.script_compiler.proofs.Words.{[], ◌++◌, ◌<◌, ◌∷◌, ◌≡◌, arith, false, get_or, length, refl, rules}
 use Rattle.script_compiler.proofs.Cycles.{grows_one}
 use Rattle.script_compiler.proofs.cost.Reached.add.Goals as goal
 

@@ -1,6 +1,4 @@
-use Rattle.std.proofs.Common.{◌≡◌, ◌+◌, inl, inr, true, false, Some, sym, ◌∙◌}
-use Rattle.plan_verifier.specs.Rules.{continues, suspends, target_of}
-use Rattle.script_compiler.specs.Need.{StepsTo}
+use Rattle.script_compiler.proofs.Words.{◌+◌, ◌∙◌, ◌≡◌, Some, StepsTo, continues, false, inl, inr, suspends, sym, target_of, true}
 use Rattle.script_compiler.proofs.Cycles.{grows_both}
 use Rattle.script_compiler.proofs.Putting.{on_ok_map}
 use Rattle.script_compiler.proofs.cost.Reached.add_following.Goals as goal

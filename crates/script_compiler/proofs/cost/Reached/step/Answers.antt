@@ -1,12 +1,6 @@
-use Rattle.std.proofs.Common.{◌≡◌, ◌++◌, ◌∷◌, [], ℕ, Option, ap, ◌∙◌, sym, subst, arith}
-use Rattle.std.specs.Option.{option_to_list}
-use Rattle.std.proofs.lemmas.Option.{slice_get_past}
-use Rattle.plan_code.specs.declared.instr.Line.{Line}
-use Rattle.script_compiler.specs.Need.{StepsTo}
-use Rattle.script_compiler.specs.Reaching.{GrowsBy}
-use Rattle.script_compiler.specs.Compiled.{instrs_of}
-use Rattle.script_compiler.proofs.Cycles.{instrs_long, step_by, step_past}
-use Rattle.script_compiler.proofs.Paths.{instr_at}
+use Rattle.script_compiler.proofs.Words.{[], ◌++◌, ◌∙◌, ◌∷◌, ◌≡◌, GrowsBy, Line, Option, StepsTo, ap, arith, instrs_of, option_to_list, slice_get_past, subst, sym, ℕ}
+use Rattle.script_compiler.proofs.Cycles.{step_by, step_past}
+use Rattle.script_compiler.proofs.Paths.{instrs_length, instr_at}
 use Rattle.script_compiler.proofs.cost.Reached.step.Goals as goal
 
 pub returns-in_ok-add_following-clause-onward : goal.returns-in_ok-add_following-clause-onward
@@ -28,6 +22,6 @@ returns-else-place-lines-clause-onward c = λ _ pc n s.
     let ws = c.pop.new.self.items in
     let place = c.in-Some.place in
     let e : old.waiting.items ≡ ws ++ place ∷ [] = c.pop.ensures.items ∙ ap (λ (r : Option ℕ). ws ++ option_to_list r) c.in-Some.is in
-    let long = instrs_long lines in
+    let long = instrs_length lines in
     let without_label = slice_get_past (instrs_of lines) place (omega (arith, c.if-place-lines.false, long)) in
     step_past (instrs_of lines) pc n old.places.items old.waiting.items ws place without_label e s

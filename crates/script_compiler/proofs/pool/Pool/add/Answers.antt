@@ -1,9 +1,5 @@
-use Rattle.std.proofs.Common.{◌≡◌, ◌++◌, ◌∷◌, [], ℕ, Some, rules, sym, ap, ◌∙◌, subst}
-use Rattle.std.specs.Prelude.{slice_get}
-use Rattle.mux_config.specs.Configuration.{Configuration}
-use Rattle.script_compiler.specs.Fingerprint.{Listed}
-use Rattle.script_compiler.specs.Pool.{IsDistinct}
-use Rattle.script_compiler.proofs.Pooled.{distinct_more, prints_push}
+use Rattle.script_compiler.proofs.Words.{[], ◌++◌, ◌∙◌, ◌∷◌, ◌≡◌, Configuration, IsDistinct, Listed, Some, ap, rules, slice_get, subst, sym, ℕ}
+use Rattle.script_compiler.proofs.Labelling.{distinct_more, prints_push}
 use Rattle.script_compiler.proofs.pool.Pool.add.Goals as goal
 
 pub invariant_of-self-else-is_err-2 : goal.invariant_of-self-else-is_err-2

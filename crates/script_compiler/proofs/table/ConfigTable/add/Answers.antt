@@ -1,6 +1,5 @@
-use Rattle.std.proofs.Common.{◌≡◌, ◌<◌, ◌++◌, ◌∷◌, [], ℕ, List, length, rules, sym, subst}
-use Rattle.script_compiler.specs.Pool.{AreBelow, PooledTable}
-use Rattle.script_compiler.proofs.Pooled.{below_push}
+use Rattle.script_compiler.proofs.Words.{[], ◌++◌, ◌<◌, ◌∷◌, ◌≡◌, AreBelow, List, PooledTable, length, rules, subst, sym, ℕ}
+use Rattle.script_compiler.proofs.Labelling.{below_push}
 use Rattle.script_compiler.proofs.table.ConfigTable.add.Goals as goal
 
 pub invariant_of-self-2 : goal.invariant_of-self-2

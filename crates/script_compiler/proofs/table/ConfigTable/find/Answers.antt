@@ -1,8 +1,5 @@
-use Rattle.std.proofs.Common.{◌≡◌, ◌<◌, ℕ, List, Some, length, sym, subst}
-use Rattle.std.specs.Prelude.{slice_get}
-use Rattle.script_compiler.specs.Unpriced.{configuration_at}
-use Rattle.script_compiler.specs.Pool.{PooledTable}
-use Rattle.script_compiler.proofs.Pooled.{none_in_table}
+use Rattle.script_compiler.proofs.Words.{◌<◌, ◌≡◌, List, PooledTable, Some, configuration_at, length, slice_get, subst, sym, ℕ}
+use Rattle.script_compiler.proofs.Labelling.{none_in_table}
 use Rattle.script_compiler.proofs.table.ConfigTable.find.Goals as goal
 
 pub returns-clause-none : goal.returns-clause-none

@@ -1,5 +1,4 @@
-use Rattle.std.proofs.Common.{sym, ◌∙◌, arith}
-use Rattle.script_compiler.specs.Unpriced.{configuration_at}
+use Rattle.script_compiler.proofs.Words.{◌∙◌, arith, configuration_at, sym}
 use Rattle.script_compiler.proofs.Rooms.{full_table}
 use Rattle.script_compiler.proofs.Spaces.{none_of}
 use Rattle.script_compiler.proofs.table.ConfigTable.has_room_for.Goals as goal

@@ -1,5 +1,4 @@
-use Rattle.std.proofs.Common.{◌≡◌, Some, ap, sym, ◌∙◌, arith}
-use Rattle.script_compiler.specs.Unpriced.{configuration_at}
+use Rattle.script_compiler.proofs.Words.{◌∙◌, ◌≡◌, Some, ap, arith, configuration_at, sym}
 use Rattle.script_compiler.proofs.Labelling.{at_within}
 use Rattle.script_compiler.proofs.Rooms.{room_two}
 use Rattle.script_compiler.proofs.Spaces.{none_of, room_left, room_right}

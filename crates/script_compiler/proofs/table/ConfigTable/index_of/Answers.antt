@@ -1,7 +1,5 @@
-use Rattle.std.proofs.Common.{◌≤◌, length, refl, arith}
-use Rattle.script_compiler.specs.Unpriced.{configuration_at}
-use Rattle.script_compiler.proofs.Rooms.{full_table}
-use Rattle.script_compiler.proofs.Tabling.{last_new}
+use Rattle.script_compiler.proofs.Words.{◌≤◌, arith, configuration_at, length, refl}
+use Rattle.script_compiler.proofs.Rooms.{full_table, last_new}
 use Rattle.script_compiler.proofs.table.ConfigTable.index_of.Goals as goal
 
 pub returns-then-index-from-clause-limited : goal.returns-then-index-from-clause-limited

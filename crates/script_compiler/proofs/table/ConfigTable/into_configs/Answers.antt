@@ -1,8 +1,5 @@
-use Rattle.std.proofs.Common.{◌≡◌, ℕ, List, Some, length, take, ap, ◌∙◌, subst}
-use Rattle.std.specs.Prelude.{slice_get}
-use Rattle.mux_config.specs.Configuration.{Configuration}
-use Rattle.script_compiler.specs.Pool.{PooledTable}
-use Rattle.script_compiler.proofs.Pooled.{in_order}
+use Rattle.script_compiler.proofs.Words.{◌∙◌, ◌≡◌, Configuration, List, PooledTable, Some, ap, length, slice_get, subst, take, ℕ}
+use Rattle.script_compiler.proofs.Labelling.{in_order}
 use Rattle.script_compiler.proofs.table.ConfigTable.into_configs.Goals as goal
 
 pub returns-then-is_in_order-clause-value : goal.returns-then-is_in_order-clause-value

@@ -1,6 +1,5 @@
-use Rattle.std.proofs.Common.{length, ap, ◌∙◌}
-use Rattle.script_compiler.specs.Pool.{PooledTable}
-use Rattle.script_compiler.proofs.Pooled.{below_more, extends_length, table_in}
+use Rattle.script_compiler.proofs.Words.{◌∙◌, PooledTable, ap, length}
+use Rattle.script_compiler.proofs.Labelling.{below_more, extends_length, table_in}
 use Rattle.script_compiler.proofs.table.ConfigTable.number_of.Goals as goal
 
 pub invariant_of-self : goal.invariant_of-self

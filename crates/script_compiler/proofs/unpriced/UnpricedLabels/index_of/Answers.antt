@@ -1,6 +1,4 @@
-use Rattle.std.proofs.Common.{ap, ◌∙◌}
-use Rattle.script_compiler.specs.Unpriced.{configuration_at}
-use Rattle.script_compiler.specs.Pool.{UnpricedPool}
+use Rattle.script_compiler.proofs.Words.{◌∙◌, UnpricedPool, ap, configuration_at}
 use Rattle.script_compiler.proofs.Labelling.{kept_marks, kept_within}
 use Rattle.script_compiler.proofs.unpriced.UnpricedLabels.index_of.Goals as goal
 

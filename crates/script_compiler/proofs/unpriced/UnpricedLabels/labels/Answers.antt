@@ -1,11 +1,4 @@
-use Rattle.std.proofs.Common.{List, map, sym, ap, ◌∙◌, subst}
-use Rattle.plan_code.specs.declared.label.Label.{Label}
-use Rattle.script_compiler.specs.Compiled.{AreLabelsOf}
-use Rattle.script_compiler.specs.declared.short.IndexedLabel.{IndexedLabel}
-use Rattle.script_compiler.specs.Longest.{Priced}
-use Rattle.script_compiler.specs.Pool.{UnpricedPool}
-use Rattle.script_compiler.specs.Unpriced.{unpriced_in, priced_label, AreShallow}
-use Rattle.script_compiler.specs.Room.{IsDeepAtMost}
+use Rattle.script_compiler.proofs.Words.{◌∙◌, AreLabelsOf, AreShallow, IndexedLabel, IsDeepAtMost, Label, List, Priced, UnpricedPool, ap, map, priced_label, subst, sym, unpriced_in}
 use Rattle.script_compiler.proofs.Labelling.{labels_at, priced_at, shallow_marks, ok_each}
 use Rattle.script_compiler.proofs.unpriced.UnpricedLabels.labels.Goals as goal
 

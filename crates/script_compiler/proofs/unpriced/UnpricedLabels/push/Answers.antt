@@ -1,7 +1,4 @@
-use Rattle.std.proofs.Common.{◌≡◌, ◌<◌, ◌++◌, ◌∷◌, [], List, length, rules, sym, subst}
-use Rattle.script_compiler.specs.declared.short.IndexedLabel.{IndexedLabel}
-use Rattle.script_compiler.specs.Pool.{UnpricedPool}
-use Rattle.script_compiler.specs.Unpriced.{AreInTable}
+use Rattle.script_compiler.proofs.Words.{[], ◌++◌, ◌<◌, ◌∷◌, ◌≡◌, AreInTable, IndexedLabel, List, UnpricedPool, length, rules, subst, sym}
 use Rattle.script_compiler.proofs.Labelling.{within_push}
 use Rattle.script_compiler.proofs.unpriced.UnpricedLabels.push.Goals as goal
 

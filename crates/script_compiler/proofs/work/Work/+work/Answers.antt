@@ -1,25 +1,12 @@
-use Rattle.std.proofs.Common.{Vec, Global, Err, true, inl, inr, subst, ◌≡◌, ◌+◌, ◌<◌, ◌≤◌, ap, sym, ◌∙◌, refl, take, drop, length, arith}
-use Rattle.std.proofs.lemmas.List.{length-take, at_drop_all}
-use Rattle.std.proofs.lemmas.Bool.{cases_lt, false≢true}
-use Rattle.std.proofs.lemmas.Result.{err_from_is_err_and}
-use Rattle.script_front.specs.declared.tree.Statement.{Statement}
-use Rattle.script_front.specs.Block.{nothing, basic, stop, when, either, repeat, forever, apply, named_at, before, block_of}
-use Rattle.script_compiler.specs.Scheme.{alone}
-use Rattle.script_compiler.specs.declared.fault.CompileFault.{CompileFault}
-use Rattle.script_compiler.specs.Refusals.{IfLimit}
-use Rattle.script_compiler.specs.Space.{CanEmit}
-use Rattle.script_compiler.specs.Emission.{Emits, tables, way}
-use Rattle.script_compiler.specs.Compiling.{Compiled, block_in, statement_in}
-use Rattle.plan_code.specs.declared.instr.Instr.TheVariants.{Set}
-use Rattle.script_compiler.proofs.Weight.{weight, weight_each, tables_at}
-use Rattle.script_compiler.proofs.Arms.{is_act, is_end, is_if, is_if_else, is_repeat, is_forever, is_apply}
-use Rattle.script_compiler.proofs.Steps.{ok_map, act_step, when_step, either_step, repeat_step, forever_step, block_step, facts_length, facts_take, silent_step, unnamed_step}
-use Rattle.script_compiler.proofs.Refusing.{when_first, when_agrees, either_first, either_second, either_saved, either_agrees, some_is, repeat_body, repeat_round, forever_body, forever_round, block_refused, block_unreached}
-use Rattle.script_compiler.proofs.Emitted.{left_start}
-use Rattle.script_compiler.proofs.Reasons.{unreached_at, err_two, when_body_why, when_why, either_first_why, either_second_why, either_why, repeat_body_why, repeat_why, forever_body_why, forever_why, block_why, block_unreached_why}
-use Rattle.script_compiler.proofs.Spaces.{limit_map}
-use Rattle.script_compiler.proofs.Fitting.{block_limited, act_limited, stop_limited, when_limited, either_limited, repeat_limited, repeat_deep, can_when_first, can_when_closed, can_either_first, can_either_turned, can_either_second, can_either_closed, can_repeat_entered, can_repeat_body, can_repeat_closed, can_forever_entered, can_forever_body, can_forever_closed}
-use Rattle.script_compiler.proofs.Compiling.{compiles, fails, fails_at, compiles_as, compiles_applied}
+use Rattle.script_compiler.proofs.Words.{[], ◌++◌, ◌+◌, ◌<◌, ◌∙◌, ◌∷◌, ◌≡◌, ◌≤◌, Block, Bool, CanEmit, ClosesIf, ClosesLoop, CompileFault, Compiled, Context, Emits, Err, Global, IfLimit, IsJudged, IsRefusedIn, Jump, Left, List, Loop, Set, Statement, Table, Vec, Work, alone, ap, apply, arith, at_drop_all, basic, before, block_in, block_of, cases_lt, drop, either, err_from_is_err_and, falls_out, false, false≢true, forever, get_or, if◌then◌else◌, inl, inr, length, length-take, nothing, refl, repeat, statement_in, stop, subst, sym, tables, take, true, way, when, without_label, ℕ}
+use Rattle.script_compiler.proofs.Trees.{weight, weight_each, applied_is, is_act, is_end, is_if, is_if_else, is_repeat, is_forever, is_apply}
+use Rattle.script_compiler.proofs.Steps.{ok_map, ok_true, act_step, left_before, facts_length, facts_take, silent_step, unnamed_step}
+use Rattle.script_compiler.proofs.Refusing.{not_done, refused_here, err_two}
+use Rattle.script_compiler.proofs.Emitted.{left_start, left_then, laid_length, some_is}
+use Rattle.script_compiler.proofs.Fitting.{can_then}
+use Rattle.script_compiler.proofs.Conditionals.{HasFirst, first_whole, first_saved, left_when, first_agrees, when_why, can_when_first, can_when_closed, second_saved, second_agrees, either_why, left_either, can_either_first, can_either_turned, can_either_second, can_either_closed}
+use Rattle.script_compiler.proofs.Loops.{Enters, enters, HasBody, body_saved, end_fits, loop_why, left_repeat, can_repeat_entered, can_repeat_body, can_repeat_closed, repeat_deep, left_forever, can_forever_entered, can_forever_body, can_forever_closed}
+use Rattle.script_compiler.proofs.Compiling.{compiles, fails, fails_at, fails_within, compiles_as, compiles_applied}
 use Rattle.script_compiler.proofs.work.Work.+work.Goals as goal
 
 -- ---- a block
@@ -41,12 +28,21 @@ block-statement-requires t c =
       },
     )
 
+-- at a statement: those before it have been compiled, and it is left with the rest of the block
+at_statement : (x : Context) (ss : List Statement) (k : ℕ) (s : Statement) (v w : Work) (f g : Bool) → s ≡ get_or ss k s → k < length ss → f ≡ g →
+    Compiled x (block_in x ss) (block_in x (drop k ss)) v w f → Left x.plan.now x.counters (block_in x ss) v w g (statement_in x s (block_in x (drop (k + 1) ss)))
+at_statement x ss k s v w f g is lt e h = left_before x.plan.now x.counters (tables x.blocks.now) ss k s v w f g is lt e h.left
+
 pub block-loop-statement-preserved : goal.block-loop-statement-preserved
 block-loop-statement-preserved t c =
-    let k = c.loop-statement.statement-index in
-    let done = c.in_ok-is_reached.ensures (block_in c.args.context (drop (k + 1) c.args.statements.now)) in
+    let x = c.args.context in
+    let w = c.loop-statement in
+    let s = c.statement-item.result in
+    let rest = block_in x (drop (w.statement-index + 1) c.args.statements.now) in
+    let left = at_statement x c.args.statements.now w.statement-index s c.args.self.now w.self w.is_reached true c.statement-item.is c.loop-statement-test.true c.if-not-is_reached.false w.invariant in
+    let done = c.in_ok-is_reached.ensures rest in
     record {
-      left = block_step c.args.context.plan.now c.args.context.counters (tables c.args.context.blocks.now) c.args.statements.now k c.statement-item.result c.args.self.now c.loop-statement.self c.statement.new.self c.loop-statement.is_reached c.in_ok-is_reached.is_reached c.statement-item.is c.loop-statement-test.true c.if-not-is_reached.false c.loop-statement.invariant.left (λ rest. (c.in_ok-is_reached.ensures rest).left);
+      left = left_then x.plan.now x.counters (block_in x c.args.statements.now) (statement_in x s rest) rest c.args.self.now w.self c.statement.new.self c.in_ok-is_reached.is_reached left done.left;
       limits = done.limits;
     }
 
@@ -54,23 +50,28 @@ pub block-returns-then-not-is_reached : goal.block-returns-then-not-is_reached
 block-returns-then-not-is_reached t c =
     let x = c.args.context in
     let w = c.loop-statement in
+    let s = c.statement-item.result in
+    let line = c.line_of.result in
+    let whole = block_in x c.args.statements.now in
+    let rest = block_in x (drop (w.statement-index + 1) c.args.statements.now) in
+    let left = at_statement x c.args.statements.now w.statement-index s c.args.self.now w.self w.is_reached false c.statement-item.is c.loop-statement-test.true c.if-not-is_reached.true w.invariant in
     record {
-      refused = λ is judged. block_unreached x.plan.now x.counters (tables x.blocks.now) c.args.statements.now w.statement-index c.statement-item.result c.args.self.now w.self w.is_reached c.statement-item.is c.loop-statement-test.true c.if-not-is_reached.true w.invariant.left judged;
-      why = block_unreached_why x.plan.now x.counters (tables x.blocks.now) c.args.statements.now w.statement-index c.statement-item.result c.args.self.now w.self w.is_reached c.line_of.result c.refused.result c.refused.ensures c.statement-item.is c.loop-statement-test.true c.if-not-is_reached.true w.invariant.left (λ rest. unreached_at _ c.line_of.result (c.line_of.ensures (tables x.blocks.now) rest));
-      limited = subst (λ (e : CompileFault). IfLimit e (λ _ limit. CanEmit limit x.plan.now x.counters (block_in x c.args.statements.now) c.args.self.now → ⊥)) (sym c.refused.ensures) tt;
+      refused = λ is judged. not_done (tables x.blocks.now) s rest (left.only judged);
+      why = refused_here c.refused.result line Table (λ at given. IsRefusedIn x.plan.now whole c.args.self.now.now at given) c.refused.ensures (left.fails line Table (c.line_of.ensures (tables x.blocks.now) rest, refl));
+      limited = subst (λ (e : CompileFault). IfLimit e (λ _ limit. CanEmit limit x.plan.now x.counters whole c.args.self.now → ⊥)) (sym c.refused.ensures) tt;
     }
 
 pub block-returns-in_err-is_reached : goal.block-returns-in_err-is_reached
 block-returns-in_err-is_reached t c =
     let x = c.args.context in
     let w = c.loop-statement in
-    let h = c.in_err-is_reached.ensures (block_in x (drop (w.statement-index + 1) c.args.statements.now)) in
+    let s = c.statement-item.result in
+    let whole = block_in x c.args.statements.now in
+    let rest = block_in x (drop (w.statement-index + 1) c.args.statements.now) in
+    let left = at_statement x c.args.statements.now w.statement-index s c.args.self.now w.self w.is_reached true c.statement-item.is c.loop-statement-test.true c.if-not-is_reached.false w.invariant in
     let p = err_from_is_err_and c.from_residual.result c.from_residual.ensures.1 in
-    rw (p.1, p.2) (record {
-      refused = λ is judged. block_refused x.plan.now x.counters (tables x.blocks.now) c.args.statements.now w.statement-index c.statement-item.result c.args.self.now w.self w.is_reached c.statement-item.is c.loop-statement-test.true c.if-not-is_reached.false w.invariant.left (λ rest. (c.in_err-is_reached.ensures rest).refused is) judged;
-      why = block_why x.plan.now x.counters (tables x.blocks.now) c.args.statements.now w.statement-index c.statement-item.result c.args.self.now w.self w.is_reached c.in_err-is_reached.field-0.0 c.statement-item.is c.loop-statement-test.true c.if-not-is_reached.false w.invariant.left h.why;
-      limited = limit_map c.in_err-is_reached.field-0.0 (λ at k full can. block_limited k x.plan.now x.counters (tables x.blocks.now) c.args.statements.now w.statement-index c.statement-item.result c.args.self.now w.self w.is_reached c.statement-item.is c.loop-statement-test.true c.if-not-is_reached.false w.invariant.left full can) h.limited;
-    })
+    rw (p.1, p.2) (fails_within x whole c.args.self.now (c.in_err-is_reached.ensures rest) (λ judged. left.only judged) (λ at given k. left.fails at given k)
+    (λ k can. can_then k x.plan.now x.counters whole (statement_in x s rest) c.args.self.now w.self left can))
 
 pub block-returns : goal.block-returns
 block-returns t c =
@@ -89,14 +90,14 @@ statement-returns-in-Act t c = λ rest.
     let act = c.in-Act.act in
     compiles_as x (statement_in x c.args.statement.now rest) (basic line act rest) rest w c.act.new.self c.act.result (is_act (tables x.blocks.now) c.args.statement.now line act c.in-Act.is rest)
     (compiles x (basic line act rest) w rest c.act.new.self c.act.result (act_step x.plan.now x.counters line act rest w c.act.new.self c.act.result c.act.ensures.is_reached c.act.ensures.emits c.act.ensures.now c.act.ensures.fine) c.act.ensures.limits
-    (err_two c.act.result (λ e h g. fails_at x (basic line act rest) w e line h g (λ cause r judged. r.1 judged.0) (λ cause r. inl (refl, r.0)) (λ k full can. act_limited k x.plan.now x.counters line act w full rest can)) c.act.ensures.refused c.act.ensures.limited))
+    (err_two c.act.result (λ e h g. fails_at x (basic line act rest) w e line h g (λ cause r judged. r.1 judged.0) (λ cause r. inl (refl, r.0)) (λ k full can. full _ _ refl can.space)) c.act.ensures.refused c.act.ensures.limited))
 
 pub statement-returns-in-Err : goal.statement-returns-in-Err
 statement-returns-in-Err t c = λ rest.
     let x = c.args.context in
     let w = c.args.self.now in
     compiles_as x (statement_in x c.args.statement.now rest) (stop c.in-End.line rest) rest w c.put.new.self (Err c.in-Err.fault) (is_end (tables x.blocks.now) c.args.statement.now c.in-End.line c.in-End.is rest)
-    (fails x (stop c.in-End.line rest) w c.in-Err.fault c.in-End.line c.in-Err.ensures.limited (λ k full can. stop_limited k x.plan.now x.counters c.in-End.line w full rest can))
+    (fails x (stop c.in-End.line rest) w c.in-Err.fault c.in-End.line c.in-Err.ensures.limited (λ k full can. full _ _ refl can.space))
 
 pub statement-returns-in-If : goal.statement-returns-in-If
 statement-returns-in-If t c = λ rest.
@@ -165,15 +166,11 @@ statement-slice_bounds-inner-end-in-Apply t c =
 pub statement-block-requires : goal.statement-block-requires
 statement-block-requires t c =
     let bs = c.args.context.blocks.now in
-    let table = tables bs in
     let k = c.from-number.result in
-    let lt : k < length bs = omega (arith, c.if-number-context.false) in
-    let at = tables_at bs k c.index-context-number.result c.index-context-number.is lt in
-    let same : c.deref-in-Apply.result.now ≡ c.index-context-number.result.items = c.deref-in-Apply.ensures.value ∙ sym (ap (λ (v : Vec Statement Global). v.items) c.index-context-number.is) in
-    let inner = block_of (tables (take k bs)) c.deref-in-Apply.result.now in
-    let e : before table c.args.statement.now nothing ≡ apply c.in-Apply.line c.in-Apply.block inner nothing =
-    is_apply table c.args.statement.now c.in-Apply.line c.in-Apply.block c.in-Apply.is nothing ∙ ap (λ n. apply c.in-Apply.line c.in-Apply.block (named_at table n) nothing) (sym (c.from-number.ensures ∙ c.get.ensures.value)) ∙ ap (λ b. apply c.in-Apply.line c.in-Apply.block b nothing) at ∙ ap (λ x. apply c.in-Apply.line c.in-Apply.block (block_of (tables (take k bs)) x) nothing) (sym same) in
-    let w : weight (before table c.args.statement.now nothing) ≡ 1 + weight inner + 0 = ap (λ b. weight b) e in (
+    let inner = c.deref-in-Apply.result.now in
+    let same : inner ≡ c.index-context-number.result.items = c.deref-in-Apply.ensures.value ∙ sym (ap (λ (v : Vec Statement Global). v.items) c.index-context-number.is) in
+    let is = applied_is bs c.args.statement.now c.in-Apply.line c.in-Apply.block k c.index-context-number.result inner c.in-Apply.is (c.from-number.ensures ∙ c.get.ensures.value) c.index-context-number.is (omega (arith, c.if-number-context.false)) same nothing in
+    let w : weight (before (tables bs) c.args.statement.now nothing) ≡ 1 + weight (block_of (tables (take k bs)) inner) + 0 = ap (λ b. weight b) is in (
       omega (arith, c.decreases, w),
       record {
         limits = c.requires.limits;
@@ -186,17 +183,12 @@ pub statement-returns-else-context-number : goal.statement-returns-else-context-
 statement-returns-else-context-number t c = λ rest.
     let x = c.args.context in
     let bs = x.blocks.now in
-    let table = tables bs in
     let k = c.from-number.result in
-    let lt : k < length bs = omega (arith, c.if-number-context.false) in
-    let at = tables_at bs k c.index-context-number.result c.index-context-number.is lt in
-    let same : c.deref-in-Apply.result.now ≡ c.index-context-number.result.items = c.deref-in-Apply.ensures.value ∙ sym (ap (λ (v : Vec Statement Global). v.items) c.index-context-number.is) in
-    let inner = block_of (tables (take k bs)) c.deref-in-Apply.result.now in
-    let line = c.in-Apply.line in
-    let number = c.in-Apply.block in
-    compiles_as x (statement_in x c.args.statement.now rest) (apply line number inner rest) rest c.args.self.now c.block.new.self c.block.result
-    (is_apply table c.args.statement.now line number c.in-Apply.is rest ∙ ap (λ n. apply line number (named_at table n) rest) (sym (c.from-number.ensures ∙ c.get.ensures.value)) ∙ ap (λ b. apply line number b rest) at ∙ ap (λ ss. apply line number (block_of (tables (take k bs)) ss) rest) (sym same))
-    (compiles_applied x _ line number inner rest c.args.self.now c.block.new.self c.block.result refl refl c.requires.counters c.block.ensures)
+    let inner = c.deref-in-Apply.result.now in
+    let same : inner ≡ c.index-context-number.result.items = c.deref-in-Apply.ensures.value ∙ sym (ap (λ (v : Vec Statement Global). v.items) c.index-context-number.is) in
+    let is = applied_is bs c.args.statement.now c.in-Apply.line c.in-Apply.block k c.index-context-number.result inner c.in-Apply.is (c.from-number.ensures ∙ c.get.ensures.value) c.index-context-number.is (omega (arith, c.if-number-context.false)) same rest in
+    compiles_as x (statement_in x c.args.statement.now rest) (apply c.in-Apply.line c.in-Apply.block (block_of (tables (take k bs)) inner) rest) rest c.args.self.now c.block.new.self c.block.result is
+    (compiles_applied x _ c.in-Apply.line c.in-Apply.block (block_of (tables (take k bs)) inner) rest c.args.self.now c.block.new.self c.block.result refl refl c.requires.counters c.block.ensures)
 
 -- ---- `if`
 
@@ -204,39 +196,34 @@ pub when-returns-in-Err : goal.when-returns-in-Err
 when-returns-in-Err t c = λ rest.
     let x = c.args.context in
     let first = block_in x c.args.first.now in
-    fails x (when c.args.line c.args.condition.now first rest) c.args.self.now c.in-Err.fault c.args.line c.in-Err.ensures.limited (λ k full can. when_limited k x.plan.now x.counters c.args.line c.args.condition.now first c.args.self.now full rest can)
+    fails x (when c.args.line c.args.condition.now first rest) c.args.self.now c.in-Err.fault c.args.line c.in-Err.ensures.limited (λ k full can. full _ _ refl can.space)
 
 pub when-returns-in-Err-block : goal.when-returns-in-Err-block
 when-returns-in-Err-block t c = λ rest.
     let x = c.args.context in
     let first = block_in x c.args.first.now in
-    let w = c.fork_if.new.self in
     let forks = c.in_default.ensures.forks in
-    let h = c.in-Err-block.ensures in
-    record {
-      refused = λ is judged. h.refused is (when_first x.plan.now x.counters c.args.line c.args.condition.now first rest c.args.self.now w w true forks judged);
-      why = when_body_why x.plan.now x.counters c.args.line c.args.condition.now first rest c.args.self.now w w true c.in-Err-block.fault forks h.why;
-      limited = limit_map c.in-Err-block.fault (λ at k full can. full (can_when_first k x.plan.now x.counters c.args.line c.args.condition.now first rest c.args.self.now w w true forks can)) h.limited;
-    }
+    fails_within x (when c.args.line c.args.condition.now first rest) c.args.self.now c.in-Err-block.ensures
+    (λ judged. subst (λ s. IsJudged x.plan.now first s) (sym forks.now) judged.0)
+    (λ at given k. inl (subst (λ s. IsRefusedIn x.plan.now first s at given) forks.now k))
+    (λ k can. can_when_first c.args.condition.now forks can)
 
 pub when-returns : goal.when-returns
 when-returns t c = λ rest.
     let x = c.args.context in
-    let first = block_in x c.args.first.now in
-    let b = when c.args.line c.args.condition.now first rest in
     let w0 = c.args.self.now in
-    let w2 = c.fork_if.new.self in
-    let w3 = c.block.new.self in
+    let line = c.args.line in
+    let condition = c.args.condition.now in
+    let first = block_in x c.args.first.now in
     let f = c.in-Ok.falls in
     let y = c.close_if.result in
-    let forks = c.in_default.ensures.forks in
-    let left = c.in-Ok.ensures.left in
-    compiles x b w0 rest c.close_if.new.self y
-    (when_step x.plan.now x.counters c.args.line c.args.condition.now c.len-at.result first rest w0 w2 w3 c.close_if.new.self f y c.requires.counters c.len-at.ensures forks left c.close_if.ensures.is_reached c.close_if.ensures.closes) c.close_if.ensures.limits
-    (err_two y (λ e h g. fails_at x b w0 e c.args.line h g
-    (λ cause r judged. r.1 w0.saved.items w0.now (left.emits.saved ∙ forks.saved) (when_agrees x.plan.now x.counters c.args.line c.args.condition.now first rest w0 w2 w3 f forks left judged))
-    (λ cause r. when_why x.plan.now x.counters c.args.line c.args.condition.now first rest w0 w2 w3 f cause forks left r)
-    (λ k full can. can_when_closed k x.plan.now x.counters c.args.line c.args.condition.now first rest w0 w2 w3 f forks left full can)) c.close_if.ensures.refused c.close_if.ensures.limited)
+    let b : HasFirst x.plan.now x.counters line condition first w0 c.fork_if.new.self c.block.new.self f = record { forks = c.in_default.ensures.forks; left = c.in-Ok.ensures.left } in
+    compiles x (when line condition first rest) w0 rest c.close_if.new.self y
+    (ok_true y _ _ c.close_if.ensures.is_reached c.close_if.ensures.closes (λ closes. left_when b c.close_if.new.self rest c.requires.counters (subst (λ n. ClosesIf f line condition n w0.saved.items w0.now c.block.new.self c.close_if.new.self) c.len-at.ensures (closes w0.saved.items w0.now (first_saved b))))) c.close_if.ensures.limits
+    (err_two y (λ e h g. fails_at x (when line condition first rest) w0 e line h g
+    (λ cause r judged. r.1 w0.saved.items w0.now (first_saved b) (first_agrees b judged.1))
+    (λ cause r. when_why b rest cause r)
+    (λ k full can. can_when_closed condition b full can)) c.close_if.ensures.refused c.close_if.ensures.limited)
 
 -- ---- `if` with `else`
 
@@ -245,73 +232,65 @@ either-returns-in-Err t c = λ rest.
     let x = c.args.context in
     let first = block_in x c.args.first.now in
     let second = block_in x c.args.second.now in
-    fails x (either c.args.line c.args.condition.now first second rest) c.args.self.now c.in-Err.fault c.args.line c.in-Err.ensures.limited (λ k full can. either_limited k x.plan.now x.counters c.args.line c.args.condition.now first second c.args.self.now full rest can)
+    fails x (either c.args.line c.args.condition.now first second rest) c.args.self.now c.in-Err.fault c.args.line c.in-Err.ensures.limited (λ k full can. full _ _ refl can.space)
 
 pub either-returns-in-Err-block : goal.either-returns-in-Err-block
 either-returns-in-Err-block t c = λ rest.
     let x = c.args.context in
     let first = block_in x c.args.first.now in
     let second = block_in x c.args.second.now in
-    let w = c.fork_if.new.self in
     let forks = c.in_default.ensures.forks in
-    let h = c.in-Err-block.ensures in
-    record {
-      refused = λ is judged. h.refused is (either_first x.plan.now x.counters c.args.line c.args.condition.now 0 first second rest c.args.self.now w w w w true true forks judged);
-      why = either_first_why x.plan.now x.counters c.args.line c.args.condition.now 0 first second rest c.args.self.now w w w w true true c.in-Err-block.fault forks h.why;
-      limited = limit_map c.in-Err-block.fault (λ at k full can. full (can_either_first k x.plan.now x.counters c.args.line c.args.condition.now first second rest c.args.self.now w w w w true true forks can)) h.limited;
-    }
+    fails_within x (either c.args.line c.args.condition.now first second rest) c.args.self.now c.in-Err-block.ensures
+    (λ judged. subst (λ s. IsJudged x.plan.now first s) (sym forks.now) judged.0)
+    (λ at given k. inl (subst (λ s. IsRefusedIn x.plan.now first s at given) forks.now k))
+    (λ k can. can_either_first c.args.condition.now can forks)
 
 pub either-returns-in-Err-start_else : goal.either-returns-in-Err-start_else
 either-returns-in-Err-start_else t c = λ rest.
     let x = c.args.context in
+    let line = c.args.line in
+    let condition = c.args.condition.now in
     let first = block_in x c.args.first.now in
     let second = block_in x c.args.second.now in
-    let w = c.start_else.new.self in
-    fails x (either c.args.line c.args.condition.now first second rest) c.args.self.now c.in-Err-start_else.fault c.args.line c.in-Err-start_else.ensures.limited (λ k full can. can_either_turned k x.plan.now x.counters c.args.line c.args.condition.now first second rest c.args.self.now c.fork_if.new.self c.block.new.self w w c.in-Ok.falls true c.in_default.ensures.forks c.in-Ok.ensures.left full can)
+    let b : HasFirst x.plan.now x.counters line condition first c.args.self.now c.fork_if.new.self c.block.new.self c.in-Ok.falls = record { forks = c.in_default.ensures.forks; left = c.in-Ok.ensures.left } in
+    fails x (either line condition first second rest) c.args.self.now c.in-Err-start_else.fault line c.in-Err-start_else.ensures.limited (λ k full can. can_either_turned condition can b full)
 
 pub either-returns-in-Err-block-2 : goal.either-returns-in-Err-block-2
 either-returns-in-Err-block-2 t c = λ rest.
     let x = c.args.context in
+    let w0 = c.args.self.now in
+    let line = c.args.line in
+    let condition = c.args.condition.now in
     let first = block_in x c.args.first.now in
     let second = block_in x c.args.second.now in
-    let w0 = c.args.self.now in
-    let w = c.start_else.new.self in
-    let forks = c.in_default.ensures.forks in
-    let left = c.in-Ok.ensures.left in
-    let starts = c.in_default-start_else.ensures.starts_else in
-    let h = c.in-Err-block-2.ensures in
-    record {
-      refused = λ is judged. h.refused is (either_second x.plan.now x.counters c.args.line c.args.condition.now c.len-at.result first second rest w0 c.fork_if.new.self c.block.new.self w w c.in-Ok.falls true forks left starts judged);
-      why = either_second_why x.plan.now x.counters c.args.line c.args.condition.now c.len-at.result first second rest w0 c.fork_if.new.self c.block.new.self w w c.in-Ok.falls true c.in-Err-block-2.fault forks left starts h.why;
-      limited = limit_map c.in-Err-block-2.fault (λ at k full can. full (can_either_second k x.plan.now x.counters c.args.line c.args.condition.now first second rest w0 c.fork_if.new.self c.block.new.self w w c.in-Ok.falls true c.len-at.result forks left starts can)) h.limited;
-    }
+    let b : HasFirst x.plan.now x.counters line condition first w0 c.fork_if.new.self c.block.new.self c.in-Ok.falls = record { forks = c.in_default.ensures.forks; left = c.in-Ok.ensures.left } in
+    let turned = c.in_default-start_else.ensures.starts_else w0.saved.items w0.now (first_saved b) in
+    fails_within x (either line condition first second rest) w0 c.in-Err-block-2.ensures
+    (λ judged. subst (λ s. IsJudged x.plan.now second s) (sym turned.now) judged.1)
+    (λ at given k. inr ((first_whole b).judged, inl (subst (λ s. IsRefusedIn x.plan.now second s at given) turned.now k)))
+    (λ k can. can_either_second condition can b turned)
 
 pub either-returns : goal.either-returns
 either-returns t c = λ rest.
     let x = c.args.context in
+    let w0 = c.args.self.now in
     let line = c.args.line in
-    let at = c.len-at.result in
+    let condition = c.args.condition.now in
     let first = block_in x c.args.first.now in
     let second = block_in x c.args.second.now in
-    let w0 = c.args.self.now in
-    let w2 = c.fork_if.new.self in
     let w3 = c.block.new.self in
-    let w6 = c.start_else.new.self in
-    let w7 = c.block-2.new.self in
     let f = c.in-Ok.falls in
-    let g = c.in-Ok-block.falls in
     let y = c.close_else.result in
-    let forks = c.in_default.ensures.forks in
-    let left = c.in-Ok.ensures.left in
-    let starts = c.in_default-start_else.ensures.starts_else in
+    let b : HasFirst x.plan.now x.counters line condition first w0 c.fork_if.new.self w3 f = record { forks = c.in_default.ensures.forks; left = c.in-Ok.ensures.left } in
+    let turned = c.in_default-start_else.ensures.starts_else w0.saved.items w0.now (first_saved b) in
     let left2 = c.in-Ok-block.ensures.left in
-    compiles x (either line c.args.condition.now first second rest) w0 rest c.close_else.new.self y
-    (ok_map y (λ falls h. either_step x.plan.now x.counters line c.args.condition.now at c.len-jump.result first second w0 w2 w3 w6 w7 c.close_else.new.self f g falls c.requires.counters c.len-at.ensures c.len-jump.ensures forks left starts left2 h rest) c.close_else.ensures.arrives) c.close_else.ensures.limits
-    (err_two y (λ e h l. fails_at x (either line c.args.condition.now first second rest) w0 e line h l
-    (λ cause r judged. r.1 w0.saved.items (way f w3) (some_is f w3) (either_saved x.plan.now x.counters line c.args.condition.now at first second rest w0 w2 w3 w6 w7 f g forks left starts left2)
-    (either_agrees x.plan.now x.counters line c.args.condition.now at first second rest w0 w2 w3 w6 w7 f g forks left starts left2 judged))
-    (λ cause r. either_why x.plan.now x.counters line c.args.condition.now at first second rest w0 w2 w3 w6 w7 f g cause forks left starts left2 r)
-    (λ k full can. can_either_closed k x.plan.now x.counters line c.args.condition.now first second rest w0 w2 w3 w6 w7 f g at forks left starts left2 full can)) c.close_else.ensures.refused c.close_else.ensures.limited)
+    let saved = second_saved b turned left2 in
+    compiles x (either line condition first second rest) w0 rest c.close_else.new.self y
+    (ok_map y (λ falls arrives. left_either b turned left2 c.close_else.new.self falls c.len-jump.result rest c.requires.counters c.len-at.ensures c.len-jump.ensures (arrives w0.saved.items (way f w3) (some_is f w3) saved)) c.close_else.ensures.arrives) c.close_else.ensures.limits
+    (err_two y (λ e h l. fails_at x (either line condition first second rest) w0 e line h l
+    (λ cause r judged. r.1 w0.saved.items (way f w3) (some_is f w3) saved (second_agrees b turned left2 judged.2))
+    (λ cause r. either_why b turned left2 rest cause r)
+    (λ k full can. can_either_closed condition can b turned left2 full)) c.close_else.ensures.refused c.close_else.ensures.limited)
 
 -- ---- `repeat`
 
@@ -330,17 +309,24 @@ repeat-returns-in_err-put t c = λ rest.
     let x = c.args.context in
     let body = block_in x c.args.body.now in
     let p = err_from_is_err_and c.from_residual.result c.from_residual.ensures.1 in
-    rw (p.1, p.2) (fails x (repeat c.args.line c.args.times body rest) c.args.self.now c.in_err-put.field-0.0 c.args.line c.in_err-put.ensures.limited (λ k full can. repeat_limited k x.plan.now x.counters c.args.line c.args.times body c.args.self.now full rest can))
+    rw (p.1, p.2) (fails x (repeat c.args.line c.args.times body rest) c.args.self.now c.in_err-put.field-0.0 c.args.line c.in_err-put.ensures.limited (λ k full can. full _ _ refl can.space))
+
+-- the counter of a `repeat` is set, and its body is entered
+set_emits : (line k n r : ℕ) (v w : Work) → k ≡ r → Emits v w (alone line (Set k n) r v.now) → Emits v w (alone line (Set r n) r v.now)
+set_emits line k n r v w e h = subst (λ m. Emits v w (alone line (Set m n) r v.now)) e h
+
+repeat_entry : (body : Block) (falls : Bool) (line r n : ℕ) (w0 w1 w2 : Work) → Emits w0 w1 (alone line (Set r n) r w0.now) → w1.now ≡ without_label w0.now.flow → falls ≡ falls_out body → w2.lines ≡ w1.lines → w2.unpriced ≡ w1.unpriced →
+    w2.now ≡ record { flow = w1.now.flow; labelled = if falls then true else w1.now.labelled } → w2.saved.items ≡ w1.saved.items ++ w2.now ∷ [] → Enters (length w0.lines.items + 1) body (without_label w0.now.flow) w1 w2
+repeat_entry body falls line r n w0 w1 w2 emits now = enters (length w0.lines.items + 1) body (without_label w0.now.flow) falls w1 w2 (laid_length w0 w1 (alone line (Set r n) r w0.now) emits) now
 
 pub repeat-returns-in_err-enter : goal.repeat-returns-in_err-enter
 repeat-returns-in_err-enter t c = λ rest.
     let x = c.args.context in
     let body = block_in x c.args.body.now in
     let w0 = c.args.self.now in
-    let w = c.enter.new.self in
-    let emits = subst (λ m. Emits w0 c.put.new.self (alone c.args.line (Set m c.args.times) x.counters w0.now)) c.in-Some.ensures.value c.in_ok-put.ensures.emits in
+    let emits = set_emits c.args.line c.in-Some.counter c.args.times x.counters w0 c.put.new.self c.in-Some.ensures.value c.in_ok-put.ensures.emits in
     let p = err_from_is_err_and c.from_residual-in_err-enter.result c.from_residual-in_err-enter.ensures.1 in
-    rw (p.1, p.2) (fails x (repeat c.args.line c.args.times body rest) w0 c.in_err-enter.field-0.0 c.args.line c.in_err-enter.ensures.limited (λ k full can. can_repeat_entered k x.plan.now x.counters c.args.line c.args.times body rest w0 c.put.new.self w w true c.all_fall.result emits c.in_ok-put.ensures.now (c.all_fall.ensures (tables x.blocks.now) c.requires.facts) full can))
+    rw (p.1, p.2) (fails x (repeat c.args.line c.args.times body rest) w0 c.in_err-enter.field-0.0 c.args.line c.in_err-enter.ensures.limited (λ k full can. can_repeat_entered emits c.in_ok-put.ensures.now can c.all_fall.result (c.all_fall.ensures (tables x.blocks.now) c.requires.facts) full))
 
 pub repeat-returns-in_err-falls : goal.repeat-returns-in_err-falls
 repeat-returns-in_err-falls t c = λ rest.
@@ -348,18 +334,15 @@ repeat-returns-in_err-falls t c = λ rest.
     let body = block_in x c.args.body.now in
     let w0 = c.args.self.now in
     let w1 = c.put.new.self in
-    let w = c.enter.new.self in
-    let emits = subst (λ m. Emits w0 w1 (alone c.args.line (Set m c.args.times) x.counters w0.now)) c.in-Some.ensures.value c.in_ok-put.ensures.emits in
+    let emits = set_emits c.args.line c.in-Some.counter c.args.times x.counters w0 w1 c.in-Some.ensures.value c.in_ok-put.ensures.emits in
     let now = c.in_ok-put.ensures.now in
-    let falls = c.all_fall.ensures (tables x.blocks.now) c.requires.facts in
-    let entered = c.in_ok-enter.ensures in
-    let h = c.in_err-falls.ensures in
+    let g = c.in_ok-enter.ensures in
+    let entry = repeat_entry body c.all_fall.result c.args.line x.counters c.args.times w0 w1 c.enter.new.self emits now (c.all_fall.ensures (tables x.blocks.now) c.requires.facts) g.lines g.unpriced g.now g.saved in
     let p = err_from_is_err_and c.from_residual-in_err-falls.result c.from_residual-in_err-falls.ensures.1 in
-    rw (p.1, p.2) (record {
-      refused = λ is judged. h.refused is (repeat_body x.plan.now x.counters c.args.line c.args.times body rest w0 w1 w w true c.all_fall.result now falls entered.now judged);
-      why = repeat_body_why x.plan.now x.counters c.args.line c.args.times body rest w0 w1 w w true c.all_fall.result c.in_err-falls.field-0.0 now falls entered.now h.why;
-      limited = limit_map c.in_err-falls.field-0.0 (λ at k full can. full (can_repeat_body k x.plan.now x.counters c.args.line c.args.times body rest w0 w1 w w true c.all_fall.result emits now falls entered.lines entered.unpriced entered.now can)) h.limited;
-    })
+    rw (p.1, p.2) (fails_within x (repeat c.args.line c.args.times body rest) w0 c.in_err-falls.ensures
+    (λ judged. subst (λ s. IsJudged x.plan.now body s) (sym entry.now) judged.0)
+    (λ at given k. inl (subst (λ s. IsRefusedIn x.plan.now body s at given) entry.now k))
+    (λ k can. can_repeat_body emits now can entry))
 
 pub repeat-returns-in_err-close_loop : goal.repeat-returns-in_err-close_loop
 repeat-returns-in_err-close_loop t c = λ rest.
@@ -368,31 +351,44 @@ repeat-returns-in_err-close_loop t c = λ rest.
     let w0 = c.args.self.now in
     let w1 = c.put.new.self in
     let w2 = c.enter.new.self in
-    let w3 = c.block.new.self in
-    let f = c.in_ok-falls.falls in
-    let e = c.in_err-close_loop.field-0.0 in
-    let emits = subst (λ m. Emits w0 w1 (alone c.args.line (Set m c.args.times) x.counters w0.now)) c.in-Some.ensures.value c.in_ok-put.ensures.emits in
+    let emits = set_emits c.args.line c.in-Some.counter c.args.times x.counters w0 w1 c.in-Some.ensures.value c.in_ok-put.ensures.emits in
     let now = c.in_ok-put.ensures.now in
-    let falls = c.all_fall.ensures (tables x.blocks.now) c.requires.facts in
-    let entered = c.in_ok-enter.ensures in
-    let left = c.in_ok-falls.ensures.left in
+    let g = c.in_ok-enter.ensures in
+    let b : HasBody x.plan.now (x.counters + 1) (length w0.lines.items + 1) body (without_label w0.now.flow) w1 w2 c.block.new.self c.in_ok-falls.falls = record {
+      entry = repeat_entry body c.all_fall.result c.args.line x.counters c.args.times w0 w1 w2 emits now (c.all_fall.ensures (tables x.blocks.now) c.requires.facts) g.lines g.unpriced g.now g.saved;
+      left = c.in_ok-falls.ensures.left;
+    } in
     let h = c.in_err-close_loop.ensures in
     let p = err_from_is_err_and c.from_residual-in_err-close_loop.result c.from_residual-in_err-close_loop.ensures.1 in
-    rw (p.1, p.2) (fails_at x (repeat c.args.line c.args.times body rest) w0 e c.args.line h.refused h.limited
-    (λ cause r judged. r.1 w1.saved.items w2.now (left.emits.saved ∙ entered.saved) (repeat_round x.plan.now x.counters c.args.line c.args.times body rest w0 w1 w2 w3 f c.all_fall.result now falls entered.now left judged))
-    (λ cause r. repeat_why x.plan.now x.counters c.args.line c.args.times body rest w0 w1 w2 w3 f c.all_fall.result cause now falls entered.now entered.saved left r)
-    (λ k full can. can_repeat_closed k x.plan.now x.counters c.args.line c.args.times body rest w0 w1 w2 w3 f c.all_fall.result emits now falls entered.lines entered.unpriced entered.now left full can))
+    rw (p.1, p.2) (fails_at x (repeat c.args.line c.args.times body rest) w0 c.in_err-close_loop.field-0.0 c.args.line h.refused h.limited
+    (λ cause r judged. r.1 w1.saved.items w2.now (body_saved b) (end_fits b judged.1))
+    (λ cause r. loop_why b c.args.line cause r)
+    (λ k full can. can_repeat_closed emits now can b full))
 
 pub repeat-returns : goal.repeat-returns
 repeat-returns t c = λ rest.
     let x = c.args.context in
     let body = block_in x c.args.body.now in
+    let line = c.args.line in
+    let w0 = c.args.self.now in
+    let w1 = c.put.new.self in
+    let w2 = c.enter.new.self in
+    let w3 = c.block.new.self in
+    let w4 = c.close_loop.new.self in
+    let f = c.in_ok-falls.falls in
     let deep : x.counters + 1 ≤ 8 = (let lt : x.counters < 8 = c.in-Some.ensures.in_range.0 refl in omega (arith, lt)) in
-    let entered = c.in_ok-enter.ensures in
+    let emits = set_emits line c.in-Some.counter c.args.times x.counters w0 w1 c.in-Some.ensures.value c.in_ok-put.ensures.emits in
+    let g = c.in_ok-enter.ensures in
+    let b : HasBody x.plan.now (x.counters + 1) (length w0.lines.items + 1) body (without_label w0.now.flow) w1 w2 w3 f = record {
+      entry = repeat_entry body c.all_fall.result line x.counters c.args.times w0 w1 w2 emits c.in_ok-put.ensures.now (c.all_fall.ensures (tables x.blocks.now) c.requires.facts) g.lines g.unpriced g.now g.saved;
+      left = c.in_ok-falls.ensures.left;
+    } in
     let closed = c.in_ok-close_loop.ensures in
+    let target : c.len-target.result ≡ length w0.lines.items + 1 = c.len-target.ensures ∙ laid_length w0 w1 (alone line (Set x.counters c.args.times) x.counters w0.now) emits in
     record {
-      left = repeat_step x.plan.now x.counters c.args.line c.args.times body c.args.self.now c.put.new.self c.enter.new.self c.block.new.self c.close_loop.new.self c.in_ok-falls.falls c.all_fall.result c.len-target.result c.in-Some.counter
-          deep c.in-Some.ensures.value c.in_ok-put.ensures.emits c.in_ok-put.ensures.now c.len-target.ensures (c.all_fall.ensures (tables x.blocks.now) c.requires.facts) entered.lines entered.unpriced entered.now entered.saved c.in_ok-falls.ensures.left closed.round rest;
+      left = left_repeat deep emits b
+          (subst (λ m. ClosesLoop f line (x.counters + 1) (Loop x.counters m) w1.saved.items w2.now w3 w4) target
+          (subst (λ m. ClosesLoop f line (x.counters + 1) (Loop m c.len-target.result) w1.saved.items w2.now w3 w4) c.in-Some.ensures.value (closed.round w1.saved.items w2.now (body_saved b)))) rest;
       limits = closed.limits;
     }
 
@@ -401,24 +397,23 @@ repeat-returns t c = λ rest.
 pub forever-returns-in-Err : goal.forever-returns-in-Err
 forever-returns-in-Err t c = λ rest.
     let x = c.args.context in
-    let body = block_in x c.args.body.now in
-    let w = c.enter.new.self in
-    fails x (forever c.args.line body rest) c.args.self.now c.in-Err.fault c.args.line c.in-Err.ensures.limited (λ k full can. can_forever_entered k x.plan.now x.counters c.args.line body rest c.args.self.now w w true c.all_fall.result (c.all_fall.ensures (tables x.blocks.now) c.requires.facts) full can)
+    fails x (forever c.args.line (block_in x c.args.body.now) rest) c.args.self.now c.in-Err.fault c.args.line c.in-Err.ensures.limited (λ k full can. can_forever_entered can c.all_fall.result (c.all_fall.ensures (tables x.blocks.now) c.requires.facts) full)
+
+-- the body of a `forever` is entered
+forever_entry : (body : Block) (falls : Bool) (w0 w2 : Work) → falls ≡ falls_out body → w2.lines ≡ w0.lines → w2.unpriced ≡ w0.unpriced → w2.now ≡ record { flow = w0.now.flow; labelled = if falls then true else w0.now.labelled } → w2.saved.items ≡ w0.saved.items ++ w2.now ∷ [] → Enters (length w0.lines.items) body w0.now w0 w2
+forever_entry body falls w0 w2 = enters (length w0.lines.items) body w0.now falls w0 w2 refl refl
 
 pub forever-returns-in-Err-block : goal.forever-returns-in-Err-block
 forever-returns-in-Err-block t c = λ rest.
     let x = c.args.context in
     let body = block_in x c.args.body.now in
     let w0 = c.args.self.now in
-    let w = c.enter.new.self in
-    let falls = c.all_fall.ensures (tables x.blocks.now) c.requires.facts in
-    let entered = c.in_default.ensures in
-    let h = c.in-Err-block.ensures in
-    record {
-      refused = λ is judged. h.refused is (forever_body x.plan.now x.counters c.args.line body rest w0 w w true c.all_fall.result falls entered.now judged);
-      why = forever_body_why x.plan.now x.counters c.args.line body rest w0 w w true c.all_fall.result c.in-Err-block.fault falls entered.now h.why;
-      limited = limit_map c.in-Err-block.fault (λ at k full can. full (can_forever_body k x.plan.now x.counters c.args.line body rest w0 w w true c.all_fall.result falls entered.lines entered.unpriced entered.now can)) h.limited;
-    }
+    let g = c.in_default.ensures in
+    let entry = forever_entry body c.all_fall.result w0 c.enter.new.self (c.all_fall.ensures (tables x.blocks.now) c.requires.facts) g.lines g.unpriced g.now g.saved in
+    fails_within x (forever c.args.line body rest) w0 c.in-Err-block.ensures
+    (λ judged. subst (λ s. IsJudged x.plan.now body s) (sym entry.now) judged.0)
+    (λ at given k. inl (subst (λ s. IsRefusedIn x.plan.now body s at given) entry.now k))
+    (λ k can. can_forever_body can entry)
 
 pub forever-returns-in-Err-close_loop : goal.forever-returns-in-Err-close_loop
 forever-returns-in-Err-close_loop t c = λ rest.
@@ -426,26 +421,30 @@ forever-returns-in-Err-close_loop t c = λ rest.
     let body = block_in x c.args.body.now in
     let w0 = c.args.self.now in
     let w2 = c.enter.new.self in
-    let w3 = c.block.new.self in
-    let f = c.in-Ok.falls in
-    let e = c.in-Err-close_loop.fault in
-    let falls = c.all_fall.ensures (tables x.blocks.now) c.requires.facts in
-    let entered = c.in_default.ensures in
-    let left = c.in-Ok.ensures.left in
+    let g = c.in_default.ensures in
+    let b : HasBody x.plan.now x.counters (length w0.lines.items) body w0.now w0 w2 c.block.new.self c.in-Ok.falls = record {
+      entry = forever_entry body c.all_fall.result w0 w2 (c.all_fall.ensures (tables x.blocks.now) c.requires.facts) g.lines g.unpriced g.now g.saved;
+      left = c.in-Ok.ensures.left;
+    } in
     let h = c.in-Err-close_loop.ensures in
-    fails_at x (forever c.args.line body rest) w0 e c.args.line h.refused h.limited
-    (λ cause r judged. r.1 w0.saved.items w2.now (left.emits.saved ∙ entered.saved) (forever_round x.plan.now x.counters c.args.line body rest w0 w2 w3 f c.all_fall.result falls entered.now left judged))
-    (λ cause r. forever_why x.plan.now x.counters c.args.line body rest w0 w2 w3 f c.all_fall.result cause falls entered.now entered.saved left r)
-    (λ k full can. can_forever_closed k x.plan.now x.counters c.args.line body rest w0 w2 w3 f c.all_fall.result falls entered.lines entered.unpriced entered.now left full can)
+    fails_at x (forever c.args.line body rest) w0 c.in-Err-close_loop.fault c.args.line h.refused h.limited
+    (λ cause r judged. r.1 w0.saved.items w2.now (body_saved b) (end_fits b judged.1))
+    (λ cause r. loop_why b c.args.line cause r)
+    (λ k full can. can_forever_closed can b full)
 
 pub forever-returns : goal.forever-returns
 forever-returns t c = λ rest.
     let x = c.args.context in
     let body = block_in x c.args.body.now in
-    let entered = c.in_default.ensures in
+    let w0 = c.args.self.now in
+    let w2 = c.enter.new.self in
+    let g = c.in_default.ensures in
+    let b : HasBody x.plan.now x.counters (length w0.lines.items) body w0.now w0 w2 c.block.new.self c.in-Ok.falls = record {
+      entry = forever_entry body c.all_fall.result w0 w2 (c.all_fall.ensures (tables x.blocks.now) c.requires.facts) g.lines g.unpriced g.now g.saved;
+      left = c.in-Ok.ensures.left;
+    } in
     let closed = c.in_default-close_loop.ensures in
     record {
-      left = forever_step x.plan.now x.counters c.args.line body c.args.self.now c.enter.new.self c.block.new.self c.close_loop.new.self c.in-Ok.falls c.all_fall.result c.len-target.result
-          c.requires.counters c.len-target.ensures (c.all_fall.ensures (tables x.blocks.now) c.requires.facts) entered.lines entered.unpriced entered.now entered.saved c.in-Ok.ensures.left closed.round rest;
+      left = left_forever c.requires.counters b (subst (λ m. ClosesLoop c.in-Ok.falls c.args.line x.counters (Jump m) w0.saved.items w2.now c.block.new.self c.close_loop.new.self) c.len-target.ensures (closed.round w0.saved.items w2.now (body_saved b))) rest;
       limits = closed.limits;
     }

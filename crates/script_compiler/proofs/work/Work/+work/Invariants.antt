@@ -1,7 +1,5 @@
-use Rattle.std.proofs.Common.{◌+◌, ◌*◌, drop}
-use Rattle.script_front.specs.Block.{nothing, when, either, repeat, forever}
-use Rattle.script_compiler.specs.Compiling.{Compiled, block_in, statement_in}
-use Rattle.script_compiler.proofs.Weight.{weight}
+use Rattle.script_compiler.proofs.Words.{◌*◌, ◌+◌, Compiled, block_in, drop, either, forever, nothing, repeat, statement_in, when}
+use Rattle.script_compiler.proofs.Trees.{weight}
 use Rattle.script_compiler.proofs.work.Work.+work.Given as goal
 
 abbrev pub decreases-block : goal.decreases-block

@@ -1,10 +1,4 @@
-use Rattle.std.proofs.Common.{Bool, ◌++◌, ◌∷◌, [], ap, ◌∙◌, subst, refl}
-use Rattle.plan_verifier.specs.Rules.{IsFine}
-use Rattle.plan_verifier.specs.Flows.{Flow, known_at, after_instr}
-use Rattle.plan_code.specs.declared.instr.Instr.{Instr}
-use Rattle.script_compiler.specs.declared.flow.ProgramPoint.{ProgramPoint}
-use Rattle.script_compiler.specs.Scheme.{instr_of_act}
-use Rattle.script_compiler.specs.Emission.{line_of_instr}
+use Rattle.script_compiler.proofs.Words.{[], ◌++◌, ◌∙◌, ◌∷◌, Bool, Flow, Instr, IsFine, ProgramPoint, after_instr, ap, instr_of_act, known_at, line_of_instr, refl, subst}
 use Rattle.script_compiler.proofs.Spaces.{covered_here, limit_here}
 use Rattle.script_compiler.proofs.Putting.{put_lays}
 use Rattle.script_compiler.proofs.work.Work.act.Goals as goal

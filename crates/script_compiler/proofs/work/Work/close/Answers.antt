@@ -1,6 +1,4 @@
-use Rattle.std.proofs.Common.{[], refl}
-use Rattle.plan_code.specs.declared.instr.Instr.TheVariants.{End}
-use Rattle.script_compiler.specs.Scheme.{placed_instr}
+use Rattle.script_compiler.proofs.Words.{[], End, placed_instr, refl}
 use Rattle.script_compiler.proofs.Spaces.{limits_at_map, space_end}
 use Rattle.script_compiler.proofs.work.Work.close.Goals as goal
 

@@ -1,10 +1,4 @@
-use Rattle.std.proofs.Common.{◌≡◌, List, ◌++◌, Some, None, if◌then◌else◌, length, sym, ap, ◌∙◌}
-use Rattle.std.proofs.lemmas.List.{length-set}
-use Rattle.script_compiler.specs.declared.flow.ProgramPoint.{ProgramPoint}
-use Rattle.script_compiler.specs.Scheme.{meet, join}
-use Rattle.mux_config.specs.Configuration.{Configuration}
-use Rattle.script_compiler.specs.Pool.{point_in}
-use Rattle.script_compiler.specs.Emission.{way, points_of}
+use Rattle.script_compiler.proofs.Words.{◌++◌, ◌∙◌, ◌≡◌, Configuration, List, None, ProgramPoint, Some, ap, if◌then◌else◌, join, length, length-set, meet, point_in, points_of, sym, way}
 use Rattle.script_compiler.proofs.Putting.{snoc_last}
 use Rattle.script_compiler.proofs.Spaces.{space_as, some_of, met_labelled, limit_map}
 use Rattle.script_compiler.proofs.work.Work.close_else.Goals as goal

@@ -1,5 +1,4 @@
-use Rattle.std.proofs.Common.{◌∷◌, length, sym, ap}
-use Rattle.script_compiler.specs.Scheme.{placed_instr}
+use Rattle.script_compiler.proofs.Words.{◌∷◌, ap, length, placed_instr, sym}
 use Rattle.script_compiler.proofs.Spaces.{limits_here, none_refused, space_back, space_as}
 use Rattle.script_compiler.proofs.work.Work.close_loop.Goals as goal
 

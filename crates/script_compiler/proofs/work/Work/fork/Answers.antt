@@ -1,4 +1,4 @@
-use Rattle.std.proofs.Common.{◌∷◌, length, sym, ap, ◌∙◌}
+use Rattle.script_compiler.proofs.Words.{◌∙◌, ◌∷◌, ap, length, sym}
 use Rattle.script_compiler.proofs.Spaces.{limits_at_map, space_as}
 use Rattle.script_compiler.proofs.work.Work.fork.Goals as goal
 

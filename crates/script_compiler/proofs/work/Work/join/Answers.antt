@@ -1,10 +1,4 @@
-use Rattle.std.proofs.Common.{◌≡◌, Some, length, sym, ap, subst}
-use Rattle.plan_verifier.specs.Flows.{Flow, merged}
-use Rattle.script_compiler.specs.declared.flow.ProgramPoint.{ProgramPoint}
-use Rattle.script_compiler.specs.Scheme.{at_label, meet}
-use Rattle.script_compiler.specs.Emission.{way}
-use Rattle.script_compiler.specs.Pool.{point_in}
-use Rattle.script_compiler.specs.Space.{IsCovered}
+use Rattle.script_compiler.proofs.Words.{◌≡◌, Flow, IsCovered, ProgramPoint, Some, ap, at_label, length, meet, merged, point_in, subst, sym, way}
 use Rattle.script_compiler.proofs.Spaces.{limits_here, none_refused, space_as}
 use Rattle.script_compiler.proofs.work.Work.join.Goals as goal
 

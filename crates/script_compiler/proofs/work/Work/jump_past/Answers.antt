@@ -1,5 +1,4 @@
-use Rattle.std.proofs.Common.{refl}
-use Rattle.script_compiler.specs.Scheme.{placed_instr}
+use Rattle.script_compiler.proofs.Words.{placed_instr, refl}
 use Rattle.script_compiler.proofs.Spaces.{limits_at_map, space_back}
 use Rattle.script_compiler.proofs.work.Work.jump_past.Goals as goal
 

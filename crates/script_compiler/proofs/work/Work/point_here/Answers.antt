@@ -1,9 +1,5 @@
-use Rattle.std.proofs.Common.{List, ap, ◌∙◌, subst}
-use Rattle.script_compiler.specs.declared.flow.ProgramPoint.{ProgramPoint}
-use Rattle.plan_verifier.specs.Flows.{Flow}
-use Rattle.plan_verifier.specs.Indexed.{AreAt}
-use Rattle.script_compiler.specs.Working.{Points, Work}
-use Rattle.script_compiler.proofs.Pooled.{tracked_in, all_in_pool, all_same}
+use Rattle.script_compiler.proofs.Words.{◌∙◌, AreAt, Flow, List, Points, ProgramPoint, Work, ap, subst}
+use Rattle.script_compiler.proofs.Labelling.{tracked_in, all_in_pool, all_same}
 use Rattle.script_compiler.proofs.work.Work.point_here.Goals as goal
 
 pub invariant_of-self : goal.invariant_of-self

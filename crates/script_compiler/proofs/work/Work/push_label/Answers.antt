@@ -1,17 +1,6 @@
-use Rattle.std.proofs.Common.{◌≡◌, ◌≤◌, ◌<◌, ◌++◌, ◌∷◌, [], List, Some, true, length, sym, ap, ◌∙◌, subst, arith}
-use Rattle.std.proofs.lemmas.Option.{slice_get_within}
-use Rattle.mux_config.specs.Configuration.{Configuration}
-use Rattle.script_compiler.specs.declared.flow.UnpricedLabel.{UnpricedLabel}
-use Rattle.script_compiler.specs.Scheme.{alone, unpriced_labels}
-use Rattle.script_compiler.specs.Compiled.{Added}
-use Rattle.script_compiler.specs.Unpriced.{configuration_at, unpriced_in}
-use Rattle.script_compiler.specs.Pool.{point_in}
-use Rattle.script_compiler.specs.Room.{HasRoomFor}
-use Rattle.script_compiler.specs.Space.{HasSpace, HasTable}
-use Rattle.script_compiler.specs.Working.{Work}
+use Rattle.script_compiler.proofs.Words.{[], ◌++◌, ◌<◌, ◌∙◌, ◌∷◌, ◌≡◌, ◌≤◌, Added, Configuration, HasRoomFor, HasSpace, HasTable, List, Some, UnpricedLabel, Work, alone, ap, arith, configuration_at, length, point_in, slice_get_within, subst, sym, true, unpriced_in, unpriced_labels}
 use Rattle.script_compiler.proofs.Labelling.{grown}
-use Rattle.script_compiler.proofs.Numbered.{room_here, marked_as, marked_here, mark_with, short_with}
-use Rattle.script_compiler.proofs.Spaces.{room_left, room_next, table_mark, limit_at_map}
+use Rattle.script_compiler.proofs.Spaces.{room_here, marked_as, marked_here, mark_with, short_with, room_left, room_next, table_mark, limit_at_map}
 use Rattle.script_compiler.proofs.work.Work.push_label.Goals as goal
 
 pub returns-in-Err-clause-limited : goal.returns-in-Err-clause-limited

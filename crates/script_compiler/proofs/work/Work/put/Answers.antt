@@ -1,4 +1,4 @@
-use Rattle.std.proofs.Common.{◌∷◌}
+use Rattle.script_compiler.proofs.Words.{◌∷◌}
 use Rattle.script_compiler.proofs.Spaces.{covered_here, limit_at_map}
 use Rattle.script_compiler.proofs.Putting.{on_ok_map, put_lays}
 use Rattle.script_compiler.proofs.work.Work.put.Goals as goal

@@ -1,8 +1,4 @@
-use Rattle.std.proofs.Common.{◌++◌, length, ap, ◌∙◌}
-use Rattle.script_compiler.specs.declared.flow.ProgramPoint.{ProgramPoint}
-use Rattle.script_compiler.specs.Scheme.{alone, unpriced_labels}
-use Rattle.script_compiler.specs.Unpriced.{UnpricedTable}
-use Rattle.script_compiler.specs.Working.{Lines}
+use Rattle.script_compiler.proofs.Words.{◌++◌, ◌∙◌, Lines, ProgramPoint, UnpricedTable, alone, ap, length, unpriced_labels}
 use Rattle.script_compiler.proofs.Putting.{on_ok_map}
 use Rattle.script_compiler.proofs.work.Work.put_label.Goals as goal
 

@@ -1,8 +1,5 @@
-use Rattle.std.proofs.Common.{◌≡◌, ◌++◌, ◌∷◌, [], List, Option, length, ap, ◌∙◌, subst}
-use Rattle.std.specs.Option.{option_to_list}
-use Rattle.script_compiler.specs.Pool.{AreInPool}
-use Rattle.script_compiler.specs.declared.short.IndexedPoint.{IndexedPoint}
-use Rattle.script_compiler.proofs.Pooled.{popped_in_pool}
+use Rattle.script_compiler.proofs.Words.{[], ◌++◌, ◌∙◌, ◌∷◌, ◌≡◌, AreInPool, IndexedPoint, List, Option, ap, length, option_to_list, subst}
+use Rattle.script_compiler.proofs.Labelling.{popped_in_pool}
 use Rattle.script_compiler.proofs.work.Work.restore.Goals as goal
 
 pub invariant_of-self : goal.invariant_of-self

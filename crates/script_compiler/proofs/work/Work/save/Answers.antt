@@ -1,8 +1,5 @@
-use Rattle.std.proofs.Common.{◌≡◌, ◌++◌, ◌∷◌, [], List, length, rules, sym, subst}
-use Rattle.script_compiler.specs.Pool.{AreInPool, IsInPool}
-use Rattle.script_compiler.specs.Working.{Work}
-use Rattle.script_compiler.specs.declared.short.IndexedPoint.{IndexedPoint}
-use Rattle.script_compiler.proofs.Pooled.{pushed_in_pool}
+use Rattle.script_compiler.proofs.Words.{[], ◌++◌, ◌∷◌, ◌≡◌, AreInPool, IndexedPoint, IsInPool, List, Work, length, rules, subst, sym}
+use Rattle.script_compiler.proofs.Labelling.{pushed_in_pool}
 use Rattle.script_compiler.proofs.work.Work.save.Goals as goal
 
 pub invariant_of-self-2 : goal.invariant_of-self-2

@@ -1,19 +1,5 @@
-use Rattle.std.proofs.Common.{◌≡◌, if◌then◌else◌, List, [], ◌++◌, Some, None, length, sym, ap, ◌∙◌, subst, length-append}
-use Rattle.std.proofs.lemmas.List.{length-set}
-use Rattle.mux_config.specs.Configuration.{Configuration}
-use Rattle.std.specs.Prelude.{slice_set}
-use Rattle.plan_code.specs.declared.instr.Instr.TheVariants.{Jump}
-use Rattle.script_compiler.specs.Alternatives.{test_of}
-use Rattle.plan_code.specs.declared.instr.Line.{Line}
-use Rattle.script_compiler.specs.declared.flow.ProgramPoint.{ProgramPoint}
-use Rattle.script_compiler.specs.Scheme.{PlacedInstr, alone, at_label, unpriced_labels, onward}
-use Rattle.script_compiler.specs.Compiled.{lines_of_placed}
-use Rattle.script_compiler.specs.Emission.{jumping, line_of_instr, points_of, way}
-use Rattle.script_compiler.specs.Unpriced.{UnpricedTable}
-use Rattle.script_compiler.specs.Working.{Lines, Points}
-use Rattle.script_compiler.specs.Pool.{point_in}
-use Rattle.script_compiler.specs.Space.{IsCovered}
-use Rattle.script_compiler.proofs.Pooled.{spot_same}
+use Rattle.script_compiler.proofs.Words.{[], ◌++◌, ◌∙◌, ◌≡◌, Configuration, IsCovered, Jump, Line, Lines, List, None, PlacedInstr, Points, ProgramPoint, Some, UnpricedTable, alone, ap, at_label, if◌then◌else◌, jumping, length, length-append, length-set, line_of_instr, lines_of_placed, onward, point_in, points_of, slice_set, subst, sym, test_of, unpriced_labels, way}
+use Rattle.script_compiler.proofs.Labelling.{spot_same}
 use Rattle.script_compiler.proofs.Putting.{on_ok_map, snoc_front, snoc_last}
 use Rattle.script_compiler.proofs.Spaces.{limits_at_map, space_left, space_restored}
 use Rattle.script_compiler.proofs.work.Work.start_else.Goals as goal

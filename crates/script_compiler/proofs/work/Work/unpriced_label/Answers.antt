@@ -1,12 +1,5 @@
-use Rattle.std.proofs.Common.{◌∷◌, [], length, refl, sym, ap, subst}
-use Rattle.script_compiler.specs.declared.flow.ProgramPoint.{ProgramPoint}
-use Rattle.script_compiler.specs.Unpriced.{configuration_at}
-use Rattle.script_compiler.specs.declared.fault.CodeLimit.TheVariants.{Configurations}
-use Rattle.script_compiler.specs.Room.{HasRoomFor}
-use Rattle.script_compiler.specs.Space.{IsCovered}
-use Rattle.script_compiler.specs.Working.{Work}
-use Rattle.script_compiler.proofs.Numbered.{room_here, table_as}
-use Rattle.script_compiler.proofs.Spaces.{space_as}
+use Rattle.script_compiler.proofs.Words.{[], ◌∷◌, Configurations, HasRoomFor, IsCovered, ProgramPoint, Work, ap, configuration_at, length, refl, subst, sym}
+use Rattle.script_compiler.proofs.Spaces.{room_here, table_as, space_as}
 use Rattle.script_compiler.proofs.work.Work.unpriced_label.Goals as goal
 
 pub returns-then-not-has_room_for_both-clause-limited : goal.returns-then-not-has_room_for_both-clause-limited

@@ -1,4 +1,4 @@
-use Rattle.std.proofs.Common.{◌+◌, ◌≤◌}
+use Rattle.script_tokens.proofs.Words.{◌+◌, ◌≤◌}
 use Rattle.script_tokens.proofs.fault.Position.past.Given as goal
 
 abbrev pub invariant-loop-byte : goal.invariant-loop-byte

@@ -1,6 +1,4 @@
-use Rattle.std.proofs.Common.{List, length, subst}
-use Rattle.script_tokens.specs.declared.token.Token.{Token}
-use Rattle.script_tokens.specs.Reading.{AreWithin, AreLastOf}
+use Rattle.script_tokens.proofs.Words.{AreLastOf, AreWithin, List, Token, length, subst}
 use Rattle.script_tokens.proofs.Ending.{passed_last}
 use Rattle.script_tokens.proofs.token_reader.TokenReader.advance.Goals as goal
 

@@ -1,4 +1,4 @@
-use Rattle.std.proofs.Common.{sym, ◌∙◌}
+use Rattle.script_tokens.proofs.Words.{◌∙◌, sym}
 use Rattle.script_tokens.proofs.Keys.{itself}
 use Rattle.script_tokens.proofs.token_reader.TokenReader.finds.Goals as goal
 

@@ -1,5 +1,4 @@
-use Rattle.std.proofs.Common.{sym, ◌∙◌}
-use Rattle.script_tokens.specs.Keywords.{letters}
+use Rattle.script_tokens.proofs.Words.{◌∙◌, letters, sym}
 use Rattle.script_tokens.proofs.Keys.{found_of, first_is}
 use Rattle.script_tokens.proofs.FirstKeywords.{nothing_first, key_is_first}
 use Rattle.script_tokens.proofs.token_reader.TokenReader.keyword.Goals as goal

@@ -1,5 +1,4 @@
-use Rattle.std.proofs.Common.{sym, ap, ◌∙◌}
-use Rattle.script_tokens.specs.Reading.{Input, line_of_left}
+use Rattle.script_tokens.proofs.Words.{◌∙◌, Input, ap, line_of_left, sym}
 use Rattle.script_tokens.proofs.Ending.{last_line}
 use Rattle.script_tokens.proofs.token_reader.TokenReader.last_line.Goals as goal
 

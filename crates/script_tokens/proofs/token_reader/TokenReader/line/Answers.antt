@@ -1,5 +1,4 @@
-use Rattle.std.proofs.Common.{length, sym, ap, ◌∙◌}
-use Rattle.script_tokens.specs.Reading.{Input, line_of_left}
+use Rattle.script_tokens.proofs.Words.{◌∙◌, Input, ap, length, line_of_left, sym}
 use Rattle.script_tokens.proofs.Ending.{next_line}
 use Rattle.script_tokens.proofs.token_reader.TokenReader.line.Goals as goal
 
