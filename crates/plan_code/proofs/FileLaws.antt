@@ -23,10 +23,10 @@ use Rattle.plan_code.specs.declared.label.Label.{Label}
 use Rattle.plan_code.specs.declared.instr.Line.{Line}
 use Rattle.plan_code.specs.Program.{Program, IsProgram, IsPlan, IsLabel, IsLine, label_key}
 use Rattle.plan_code.specs.Formats.{byte_of}
-use Rattle.plan_code.specs.Spelling.{magic, mode_bytes, layout_bytes, plan_bytes, header_bytes, line_bytes, code_bytes}
+use Rattle.plan_code.specs.Spelling.{magic, mode_bytes, layout_bytes, plan_after, plan_bytes, header_bytes, line_bytes, code_bytes}
 use Rattle.plan_code.specs.Parts.{label, label_bytes, label_from, line}
 use Rattle.plan_code.specs.Reading.{Parses, ◌>>=◌, refuse_code, read_from, in_file, magic_at, mode_of, reserving, reserving_at, layout_in, layout_at, plan_at, count_at, config_in, line_in, items_at, labels_in, Header, header_at, program_at, code_of, Gives}
-use Rattle.plan_code.proofs.FormatLaws.{byte_is, any_u16_is}
+use Rattle.plan_code.proofs.FormatLaws.{IsLawful, ◌then◌, made_is, byte_is, any_u16_is}
 use Rattle.plan_code.proofs.PartLaws.{label_is, label_formed, formed_label, line_is}
 
 -- ---- steps without a fault
@@ -39,11 +39,11 @@ refuse_then : {B : Type 0} (test : Bool) (fault : CodeFault) (f : Unit {0} → R
 refuse_then true fault f y e = absurd cc
 refuse_then false fault f y e = (refl, e)
 
-abbrev made : {A : Type 0} → A → Result A CodeFault
-made x = Ok x
+abbrev given : {A : Type 0} → A → Result A CodeFault
+given x = Ok x
 
-made_is : {A : Type 0} (x y : A) → made x ≡ made y → x ≡ y
-made_is x y e = cc
+given_is : {A : Type 0} (x y : A) → given x ≡ given y → x ≡ y
+given_is x y e = cc
 
 read_ok : {A : Type 0} (start : ℕ) (r : Result A RecordFault) (x : A) → read_from start r ≡ Ok x → r ≡ Ok x
 read_ok start (Ok y) x e = cc
@@ -68,10 +68,10 @@ magic_front : (bytes : List ℕ) (x : ℕ × List ℕ) → IsBytes bytes → mag
 magic_front bytes x fits e =
     let a = then_ok (in_file (number_at w32 bytes)) _ x e in
     let f = long_front bytes a.0 fits (read_ok 0 _ a.0 a.1) in
-    let k = refuse_then (not (eqb a.0.0 magic)) Magic (λ known. made a.0) x a.2 in
+    let k = refuse_then (not (eqb a.0.0 magic)) Magic (λ known. given a.0) x a.2 in
     let is : a.0.0 ≡ magic = eqb-true _ _ (not_false _ k.0) in
     let here : Front bytes (to_be_bytes w32 magic) a.0.1 = subst (λ (n : ℕ). Front bytes (to_be_bytes w32 n) a.0.1) is f.0 in
-    subst (λ (y : ℕ × List ℕ). Front bytes (to_be_bytes w32 magic) y.1) (made_is a.0 x k.1) here
+    subst (λ (y : ℕ × List ℕ). Front bytes (to_be_bytes w32 magic) y.1) (given_is a.0 x k.1) here
 
 magic_again : (rest : List ℕ) → magic_at (to_be_bytes w32 magic ++ rest) ≡ Ok (magic, rest)
 magic_again rest = rw (ok_read 0 _ _ (long_again magic rest (omega arith))) refl
@@ -84,12 +84,12 @@ number_bytes (suc (suc (suc zero))) from to = refl
 number_bytes (suc (suc (suc (suc zero)))) from to = refl
 number_bytes (suc (suc (suc (suc (suc more))))) from to = absurd (omega (arith, to))
 
-first_version : (bytes rest : List ℕ) (x : FrameLayout × List ℕ) → (let first : FrameLayout × List ℕ = (Whole I, rest) in made first) ≡ Ok x → Front bytes (byte_of 1) rest → Front bytes (layout_bytes x.0) x.1
+first_version : (bytes rest : List ℕ) (x : FrameLayout × List ℕ) → (let first : FrameLayout × List ℕ = (Whole I, rest) in given first) ≡ Ok x → Front bytes (byte_of 1) rest → Front bytes (layout_bytes x.0) x.1
 first_version bytes rest x e front =
     let found : FrameLayout × List ℕ = (Whole I, rest) in
-    subst (λ (y : FrameLayout × List ℕ). Front bytes (layout_bytes y.0) y.1) (made_is found x e) front
+    subst (λ (y : FrameLayout × List ℕ). Front bytes (layout_bytes y.0) y.1) (given_is found x e) front
 
-second_version : (total : ℕ) (bytes rest : List ℕ) (x : FrameLayout × List ℕ) → (in_file (byte_within total 2 4 rest) >>= λ number. let found : FrameLayout × List ℕ = (Whole (mode_of number.0), number.1) in made found) ≡ Ok x
+second_version : (total : ℕ) (bytes rest : List ℕ) (x : FrameLayout × List ℕ) → (in_file (byte_within total 2 4 rest) >>= λ number. let found : FrameLayout × List ℕ = (Whole (mode_of number.0), number.1) in given found) ≡ Ok x
     → Front bytes (byte_of 2) rest → Front bytes (layout_bytes x.0) x.1
 second_version total bytes rest x e front =
     let n = then_ok (in_file (byte_within total 2 4 rest)) _ x e in
@@ -97,7 +97,7 @@ second_version total bytes rest x e front =
     let found : FrameLayout × List ℕ = (Whole (mode_of n.0.0), n.0.1) in
     let both : Front bytes (2 ∷ n.0.0 ∷ []) n.0.1 = front_then bytes (byte_of 2) rest (byte_of n.0.0) n.0.1 front fn.0 in
     let here : Front bytes (mode_bytes (mode_of n.0.0)) n.0.1 = subst (λ (t : List ℕ). Front bytes t n.0.1) (sym (number_bytes n.0.0 fn.1.0 fn.1.1)) both in
-    subst (λ (y : FrameLayout × List ℕ). Front bytes (layout_bytes y.0) y.1) (made_is found x n.2) here
+    subst (λ (y : FrameLayout × List ℕ). Front bytes (layout_bytes y.0) y.1) (given_is found x n.2) here
 
 reserving_bytes : (n r : ℕ) → 1 ≤ n → n ≤ 4 → 1 ≤ r → r ≤ fib_count (mode_of n) - 2 → layout_bytes (reserving (mode_of n) r) ≡ 3 ∷ n ∷ r ∷ []
 reserving_bytes zero r from to some few = absurd (omega (arith, from))
@@ -122,7 +122,7 @@ third_version total bytes rest x e front =
     let two : Front bytes (3 ∷ n.0.0 ∷ []) n.0.1 = front_then bytes (byte_of 3) rest (byte_of n.0.0) n.0.1 front fn.0 in
     let all : Front bytes (3 ∷ n.0.0 ∷ r.0.0 ∷ []) r.0.1 = front_then bytes (3 ∷ n.0.0 ∷ []) n.0.1 (byte_of r.0.0) r.0.1 two fr.0 in
     let here : Front bytes (layout_bytes found.0) r.0.1 = subst (λ (t : List ℕ). Front bytes t r.0.1) (sym (reserving_bytes n.0.0 r.0.0 fn.1.0 fn.1.1 fr.1.0 fr.1.1)) all in
-    subst (λ (y : FrameLayout × List ℕ). Front bytes (layout_bytes y.0) y.1) (made_is found x r.2) here
+    subst (λ (y : FrameLayout × List ℕ). Front bytes (layout_bytes y.0) y.1) (given_is found x r.2) here
 
 -- this version, or one of those tested later
 choose : {T E : Type 0} (version known : ℕ) (given other : Result (T × List ℕ) E) (x : T × List ℕ) (Q : ℕ → Type 0) → (given ≡ Ok x → Q known) → (other ≡ Ok x → Q version)
@@ -139,7 +139,7 @@ version_front total version bytes rest x =
     choose version 1 _ _ x Q (first_version bytes rest x) (
     choose version 2 _ _ x Q (second_version total bytes rest x) (
     choose version 3 _ _ x Q (third_version total bytes rest x) (
-    λ e. absurd (let wrong : Err Version ≡ made x = e in cc))))
+    λ e. absurd (let wrong : Err Version ≡ given x = e in cc))))
 
 layout_front : (total : ℕ) (bytes : List ℕ) (x : FrameLayout × List ℕ) → IsBytes bytes → layout_at total bytes ≡ Ok x → Front bytes (layout_bytes x.0) x.1
 unfolding layout_at
@@ -159,41 +159,37 @@ layout_again total (ReserveOne III) rest = refl
 layout_again total (ReserveOne IV) rest = refl
 layout_again total ReserveTwo rest = refl
 
+pub plan_after_is : (layout : FrameLayout) → IsLawful (plan_after layout) (λ p. IsPlan p × (p.layout ≡ layout))
+plan_after_is layout =
+    made_is _ _ (λ p. IsPlan p × (p.layout ≡ layout)) (any_u16_is then byte_is 1 60 then byte_is 12 248 then byte_is 1 255)
+    (λ x is. ((record {
+      ensemble = is.0.0.0;
+      period_from = is.0.0.1.0;
+      period_to = is.0.0.1.1;
+      notice_from = is.0.1.0;
+      notice_to = is.0.1.1;
+      budget_from = is.1.0;
+      budget_to = is.1.1;
+    }, refl), refl))
+    (λ p is.
+      let q = is.0 in
+      ((((q.ensemble, (q.period_from, q.period_to)), (q.notice_from, q.notice_to)), (q.budget_from, q.budget_to)), ap (λ (l : FrameLayout). let r : Plan = record p { layout = l } in r) (sym is.1)))
+
 plan_front : (total : ℕ) (bytes : List ℕ) (x : Plan × List ℕ) → IsBytes bytes → plan_at total bytes ≡ Ok x → Front bytes (plan_bytes x.0) x.1 × IsPlan x.0
 unfolding plan_at
 plan_front total bytes x fits e =
     let m = then_ok (layout_at total bytes) _ x e in
     let fm = layout_front total bytes m.0 fits m.1 in
-    let a = then_ok (in_file (number_at w16 m.0.1)) _ x m.2 in
-    let fa = any_u16_is.front 0 m.0.1 a.0 fm.rest_fits (read_ok 0 _ a.0 a.1) in
-    let p = then_ok (in_file (byte_within total 1 60 a.0.1)) _ x a.2 in
-    let fp = (byte_is 1 60).front total a.0.1 p.0 fa.0.rest_fits (read_ok 0 _ p.0 p.1) in
-    let n = then_ok (in_file (byte_within total 12 248 p.0.1)) _ x p.2 in
-    let fn = (byte_is 12 248).front total p.0.1 n.0 fp.0.rest_fits (read_ok 0 _ n.0 n.1) in
-    let b = then_ok (in_file (byte_within total 1 255 n.0.1)) _ x n.2 in
-    let fb = (byte_is 1 255).front total n.0.1 b.0 fn.0.rest_fits (read_ok 0 _ b.0 b.1) in
-    let plan : Plan × List ℕ = (record { eid = a.0.0; layout = m.0.0; period = p.0.0; notice = n.0.0; budget = b.0.0 }, b.0.1) in
-    let nb = front_then p.0.1 (byte_of n.0.0) n.0.1 (byte_of b.0.0) b.0.1 fn.0 fb.0 in
-    let pnb = front_then a.0.1 (byte_of p.0.0) p.0.1 (byte_of n.0.0 ++ byte_of b.0.0) b.0.1 fp.0 nb in
-    let ma = front_then bytes (layout_bytes m.0.0) m.0.1 (u16_bytes a.0.0) a.0.1 fm fa.0 in
-    let all = front_then bytes (layout_bytes m.0.0 ++ u16_bytes a.0.0) a.0.1 (byte_of p.0.0 ++ (byte_of n.0.0 ++ byte_of b.0.0)) b.0.1 ma pnb in
-    subst (λ (y : Plan × List ℕ). Front bytes (plan_bytes y.0) y.1 × IsPlan y.0) (made_is plan x b.2)
-    (all, record { ensemble = fa.1; period_from = fp.1.0; period_to = fp.1.1; notice_from = fn.1.0; notice_to = fn.1.1; budget_from = fb.1.0; budget_to = fb.1.1 })
+    let f = (plan_after_is m.0.0).front total m.0.1 x fm.rest_fits (read_ok 0 _ x m.2) in
+    let here = front_then bytes (layout_bytes m.0.0) m.0.1 ((plan_after m.0.0).spell x.0) x.1 fm f.0 in
+    (subst (λ (l : FrameLayout). Front bytes (layout_bytes l ++ (plan_after l).spell x.0) x.1) (sym f.1.1) here, f.1.0)
 
 plan_again : (total : ℕ) (p : Plan) (rest : List ℕ) → IsPlan p → plan_at total (plan_bytes p ++ rest) ≡ Ok (p, rest)
 unfolding plan_at
 plan_again total p rest is =
-    let last : List ℕ = p.period ∷ p.notice ∷ p.budget ∷ [] in
-    let grouped : plan_bytes p ++ rest ≡ layout_bytes p.layout ++ (u16_bytes p.eid ++ (last ++ rest)) =
-    append_assoc (layout_bytes p.layout ++ u16_bytes p.eid) last rest ∙ append_assoc (layout_bytes p.layout) (u16_bytes p.eid) (last ++ rest) in
-    ap (plan_at total) grouped
-    ∙ rw (
-      layout_again total p.layout (u16_bytes p.eid ++ (last ++ rest)),
-      ok_read 0 _ _ (any_u16_is.again 0 p.eid (p.period ∷ p.notice ∷ p.budget ∷ rest) is.ensemble),
-      ok_read 0 _ _ ((byte_is 1 60).again total p.period (p.notice ∷ p.budget ∷ rest) (is.period_from, is.period_to)),
-      ok_read 0 _ _ ((byte_is 12 248).again total p.notice (p.budget ∷ rest) (is.notice_from, is.notice_to)),
-      ok_read 0 _ _ ((byte_is 1 255).again total p.budget rest (is.budget_from, is.budget_to)),
-    ) refl
+    let fields = (plan_after p.layout).spell p in
+    ap (plan_at total) (append_assoc (layout_bytes p.layout) fields rest)
+    ∙ rw (layout_again total p.layout (fields ++ rest), ok_read 0 _ _ ((plan_after_is p.layout).again total p rest (is, refl))) refl
 
 abbrev IsCount : ℕ → ℕ → Type 0
 IsCount limit n = (1 ≤ n) × (n ≤ limit)
@@ -202,11 +198,11 @@ count_front : (total limit : ℕ) (bytes : List ℕ) (x : ℕ × List ℕ) → I
 count_front total limit bytes x fits e =
     let a = then_ok (in_file (number_at w16 bytes)) _ x e in
     let f = any_u16_is.front 0 bytes a.0 fits (read_ok 0 _ a.0 a.1) in
-    let s = refuse_then (eqb a.0.0 0) (Field (place total bytes)) (λ some. refuse_code (ltb limit a.0.0) Limit >>= λ few. made a.0) x a.2 in
-    let k = refuse_then (ltb limit a.0.0) Limit (λ few. made a.0) x s.1 in
+    let s = refuse_then (eqb a.0.0 0) (Field (place total bytes)) (λ some. refuse_code (ltb limit a.0.0) Limit >>= λ few. given a.0) x a.2 in
+    let k = refuse_then (ltb limit a.0.0) Limit (λ few. given a.0) x s.1 in
     let some : a.0.0 ≢ 0 = eqb-false _ _ s.0 in
     let few : a.0.0 ≤ limit = ltb-false _ _ k.0 in
-    subst (λ (y : ℕ × List ℕ). Front bytes (u16_bytes y.0) y.1 × IsCount limit y.0) (made_is a.0 x k.1) (f.0, (omega (arith, some), few))
+    subst (λ (y : ℕ × List ℕ). Front bytes (u16_bytes y.0) y.1 × IsCount limit y.0) (given_is a.0 x k.1) (f.0, (omega (arith, some), few))
 
 count_again : (total limit n : ℕ) (rest : List ℕ) → limit < 65536 → IsCount limit n → count_at total limit (u16_bytes n ++ rest) ≡ Ok (n, rest)
 count_again total limit n rest small is =
@@ -241,7 +237,7 @@ items_front : {T : Type 0} (read : List ℕ → Parses T) (spell : T → List �
 unfolding items_at
 items_front {T} read spell P parsing before zero bytes x fits e =
     let here : List T × List ℕ = (before, bytes) in
-    subst (λ (y : List T × List ℕ). AreItemsRead spell P before 0 bytes y) (made_is here x e)
+    subst (λ (y : List T × List ℕ). AreItemsRead spell P before 0 bytes y) (given_is here x e)
     (record { more = []; is = sym (append-nil before); front = record { parts = refl; rest_fits = fits }; many = refl; formed = tt })
 items_front read spell P parsing before (suc count) bytes x fits e =
     let l = then_ok (read bytes) (λ item. items_at read (before ++ item.0 ∷ []) count item.1) x e in
@@ -258,12 +254,12 @@ items_front read spell P parsing before (suc count) bytes x fits e =
 items_again : {T : Type 0} (read : List ℕ → Parses T) (spell : T → List ℕ) (P : T → Type 0) → IsParsing read spell P
     → (before more : List T) (rest : List ℕ) → AllByRecursion P more → items_at read before (length more) (flat_map spell more ++ rest) ≡ Ok (before ++ more, rest)
 unfolding items_at
-items_again {T} read spell P parsing before [] rest all = ap (λ (ls : List T). let y : List T × List ℕ = (ls, rest) in made y) (sym (append-nil before))
+items_again {T} read spell P parsing before [] rest all = ap (λ (ls : List T). let y : List T × List ℕ = (ls, rest) in given y) (sym (append-nil before))
 items_again {T} read spell P parsing before (l ∷ more) rest all =
     let grouped : flat_map spell (l ∷ more) ++ rest ≡ spell l ++ (flat_map spell more ++ rest) = append_assoc (spell l) (flat_map spell more) rest in
     ap (items_at read before (suc (length more))) grouped
     ∙ rw (parsing.again l (flat_map spell more ++ rest) all.0) (items_again read spell P parsing (before ++ l ∷ []) more rest all.1
-    ∙ ap (λ (ls : List T). let y : List T × List ℕ = (ls, rest) in made y) (append_assoc before (l ∷ []) more))
+    ∙ ap (λ (ls : List T). let y : List T × List ℕ = (ls, rest) in given y) (append_assoc before (l ∷ []) more))
 
 any_place : (xs : List Label) → AllByRecursion (λ l. 0 ≤ label_key l) xs
 any_place [] = tt
@@ -304,7 +300,7 @@ header_front total bytes x fits e =
     let l = then_ok (count_at total 1024 c.0.1) _ x c.2 in
     let i = then_ok (count_at total 4096 l.0.1) _ x l.2 in
     let found : Header × List ℕ = (record { plan = p.0.0; configurations = c.0.0; labels = l.0.0; lines = i.0.0 }, i.0.1) in
-    subst (λ (y : Header × List ℕ). IsHeaderRead bytes y.0 y.1) (made_is found x i.2)
+    subst (λ (y : Header × List ℕ). IsHeaderRead bytes y.0 y.1) (given_is found x i.2)
     (header_made total found.0 bytes m.0.1 p.0.1 c.0.1 l.0.1 i.0.1 m.0.0 fits m.1 p.1 c.1 l.1 i.1)
 
 -- the tables read match their header
@@ -370,7 +366,7 @@ tables_front total h bytes x known fits e =
     let l = then_ok (labels_in total h.configurations h.labels c.0.1) _ x c.2 in
     let i = then_ok (items_at (line_in total) [] h.lines l.0.1) _ x l.2 in
     let found : Program × List ℕ = (record { plan = h.plan; configurations = c.0.0; labels = l.0.0; lines = i.0.0 }, i.0.1) in
-    subst (λ (y : Program × List ℕ). AreTablesRead h bytes y.0 y.1) (made_is found x i.2)
+    subst (λ (y : Program × List ℕ). AreTablesRead h bytes y.0 y.1) (given_is found x i.2)
     (tables_made total h bytes c.0.1 l.0.1 i.0.1 c.0.0 l.0.0 i.0.0 known fits c.1 l.1 i.1)
 
 -- what was read is a code, and the bytes are its file
@@ -422,8 +418,8 @@ code_front bytes p fits e =
     let fh = header_front (length bytes) bytes h.0 fits h.1 in
     let t = then_ok (program_at (length bytes) h.0.0 h.0.1) _ p h.2 in
     let ft = tables_front (length bytes) h.0.0 h.0.1 t.0 fh.configurations fh.front.rest_fits t.1 in
-    let z = refuse_then (not (eqb (length t.0.1) 0)) Trailing (λ ended. made t.0.0) p t.2 in
-    subst (λ (q : Program). IsCodeRead bytes q) (made_is t.0.0 p z.1) (code_made bytes h.0.1 t.0.1 h.0.0 t.0.0 fh ft (eqb-true _ _ (not_false _ z.0)))
+    let z = refuse_then (not (eqb (length t.0.1) 0)) Trailing (λ ended. given t.0.0) p t.2 in
+    subst (λ (q : Program). IsCodeRead bytes q) (given_is t.0.0 p z.1) (code_made bytes h.0.1 t.0.1 h.0.0 t.0.0 fh ft (eqb-true _ _ (not_false _ z.0)))
 
 -- ---- spelling and reading again
 

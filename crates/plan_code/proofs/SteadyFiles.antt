@@ -16,7 +16,7 @@ use Rattle.plan_code.specs.Parts.{label_from}
 use Rattle.plan_code.specs.Reading.{Parses, ◌>>=◌, refuse_code, read_from, in_file, magic_at, mode_of, reserving_at, layout_in, layout_at, plan_at, count_at, config_in, line_in, items_at, Header, header_at, program_at, code_of}
 use Rattle.plan_code.specs.FileFaults.{CutsAreTruncated, FileFaultsStay, FileFaultsAreFirst}
 use Rattle.plan_code.proofs.PartLaws.{label_is, line_is}
-use Rattle.plan_code.proofs.FileLaws.{code_again}
+use Rattle.plan_code.proofs.FileLaws.{plan_after_is, code_again}
 
 -- ---- readings with appended bytes
 
@@ -78,11 +78,7 @@ runs_layout total bytes more = runs_bind more _ _ _ _ (runs_field more _ _ (goes
 runs_plan : (total : ℕ) (bytes more : List ℕ) → Runs more (plan_at total bytes) (plan_at (total + length more) (bytes ++ more))
 unfolding plan_at
 runs_plan total bytes more =
-    runs_bind more _ _ _ _ (runs_layout total bytes more) (λ layout after_layout.
-    runs_bind more _ _ _ _ (runs_field more _ _ (goes_number w16 after_layout more)) (λ eid after_eid.
-    runs_bind more _ _ _ _ (runs_field more _ _ (goes_byte_within total 1 60 after_eid more)) (λ period after_period.
-    runs_bind more _ _ _ _ (runs_field more _ _ (goes_byte_within total 12 248 after_period more)) (λ notice after_notice.
-    runs_bind more _ _ _ _ (runs_field more _ _ (goes_byte_within total 1 255 after_notice more)) (λ budget rest. refl)))))
+    runs_bind more _ _ _ _ (runs_layout total bytes more) (λ layout rest. runs_field more _ _ ((plan_after_is layout).goes total rest more))
 
 runs_count : (total limit : ℕ) (bytes more : List ℕ) → Runs more (count_at total limit bytes) (count_at (total + length more) limit (bytes ++ more))
 runs_count total limit bytes more =
