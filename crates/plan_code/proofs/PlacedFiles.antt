@@ -17,7 +17,7 @@ use Rattle.plan_code.specs.Reading.{Parses, ◌>>=◌, refuse_code, read_from, i
 use Rattle.plan_code.specs.Faults.{HasCodeFault}
 use Rattle.plan_code.specs.FileFaults.{TruncatedBeforePlaces}
 use Rattle.plan_code.proofs.PartLaws.{label_is, line_is}
-use Rattle.plan_code.proofs.FileLaws.{plan_after_is}
+use Rattle.plan_code.proofs.HeaderLaws.{plan_after_is}
 use Rattle.plan_code.proofs.SteadyFiles.{file_faults_are_first}
 
 -- the offset in a fault is below `total`, and the fault is not out of memory

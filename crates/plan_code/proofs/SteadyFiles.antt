@@ -16,7 +16,8 @@ use Rattle.plan_code.specs.Parts.{label_from}
 use Rattle.plan_code.specs.Reading.{Parses, ◌>>=◌, refuse_code, read_from, in_file, magic_at, mode_of, reserving_at, layout_in, layout_at, plan_at, count_at, config_in, line_in, items_at, Header, header_at, program_at, code_of}
 use Rattle.plan_code.specs.FileFaults.{CutsAreTruncated, FileFaultsStay, FileFaultsAreFirst}
 use Rattle.plan_code.proofs.PartLaws.{label_is, line_is}
-use Rattle.plan_code.proofs.FileLaws.{plan_after_is, code_again}
+use Rattle.plan_code.proofs.HeaderLaws.{plan_after_is}
+use Rattle.plan_code.proofs.FileLaws.{code_again}
 
 -- ---- readings with appended bytes
 
