@@ -3,6 +3,7 @@ pub mod Bits
 pub mod FaultLaws
 pub mod FileLaws
 pub mod FormatLaws
+pub mod HeaderLaws
 pub mod LoopLaws
 pub mod Loops
 pub mod Meeting

@@ -12,6 +12,7 @@ use Rattle.mux_config.specs.declared.record.RecordFault.TheVariants.{Field as Fi
 use Rattle.mux_config.specs.Reading.{record_at}
 use Rattle.plan_code.specs.Reading.{reserving_at, layout_at, plan_at, items_at, header_at, program_at, code_of}
 use Rattle.plan_code.proofs.PartLaws.{label_is, line_is}
+use Rattle.plan_code.proofs.HeaderLaws.{plan_after_is}
 use Rattle.plan_code.proofs.SteadyFiles.{file_faults_are_first}
 
 -- the offset in a fault is below `total`, and the fault is not out of memory
@@ -103,15 +104,8 @@ stands_layout total bytes some left =
 stands_plan : (total : ℕ) (bytes : List ℕ) → 0 < total → length bytes ≤ total → Stands total (plan_at total bytes)
 unfolding plan_at
 stands_plan total bytes some left =
-    stands_bind total _ _ (stands_layout total bytes some left) (λ layout after_layout left_layout.
-    stands_bind total _ _ (stands_field total _ some (placed_number total w16 after_layout left_layout))
-    (λ eid after_eid left_eid.
-    stands_bind total _ _ (stands_field total _ some (placed_byte_within total 1 60 after_eid left_eid))
-    (λ period after_period left_period.
-    stands_bind total _ _ (stands_field total _ some (placed_byte_within total 12 248 after_period left_period))
-    (λ notice after_notice left_notice.
-    stands_bind total _ _ (stands_field total _ some (placed_byte_within total 1 255 after_notice left_notice))
-    (λ budget rest after. after)))))
+    stands_bind total _ _ (stands_layout total bytes some left)
+    (λ layout rest after. stands_field total _ some ((plan_after_is layout).placed total rest after))
 
 stands_count : (total limit : ℕ) (bytes : List ℕ) → 0 < total → length bytes ≤ total
     → Stands total (count_at total limit bytes)

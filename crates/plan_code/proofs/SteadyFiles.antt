@@ -12,6 +12,7 @@ use Rattle.mux_config.proofs.Steady.{goes_config, goes_members}
 use Rattle.mux_config.specs.declared.record.RecordFault.TheVariants.{Field as FieldOfRecord}
 use Rattle.plan_code.specs.Reading.{reserving_at, layout_at, plan_at, items_at, header_at, program_at, code_of}
 use Rattle.plan_code.proofs.PartLaws.{label_is, line_is}
+use Rattle.plan_code.proofs.HeaderLaws.{plan_after_is}
 use Rattle.plan_code.proofs.FileLaws.{code_again}
 
 -- ---- readings with appended bytes
@@ -86,13 +87,8 @@ runs_plan : (total : ℕ) (bytes more : List ℕ) → Runs more (plan_at total b
     (plan_at (total + length more) (bytes ++ more))
 unfolding plan_at
 runs_plan total bytes more =
-    runs_bind more _ _ _ _ (runs_layout total bytes more) (λ layout after_layout.
-    runs_bind more _ _ _ _ (runs_field more _ _ (goes_number w16 after_layout more)) (λ eid after_eid.
-    runs_bind more _ _ _ _ (runs_field more _ _ (goes_byte_within total 1 60 after_eid more)) (λ period after_period.
-    runs_bind more _ _ _ _ (runs_field more _ _ (goes_byte_within total 12 248 after_period more))
-    (λ notice after_notice.
-    runs_bind more _ _ _ _ (runs_field more _ _ (goes_byte_within total 1 255 after_notice more))
-    (λ budget rest. refl)))))
+    runs_bind more _ _ _ _ (runs_layout total bytes more)
+    (λ layout rest. runs_field more _ _ ((plan_after_is layout).goes total rest more))
 
 runs_count : (total limit : ℕ) (bytes more : List ℕ) → Runs more (count_at total limit bytes)
     (count_at (total + length more) limit (bytes ++ more))

@@ -37,10 +37,10 @@ pub use Rattle.plan_code.specs.Parts.{opcode, some_number, some_or_none, swap_by
 pub use Rattle.plan_code.specs.Program.{AreBounds, IsCarrier, IsDayFrame, IsFrames, IsInstr, IsLabel, IsLine}
 pub use Rattle.plan_code.specs.Program.{IsNewPacket, IsNewSub, IsPlan, IsProgram, Program, label_key}
 pub use Rattle.plan_code.specs.Reading.{◌>>=◌, Fails, Gives, Header, Parses, code_of, config_in, count_at, fault_from}
-pub use Rattle.plan_code.specs.Reading.{in_file, items_at, labels_in, layout_in, line_in, magic_at, mode_of, read_from}
-pub use Rattle.plan_code.specs.Reading.{refuse_code, reserving}
+pub use Rattle.plan_code.specs.Reading.{header_at, in_file, items_at, labels_in, layout_in, line_in, magic_at, mode_of}
+pub use Rattle.plan_code.specs.Reading.{read_from, refuse_code, reserving}
 pub use Rattle.plan_code.specs.Spelling.{code_bytes, header_bytes, layout_bytes, line_bytes, magic, mode_bytes}
-pub use Rattle.plan_code.specs.Spelling.{plan_bytes}
+pub use Rattle.plan_code.specs.Spelling.{plan_after, plan_bytes}
 pub use Rattle.plan_code.specs.declared.fault.CodeFault.{CodeFault}
 pub use Rattle.plan_code.specs.declared.fault.CodeFault.TheVariants.{Field, Limit, Magic, Memory, Trailing, Truncated}
 pub use Rattle.plan_code.specs.declared.fault.CodeFault.TheVariants.{Version}

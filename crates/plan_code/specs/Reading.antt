@@ -19,7 +19,7 @@ use Rattle.plan_code.specs.declared.instr.Line.{Line}
 use Rattle.plan_code.specs.declared.label.Label.{Label}
 use Rattle.plan_code.specs.declared.plan.Plan.{Plan}
 use Rattle.plan_code.specs.Program.{Program, label_key}
-use Rattle.plan_code.specs.Spelling.{magic}
+use Rattle.plan_code.specs.Spelling.{magic, plan_after}
 use Rattle.plan_code.specs.Parts.{label_from, line}
 
 -- a value and the bytes after it, or the first fault
@@ -107,11 +107,7 @@ layout_at total bytes = do
 unfoldable pub plan_at : (total : ℕ) → List ℕ → Parses Plan
 plan_at total bytes = do
   layout ← layout_at total bytes
-  eid ← in_file (number_at w16 layout.1)
-  period ← in_file (byte_within total 1 60 eid.1)
-  notice ← in_file (byte_within total 12 248 period.1)
-  budget ← in_file (byte_within total 1 255 notice.1)
-  Ok (record { eid = eid.0; layout = layout.0; period = period.0; notice = notice.0; budget = budget.0 }, budget.1)
+  in_file ((plan_after layout.0).read total layout.1)
 
 -- the number of entries of a table: at least one, at most `limit`
 abbrev pub count_at : (total limit : ℕ) → List ℕ → Parses ℕ

@@ -10,6 +10,8 @@ use Rattle.fib_codec.specs.declared.frame_layout.FrameLayout.{FrameLayout}
 use Rattle.fib_codec.specs.declared.frame_layout.FrameLayout.TheVariants.{Whole, ReserveOne, ReserveTwo}
 use Rattle.plan_code.specs.declared.plan.Plan.{Plan}
 use Rattle.plan_code.specs.declared.instr.Line.{Line}
+use Rattle.plan_code.specs.declared.limits.TheConstants.{LONGEST_PERIOD, SHORTEST_NOTICE, LONGEST_NOTICE}
+use Rattle.plan_code.specs.Formats.{Format, ◌▸◌, made, any_u16, byte_from}
 use Rattle.plan_code.specs.Parts.{label_bytes, line}
 use Rattle.plan_code.specs.Program.{Program}
 
@@ -36,8 +38,15 @@ layout_bytes (Whole mode) = mode_bytes mode
 layout_bytes (ReserveOne mode) = 3 ∷ mode_number mode ∷ 1 ∷ []
 layout_bytes ReserveTwo = 3 ∷ mode_number III ∷ 2 ∷ []
 
+-- the fields of a plan after its layout
+abbrev pub plan_after : FrameLayout → Format Plan
+plan_after layout =
+    made (λ x. record { eid = x.0.0.0; layout = layout; period = x.0.0.1; notice = x.0.1; budget = x.1 })
+    (λ p. (((p.eid, p.period), p.notice), p.budget))
+    (any_u16 ▸ byte_from 1 LONGEST_PERIOD ▸ byte_from SHORTEST_NOTICE LONGEST_NOTICE ▸ byte_from 1 255)
+
 abbrev pub plan_bytes : Plan → List ℕ
-plan_bytes p = layout_bytes p.layout ++ u16_bytes p.eid ++ p.period ∷ p.notice ∷ p.budget ∷ []
+plan_bytes p = layout_bytes p.layout ++ (plan_after p.layout).spell p
 
 -- with the numbers of configurations, labels and instructions
 abbrev pub header_bytes : Plan → (configurations labels lines : ℕ) → List ℕ

@@ -80,10 +80,7 @@ pub fn drive<'a, S: Store, E: Ends>(
             Heard::Long => ends.report(Message::Bad(number + 1, LineFault::Limit)),
             Heard::Line => {
                 let line = line.as_slice();
-                match take_line(alloc, player, &mut made, line, number + 1, options, ends) {
-                    Ok(()) => {}
-                    Err(stop) => return Err(stop),
-                }
+                take_line(alloc, player, &mut made, line, number + 1, options, ends)?;
             }
         }
     }

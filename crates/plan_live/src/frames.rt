@@ -81,13 +81,9 @@ fn make_room<E: Ends>(made: u64, skip: u32, ends: &mut E) -> Result<(), Stop>
     if ends.has_room() {
         return Ok(());
     }
-    match flush_line(made, skip, ends) {
-        Ok(()) => {
-            ends.release();
-            Ok(())
-        }
-        Err(stop) => Err(stop),
-    }
+    flush_line(made, skip, ends)?;
+    ends.release();
+    Ok(())
 }
 
 /// Reports the notes of a frame.
@@ -118,13 +114,9 @@ fn send_frame<'a, S: Store, E: Ends>(
     let number = *made;
     let before = look_at(player);
     let frame = make_frame(player);
-    match write_frame(frame.bytes(), made, options.skip, ends) {
-        Ok(()) => {
-            report_notes(notes_of(player, before, number, options.wanted), ends);
-            Ok(())
-        }
-        Err(stop) => Err(stop),
-    }
+    write_frame(frame.bytes(), made, options.skip, ends)?;
+    report_notes(notes_of(player, before, number, options.wanted), ends);
+    Ok(())
 }
 
 /// Makes the next frame, writes it, and reports its notes, after those before where there is no
@@ -140,10 +132,8 @@ fn play_frame<'a, S: Store, E: Ends>(
         (at ends.old) (at ends.new)) }
     ensures moments { E.moments ends.new ≡ E.moments ends.old }
 {
-    match make_room(*made, options.skip, ends) {
-        Ok(()) => send_frame(player, made, options, ends),
-        Err(stop) => Err(stop),
-    }
+    make_room(*made, options.skip, ends)?;
+    send_frame(player, made, options, ends)
 }
 
 /// Makes this many frames.
@@ -161,10 +151,8 @@ fn play_frames<'a, S: Store, E: Ends>(
 {
     let mut done = 0u32;
     while done < count {
-        match play_frame(player, made, options, ends) {
-            Ok(()) => done += 1,
-            Err(stop) => return Err(stop),
-        }
+        play_frame(player, made, options, ends)?;
+        done += 1;
     }
     Ok(())
 }
@@ -205,10 +193,7 @@ fn play_steps<'a, S: Store, E: Ends>(
     ensures moments { E.moments ends.new ≡ E.moments ends.old }
 {
     for step in steps {
-        match play_step(player, made, *step, options, ends) {
-            Ok(()) => {}
-            Err(stop) => return Err(stop),
-        }
+        play_step(player, made, *step, options, ends)?;
     }
     Ok(())
 }
@@ -227,8 +212,6 @@ pub(crate) fn play_line<'a, S: Store, E: Ends>(
     ensures moments { E.moments ends.new ≡ E.moments ends.old }
     ensures flushed { OnOk result (E.is_flushed ends.new ≡ true) }
 {
-    match play_steps(player, made, steps, options, ends) {
-        Ok(()) => flush_line(*made, options.skip, ends),
-        Err(stop) => Err(stop),
-    }
+    play_steps(player, made, steps, options, ends)?;
+    flush_line(*made, options.skip, ends)
 }

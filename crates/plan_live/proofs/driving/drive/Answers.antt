@@ -3,7 +3,7 @@ use Rattle.console.specs.Lines.{GivesLine}
 use Rattle.plan_player.specs.Playing.{Playing}
 use Rattle.plan_live.specs.Living.{Streamed, streamed, streams_at}
 use Rattle.plan_live.proofs.Lines.{going_first, line_bad, too_long, going_line, whole_at, prompt_first, prompt_more}
-use Rattle.plan_live.proofs.driving.drive.Goals.{in-Long, in-Line+in-Ok}
+use Rattle.plan_live.proofs.driving.drive.Goals.{in-Long, in-Line+in_ok-take_line-in-Line}
 use Rattle.plan_live.proofs.driving.drive.Goals as goal
 
 pub loop-number-init : goal.loop-number-init
@@ -51,13 +51,13 @@ loop-number-preserved g c =
             flushed = w.report.ensures.flushed ∙ w.in-Long.ensures.flushed;
             prompt = prompt_more skip p q m old now (moments c.args.ends.now) (moments c.loop-number.ends) (moments c.next.new.self) (moments w.report.new.self) going c.loop-number.invariant.prompt w.in-Long.ensures.moments w.report.ensures.moments;
           })
-      | in-Line+in-Ok w ↦
+      | in-Line+in_ok-take_line-in-Line w ↦
           let line : List ℕ = w.as_slice-line.result.now in
           let after : Streamed = at w.take_line.new.ends in
           let given : GivesLine now.left line rest = subst (λ (l : List ℕ). GivesLine now.left l rest) (sym w.as_slice-line.ensures.value) (w.in-Line.ensures.line refl) in
           rw (w.ends-is, w.player-is, w.made-is) (record {
-            going = going_line skip p q w.take_line.new.player m w.take_line.new.made line old now after rest (written c.next.new.self) going given w.in-Line.ensures.written w.in-Ok.ensures.went;
-            flushed = w.in-Ok.ensures.flushed;
+            going = going_line skip p q w.take_line.new.player m w.take_line.new.made line old now after rest (written c.next.new.self) going given w.in-Line.ensures.written w.in_ok-take_line-in-Line.ensures.went;
+            flushed = w.in_ok-take_line-in-Line.ensures.flushed;
             prompt = prompt_more skip p q m old now (moments c.args.ends.now) (moments c.loop-number.ends) (moments c.next.new.self) (moments w.take_line.new.ends) going c.loop-number.invariant.prompt w.in-Line.ensures.moments w.take_line.ensures.moments;
           })
     ]
@@ -76,8 +76,8 @@ returns-in-Failed-clause-prompt g c =
     prompt_more c.args.options.skip c.args.player.now c.loop-number.player c.loop-number.made (at c.args.ends.now) (at c.loop-number.ends) (moments c.args.ends.now) (moments c.loop-number.ends) (moments c.next.new.self) (moments c.next.new.self)
     c.loop-number.invariant.going c.loop-number.invariant.prompt c.in-Failed.ensures.moments refl
 
-pub returns-in-Err-clause-prompt : goal.returns-in-Err-clause-prompt
-returns-in-Err-clause-prompt g c =
+pub returns-in_err-take_line-in-Line-clause-prompt : goal.returns-in_err-take_line-in-Line-clause-prompt
+returns-in_err-take_line-in-Line-clause-prompt g c =
     let at = streams_at g.E.Ends.left g.E.Ends.written in
     let moments = g.E.Ends.moments in
     prompt_more c.args.options.skip c.args.player.now c.loop-number.player c.loop-number.made (at c.args.ends.now) (at c.loop-number.ends) (moments c.args.ends.now) (moments c.loop-number.ends) (moments c.next.new.self) (moments c.take_line.new.ends)

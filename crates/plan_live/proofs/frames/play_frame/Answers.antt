@@ -5,8 +5,8 @@ use Rattle.plan_live.specs.Living.{Streamed, streams_at}
 use Rattle.plan_live.proofs.Going.{went_none, went_join, ok_then}
 use Rattle.plan_live.proofs.frames.play_frame.Goals as goal
 
-pub returns-in-Ok-clause-went : goal.returns-in-Ok-clause-went
-returns-in-Ok-clause-went g c =
+pub returns-clause-went : goal.returns-clause-went
+returns-clause-went g c =
     let at = streams_at g.E.Ends.left g.E.Ends.written in
     let p = c.args.player.now in
     let n = c.args.made.now in

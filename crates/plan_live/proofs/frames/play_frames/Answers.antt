@@ -19,9 +19,9 @@ loop-done-preserved g c =
     let p : Playing = c.args.player.now in
     let n : ℕ = c.args.made.now in
     let k : ℕ = c.loop-done.done in
-    let both = went_join skip p c.loop-done.player c.play_frame.new.player n c.loop-done.made c.play_frame.new.made (replicate k Frame) (Frame ∷ []) a b d c.loop-done.invariant.went c.in-Ok.ensures.went in
+    let both = went_join skip p c.loop-done.player c.play_frame.new.player n c.loop-done.made c.play_frame.new.made (replicate k Frame) (Frame ∷ []) a b d c.loop-done.invariant.went c.in_ok-play_frame.ensures.went in
     record {
       within = omega (arith, c.loop-done-test.true);
       went = subst (λ (l : List Event). Went skip p n l c.play_frame.new.player c.play_frame.new.made a d) (sym (replicate_more k 1)) both;
-      moments = c.in-Ok.ensures.moments ∙ c.loop-done.invariant.moments;
+      moments = c.in_ok-play_frame.ensures.moments ∙ c.loop-done.invariant.moments;
     }

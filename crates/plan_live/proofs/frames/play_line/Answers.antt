@@ -5,8 +5,8 @@ use Rattle.plan_live.specs.Living.{Streamed, streams_at}
 use Rattle.plan_live.proofs.Going.{went_flushed, ok_always}
 use Rattle.plan_live.proofs.frames.play_line.Goals as goal
 
-pub returns-in-Ok-clause-went : goal.returns-in-Ok-clause-went
-returns-in-Ok-clause-went g c =
+pub returns-clause-went : goal.returns-clause-went
+returns-clause-went g c =
     let at = streams_at g.E.Ends.left g.E.Ends.written in
     let p : Playing = c.args.player.now in
     let q : Playing = c.play_steps.new.player in
@@ -15,4 +15,4 @@ returns-in-Ok-clause-went g c =
     let skip = c.args.options.skip in
     let events = events_of c.args.steps.now in
     ok_always c.flush_line.result (Went skip p c.args.made.now events q c.play_steps.new.made a d)
-    (went_flushed skip p q c.args.made.now c.play_steps.new.made events a (at c.play_steps.new.ends) d c.in-Ok.ensures.went c.flush_line.ensures.left c.flush_line.ensures.written)
+    (went_flushed skip p q c.args.made.now c.play_steps.new.made events a (at c.play_steps.new.ends) d c.in_ok-play_steps.ensures.went c.flush_line.ensures.left c.flush_line.ensures.written)

@@ -24,8 +24,8 @@ loop-step-preserved g c =
     let step : Step = c.step-item.result in
     let more : take (i + 1) steps ≡ take i steps ++ step ∷ [] =
     take_more steps i step c.loop-step-test.true ∙ ap (λ (x : Step). take i steps ++ x ∷ []) (sym c.step-item.is) in
-    let both = went_join skip p c.loop-step.player c.play_step.new.player n c.loop-step.made c.play_step.new.made (events_of (take i steps)) (events_of_step step) a b d c.loop-step.invariant.went c.in-Ok.ensures.went in
+    let both = went_join skip p c.loop-step.player c.play_step.new.player n c.loop-step.made c.play_step.new.made (events_of (take i steps)) (events_of_step step) a b d c.loop-step.invariant.went c.in_ok-play_step.ensures.went in
     record {
       went = subst (λ (l : List Event). Went skip p n l c.play_step.new.player c.play_step.new.made a d) (sym (events_more steps i step more)) both;
-      moments = c.in-Ok.ensures.moments ∙ c.loop-step.invariant.moments;
+      moments = c.in_ok-play_step.ensures.moments ∙ c.loop-step.invariant.moments;
     }
