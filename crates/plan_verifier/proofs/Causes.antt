@@ -1,5 +1,6 @@
 -- The causes that the walk finds at an instruction are those of the definition of refusals.
 use Rattle.std.proofs.Common.{◌≡◌, ℕ, ◌+◌, ◌<◌, ◌≤◌, true, not, length, Option, Some, None, refl, sym, ap, subst, ◌∙◌, arith}
+use Rattle.std.proofs.lemmas.Bool.{not-false}
 use Rattle.mux_config.specs.Configuration.{IsConfiguration}
 use Rattle.plan_code.specs.declared.label.Label.{Label}
 use Rattle.plan_code.specs.declared.instr.Instr.{Instr}
@@ -8,12 +9,11 @@ use Rattle.plan_code.specs.Program.{Program, label_at}
 use Rattle.plan_verifier.specs.declared.cause.Cause.{Cause}
 use Rattle.plan_verifier.specs.declared.cause.Cause.TheVariants.{Target}
 use Rattle.plan_verifier.specs.Flows.{HasItsCounter}
-use Rattle.plan_verifier.proofs.Finding.{decides_is_true, decides_is_false, flow_computes, flow_fine, fine_none, none_two, two_none, none_if, if_none, not_not, refuted, none_where, needed, none_unless}
+use Rattle.plan_verifier.proofs.Finding.{decides_is_true, decides_is_false, flow_computes, flow_fine, fine_none, none_two, two_none, none_if, if_none, refuted, none_where, needed, none_unless}
 use Rattle.plan_verifier.specs.Typing.{Known, IsFine, continues, target_of, spent, Declares, Fits, CanEnter, Reaches}
 use Rattle.plan_verifier.specs.Refusals.{FitsLabel, EntryRefused, JumpRefused, InstrRefused, KnownRefused}
 use Rattle.plan_verifier.specs.Walking.{◌first_or◌, is_fit, declared_by, entry_cause, jump_cause, flow_cause, target_cause, instr_cause, known_cause}
-use Rattle.plan_verifier.proofs.DecidingWalks.{decides_fits}
-use Rattle.plan_verifier.proofs.DecidingFlows.{Decides, Computes, decides_not, decides_both, decides_lt, decides_eq, computes_always, computes_where, computes_orelse}
+use Rattle.plan_verifier.proofs.DecidingFlows.{Decides, Computes, decides_not, decides_both, decides_lt, decides_eq, computes_always, computes_where, computes_orelse, decides_fits}
 use Rattle.plan_verifier.proofs.Tabled.{IsTabled, declared_once}
 
 -- ---- the cause found is the one that holds, if any does
@@ -47,22 +47,12 @@ computes_alone None R c = c
 computes_alone (Some cause) R c = c
 
 instr_computes : (code : Program) (i : Instr) (t : Known) → IsTabled code → Computes (instr_cause code i t) (InstrRefused code i t)
-instr_computes code (Edits edit) t h = flow_computes code.plan (Edits edit) t
-instr_computes code (CommitIn delay) t h = flow_computes code.plan (CommitIn delay) t
-instr_computes code (CommitAt count) t h = flow_computes code.plan (CommitAt count) t
-instr_computes code (Wait frames) t h = flow_computes code.plan (Wait frames) t
-instr_computes code (Until day) t h = flow_computes code.plan (Until day) t
-instr_computes code (WaitContact contact closed) t h = flow_computes code.plan (WaitContact contact closed) t
-instr_computes code (WaitAny closed opened until frames) t h = flow_computes code.plan (WaitAny closed opened until frames) t
-instr_computes code Join t h = flow_computes code.plan Join t
-instr_computes code Settle t h = flow_computes code.plan Settle t
 instr_computes code (Test contact target) t h = computes_alone _ _ (target_computes code target (spent t) h)
 instr_computes code (TestTime from to target) t h = computes_alone _ _ (target_computes code target (spent t) h)
 instr_computes code (Jump target) t h = computes_alone _ _ (target_computes code target (spent t) h)
 instr_computes code (Loop counter target) t h =
     computes_alone _ _ (computes_orelse _ _ _ _ (computes_where _ _ _ (decides_is_false _)) (target_computes code target (spent t) h))
-instr_computes code (Set counter times) t h = flow_computes code.plan (Set counter times) t
-instr_computes code End t h = flow_computes code.plan End t
+instr_computes code i t h = flow_computes code.plan i t
 
 pub known_computes : (code : Program) (pc : ℕ) (i : Instr) (t : Known) → IsTabled code → Computes (known_cause code pc i t) (KnownRefused code pc i t)
 known_computes code pc i t h =
@@ -118,23 +108,13 @@ goes_nowhere : (code : Program) (i : Instr) (t : Known) → HasItsCounter i t.co
 goes_nowhere code i t counter e = record { counter = counter; targets = λ goal f. no_target code (spent t) goal (sym e ∙ f) }
 
 none_targets : (code : Program) (i : Instr) (t : Known) → IsTabled code → target_cause code i t ≡ None → HasTarget code i t
-none_targets code (Edits edit) t h e = goes_nowhere code (Edits edit) t tt refl
-none_targets code (CommitIn delay) t h e = goes_nowhere code (CommitIn delay) t tt refl
-none_targets code (CommitAt count) t h e = goes_nowhere code (CommitAt count) t tt refl
-none_targets code (Wait frames) t h e = goes_nowhere code (Wait frames) t tt refl
-none_targets code (Until day) t h e = goes_nowhere code (Until day) t tt refl
-none_targets code (WaitContact contact closed) t h e = goes_nowhere code (WaitContact contact closed) t tt refl
-none_targets code (WaitAny closed opened until frames) t h e = goes_nowhere code (WaitAny closed opened until frames) t tt refl
-none_targets code Join t h e = goes_nowhere code Join t tt refl
-none_targets code Settle t h e = goes_nowhere code Settle t tt refl
 none_targets code (Test contact target) t h e = record { counter = tt; targets = none_reaches code target (spent t) h e }
 none_targets code (TestTime from to target) t h e = record { counter = tt; targets = none_reaches code target (spent t) h e }
 none_targets code (Jump target) t h e = record { counter = tt; targets = none_reaches code target (spent t) h e }
 none_targets code (Loop counter target) t h e =
     let parts = none_two _ _ e in
-    record { counter = not_not _ (none_if _ _ parts.0); targets = none_reaches code target (spent t) h parts.1 }
-none_targets code (Set counter times) t h e = goes_nowhere code (Set counter times) t tt refl
-none_targets code End t h e = goes_nowhere code End t tt refl
+    record { counter = not-false _ (none_if _ _ parts.0); targets = none_reaches code target (spent t) h parts.1 }
+none_targets code i t h e = goes_nowhere code i t tt refl
 
 pub instr_good : (code : Program) (i : Instr) (t : Known) → IsTabled code → instr_cause code i t ≡ None → IsGood code i t
 instr_good code i t h e =
@@ -143,21 +123,11 @@ instr_good code i t h e =
     record { fine = flow_fine code.plan i t there.counter parts.1; targets = there.targets }
 
 targets_none : (code : Program) (i : Instr) (t : Known) → IsTabled code → IsGood code i t → target_cause code i t ≡ None
-targets_none code (Edits edit) t h g = refl
-targets_none code (CommitIn delay) t h g = refl
-targets_none code (CommitAt count) t h g = refl
-targets_none code (Wait frames) t h g = refl
-targets_none code (Until day) t h g = refl
-targets_none code (WaitContact contact closed) t h g = refl
-targets_none code (WaitAny closed opened until frames) t h g = refl
-targets_none code Join t h g = refl
-targets_none code Settle t h g = refl
 targets_none code (Test contact target) t h g = reached_none code target (spent t) h g.targets
 targets_none code (TestTime from to target) t h g = reached_none code target (spent t) h g.targets
 targets_none code (Jump target) t h g = reached_none code target (spent t) h g.targets
 targets_none code (Loop counter target) t h g = two_none _ _ (if_none _ _ (ap not g.fine)) (reached_none code target (spent t) h g.targets)
-targets_none code (Set counter times) t h g = refl
-targets_none code End t h g = refl
+targets_none code _ t h g = refl
 
 pub good_none : (code : Program) (i : Instr) (t : Known) → IsTabled code → IsConfiguration t.next → IsGood code i t → instr_cause code i t ≡ None
 good_none code i t h formed g =

@@ -11,8 +11,7 @@ use Rattle.plan_verifier.specs.declared.cause.Cause.TheVariants.{Table, Mismatch
 use Rattle.plan_verifier.specs.Typing.{Known, IsOpening, CanEnter, Declares, pages_alone}
 use Rattle.plan_verifier.specs.Refusals.{TakenRefused, LabelRefused, PcRefused, OpenedRefused, OpeningRefused, InstructionRefused, left_before}
 use Rattle.plan_verifier.specs.Walking.{whole_cause, ◌first_or◌, taken, label_cause, opening_cause, opening_known, known_at_pc, entered, declared_by, cause_if, cause_of, known_cause, entry_cause, is_initial}
-use Rattle.plan_verifier.proofs.DecidingWalks.{decides_initial}
-use Rattle.plan_verifier.proofs.DecidingFlows.{Computes, decides_not, decides_lt, computes_always, computes_where, computes_some, computes_orelse}
+use Rattle.plan_verifier.proofs.DecidingFlows.{Computes, decides_not, decides_lt, computes_always, computes_where, computes_some, computes_orelse, decides_initial}
 use Rattle.plan_verifier.proofs.Finding.{none_two, two_none, refuted, none_where, needed, none_unless, none_of, of_none}
 use Rattle.plan_verifier.proofs.Causes.{known_computes, entry_computes, entry_comes, comes_none, declares_at}
 use Rattle.plan_verifier.proofs.Tabled.{IsTabled, declared_once}

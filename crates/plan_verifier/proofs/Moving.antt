@@ -6,7 +6,7 @@ use Rattle.plan_code.specs.declared.plan.Plan.{Plan}
 use Rattle.plan_code.specs.declared.label.Swap.{Swap}
 use Rattle.plan_code.specs.declared.label.Swap.TheVariants.{Idle, Within, Perhaps}
 use Rattle.plan_code.specs.declared.instr.Instr.{Instr}
-use Rattle.plan_code.specs.declared.instr.Instr.TheVariants.{Wait, Until, WaitContact, WaitAny, CommitIn, CommitAt, Join, Settle, End, Edit as Edits, Test, TestTime, Jump, Set, Loop}
+use Rattle.plan_code.specs.declared.instr.Instr.TheVariants.{Wait, Until, WaitContact, WaitAny, Join, Settle, Edit as Edits}
 use Rattle.plan_verifier.specs.declared.indices.IndexedFlow.{IndexedFlow}
 use Rattle.plan_verifier.specs.declared.indices.Indices.{Indices}
 use Rattle.plan_verifier.specs.Rules.{Known, FitsSwap, known_after_swap, after_wait, after_pause, after_settle}
@@ -56,20 +56,13 @@ settled table k (Perhaps hi) t e h = (h.1, h.1)
 pub tracked_after : (plan : Plan) (i : Instr) (table : List Configuration) (k : Indices) (t : Flow) → AreAt table k t
     → AreAt table (indices_after i t.pending (after_instr plan i t).pending k) (after_instr plan i t)
 tracked_after plan (Edits edit) table k t h = (h.0, tt)
-tracked_after plan (CommitIn delay) table k t h = h
-tracked_after plan (CommitAt count) table k t h = h
 tracked_after plan (Wait frames) table k t h = waited table k frames t.pending (known_at t) h
 tracked_after plan (Until day) table k t h = paused table k t.pending (known_at t) h
 tracked_after plan (WaitContact contact closed) table k t h = paused table k t.pending (known_at t) h
 tracked_after plan (WaitAny closed opened until frames) table k t h = paused table k t.pending (known_at t) h
 tracked_after plan Join table k t h = (h.1, h.1)
 tracked_after plan Settle table k t h = settled table k t.pending (known_at t) refl h
-tracked_after plan (Test contact target) table k t h = h
-tracked_after plan (TestTime from to target) table k t h = h
-tracked_after plan (Jump target) table k t h = h
-tracked_after plan (Loop counter target) table k t h = h
-tracked_after plan (Set counter times) table k t h = h
-tracked_after plan End table k t h = h
+tracked_after plan _ table k t h = h
 
 -- ---- configurations at an index
 
@@ -85,7 +78,7 @@ is_there table index c lt e = slice_get-get_or table index nothing lt ∙ ap Som
 
 -- ---- a flow that fits another has its configurations, except for the current one if the swap may have been made
 
-next_fits : (p q : Swap) (t u : Known) → FitsSwap p q t u → t.next ≡ u.next
+pub next_fits : (p q : Swap) (t u : Known) → FitsSwap p q t u → t.next ≡ u.next
 next_fits Idle Idle t u h = h.1
 next_fits Idle (Within low high) t u h = absurd h
 next_fits Idle (Perhaps high) t u h = h.1

@@ -4,7 +4,7 @@ use Rattle.std.proofs.lemmas.Option.{slice_get_within}
 use Rattle.mux_config.specs.Configuration.{IsConfiguration}
 use Rattle.mux_config.specs.Edits.{IsInRange}
 use Rattle.mux_config.specs.declared.edit.Edit.{Edit}
-use Rattle.mux_config.specs.declared.edit.Edit.TheVariants.{AddSub, DropSub, MoveSub, RateSub, AddService, DropService, AddComponent, DropComponent, AddPacket, DropPacket}
+use Rattle.mux_config.specs.declared.edit.Edit.TheVariants.{AddSub, AddService, AddComponent, AddPacket}
 use Rattle.mux_config.proofs.Keeping.{edits_keep}
 use Rattle.plan_code.specs.declared.plan.Plan.{Plan}
 use Rattle.plan_code.specs.declared.label.Label.{Label}
@@ -12,7 +12,7 @@ use Rattle.plan_code.specs.declared.label.Swap.{Swap}
 use Rattle.plan_code.specs.declared.label.Swap.TheVariants.{Idle, Within, Perhaps}
 use Rattle.plan_code.specs.declared.instr.Line.{Line}
 use Rattle.plan_code.specs.declared.instr.Instr.{Instr}
-use Rattle.plan_code.specs.declared.instr.Instr.TheVariants.{Wait, Until, WaitContact, WaitAny, CommitIn, CommitAt, Join, Settle, End, Edit as Edits, Test, TestTime, Jump, Set, Loop}
+use Rattle.plan_code.specs.declared.instr.Instr.TheVariants.{Wait, Until, WaitContact, WaitAny, Join, Settle, Edit as Edits}
 use Rattle.plan_code.specs.Program.{Program, IsProgram, IsInstr, IsEdit, instr_at, label_at}
 use Rattle.plan_verifier.specs.declared.cause.Cause.{Cause}
 use Rattle.plan_verifier.specs.declared.cause.Cause.TheVariants.{Table}
@@ -23,22 +23,17 @@ use Rattle.plan_verifier.specs.Walking.{whole_cause, entered, known_cause, passe
 use Rattle.plan_verifier.proofs.DecidingFlows.{decides_le}
 use Rattle.plan_verifier.proofs.Causes.{IsPassed, passed_none}
 use Rattle.plan_verifier.proofs.Entries.{whole_computes, IsHere, IsEnteredAt, entered_found}
-use Rattle.plan_verifier.proofs.Tabled.{IsTabled, AreFormed, tabled, found, mapped, declared_once}
-use Rattle.plan_verifier.proofs.Verdicts.{dropped, slice_there, same_some, left_told, left_found, none_past, none_found, first_past, stops, passes, IsVerdict, found_from}
+use Rattle.plan_verifier.proofs.Tabled.{IsTabled, AreFormed, tabled, found, mapped, declared_once, some_same}
+use Rattle.plan_verifier.proofs.Verdicts.{slice_there, left_told, left_found, none_past, none_found, first_past, stops, passes, IsVerdict, found_from, dropped}
 
 -- ---- configurations stay well-formed
 
-in_range : (e : Edit) → IsEdit e → IsInRange e
+pub in_range : (e : Edit) → IsEdit e → IsInRange e
 in_range (AddSub s) h = (h.named, h.from_one, h.to_four)
-in_range (DropSub id) h = tt
-in_range (MoveSub id start) h = tt
-in_range (RateSub id kbits) h = tt
 in_range (AddService sid) h = h
-in_range (DropService sid) h = tt
 in_range (AddComponent sid m) h = h.1
-in_range (DropComponent sid carrier) h = tt
 in_range (AddPacket p) h = (h.named, h.typed, h.carried)
-in_range (DropPacket scid) h = tt
+in_range _ h = tt
 
 formed_swapped : (t : Known) → AreFormed t → AreFormed (known_after_swap t)
 formed_swapped t h = record { current = h.next; next = h.next }
@@ -74,20 +69,13 @@ formed_as t u e f h = record { current = subst IsConfiguration e h.current; next
 
 leaves_formed : (plan : Plan) (i : Instr) (t : Known) → IsInstr i → IsFine plan i t → AreFormed t → AreFormed (leaves plan i t)
 leaves_formed plan (Edits edit) t is fine h = record { current = h.current; next = edits_keep edit t.next (in_range edit is) h.next fine.1 }
-leaves_formed plan (CommitIn delay) t is fine h = formed_as t _ refl refl h
-leaves_formed plan (CommitAt count) t is fine h = formed_as t _ refl refl h
 leaves_formed plan (Wait frames) t is fine h = formed_as (after_wait frames t.pending t) _ refl refl (formed_waited frames t.pending t h)
 leaves_formed plan (Until day) t is fine h = formed_as (after_pause t.pending t) _ refl refl (formed_paused t.pending t h)
 leaves_formed plan (WaitContact contact closed) t is fine h = formed_as (after_pause t.pending t) _ refl refl (formed_paused t.pending t h)
 leaves_formed plan (WaitAny closed opened until frames) t is fine h = formed_as (after_pause t.pending t) _ refl refl (formed_paused t.pending t h)
 leaves_formed plan Join t is fine h = formed_as (known_after_swap t) _ refl refl (formed_swapped t h)
 leaves_formed plan Settle t is fine h = formed_as (after_settle t.pending t) _ refl refl (formed_settled t.pending t h)
-leaves_formed plan (Test contact target) t is fine h = formed_as t _ refl refl h
-leaves_formed plan (TestTime from to target) t is fine h = formed_as t _ refl refl h
-leaves_formed plan (Jump target) t is fine h = formed_as t _ refl refl h
-leaves_formed plan (Loop counter target) t is fine h = formed_as t _ refl refl h
-leaves_formed plan (Set counter times) t is fine h = formed_as t _ refl refl h
-leaves_formed plan End t is fine h = formed_as t _ refl refl h
+leaves_formed plan _ t is fine h = formed_as t _ refl refl h
 
 -- ---- what a typing says at one pc
 
@@ -96,7 +84,7 @@ at_label : (code : Program) (end : ℕ) (typing : List Known) → IsTabled code 
 at_label code end typing h below pc label t e lt at =
     let f = h.found pc label e in
     let p = below.labels label f.0 (subst (λ (n : ℕ). n < end) (sym f.1) lt) in
-    let same : p.known ≡ t = same_some _ _ _ p.there (subst (λ (n : ℕ). slice_get typing n ≡ Some t) (sym f.1) at) in
+    let same : p.known ≡ t = some_same _ _ _ p.there (subst (λ (n : ℕ). slice_get typing n ≡ Some t) (sym f.1) at) in
     (subst (λ (u : Known). Declares code label u) same p.declares, p.within)
 
 formed_label : (code : Program) → IsTabled code → (pc : ℕ) (label : Label) (t : Known) → label_at code pc ≡ Some label → Declares code label t → AreFormed t
@@ -143,7 +131,7 @@ formed_by code end typing h below pc None e lt t at before =
     let i = r.0 in
     let u = r.1 in
     let arrived : Arrives code typing (suc pc) None (leaves code.plan i u) = subst (λ (o : Option Label). Arrives code typing (suc pc) o (leaves code.plan i u)) e r.2.arrives in
-    let same : leaves code.plan i u ≡ t = same_some _ _ _ arrived at in
+    let same : leaves code.plan i u ≡ t = some_same _ _ _ arrived at in
     let s = below.safe pc i u r.2.there r.2.known in
     subst AreFormed same (leaves_formed code.plan i u (h.instrs pc i r.2.there) s.fine (before u r.2.known))
 
@@ -158,7 +146,7 @@ formed_at code end typing h below (suc pc) lt t at =
     formed_by code end typing h below pc (label_at code (suc pc)) refl lt t at (λ u there. formed_at code end typing h below pc (omega (arith, lt)) u there)
 
 arrived_here : (code : Program) (typing : List Known) (pc : ℕ) (o : Option Label) (t u : Known) → slice_get typing pc ≡ Some t → Arrives code typing pc o u → IsHere code o t u
-arrived_here code typing pc None t u at h = same_some _ _ _ h at
+arrived_here code typing pc None t u at h = some_same _ _ _ h at
 arrived_here code typing pc (Some label) t u at h = h
 
 entered_below : (code : Program) (end : ℕ) (typing : List Known) → IsTabled code → IsTypingBelow code end typing → (pc : ℕ) → pc < end → (t : Known) → slice_get typing pc ≡ Some t
@@ -322,6 +310,6 @@ codes_have_one_verdict code h = record {
       let both : refused_at pc cause ≡ refused_at other_pc other = sym (refused_stops code pc cause h one) ∙ refused_stops code other_pc other h two in
       let a : Refusal = record { pc = pc; cause = cause } in
       let b : Refusal = record { pc = other_pc; cause = other } in
-      let same : a ≡ b = same_some (refused_at pc cause) a b refl both in
+      let same : a ≡ b = some_same (refused_at pc cause) a b refl both in
       (ap (λ (r : Refusal). r.pc) same, ap (λ (r : Refusal). r.cause) same);
 }

@@ -8,7 +8,7 @@ use Rattle.plan_verifier.specs.declared.cause.Cause.{Cause}
 use Rattle.plan_verifier.specs.Typing.{Known, leaves, continues}
 use Rattle.plan_verifier.specs.Walking.{whole_cause, unless, taken, opening_cause, opening_known, known_at_pc, entered, declared_by, known_cause, passed_on, known_if_reached, instr_or_end, refused_at, PassesInstr, walk, refusal_of}
 use Rattle.plan_verifier.proofs.Finding.{unless_err, unless_ok}
-use Rattle.plan_verifier.proofs.Verdicts.{dropped, slice_there, stops, passes}
+use Rattle.plan_verifier.proofs.Verdicts.{slice_there, stops, passes, dropped}
 
 pub entered_first : (code : Program) (pc : ℕ) (came : Option Known) → pc ≡ 0 → entered code pc came ≡ opening_known code (label_at code 0)
 entered_first code zero came e = refl

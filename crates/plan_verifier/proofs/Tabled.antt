@@ -86,7 +86,7 @@ tabled code h = record {
 }
 
 -- a label declares exactly one state
-some_same : {T : Type 0} (o : Option T) (x y : T) → o ≡ Some x → o ≡ Some y → x ≡ y
+pub some_same : {T : Type 0} (o : Option T) (x y : T) → o ≡ Some x → o ≡ Some y → x ≡ y
 some_same o x y e f = let both : Some x ≡ Some y = sym e ∙ f in cc
 
 pub declared_once : (code : Program) (label : Label) (t u : Known) → Declares code label t → Declares code label u → t ≡ u

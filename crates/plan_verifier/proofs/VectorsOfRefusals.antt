@@ -1,23 +1,23 @@
 -- Why small codes are refused: for each definition of refusals, examples that hold and examples that fail.
-use Rattle.std.proofs.Common.{◌≡◌, ◌≢◌, ℕ, zero, suc, ◌<◌, ◌≤◌, [], ◌∷◌, slice_get, Contains, Some, None, inl, inr, refl, sym, ap, subst, arith}
+use Rattle.std.proofs.Common.{◌≡◌, ◌≢◌, ℕ, zero, suc, ◌<◌, ◌≤◌, [], ◌∷◌, Contains, Some, None, inl, inr, refl, sym, ap, subst, arith}
 use Rattle.std.proofs.lemmas.Bool.{false≢true}
 use Rattle.mux_config.specs.declared.edit.Edit.TheVariants.{AddSub, DropSub}
 use Rattle.mux_config.specs.declared.fault.EditFault.TheVariants.{IdAbsent}
 use Rattle.plan_code.specs.declared.label.Label.{Label}
 use Rattle.plan_code.specs.declared.label.Swap.TheVariants.{Idle, Within}
 use Rattle.plan_code.specs.declared.instr.Instr.{Instr}
-use Rattle.plan_code.specs.declared.instr.Instr.TheVariants.{CommitIn, Join, End, Edit as Edits, Jump}
-use Rattle.plan_code.specs.Program.{Program, IsProgram, IsLine, IsInstr, instr_at, label_at, label_key}
+use Rattle.plan_code.specs.declared.instr.Instr.TheVariants.{Join, End, Edit as Edits, Jump}
+use Rattle.plan_code.specs.Program.{Program, IsProgram, IsInstr, label_at, label_key}
 use Rattle.plan_verifier.specs.declared.cause.Cause.{Cause}
 use Rattle.plan_verifier.specs.declared.cause.Cause.TheVariants.{Target, Table, Edit as OfEdit, Pending, Notice, JoinIdle, Mismatch, Cost, FallsOff}
 use Rattle.plan_verifier.proofs.Samples.{plan, sub, counters, label, line, code, line_is, first_is}
-use Rattle.plan_verifier.specs.Typing.{Known, Declares, HasOpening, IsLabelTyped, IsAfter}
+use Rattle.plan_verifier.specs.Typing.{Known, Declares, HasOpening}
 use Rattle.plan_verifier.specs.Refusals.{Where, WhereSome, CommitRefused, FitsLabel, EntryRefused, JumpRefused, InstrRefused, KnownRefused, TakenRefused, LabelRefused, PcRefused, OpenedRefused, OpeningRefused, IsSafeBelow, IsTypingBelow, InstructionRefused, IsFirstPast, IsRefusedAt, IsRefused, HasOneVerdict}
 use Rattle.plan_verifier.proofs.Tabled.{IsTabled, tabled, declared_once}
 use Rattle.plan_verifier.proofs.Causes.{decides_label, entry_computes, known_computes}
 use Rattle.plan_verifier.proofs.Entries.{whole_computes}
-use Rattle.plan_verifier.proofs.OneVerdict.{codes_have_one_verdict}
-use Rattle.plan_verifier.proofs.VectorsOfTyping.{joins, opened, edited, committed, its_label_declares, a_first_sub_channel, opens_empty}
+use Rattle.plan_verifier.proofs.OneVerdict.{refused_if, codes_have_one_verdict}
+use Rattle.plan_verifier.proofs.VectorsOfTyping.{joins, joins_is, adds_sub, opened, edited, committed, its_label_declares, a_first_sub_channel}
 
 -- adds a sub-channel, and then waits for a swap although none was committed
 abbrev unjoined : Program
@@ -29,15 +29,11 @@ lone i = code (label 0 3 ∷ []) (line i ∷ [])
 
 -- ---- their fields are within their limits
 
-adds : IsLine (line (Edits (AddSub sub)))
-adds = line_is (Edits (AddSub sub)) (record { named = omega arith; start = omega arith; from_one = omega arith; to_four = omega arith; rate = omega arith })
-
 joins_tabled : IsTabled joins
-joins_tabled =
-    tabled joins (first_is 3 joins.lines (omega arith) (omega arith) (adds, (line_is (CommitIn 24) (omega arith, omega arith), (line_is Join tt, (line_is End tt, tt)))) (omega arith) (omega arith))
+joins_tabled = tabled joins joins_is
 
 unjoined_is : IsProgram unjoined
-unjoined_is = first_is 3 unjoined.lines (omega arith) (omega arith) (adds, (line_is Join tt, tt)) (omega arith) (omega arith)
+unjoined_is = first_is 3 unjoined.lines (omega arith) (omega arith) (adds_sub, (line_is Join tt, tt)) (omega arith) (omega arith)
 
 lone_tabled : (i : Instr) → IsInstr i → IsTabled (lone i)
 lone_tabled i h = tabled (lone i) (first_is 3 (line i ∷ []) (omega arith) (omega arith) (line_is i h, tt) (omega arith) (omega arith))
@@ -145,9 +141,6 @@ opens_idle cause h = begins_with_an_end cause (opened, lone_declares End, h)
 
 -- ---- the instructions below a pc
 
-unjoined_declares : Declares unjoined (label 0 3) opened
-unjoined_declares = record { current = refl; next = refl; pending = refl; counters = refl; cost = refl }
-
 -- what follows that pc is not checked
 safe_below_one : IsSafeBelow unjoined 1 (opened ∷ []) 0 (Edits (AddSub sub)) opened
 safe_below_one = record {
@@ -161,30 +154,17 @@ safe_below_one = record {
 join_of_nothing : IsSafeBelow unjoined 2 (opened ∷ edited ∷ []) 1 Join edited → ⊥
 join_of_nothing h = h.fine
 
-safe_there : (pc : ℕ) (i : Instr) (t : Known) → instr_at unjoined pc ≡ Some i → slice_get (opened ∷ []) pc ≡ Some t → IsSafeBelow unjoined 1 (opened ∷ []) pc i t
-safe_there zero i t e f =
-    let same : Edits (AddSub sub) ≡ i = cc in
-    let known : opened ≡ t = cc in
-    subst (λ (u : Known). IsSafeBelow unjoined 1 (opened ∷ []) 0 i u) known (subst (λ (j : Instr). IsSafeBelow unjoined 1 (opened ∷ []) 0 j opened) same safe_below_one)
-safe_there (suc pc) i t e f = absurd cc
+unjoined_refused : IsRefused unjoined 1 JoinIdle
+unjoined_refused = refused_if unjoined 1 JoinIdle unjoined_is refl
 
-placed_there : (l : Label) → Contains unjoined.labels l → IsLabelTyped unjoined (opened ∷ []) l
-placed_there l (zero, lt, same) =
-    subst (λ (x : Label). IsLabelTyped unjoined (opened ∷ []) x) same (record { known = opened; there = refl; declares = unjoined_declares; within = omega arith })
-placed_there l (suc n, lt, same) = absurd (omega (arith, lt))
-
-no_more_below : (pc : ℕ) → pc < 1 → label_at unjoined pc ≡ None → IsAfter unjoined pc
-no_more_below zero lt e = absurd cc
-no_more_below (suc pc) lt e = absurd (omega (arith, lt))
-
-typing_below_one : IsTypingBelow unjoined 1 (opened ∷ [])
-typing_below_one = record { each = refl; opening = λ some. record { label = label 0 3; known = opened; first = refl; declares = unjoined_declares; opening = opens_empty }; labels = λ l has lt. placed_there l has; safe = safe_there; reached = no_more_below }
+typing_below_one : IsTypingBelow unjoined 1 unjoined_refused.0
+typing_below_one = unjoined_refused.1.0
 
 typing_below_two : IsTypingBelow unjoined 2 (opened ∷ edited ∷ []) → ⊥
 typing_below_two h = (h.safe 1 Join edited refl refl).fine
 
-second_refused : InstructionRefused unjoined (opened ∷ []) 1 Join JoinIdle
-second_refused = (whole_computes unjoined (opened ∷ []) 1 Join (tabled unjoined unjoined_is)).told JoinIdle refl
+second_refused : InstructionRefused unjoined unjoined_refused.0 1 Join JoinIdle
+second_refused = unjoined_refused.1.1
 
 second_not_for_its_cost : InstructionRefused unjoined (opened ∷ []) 1 Join Cost → ⊥
 second_not_for_its_cost h =
@@ -210,8 +190,8 @@ another_label_past h = let e : 9 ≤ 7 = h.first (label 7 3) (1, omega arith, re
 
 -- ---- the first cause at the first instruction that has one
 
-refused_at_the_join : IsRefusedAt unjoined (opened ∷ []) 1 (Some Join) JoinIdle
-refused_at_the_join = (typing_below_one, second_refused)
+refused_at_the_join : IsRefusedAt unjoined unjoined_refused.0 1 (Some Join) JoinIdle
+refused_at_the_join = unjoined_refused.1
 
 for_no_other_cause : IsRefusedAt unjoined (opened ∷ []) 1 (Some Join) Cost → ⊥
 for_no_other_cause h = second_not_for_its_cost h.1

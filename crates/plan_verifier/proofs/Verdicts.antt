@@ -1,8 +1,9 @@
 -- The walk over a whole code: if it ends without a cause the code is typed, and otherwise the cause that it finds is
 -- the refusal; so each code is typed, or refused at one instruction with one cause.
 use Rattle.std.proofs.Common.{◌≡◌, ℕ, zero, suc, ◌+◌, ◌<◌, ◌≤◌, ◌⊎◌, Bool, true, false, nat_le, List, [], ◌∷◌, ◌++◌, length, drop, find, slice_get, Contains, Option, Some, None, option_map, Result, Ok, Err, refl, sym, ap, subst, ◌∙◌, inl, inr, arith}
-use Rattle.std.proofs.lemmas.Bool.{cases_lt}
+use Rattle.std.proofs.lemmas.Bool.{cases_lt, false_from_ne_true, both_ways}
 use Rattle.std.proofs.lemmas.Option.{slice_get_within, slice_get_past}
+use Rattle.std.proofs.lemmas.List.{length_push}
 use Rattle.mux_config.specs.Configuration.{IsAscending}
 use Rattle.mux_types.proofs.Elements.{contains_cases, contains_first, contains_later, contains_none, each_contains}
 use Rattle.plan_code.specs.declared.plan.Plan.{Plan}
@@ -16,10 +17,10 @@ use Rattle.plan_verifier.specs.declared.refusal.Refusal.{Refusal}
 use Rattle.plan_verifier.specs.Typing.{Known, leaves, continues, Arrives, Declares, HasOpening, IsLabelTyped, IsAfter, IsTyping, IsTyped}
 use Rattle.plan_verifier.specs.Refusals.{InstructionRefused, IsSafeBelow, IsTypingBelow, IsFirstPast, IsRefusedAt, IsRefused, left_by, left_before}
 use Rattle.plan_verifier.specs.Walking.{whole_cause, entered, known_cause, passed_on, refused_at, on_entry, or_after, past_label, walk}
-use Rattle.plan_verifier.proofs.DecidingFlows.{Computes, decides_le, not_true, is_false}
+use Rattle.plan_verifier.proofs.DecidingFlows.{Computes, decides_le}
 use Rattle.plan_verifier.proofs.Causes.{IsPassed, known_passed}
 use Rattle.plan_verifier.proofs.Entries.{whole_computes, IsHere, IsEnteredAt, entered_told}
-use Rattle.plan_verifier.proofs.Tabled.{IsTabled, tabled, found}
+use Rattle.plan_verifier.proofs.Tabled.{IsTabled, tabled, found, some_same}
 
 -- ---- lists
 
@@ -55,13 +56,6 @@ pub slice_there : {T : Type 0} (xs : List T) (k : ℕ) → k < length xs → (x 
 slice_there [] k lt = absurd (omega (arith, lt))
 slice_there (x ∷ xs) zero lt = (x, refl)
 slice_there (x ∷ xs) (suc k) lt = slice_there xs k (omega (arith, lt))
-
-length_pushed : {T : Type 0} (xs : List T) (y : T) → length (xs ++ y ∷ []) ≡ length xs + 1
-length_pushed [] y = refl
-length_pushed (x ∷ xs) y = ap suc (length_pushed xs y) ∙ (let e : suc (length xs + 1) ≡ suc (length xs) + 1 = omega arith in e)
-
-pub same_some : {T : Type 0} (o : Option T) (x y : T) → o ≡ Some x → o ≡ Some y → x ≡ y
-same_some o x y e f = let both : Some x ≡ Some y = sym e ∙ f in cc
 
 -- ---- what holds after the preceding instruction
 
@@ -100,7 +94,7 @@ record IsBegun (code : Program) (typing : List Known) (pc : ℕ) (t : Known) : T
 begun : (code : Program) (typing : List Known) (pc : ℕ) (t : Known) → IsEnteredAt code typing pc t → IsBegun code typing pc t
 begun code typing zero t h = record {
   placed = λ label e.
-      let same : h.label ≡ label = same_some _ _ _ h.there e in
+      let same : h.label ≡ label = some_same _ _ _ h.there e in
       subst (λ (l : Label). Declares code l t × (l.cost ≤ code.plan.budget)) same (h.declares, h.within);
   opening = λ z. record { label = h.label; known = t; first = h.there; declares = h.declares; opening = h.opening };
   arrives = λ k i u e at known on. absurd (omega (arith, e));
@@ -167,7 +161,7 @@ extended code pc typing i t h lt at below e p =
     let b = begun code typing pc t e in
     let there : slice_get (typing ++ t ∷ []) pc ≡ Some t = subst (λ (n : ℕ). slice_get (typing ++ t ∷ []) n ≡ Some t) below.each (slice_last typing t) in
     record {
-      each = length_pushed typing t ∙ ap (λ (n : ℕ). n + 1) below.each;
+      each = length_push typing t ∙ ap (λ (n : ℕ). n + 1) below.each;
       opening = λ some. elim (cases_lt 0 pc) [ inl later ↦ below.opening later | inr first ↦ b.opening (omega (arith, first)) ];
       labels = λ label here less.
           elim (cases_lt label.pc pc) [
@@ -182,7 +176,7 @@ extended code pc typing i t h lt at below e p =
             | inl old ↦ safe_before code pc typing t below.each b k j u at_k old (below.safe k j u at_k old)
             | inr new ↦
                 let here : k ≡ pc = new.0 ∙ below.each in
-                let same_i : i ≡ j = same_some _ _ _ at (subst (λ (n : ℕ). instr_at code n ≡ Some j) here at_k) in
+                let same_i : i ≡ j = some_same _ _ _ at (subst (λ (n : ℕ). instr_at code n ≡ Some j) here at_k) in
                 let is = safe_here code pc (typing ++ t ∷ []) i t lt p in
                 let with_j = subst (λ (x : Instr). IsSafeBelow code (pc + 1) (typing ++ t ∷ []) pc x t) same_i is in
                 let with_u = subst (λ (x : Known). IsSafeBelow code (pc + 1) (typing ++ t ∷ []) pc j x) new.1 with_j in
@@ -203,7 +197,7 @@ found_none_by : (n : ℕ) (x : Label) (xs : List Label) (b : Bool) → nat_le n 
     → (x.pc < n) × (find (λ (l : Label). nat_le n l.pc) xs ≡ None)
 found_none_by n x xs true is e = absurd (let h : Some x ≡ None = sym (rw is refl) ∙ e in cc)
 found_none_by n x xs false is e =
-    let below : n ≤ x.pc → ⊥ = λ h. not_true _ is ((decides_le n x.pc).found h) in
+    let below : n ≤ x.pc → ⊥ = λ h. both_ways _ is ((decides_le n x.pc).found h) in
     (omega (arith, below), sym (rw is refl) ∙ e)
 
 pub none_past : (n : ℕ) (xs : List Label) → find (λ (l : Label). nat_le n l.pc) xs ≡ None → (label : Label) → Contains xs label → label.pc < n
@@ -219,7 +213,7 @@ pub none_found : (n : ℕ) (xs : List Label) → ((label : Label) → Contains x
 none_found n [] h = refl
 none_found n (x ∷ xs) h =
     let below : x.pc < n = h x (contains_first x xs) in
-    let is : nat_le n x.pc ≡ false = is_false _ (λ e. let above : n ≤ x.pc = (decides_le n x.pc).told e in omega (arith, above, below)) in
+    let is : nat_le n x.pc ≡ false = false_from_ne_true _ (λ e. let above : n ≤ x.pc = (decides_le n x.pc).told e in omega (arith, above, below)) in
     rw is (none_found n xs (λ label here. h label (contains_later x xs label here)))
 
 -- the first such label in ascending order
@@ -227,7 +221,7 @@ first_past_by : (n : ℕ) (x : Label) (xs : List Label) (label : Label) (b : Boo
     → ((b ≡ true) × (x ≡ label)) ⊎ ((x.pc < n) × (find (λ (l : Label). nat_le n l.pc) xs ≡ Some label))
 first_past_by n x xs label true is e = inl (refl, let h : Some x ≡ Some label = sym (rw is refl) ∙ e in cc)
 first_past_by n x xs label false is e =
-    let below : n ≤ x.pc → ⊥ = λ h. not_true _ is ((decides_le n x.pc).found h) in
+    let below : n ≤ x.pc → ⊥ = λ h. both_ways _ is ((decides_le n x.pc).found h) in
     inr (omega (arith, below), sym (rw is refl) ∙ e)
 
 pub first_past : (n : ℕ) (xs : List Label) (label : Label) → IsAscending label_key xs → find (λ (l : Label). nat_le n l.pc) xs ≡ Some label

@@ -11,7 +11,7 @@ use Rattle.plan_code.specs.declared.plan.Plan.{Plan}
 use Rattle.plan_code.specs.declared.label.Swap.{Swap}
 use Rattle.plan_code.specs.declared.label.Swap.TheVariants.{Idle, Within, Perhaps}
 use Rattle.plan_code.specs.declared.instr.Instr.{Instr}
-use Rattle.plan_code.specs.declared.instr.Instr.TheVariants.{Wait, CommitIn, CommitAt, Join, Edit as Edits, Until, WaitContact, WaitAny, Settle, Test, TestTime, Jump, Loop, Set, End}
+use Rattle.plan_code.specs.declared.instr.Instr.TheVariants.{Wait, CommitIn, CommitAt, Join, Edit as Edits}
 use Rattle.plan_verifier.specs.declared.fitting.Condition.{Condition}
 use Rattle.plan_verifier.specs.declared.fitting.Condition.TheVariants.{Never, Both, NextTwice}
 use Rattle.plan_verifier.specs.declared.cause.Cause.{Cause}
@@ -109,17 +109,8 @@ flow_cause plan (Edits edit) t = cause_if (not (is_idle t.pending)) Pending firs
 flow_cause plan (CommitIn delay) t = commit_cause plan t (nat_lt delay plan.notice) Notice
 flow_cause plan (CommitAt count) t = commit_cause plan t (not (is_swap_count plan count)) Count
 flow_cause plan (Wait frames) t = cause_if (not (is_certain frames t.pending)) SwapUncertain
-flow_cause plan (Until day) t = None
-flow_cause plan (WaitContact contact closed) t = None
-flow_cause plan (WaitAny closed opened until frames) t = None
 flow_cause plan Join t = cause_if (not (is_surely_pending t.pending)) JoinIdle
-flow_cause plan Settle t = None
-flow_cause plan (Test contact target) t = None
-flow_cause plan (TestTime from to target) t = None
-flow_cause plan (Jump target) t = None
-flow_cause plan (Loop counter target) t = None
-flow_cause plan (Set counter times) t = None
-flow_cause plan End t = None
+flow_cause plan _ t = None
 
 -- for a plan that starts with this configuration
 abbrev pub start_cause : Plan → Configuration → Option Cause

@@ -1,6 +1,6 @@
 use Rattle.std.proofs.Common.{refl, sym, ◌∙◌}
 use Rattle.std.proofs.lemmas.Bool.{false≢true}
-use Rattle.plan_verifier.proofs.DecidingFlows.{none_some}
+use Rattle.std.proofs.lemmas.Option.{none-some}
 use Rattle.plan_verifier.proofs.OneVerdict.{typed_if, typed_passes, refused_if}
 use Rattle.plan_verifier.proofs.verified.verify.Goals as goal
 
@@ -10,7 +10,7 @@ invariant_of-result g c = (c.refusal.ensures.formed, typed_if c.args.code c.refu
 pub returns-in-Some-clause-typed : goal.returns-in-Some-clause-typed
 returns-in-Some-clause-typed g c =
     let found = sym c.refusal.ensures.value ∙ c.in-Some.is in
-    (λ ok. absurd (false≢true ok), λ typed. absurd (none_some (sym (typed_passes c.args.code c.refusal.ensures.formed typed) ∙ found)))
+    (λ ok. absurd (false≢true ok), λ typed. absurd (none-some _ (sym (typed_passes c.args.code c.refusal.ensures.formed typed) ∙ found)))
 
 pub returns-in-Some-clause-refused : goal.returns-in-Some-clause-refused
 returns-in-Some-clause-refused g c =

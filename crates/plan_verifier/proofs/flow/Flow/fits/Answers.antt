@@ -1,8 +1,8 @@
 use Rattle.std.proofs.Common.{refl}
 use Rattle.plan_verifier.specs.declared.fitting.Condition.TheVariants.{Never, Both, NextTwice}
 use Rattle.plan_verifier.specs.Flows.{Flow, held, known_at}
-use Rattle.plan_verifier.proofs.Merging.{fit_as}
 use Rattle.plan_verifier.proofs.flow.Flow.fits.Goals as goal
+use Rattle.plan_verifier.proofs.Answering.{fit_as}
 
 pub returns-in-Never-clause-fits : goal.returns-in-Never-clause-fits
 returns-in-Never-clause-fits g c =

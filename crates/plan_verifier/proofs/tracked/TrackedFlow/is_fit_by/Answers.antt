@@ -2,8 +2,8 @@ use Rattle.std.proofs.Common.{refl, ◌∙◌}
 use Rattle.plan_verifier.specs.declared.fitting.Condition.TheVariants.{Never, Both, NextTwice}
 use Rattle.plan_verifier.specs.Flows.{Flow, held, known_at}
 use Rattle.plan_verifier.specs.Indexed.{flow_at}
-use Rattle.plan_verifier.proofs.Merging.{fit_as, both_turned}
 use Rattle.plan_verifier.proofs.tracked.TrackedFlow.is_fit_by.Goals as goal
+use Rattle.plan_verifier.proofs.Answering.{fit_as, both_turned}
 
 pub returns-in-Never : goal.returns-in-Never
 returns-in-Never g c =
