@@ -1,35 +1,12 @@
 -- Every swap was announced by the frames of its notice.
-use Rattle.std.specs.Prelude.{Contains, slice_get, ◌==◌}
 use Rattle.std.proofs.Common.{◌≡◌, ℕ, zero, suc, ◌+◌, ◌-◌, ◌*◌, ◌%◌, ◌<◌, ◌≤◌, Bool, true, false, cond, ltb, List, [], ◌∷◌, ◌++◌, Option, Some, None, refl, sym, ap, subst, append_assoc, ◌∙◌, arith}
-use Rattle.std.proofs.lemmas.Bool.{eq-eqb, ltb-true, lt-ltb}
-use Rattle.std.proofs.lemmas.List.Elements.{Contains-append_right}
-use Rattle.fib_codec.specs.Layouts.{layout_mode}
-use Rattle.mux_config.specs.Configuration.{Configuration, IsConfiguration}
-use Rattle.mux_types.specs.Entries.{EnsembleInformation}
-use Rattle.mux_types.specs.Facts.{Marked, facts_of}
-use Rattle.mux_config.specs.Change.{change_of, bits_of}
-use Rattle.fib_codec.specs.declared.modes.Mode.{Mode}
-use Rattle.fib_codec.specs.declared.modes.Mode.TheVariants.{I, II, III, IV}
-use Rattle.fib_codec.specs.Modes.{count_step}
-use Rattle.fib_codec.specs.Heard.{IsHeardInRow, IsEnsembleHeardInRow}
-use Rattle.fib_carousel.specs.Pages.{page_set, page_after, page_entries}
-use Rattle.plan_code.specs.declared.plan.Plan.{Plan}
-use Rattle.plan_code.specs.Flags.{with_contact}
-use Rattle.plan_code.specs.Program.{Program}
-use Rattle.plan_code.specs.Machine.{State}
-use Rattle.plan_verifier.specs.Typing.{Known}
-use Rattle.plan_runs.specs.declared.event.Event.{Event}
-use Rattle.plan_runs.specs.declared.event.Event.TheVariants.{Contact, Frame}
-use Rattle.plan_runs.specs.Frames.{is_due, is_noticed, shown_bytes, low_of_swap, ensemble_of, ensemble_sent, sent_entries, after_frame}
-use Rattle.plan_runs.specs.Runs.{happens, run}
-use Rattle.plan_runs.specs.Announced.{IsHeardWhole, heard_left, heard_of, heard_after, heard_along, HasHeader, IsHeaded, HasThreeHeaders, IsFlagged, IsAnnounced, FrameRuns, Runs}
-use Rattle.plan_runs.specs.Headline.{SwapsAreAnnounced, HeardIsKnown}
+use Rattle.plan_runs.proofs.Names.{Contains, slice_get, ◌==◌, ltb-true, lt-ltb, Contains-append_right, layout_mode, Configuration, IsConfiguration, EnsembleInformation, Marked, facts_of, change_of, bits_of, Mode, I, count_step, IsHeardInRow, IsEnsembleHeardInRow, page_set, page_after, page_entries, Plan, with_contact, Program, State, Known, Event, Contact, Frame, is_due, is_noticed, shown_bytes, low_of_swap, ensemble_of, ensemble_sent, sent_entries, after_frame, happens, run, IsHeardWhole, heard_left, heard_of, heard_after, heard_along, HasHeader, IsHeaded, HasThreeHeaders, IsFlagged, IsAnnounced, FrameRuns, Runs, SwapsAreAnnounced, HeardIsKnown}
 use Rattle.plan_runs.proofs.Knowledge.{IsOnAir, IsCommitted, CommittedBy}
 use Rattle.plan_runs.proofs.Passing.{due_is}
 use Rattle.plan_runs.proofs.Tracked.{Airs, SwapsOn, page_of, page_of_first, page_of_next, noticed, some_rounds}
 use Rattle.plan_runs.proofs.Between.{frame_goes}
 use Rattle.plan_runs.proofs.Facts.{Holds, IsCode, frame_holds, happens_holds, code_of, played_holds}
-use Rattle.plan_runs.proofs.Right.{PageLaws, pageable}
+use Rattle.plan_runs.proofs.Right.{PageLaws, pageable, is_sent}
 use Rattle.plan_runs.proofs.Notice.{frames_from, frames_cut, frames_get, frames_contain, contains_frame, noticed_state, both_rounds, notice_at, notice_at_is, base_of, heard_is, heard_frame}
 
 -- ---- the cycle of pages
@@ -46,7 +23,7 @@ wraps_by : (pages k : ℕ) → k + 1 ≡ pages → (b : Bool) → ltb (k + 1) pa
 wraps_by pages k last true e = let below = ltb-true (k + 1) pages e in absurd (omega (arith, below, last))
 wraps_by pages k last false e = refl
 
-page_wraps : (pages k : ℕ) → k + 1 ≡ pages → page_after pages k ≡ 0
+pub page_wraps : (pages k : ℕ) → k + 1 ≡ pages → page_after pages k ≡ 0
 page_wraps pages k last = wraps_by pages k last (ltb (k + 1) pages) refl
 
 -- after as many frames as there are pages, page 0 is in turn again
@@ -79,9 +56,7 @@ pub record IsDue (plan : Plan) (c n : Configuration) (eid count : ℕ) : Type 0 
 swap_base : (m : Mode) (notice count i : ℕ) → i < notice → notice ≤ 248 → count < 5000 → count % count_step m ≡ 0
     → (((count + 0 + 5000 - notice) % 5000 + i) % 5000 + (notice - i)) % count_step m ≡ 0
 swap_base I notice count i below short low whole = omega (arith, below, short, low, whole)
-swap_base II notice count i below short low whole = omega (arith, below, short, low, whole)
-swap_base III notice count i below short low whole = omega (arith, below, short, low, whole)
-swap_base IV notice count i below short low whole = omega (arith, below, short, low, whole)
+swap_base _ notice count i below short low whole = omega (arith, below, short, low, whole)
 
 frame_count : (x : ℕ) → x % 5000 < 5000
 frame_count x = omega arith
@@ -144,12 +119,7 @@ part_whole laws plan c n eid count a k d again long within m inside =
 header_count : (m : Mode) (notice count j : ℕ) → 1 ≤ j → j ≤ 3 → 12 ≤ notice → notice ≤ 248 → count < 5000 → count % count_step m ≡ 0
     → ((count + 0 + 5000 - notice) % 5000 + (notice - j * count_step m)) % 5000 % count_step m ≡ 0
 header_count I notice count j some three long short low whole = omega (arith, some, three, long, short, low, whole)
-header_count II notice count j some three long short low whole = omega (arith, some, three, long, short, low, whole)
-header_count III notice count j some three long short low whole = omega (arith, some, three, long, short, low, whole)
-header_count IV notice count j some three long short low whole = omega (arith, some, three, long, short, low, whole)
-
-sent_here : (plan : Plan) (s : State) → s.count % count_step (layout_mode plan.layout) ≡ 0 → ensemble_sent plan s ≡ Some (ensemble_of plan s)
-sent_here plan s e = ap (λ (b : Bool). cond b (Some (ensemble_of plan s)) None) (eq-eqb (s.count % count_step (layout_mode plan.layout)) 0 e)
+header_count _ notice count j some three long short low whole = omega (arith, some, three, long, short, low, whole)
 
 header_at : PageLaws → (plan : Plan) (c n : Configuration) (eid count i : ℕ) → IsDue plan c n eid count → i < plan.notice → (base_of plan count 0 + i) % 5000 % count_step (layout_mode plan.layout) ≡ 0
     → HasHeader (notice_at plan c n eid (base_of plan count 0) i)
@@ -158,14 +128,12 @@ header_at laws plan c n eid count i d below whole =
     let st : State = noticed_state plan c n eid base i in
     let a = notice_airs plan c n eid count i d below in
     let heard : IsEnsembleHeardInRow (shown_bytes plan st) false (ensemble_of plan st) =
-    (laws.ensemble plan.layout (ensemble_sent plan st) st.page_index (sent_entries plan st) (pageable laws plan st a) false (ensemble_of plan st)).1 (refl, sent_here plan st whole) in
+    (laws.ensemble plan.layout (ensemble_sent plan st) st.page_index (sent_entries plan st) (pageable laws plan st a) false (ensemble_of plan st)).1 (refl, is_sent plan st whole) in
     (false, ensemble_of plan st, subst (λ (b : List ℕ). IsEnsembleHeardInRow b false (ensemble_of plan st)) (sym (notice_at_is plan c n eid base i)) heard)
 
 header_below : (m : Mode) (notice j : ℕ) → 1 ≤ j → 12 ≤ notice → notice - j * count_step m < notice
 header_below I notice j some long = omega (arith, some, long)
-header_below II notice j some long = omega (arith, some, long)
-header_below III notice j some long = omega (arith, some, long)
-header_below IV notice j some long = omega (arith, some, long)
+header_below _ notice j some long = omega (arith, some, long)
 
 headed_at : PageLaws → (plan : Plan) (c n : Configuration) (eid count j : ℕ) → IsDue plan c n eid count → 1 ≤ j → j ≤ 3
     → IsHeaded (frames_from (notice_at plan c n eid (base_of plan count 0)) 0 plan.notice) (plan.notice - j * count_step (layout_mode plan.layout))
@@ -179,9 +147,7 @@ headed_at laws plan c n eid count j d some three =
 
 headers_rise : (m : Mode) (notice : ℕ) → 12 ≤ notice → (notice - 3 * count_step m < notice - 2 * count_step m) × (notice - 2 * count_step m < notice - 1 * count_step m)
 headers_rise I notice long = (omega (arith, long), omega (arith, long))
-headers_rise II notice long = (omega (arith, long), omega (arith, long))
-headers_rise III notice long = (omega (arith, long), omega (arith, long))
-headers_rise IV notice long = (omega (arith, long), omega (arith, long))
+headers_rise _ notice long = (omega (arith, long), omega (arith, long))
 
 three_headers : PageLaws → (plan : Plan) (c n : Configuration) (eid count : ℕ) → IsDue plan c n eid count → HasThreeHeaders (frames_from (notice_at plan c n eid (base_of plan count 0)) 0 plan.notice)
 three_headers laws plan c n eid count d =
@@ -272,7 +238,7 @@ notice_announces laws plan c n eid count d =
 
 -- ---- runs
 
-due_left : (left : Option ℕ) → is_due left ≡ true → left ≡ Some 0
+pub due_left : (left : Option ℕ) → is_due left ≡ true → left ≡ Some 0
 due_left None e = absurd cc
 due_left (Some l) e = ap (λ (x : ℕ). Some x) (due_is l e)
 

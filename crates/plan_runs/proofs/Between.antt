@@ -1,19 +1,7 @@
 -- A typed code between frames: what is expected where it resumes, and that each frame is free of traps.
-use Rattle.std.specs.Prelude.{◌||◌, IfSome, slice_get, option_map}
-use Rattle.std.proofs.Common.{◌≡◌, ℕ, zero, suc, ◌+◌, ◌-◌, ◌≤◌, Bool, true, false, cond, List, [], ◌∷◌, Option, Some, None, refl, sym, ap, subst, arith, inl, inr}
-use Rattle.std.proofs.lemmas.Bool.{eqb-true, eqb-false}
-use Rattle.mux_config.specs.Configuration.{Configuration}
-use Rattle.std.specs.List.{AllByRecursion}
-use Rattle.plan_code.specs.declared.flags.Contacts.{Contacts}
-use Rattle.plan_code.specs.declared.hold.Hold.{Hold}
-use Rattle.plan_code.specs.declared.hold.Hold.TheVariants.{Running, Waits, WaitsDay, WaitsContact, WaitsAny, WaitsSwap, Ended}
-use Rattle.plan_code.specs.declared.instr.Line.{Line}
-use Rattle.plan_code.specs.declared.instr.Instr.{Instr}
+use Rattle.std.proofs.Common.{◌≡◌, ℕ, zero, suc, ◌+◌, ◌-◌, ◌≤◌, Bool, true, false, cond, List, Option, Some, None, refl, sym, ap, subst, arith, inl, inr}
+use Rattle.plan_runs.proofs.Names.{◌||◌, IfSome, slice_get, option_map, eqb-true, eqb-false, Configuration, AllByRecursion, Contacts, Hold, Running, Waits, WaitsDay, WaitsContact, WaitsAny, WaitsSwap, Ended, Line, Instr, Program, IsProgram, IsLine, IsInstr, instr_at, State, step, effect, effect_of, Known, IsTyping, is_due, with_swap, with_due_swap, hold_after_swap, is_running, is_day, is_any_here, is_here, with_hold_ended, ready, Executes, after_burst, FrameIsAllowed, is_first_noticed, left_after_frame, hold_after_frame, with_next_counts, after_frame, each_at}
 use Rattle.plan_code.specs.Flags.{any_closed, any_open}
-use Rattle.plan_code.specs.Program.{Program, IsProgram, IsLine, IsInstr, instr_at}
-use Rattle.plan_code.specs.Machine.{State, step, effect, effect_of}
-use Rattle.plan_verifier.specs.Typing.{Known, IsTyping}
-use Rattle.plan_runs.specs.Frames.{is_due, with_swap, with_due_swap, hold_after_swap, is_running, is_day, is_any_here, is_here, with_hold_ended, ready, Executes, after_burst, FrameIsAllowed, is_first_noticed, left_after_frame, hold_after_frame, with_next_counts, after_frame}
 use Rattle.plan_runs.proofs.Knowledge.{ComesBy, IsAhead, IsOnAir, CommittedBy, IsKept}
 use Rattle.plan_runs.proofs.Passing.{swap_comes, swap_pauses, swap_joins, now, pauses_come, comes_later, pauses_later, joins_later, ahead_from}
 use Rattle.plan_runs.proofs.Steps.{Expects, ResumesBy, IsSuspended, not_running, Suspends, RunsAt, Outcome, arrive}
@@ -30,17 +18,12 @@ pub record Bursts (p : Program) (ts : List Known) (b : ℕ) (s : State) : Type 0
   pub within : steps ≤ b
   pub after : Suspends p ts end
 
-pub each_get : {X : Type 0} (P : X → Type 0) (xs : List X) (k : ℕ) (x : X) → AllByRecursion P xs → slice_get xs k ≡ Some x → P x
-each_get P [] k x h e = absurd cc
-each_get P (y ∷ ys) zero x h e = let same : y ≡ x = cc e in subst P same h.0
-each_get P (y ∷ ys) (suc k) x h e = each_get P ys k x h.1 e
-
 line_by : (o : Option Line) (i : Instr) → option_map (λ (l : Line). l.instr) o ≡ Some i → ((l : Line) → o ≡ Some l → IsLine l) → IsInstr i
 line_by None i e h = absurd cc
 line_by (Some l) i e h = let same : l.instr ≡ i = cc e in subst (λ (j : Instr). IsInstr j) same (h l refl).formed
 
 pub line_formed : (lines : List Line) (pc : ℕ) (i : Instr) → AllByRecursion IsLine lines → option_map (λ (l : Line). l.instr) (slice_get lines pc) ≡ Some i → IsInstr i
-line_formed lines pc i h e = line_by (slice_get lines pc) i e (λ l at. each_get IsLine lines pc l h at)
+line_formed lines pc i h e = line_by (slice_get lines pc) i e (λ l at. each_at IsLine lines pc l h at)
 
 pub step_is : (p : Program) (s : State) (i : Instr) → instr_at p s.pc ≡ Some i → step p s ≡ effect p.plan i s
 step_is p s i e = ap (λ o. effect_of p.plan o s) e
@@ -90,11 +73,9 @@ swap_resumes : (p : Program) (ts : List Known) (pc : ℕ) (hold : Hold) (left : 
     → ResumesBy p ts pc hold left c n counters → ResumesBy p ts pc (hold_after_swap hold) None n n counters
 swap_resumes p ts pc Running left c n counters due h = expects_as p ts pc counters _ _ (λ t. swap_comes 0 t.pending t left c n due) h
 swap_resumes p ts pc (Waits k) left c n counters due h = expects_as p ts pc counters _ _ (λ t. swap_comes k t.pending t left c n due) h
-swap_resumes p ts pc (WaitsDay d) left c n counters due h = expects_as p ts pc counters _ _ (λ t. swap_pauses t.pending t left c n due) h
-swap_resumes p ts pc (WaitsContact d closed) left c n counters due h = expects_as p ts pc counters _ _ (λ t. swap_pauses t.pending t left c n due) h
-swap_resumes p ts pc (WaitsAny closed opened until frames) left c n counters due h = expects_as p ts pc counters _ _ (λ t. swap_pauses t.pending t left c n due) h
 swap_resumes p ts pc WaitsSwap left c n counters due h = expects_as p ts pc counters _ _ (λ t. swap_joins t left n) h
 swap_resumes p ts pc Ended left c n counters due h = tt
+swap_resumes p ts pc _ left c n counters due h = expects_as p ts pc counters _ _ (λ t. swap_pauses t.pending t left c n due) h
 
 committed_next : (p : Program) (left : Option ℕ) (c n : Configuration) → is_due left ≡ true → CommittedBy p.plan left c n → IsOnAir p.plan n
 committed_next p None c n due h = absurd cc
@@ -149,11 +130,9 @@ holds p ts s (Waits k) away ahead h =
     let more : k ≡ k - 1 + 1 = omega (arith, apart) in
     let comes : ComesBy (k - 1 + 1) h.known.pending h.known.current h.known.next s.left s.current s.next = subst (λ (n : ℕ). ComesBy n h.known.pending h.known.current h.known.next s.left s.current s.next) more h.comes in
     record { known = h.known; arrives = h.arrives; affords = h.affords; set = h.set; comes = comes_later (k - 1) h.known.pending h.known s.left s.current s.next ahead comes }
-holds p ts s (WaitsDay d) away ahead h = expects_as p ts s.pc s.counters _ _ (λ t. pauses_later t.pending t s.left s.current s.next ahead) h
-holds p ts s (WaitsContact d closed) away ahead h = expects_as p ts s.pc s.counters _ _ (λ t. pauses_later t.pending t s.left s.current s.next ahead) h
-holds p ts s (WaitsAny closed opened until left) away ahead h = expects_as p ts s.pc s.counters _ _ (λ t. pauses_later t.pending t s.left s.current s.next ahead) h
 holds p ts s WaitsSwap away ahead h = expects_as p ts s.pc s.counters _ _ (λ t. joins_later t s.left s.next) h
 holds p ts s Ended away ahead h = tt
+holds p ts s _ away ahead h = expects_as p ts s.pc s.counters _ _ (λ t. pauses_later t.pending t s.left s.current s.next ahead) h
 
 -- while a wait with alternatives continues, frames are left, if it has a number of them
 later_none : (a b : Bool) → (a || b) ≡ false → b ≡ false
@@ -171,11 +150,8 @@ some_left (Some k) e = let apart = eqb-false k 0 e in omega (arith, apart)
 still : (s : State) (hold : Hold) → is_here s hold ≡ false → IsSuspended hold
 still s Running e = absurd cc
 still s (Waits k) e = let apart = eqb-false k 0 e in omega (arith, apart)
-still s (WaitsDay d) e = tt
-still s (WaitsContact d closed) e = tt
 still s (WaitsAny closed opened until left) e = some_left left (not_due s closed opened until left e)
-still s WaitsSwap e = tt
-still s Ended e = tt
+still s _ e = tt
 
 pub still_stops : (s : State) (hold : Hold) → is_here s hold ≡ false → is_running hold ≡ false
 still_stops s hold e = not_running hold (still s hold e)

@@ -1,8 +1,6 @@
 -- A frame's instructions determine one final state, and their number is the frame's step count.
 use Rattle.std.proofs.Common.{◌≡◌, ℕ, zero, suc, ◌+◌, ◌≤◌, cond, refl, sym, ap, ◌∙◌, arith}
-use Rattle.plan_code.specs.Program.{Program}
-use Rattle.plan_code.specs.Machine.{State, step}
-use Rattle.plan_runs.specs.Frames.{Executes, burst, burst_steps, BurstsAreOne}
+use Rattle.plan_runs.proofs.Names.{Program, State, step, Executes, burst, burst_steps, BurstsAreOne}
 
 only_one : (p : Program) (s : State) (n : ℕ) (t : State) → Executes p s n t → (m : ℕ) (u : State) → Executes p s m u → (m ≡ n) × (u ≡ t)
 only_one p s zero t h zero u g = (refl, sym g.1 ∙ h.1)

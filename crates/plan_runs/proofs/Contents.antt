@@ -1,27 +1,6 @@
 -- The entries that the FIBs of a frame carry.
-use Rattle.std.specs.Prelude.{Contains, flat_map, map, drop, ◌*◌}
 use Rattle.std.proofs.Common.{◌≡◌, ℕ, zero, suc, replicate, ◌+◌, ◌==◌, Bool, true, false, cond, List, [], ◌∷◌, ◌++◌, length, Option, Some, None, inl, inr, ◌⊎◌, refl, ap, sym, ◌∙◌, subst, arith}
-use Rattle.std.proofs.lemmas.List.{drop-drop}
-use Rattle.fib_codec.specs.Layouts.{frame_fibs, reserved_fibs}
-use Rattle.fib_codec.specs.declared.frame_layout.FrameLayout.{FrameLayout}
-use Rattle.fib_codec.specs.declared.frame_layout.FrameLayout.TheVariants.{Whole, ReserveOne, ReserveTwo}
-use Rattle.mux_config.specs.Configuration.{Configuration}
-use Rattle.std.specs.List.{AllByRecursion}
-use Rattle.mux_types.specs.Entries.{EnsembleInformation}
-use Rattle.mux_types.specs.Facts.{Marked, facts_of}
-use Rattle.fib_codec.specs.declared.modes.Mode.TheVariants.{I, II, III, IV}
-use Rattle.fib_codec.specs.Heard.{fib_at, IsHeardInRow}
-use Rattle.fib_codec.specs.Grammar.{fig_of}
-use Rattle.fib_carousel.specs.Packing.{entries_where}
-use Rattle.fib_carousel.specs.Greedy.{packing}
-use Rattle.fib_carousel.specs.Pages.{page_set, page_entries, fib_entries, first_fib, later_fibs, PageIsFibs}
-use Rattle.fib_carousel.specs.Bytes.{AreFibs, figs_of, ensemble_figs}
-use Rattle.fib_reader.specs.Raw.{Raw, raw_entry}
-use Rattle.fib_reader.specs.Laws.{EnsembleIsHeard}
-use Rattle.plan_code.specs.declared.plan.Plan.{Plan}
-use Rattle.plan_code.specs.Machine.{State}
-use Rattle.plan_runs.specs.Frames.{is_noticed, sent_entries, ensemble_sent, shown_bytes}
-use Rattle.plan_runs.specs.Listening.{fibs_from}
+use Rattle.plan_runs.proofs.Names.{Contains, flat_map, map, drop, ◌*◌, drop-drop, frame_fibs, reserved_fibs, FrameLayout, Whole, ReserveOne, ReserveTwo, Configuration, AllByRecursion, EnsembleInformation, Marked, facts_of, I, fib_at, IsHeardInRow, fig_of, entries_where, packing, page_set, page_entries, fib_entries, first_fib, later_fibs, PageIsFibs, AreFibs, figs_of, ensemble_figs, Raw, raw_entry, EnsembleIsHeard, Plan, State, is_noticed, sent_entries, ensemble_sent, shown_bytes, fibs_from}
 use Rattle.plan_runs.proofs.Tracked.{Airs}
 use Rattle.plan_runs.proofs.Right.{PageLaws, pageable, sent_within}
 use Rattle.plan_runs.proofs.Parts.{In}
@@ -130,13 +109,9 @@ sent_and_none on c n (x ∷ xs) count h = (h.0, sent_and_none on c n xs count h.
 
 count_of : (layout : FrameLayout) (k : ℕ) → frame_fibs layout ≡ suc (length (later_fibs layout k) + reserved_fibs layout)
 count_of (Whole I) k = refl
-count_of (Whole II) k = refl
-count_of (Whole III) k = refl
-count_of (Whole IV) k = refl
+count_of (Whole _) k = refl
 count_of (ReserveOne I) k = refl
-count_of (ReserveOne II) k = refl
-count_of (ReserveOne III) k = refl
-count_of (ReserveOne IV) k = refl
+count_of (ReserveOne _) k = refl
 count_of ReserveTwo k = refl
 
 pub frame_says : Laws → (plan : Plan) (u : State) → Airs plan u → FrameSays plan u

@@ -1,25 +1,13 @@
 -- All announcements of a notice name one count, and the swap falls on the first later frame with that count.
-use Rattle.std.specs.Prelude.{MatchBool, ◌==◌}
-use Rattle.std.proofs.Common.{◌≡◌, ◌≢◌, ℕ, zero, suc, ◌+◌, ◌-◌, ◌%◌, ◌<◌, ◌≤◌, Bool, true, false, cond, List, [], ◌∷◌, Option, Some, None, refl, sym, ap, ◌∙◌, arith, inl, inr, ◌⊎◌}
-use Rattle.std.proofs.lemmas.Bool.{eqb-true, eq-eqb}
-use Rattle.mux_types.specs.Entries.{EnsembleInformation}
-use Rattle.mux_config.specs.Change.{change_of, bits_of}
-use Rattle.plan_code.specs.declared.plan.Plan.{Plan}
-use Rattle.plan_code.specs.Program.{Program}
-use Rattle.plan_code.specs.Machine.{State}
-use Rattle.plan_verifier.specs.Typing.{Known}
-use Rattle.plan_runs.specs.declared.event.Event.{Event}
-use Rattle.plan_runs.specs.declared.event.Event.TheVariants.{Contact, Frame}
-use Rattle.plan_runs.specs.Frames.{is_due, is_noticed, shown, frame_bytes, shown_bytes, low_of_swap, ensemble_of, ensemble_sent, sent_entries, left_after_frame, with_next_counts, after_frame}
-use Rattle.plan_runs.specs.Runs.{happens}
-use Rattle.plan_runs.specs.Headline.{IsAnnouncedIn, AnnouncesOnly, SwapsAt, KeepsCount, SwapsComeAsAnnounced}
+use Rattle.std.proofs.Common.{◌≡◌, ◌≢◌, ℕ, ◌+◌, ◌-◌, ◌%◌, ◌<◌, ◌≤◌, Bool, true, false, cond, List, [], ◌∷◌, Option, Some, None, refl, sym, ap, ◌∙◌, arith, inl, inr}
+use Rattle.plan_runs.proofs.Names.{MatchBool, ◌==◌, eqb-true, eq-eqb, EnsembleInformation, change_of, bits_of, Plan, Program, State, Known, Event, Contact, Frame, is_due, is_noticed, shown, frame_bytes, shown_bytes, low_of_swap, ensemble_of, ensemble_sent, sent_entries, left_after_frame, with_next_counts, after_frame, happens, IsAnnouncedIn, AnnouncesOnly, SwapsAt, KeepsCount, SwapsComeAsAnnounced}
 use Rattle.plan_runs.proofs.Passing.{not_due_from}
 use Rattle.plan_runs.proofs.Tracked.{Airs, noticed_from}
-use Rattle.plan_runs.proofs.Carries.{LeftBy}
 use Rattle.plan_runs.proofs.Facts.{Holds, IsCode, airs, frame_holds, happens_holds, code_of, played_holds}
 use Rattle.plan_runs.proofs.Right.{PageLaws, pageable}
 use Rattle.plan_runs.proofs.Notice.{links}
 use Rattle.plan_runs.proofs.Announcing.{sent_is, noticed_information}
+use Rattle.plan_runs.proofs.Swaps.{zero_or_more, shown_left}
 
 -- a frame that makes an announcement is in the notice, and the low part is that of the swap's count
 pub record IsOfNotice (plan : Plan) (u : State) (low : ℕ) : Type 0 where
@@ -71,7 +59,7 @@ pub record Awaits (plan : Plan) (s : State) (low : ℕ) : Type 0 where
   pub within : frames < plan.notice
   pub low_is : low ≡ (s.count + frames) % 5000 % 250
 
-next_low : (count low l : ℕ) → 1 ≤ l → low ≡ (count + l) % 5000 % 250 → low ≡ ((count + 1) % 5000 + (l - 1)) % 5000 % 250
+pub next_low : (count low l : ℕ) → 1 ≤ l → low ≡ (count + l) % 5000 % 250 → low ≡ ((count + 1) % 5000 + (l - 1)) % 5000 % 250
 next_low count low l some is = omega (arith, some, is)
 
 awaits_after : (plan : Plan) (u : State) (low : ℕ) → IsOfNotice plan u low → Awaits plan (with_next_counts plan u) low
@@ -82,10 +70,10 @@ awaits_after plan u low h = record {
   low_is = next_low u.count low h.frames h.some h.low_is;
 }
 
-swap_now : (count low : ℕ) → count < 5000 → low ≡ (count + 0) % 5000 % 250 → count % 250 ≡ low
+pub swap_now : (count low : ℕ) → count < 5000 → low ≡ (count + 0) % 5000 % 250 → count % 250 ≡ low
 swap_now count low below is = omega (arith, below, is)
 
-swap_not_now : (count low l : ℕ) → count < 5000 → 1 ≤ l → l < 250 → low ≡ (count + l) % 5000 % 250 → count % 250 ≢ low
+pub swap_not_now : (count low l : ℕ) → count < 5000 → 1 ≤ l → l < 250 → low ≡ (count + l) % 5000 % 250 → count % 250 ≢ low
 swap_not_now count low l below some short is e = omega (arith, below, some, short, is, e)
 
 -- the frames from here to the swap keep the announcement
@@ -109,11 +97,6 @@ not_due_left left l is some = ap is_due is ∙ not_due_from (Some l) some
 
 due_left : (left : Option ℕ) → left ≡ Some 0 → is_due left ≡ true
 due_left left is = ap is_due is
-
--- the state that the bytes are made from has the same number of frames left
-shown_left : (plan : Plan) (s u : State) (l : ℕ) (before : Option ℕ) → before ≡ Some l → LeftBy plan s.count before s.next u.left u.next → u.left ≡ Some l
-shown_left plan s u l None e h = absurd cc
-shown_left plan s u l (Some k) e h = h.0 ∙ e
 
 -- a later frame of the notice
 frame_waits : PageLaws → (p : Program) (ts : List Known) → IsCode p ts → (low : ℕ) (s : State) (es : List Event) → Holds p ts s → (w : Awaits p.plan s low) → 1 ≤ w.frames
@@ -142,10 +125,6 @@ frame_swaps p ts low s es h w none =
     let is : low ≡ (s.count + 0) % 5000 % 250 = w.low_is ∙ ap (λ (x : ℕ). (s.count + x) % 5000 % 250) none in
     match_yes (s.count % 250 == low) (is_due s.left ≡ true) ((is_due s.left ≡ false) × AnnouncesOnly low (frame_bytes p s) × SwapsAt low p (after_frame p s) es)
     (eq-eqb (s.count % 250) low (swap_now s.count low h.tracked.count is)) (due_left s.left left)
-
-zero_or_more : (n : ℕ) → (n ≡ 0) ⊎ (1 ≤ n)
-zero_or_more zero = inl refl
-zero_or_more (suc n) = inr (omega arith)
 
 swaps_at : PageLaws → (p : Program) (ts : List Known) → IsCode p ts → (low : ℕ) (s : State) (events : List Event) → Holds p ts s → Awaits p.plan s low → SwapsAt low p s events
 swaps_at laws p ts c low s [] h w = tt

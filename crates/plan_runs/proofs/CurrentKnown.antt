@@ -1,38 +1,17 @@
 -- A listener knows the current configuration after a period of one phase.
-use Rattle.std.specs.Prelude.{◌||◌}
-use Rattle.std.proofs.Common.{◌≡◌, ℕ, zero, suc, ◌%◌, ◌≤◌, Bool, true, false, cond, List, [], ◌∷◌, ◌++◌, length, inl, inr, ◌⊎◌, refl, ap, sym, ◌∙◌, subst, arith}
+use Rattle.std.proofs.Common.{◌≡◌, ℕ, zero, suc, ◌%◌, ◌≤◌, Bool, true, false, List, [], ◌∷◌, ◌++◌, length, inl, inr, ◌⊎◌, refl, ap, sym, ◌∙◌, subst, arith}
+use Rattle.plan_runs.proofs.Names.{or_parts, layout_mode, frame_fibs, Configuration, marked, facts_of, Entry, count_step, IsHeardInRow, OneList, Raw, raw_entry, Listening, untuned, Shows, Plan, Program, State, Known, Event, Contact, Frame, is_due, with_due_swap, is_first_noticed, shown, shown_bytes, frame_bytes, after_frame, happens, run, run_frames, IsHeardInSome, IsHeardWhole, IsOnePhase, BeginsNoPhase, IsPlayed, fibs_from, fibs_of, HearsAll, IsTunedBy, IsNeverFull, KnowsTheCurrent}
 use Rattle.std.proofs.lemmas.Grind.{flat_map-append}
-use Rattle.fib_codec.specs.Layouts.{layout_mode, frame_fibs}
-use Rattle.mux_config.specs.Configuration.{Configuration}
-use Rattle.mux_types.specs.Facts.{marked, facts_of}
-use Rattle.mux_types.specs.declared.entry.Entry.{Entry}
-use Rattle.fib_codec.specs.Modes.{count_step}
-use Rattle.fib_codec.specs.Heard.{IsHeardInRow}
-use Rattle.fib_codec.specs.Grammar.{OneList}
-use Rattle.fib_reader.specs.Raw.{Raw, raw_entry}
-use Rattle.fib_reader.specs.Listening.{Listening, untuned}
-use Rattle.fib_reader.specs.Picture.{Shows}
-use Rattle.plan_code.specs.declared.plan.Plan.{Plan}
-use Rattle.plan_code.specs.Program.{Program}
-use Rattle.plan_code.specs.Machine.{State}
-use Rattle.plan_verifier.specs.Typing.{Known}
-use Rattle.plan_runs.specs.declared.event.Event.{Event}
-use Rattle.plan_runs.specs.declared.event.Event.TheVariants.{Contact, Frame}
-use Rattle.plan_runs.specs.Frames.{is_due, with_swap, with_due_swap, is_first_noticed, shown, shown_bytes, frame_bytes, after_frame}
-use Rattle.plan_runs.specs.Runs.{happens, run, run_frames}
-use Rattle.plan_runs.specs.Announced.{IsHeardInSome, IsHeardWhole}
-use Rattle.plan_runs.specs.RightBytes.{IsOnePhase, BeginsNoPhase}
-use Rattle.plan_runs.specs.TypedRuns.{IsPlayed}
-use Rattle.plan_runs.specs.Listening.{fibs_from, fibs_of, HearsAll, IsTunedBy, IsNeverFull, KnowsTheCurrent}
 use Rattle.plan_runs.proofs.Facts.{Holds, IsCode, airs, frame_holds, happens_holds, run_holds, code_of, played_holds}
 use Rattle.plan_runs.proofs.Notice.{links}
-use Rattle.plan_runs.proofs.Periods.{periods_are_whole}
+use Rattle.plan_runs.proofs.Periods.{periods_are_whole, contact_current}
 use Rattle.plan_runs.proofs.Pictures.{whole_of, IsPartial, weaker, in_contains, in_fact, entries_of, HasAll, all_shown}
 use Rattle.plan_runs.proofs.Tuned.{Or, hears_same}
 use Rattle.plan_runs.proofs.Contents.{Laws}
 use Rattle.plan_runs.proofs.Knowing.{Still, knows_after}
 use Rattle.plan_runs.proofs.HeardFrame.{RowSaid, frame_heard, enters, current_shown, as_fibs}
 use Rattle.plan_runs.proofs.HeardFrames.{KnowsAt, Nothing, current_part, hears_join, frame_then, HearsWaiting, waits_run, IsTuning, enters_tuning}
+use Rattle.plan_runs.proofs.Joined.{frames_join}
 
 -- an entry under this C/N flag that is heard in one of the frames
 abbrev pub SomeSaid : List (List ℕ) → Bool → Raw → Type 0
@@ -53,10 +32,6 @@ said_on C frame frames flag x (inr said) = elim (said_first frame frames flag x 
 none_more : (C : Raw → Type 0) (flag : Bool) (x : Raw) → Or C (SomeSaid [] flag) x → C x
 none_more C flag x (inl old) = old
 none_more C flag x (inr said) = absurd (none_said flag x said)
-
-pub or_parts : (a b : Bool) → (a || b) ≡ false → (a ≡ false) × (b ≡ false)
-or_parts true b e = absurd cc
-or_parts false b e = (refl, e)
 
 -- ---- a phase
 
@@ -92,10 +67,6 @@ window_on laws p ts code s (Frame ∷ es) h phase c same C N l knows =
           (said_on C (frame_bytes p s) (run_frames p (after_frame p s) es) false) rest.current;
     }
 
-contact_current : (s t : State) (b : Bool) → t.current ≡ s.current → t.next ≡ s.next → (cond b (with_swap t) t).current ≡ (cond b (with_swap s) s).current
-contact_current s t true c n = n
-contact_current s t false c n = c
-
 window_from : Laws → (p : Program) (ts : List Known) → IsCode p ts → (s : State) (es : List Event) → Holds p ts s → IsOnePhase p s es → 1 ≤ length (run_frames p s es) → (l : Listening) → IsTuning p.plan s l
     → HearsWindow p s (with_due_swap s).current es Nothing l
 window_from laws p ts code s [] h phase some l tuning = absurd (omega (arith, some))
@@ -125,11 +96,6 @@ window_from laws p ts code s (Frame ∷ es) h phase some l tuning =
     }
 
 -- ---- the laws
-
-frames_join : (p : Program) (s : State) (events more : List Event) → run_frames p s (events ++ more) ≡ run_frames p s events ++ run_frames p (run p s events) more
-frames_join p s [] more = refl
-frames_join p s (Contact c closed ∷ es) more = frames_join p (happens p s (Contact c closed)) es more
-frames_join p s (Frame ∷ es) more = ap (λ fs. frame_bytes p s ∷ fs) (frames_join p (after_frame p s) es more)
 
 pub fibs_join : (p : Program) (s : State) (events more : List Event)
     → fibs_of p.plan.layout (run_frames p s (events ++ more)) ≡ fibs_of p.plan.layout (run_frames p s events) ++ fibs_of p.plan.layout (run_frames p (run p s events) more)

@@ -1,17 +1,7 @@
 -- Facts about every state that a typed code reaches.
 use Rattle.std.proofs.Common.{ℕ, ◌<◌, List, [], ◌∷◌, Option, None, sym, subst}
-use Rattle.mux_config.specs.Configuration.{Configuration, IsConfiguration}
-use Rattle.fib_carousel.specs.Pages.{page_set}
-use Rattle.plan_code.specs.Program.{Program, IsProgram}
-use Rattle.plan_code.specs.Machine.{State}
-use Rattle.plan_verifier.specs.Typing.{Known, IsTyping}
-use Rattle.plan_runs.specs.declared.event.Event.{Event}
-use Rattle.plan_runs.specs.declared.event.Event.TheVariants.{Contact, Frame}
-use Rattle.plan_runs.specs.declared.event.Start.{Start}
-use Rattle.plan_runs.specs.Frames.{shown, after_frame}
-use Rattle.plan_runs.specs.Runs.{IsStart, StartIsInRange, happens, run}
-use Rattle.plan_runs.specs.TypedRuns.{IsPlayed}
-use Rattle.plan_runs.proofs.Between.{Between, frame_between, each_get}
+use Rattle.plan_runs.proofs.Names.{Configuration, IsConfiguration, page_set, Program, IsProgram, State, Known, IsTyping, Event, Contact, Frame, Start, shown, after_frame, IsStart, StartIsInRange, happens, run, IsPlayed, each_at}
+use Rattle.plan_runs.proofs.Between.{Between, frame_between}
 use Rattle.plan_runs.proofs.TypedRuns.{started_between}
 use Rattle.plan_runs.proofs.Tracked.{Tracked, TurnBefore, SwapsOn, Airs, some_rounds, frame_airs, frame_tracked}
 
@@ -54,7 +44,7 @@ run_holds p ts c s (e ∷ es) h = run_holds p ts c (happens p s e) es (happens_h
 
 started_tracked : (p : Program) (start : Start) (s : State) → IsProgram p → StartIsInRange start → IsStart p start s → Tracked p.plan s
 started_tracked p start s pr range st =
-    let current : IsConfiguration s.current = each_get IsConfiguration p.configurations st.label.cur s.current pr.configurations_formed st.current in
+    let current : IsConfiguration s.current = each_at IsConfiguration p.configurations st.label.cur s.current pr.configurations_formed st.current in
     let page_index : TurnBefore p.plan None s.current s.next 0 = some_rounds p.plan.layout (page_set s.current None) in
     record {
       count = subst (λ (x : ℕ). x < 5000) (sym st.count) range.count;

@@ -1,23 +1,7 @@
 -- A listener hearing one frame of a typed code.
-use Rattle.std.specs.Prelude.{take}
-use Rattle.std.proofs.Common.{◌≡◌, ◌≢◌, ℕ, zero, suc, ◌+◌, ◌%◌, ◌==◌, Bool, true, false, cond, List, ◌∷◌, Option, Some, None, inl, inr, ◌⊎◌, refl, ap, sym, ◌∙◌, subst, arith}
-use Rattle.std.proofs.lemmas.Bool.{eq-eqb, eqb-true}
-use Rattle.fib_codec.specs.Layouts.{layout_mode, frame_fibs}
-use Rattle.mux_config.specs.Configuration.{Configuration}
-use Rattle.mux_types.specs.Entries.{EnsembleInformation}
-use Rattle.mux_types.specs.Facts.{marked}
-use Rattle.mux_types.specs.declared.entry.Entry.{Entry}
-use Rattle.fib_codec.specs.Modes.{count_step}
-use Rattle.fib_codec.specs.Heard.{IsHeardInRow}
-use Rattle.fib_reader.specs.Raw.{Raw, raw_entry}
-use Rattle.fib_reader.specs.Listening.{Listening, untuned}
-use Rattle.plan_code.specs.declared.plan.Plan.{Plan}
-use Rattle.plan_code.specs.Program.{Program}
-use Rattle.plan_code.specs.Machine.{State}
-use Rattle.plan_verifier.specs.Typing.{Known}
-use Rattle.plan_runs.specs.Frames.{is_due, with_swap, with_due_swap, is_noticed, is_first_noticed, shown, after_burst, shown_bytes, ensemble_of, ensemble_sent}
-use Rattle.plan_runs.specs.Listening.{fibs_from, HearsFib, HearsAll}
-use Rattle.plan_runs.proofs.Passing.{ahead_from, due_is}
+use Rattle.std.proofs.Common.{◌≡◌, ◌≢◌, ℕ, zero, suc, ◌+◌, ◌%◌, Bool, true, false, cond, List, ◌∷◌, Option, Some, None, inl, inr, ◌⊎◌, refl, ap, sym, ◌∙◌, subst, arith}
+use Rattle.plan_runs.proofs.Names.{take, layout_mode, frame_fibs, Configuration, EnsembleInformation, marked, Entry, count_step, IsHeardInRow, Raw, raw_entry, Listening, untuned, Plan, Program, State, Known, is_due, with_swap, with_due_swap, is_noticed, is_first_noticed, shown, after_burst, shown_bytes, ensemble_of, ensemble_sent, fibs_from, HearsFib, HearsAll}
+use Rattle.plan_runs.proofs.Passing.{ahead_from}
 use Rattle.plan_runs.proofs.Tracked.{Airs, SwapsOn}
 use Rattle.plan_runs.proofs.Between.{frame_goes}
 use Rattle.plan_runs.proofs.Carries.{frame_carries}
@@ -28,18 +12,11 @@ use Rattle.plan_runs.proofs.Hearing.{hear_marked, headed}
 use Rattle.plan_runs.proofs.Tuned.{SaidIn, SaidInSome, Or, tuned_weaker, hears_entries, hears_fibs, passes_entries, passes_fibs, some_say, some_sent}
 use Rattle.plan_runs.proofs.Contents.{Laws, FrameSays, frame_says}
 use Rattle.plan_runs.proofs.Knowing.{KnowsBy, KnowsPending, Ready, InFrame, Still, ready_by, headed_ready, unheaded_ready, headed_swap, headed_untuned}
+use Rattle.plan_runs.proofs.Right.{is_sent, not_sent}
+use Rattle.plan_runs.proofs.Announcing.{due_left}
+use Rattle.plan_runs.proofs.Periods.{current_kept}
 
 -- ---- FIG 0/0 is sent or not
-
-is_sent : (plan : Plan) (s : State) → s.count % count_step (layout_mode plan.layout) ≡ 0 → ensemble_sent plan s ≡ Some (ensemble_of plan s)
-is_sent plan s e = ap (λ (b : Bool). cond b (Some (ensemble_of plan s)) None) (eq-eqb (s.count % count_step (layout_mode plan.layout)) 0 e)
-
-not_sent_by : (plan : Plan) (s : State) (b : Bool) → (s.count % count_step (layout_mode plan.layout) == 0) ≡ b → s.count % count_step (layout_mode plan.layout) ≢ 0 → cond b (Some (ensemble_of plan s)) None ≡ None
-not_sent_by plan s true e apart = absurd (apart (eqb-true (s.count % count_step (layout_mode plan.layout)) 0 e))
-not_sent_by plan s false e apart = refl
-
-not_sent : (plan : Plan) (s : State) → s.count % count_step (layout_mode plan.layout) ≢ 0 → ensemble_sent plan s ≡ None
-not_sent plan s apart = not_sent_by plan s (s.count % count_step (layout_mode plan.layout) == 0) refl apart
 
 pub zero_or_not : (n : ℕ) → (n ≡ 0) ⊎ (n ≢ 0)
 zero_or_not zero = inl refl
@@ -132,16 +109,12 @@ frame_passed laws plan u a apart =
 as_headed : (plan : Plan) (u : State) (C N : Raw → Type 0) (l : Listening) (o : Option EnsembleInformation) → ensemble_sent plan u ≡ o → InFrame plan u C N (headed o l) → InFrame plan u C N (headed (ensemble_sent plan u) l)
 as_headed plan u C N l o e h = subst (λ (x : Option EnsembleInformation). InFrame plan u C N (headed x l)) (sym e) h
 
-turned : (u : State) (b : Bool) → (cond b (let r : State = record u { page_index = 0 } in r) u).current ≡ u.current
-turned u true = refl
-turned u false = refl
-
 pub current_shown : (p : Program) (ts : List Known) → IsCode p ts → (s : State) → Holds p ts s → (shown p s).current ≡ (with_due_swap s).current
 current_shown p ts c s h =
     let v : State = after_burst p s in
     let goes = frame_goes p ts c.program c.typing s h.between in
     let carried = frame_carries p c.program s goes.allowed.steps goes.allowed.executes in
-    turned v (is_first_noticed p.plan.notice v.left) ∙ carried.current
+    current_kept v (is_first_noticed p.plan.notice v.left) ∙ carried.current
 
 -- no swap is due
 pub enters : (p : Program) (ts : List Known) → IsCode p ts → (s : State) → Holds p ts s → (C N : Raw → Type 0) (l : Listening) → is_due s.left ≡ false → KnowsBy p.plan s.left s.current s.next s.count C N l
@@ -159,10 +132,6 @@ enters p ts c s h C N l due knows =
       | inl whole ↦ as_headed plan u C M l (Some (ensemble_of plan u)) (is_sent plan u whole) (headed_ready plan u C M l a (omega (arith, c.program.planned.notice_to)) here)
       | inr apart ↦ as_headed plan u C M l None (not_sent plan u apart) (unheaded_ready plan u C M l apart here)
     ]
-
-due_left : (left : Option ℕ) → is_due left ≡ true → left ≡ Some 0
-due_left None e = absurd cc
-due_left (Some l) e = ap (λ (x : ℕ). Some x) (due_is l e)
 
 pub due_current : (s : State) → is_due s.left ≡ true → (with_due_swap s).current ≡ s.next
 due_current s e = ap (λ (b : Bool). (cond b (with_swap s) s).current) e

@@ -1,21 +1,7 @@
 -- A listener hearing the frames of a run: it always has room, and it is tuned after the first FIG 0/0.
 use Rattle.std.proofs.Common.{◌≡◌, ◌≢◌, ℕ, ◌%◌, Bool, true, false, List, [], ◌∷◌, ◌++◌, Option, Some, None, inl, inr, ◌⊎◌, refl, ap, sym, ◌∙◌, subst}
+use Rattle.plan_runs.proofs.Names.{layout_mode, frame_fibs, FrameLayout, Configuration, count_step, Raw, Listening, untuned, Plan, Program, State, Known, Event, Contact, Frame, is_due, shown, shown_bytes, frame_bytes, ensemble_sent, after_frame, happens, run, run_frames, fibs_from, fibs_of, HearsAll, HasCount}
 use Rattle.std.proofs.lemmas.List.Concat.{flat_map-cons}
-use Rattle.fib_codec.specs.Layouts.{layout_mode, frame_fibs}
-use Rattle.fib_codec.specs.declared.frame_layout.FrameLayout.{FrameLayout}
-use Rattle.mux_config.specs.Configuration.{Configuration}
-use Rattle.fib_codec.specs.Modes.{count_step}
-use Rattle.fib_reader.specs.Raw.{Raw}
-use Rattle.fib_reader.specs.Listening.{Listening, untuned}
-use Rattle.plan_code.specs.declared.plan.Plan.{Plan}
-use Rattle.plan_code.specs.Program.{Program}
-use Rattle.plan_code.specs.Machine.{State}
-use Rattle.plan_verifier.specs.Typing.{Known}
-use Rattle.plan_runs.specs.declared.event.Event.{Event}
-use Rattle.plan_runs.specs.declared.event.Event.TheVariants.{Contact, Frame}
-use Rattle.plan_runs.specs.Frames.{is_due, shown, shown_bytes, frame_bytes, ensemble_sent, after_frame}
-use Rattle.plan_runs.specs.Runs.{happens, run, run_frames}
-use Rattle.plan_runs.specs.Listening.{fibs_from, fibs_of, HearsAll, HasCount}
 use Rattle.plan_runs.proofs.Tracked.{split_le}
 use Rattle.plan_runs.proofs.Facts.{Holds, IsCode, airs, frame_holds, happens_holds}
 use Rattle.plan_runs.proofs.Notice.{links}

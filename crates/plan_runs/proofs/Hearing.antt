@@ -1,20 +1,8 @@
 -- A listener hearing the FIGs of some entries hears the entries one after another.
-use Rattle.std.specs.Prelude.{IfSome}
-use Rattle.std.proofs.Common.{◌≡◌, ℕ, ◌/◌, ◌%◌, ◌≤◌, ◌==◌, Bool, true, false, cond, List, [], ◌∷◌, ◌++◌, map, Option, Some, None, refl, ap, ◌∙◌, subst, arith}
-use Rattle.mux_types.specs.Entries.{EnsembleInformation}
-use Rattle.mux_types.specs.Facts.{Marked, marked}
-use Rattle.mux_types.specs.declared.entry.Entry.{Entry}
-use Rattle.mux_types.specs.declared.entry.Entry.TheVariants.{Ensemble as EnsembleOf, Sub as SubOf, Short as ShortOf, Service as ServiceOf, Packet as PacketOf}
-use Rattle.fib_codec.specs.Ranges.{IsEnsembleInformation}
-use Rattle.fib_codec.specs.Spelling.{Written, head_of, head_byte, bit_of, entry_bytes, ext_of, is_long_entry}
-use Rattle.fib_codec.specs.Grammar.{fig_of, is_next, is_long}
-use Rattle.fib_codec.specs.declared.head.Head.{Head}
-use Rattle.fib_carousel.specs.Packing.{same_head}
-use Rattle.fib_carousel.specs.Bytes.{with_entry_first, figs_of, ensemble_figs}
+use Rattle.std.proofs.Common.{◌≡◌, ℕ, ◌/◌, ◌%◌, ◌==◌, Bool, true, false, cond, List, [], ◌∷◌, ◌++◌, map, Option, Some, None, refl, ap, ◌∙◌, subst, arith}
+use Rattle.plan_runs.proofs.Names.{IfSome, EnsembleInformation, Marked, marked, Entry, EnsembleOf, IsEnsembleInformation, Written, head_of, head_byte, bit_of, entry_bytes, ext_of, is_long_entry, fig_of, is_next, is_long, Head, same_head, with_entry_first, figs_of, ensemble_figs, Raw, raw_of, raw_entry, Listening, where_heard, hear_entry, hear_entries, hear_fig, hear_figs, at_ensemble, EnsembleIsHeard}
 use Rattle.fib_carousel.proofs.Sharing.{same_head_is}
-use Rattle.fib_reader.specs.Raw.{Raw, raw_of, raw_entry}
-use Rattle.fib_reader.specs.Listening.{Listening, where_heard, hear_entry, hear_entries, hear_fig, hear_figs, at_ensemble}
-use Rattle.fib_reader.specs.Laws.{EnsembleIsHeard}
+use Rattle.plan_runs.proofs.Right.{ext_low, flag_le}
 
 abbrev pub hear_marked : List Marked → Listening → Option Listening
 hear_marked [] l = Some l
@@ -36,40 +24,26 @@ then_joined (Some l) f g h e = e l
 
 -- ---- the head of a FIG
 
-flag_low : (b : Bool) → bit_of b ≤ 1
-flag_low true = omega arith
-flag_low false = omega arith
-
 flag_is : (b : Bool) → (bit_of b == 1) ≡ b
 flag_is true = refl
 flag_is false = refl
 
-ext_low : (e : Entry) → ext_of e ≤ 3
-ext_low (EnsembleOf e) = omega arith
-ext_low (SubOf s) = omega arith
-ext_low (ShortOf s) = omega arith
-ext_low (ServiceOf s) = omega arith
-ext_low (PacketOf p) = omega arith
-
 second_ext : (m : Marked) → head_byte (head_of m) % 32 ≡ ext_of m.entry
-second_ext m = omega (arith, ext_low m.entry, flag_low m.next, flag_low (is_long_entry m.entry))
+second_ext m = omega (arith, ext_low m.entry, flag_le m.next, flag_le (is_long_entry m.entry))
 
 pub second_next : (m : Marked) → is_next (head_byte (head_of m)) ≡ m.next
 second_next m =
-    let n : head_byte (head_of m) / 128 ≡ bit_of m.next = omega (arith, ext_low m.entry, flag_low m.next, flag_low (is_long_entry m.entry)) in
+    let n : head_byte (head_of m) / 128 ≡ bit_of m.next = omega (arith, ext_low m.entry, flag_le m.next, flag_le (is_long_entry m.entry)) in
     ap (λ (k : ℕ). k == 1) n ∙ flag_is m.next
 
 second_long : (m : Marked) → is_long (head_byte (head_of m)) ≡ is_long_entry m.entry
 second_long m =
-    let n : head_byte (head_of m) / 32 % 2 ≡ bit_of (is_long_entry m.entry) = omega (arith, ext_low m.entry, flag_low m.next, flag_low (is_long_entry m.entry)) in
+    let n : head_byte (head_of m) / 32 % 2 ≡ bit_of (is_long_entry m.entry) = omega (arith, ext_low m.entry, flag_le m.next, flag_le (is_long_entry m.entry)) in
     ap (λ (k : ℕ). k == 1) n ∙ flag_is (is_long_entry m.entry)
 
 raw_said : (e : Entry) → raw_of (ext_of e) (is_long_entry e) (entry_bytes e) ≡ raw_entry e
 raw_said (EnsembleOf e) = refl
-raw_said (SubOf s) = refl
-raw_said (ShortOf s) = refl
-raw_said (ServiceOf s) = refl
-raw_said (PacketOf p) = refl
+raw_said _ = refl
 
 pub raw_is : (m : Marked) → raw_of (head_byte (head_of m) % 32) (is_long (head_byte (head_of m))) (entry_bytes m.entry) ≡ raw_entry m.entry
 raw_is m =

@@ -1,18 +1,12 @@
 -- A run over some events and then over more is the run over all of them.
 use Rattle.std.proofs.Common.{◌≡◌, ◌↔◌, ℕ, List, [], ◌∷◌, ◌++◌, refl, ap}
-use Rattle.plan_code.specs.Program.{Program}
-use Rattle.plan_code.specs.Machine.{State}
-use Rattle.plan_runs.specs.declared.event.Event.{Event}
-use Rattle.plan_runs.specs.declared.event.Event.TheVariants.{Contact, Frame}
-use Rattle.plan_runs.specs.Frames.{after_frame, frame_bytes}
-use Rattle.plan_runs.specs.Runs.{happens, run, run_frames, RunIsAllowed}
-use Rattle.plan_runs.specs.Announced.{heard_by, heard_along, Runs, RunsJoin}
+use Rattle.plan_runs.proofs.Names.{Program, State, Event, Contact, Frame, after_frame, frame_bytes, happens, run, run_frames, RunIsAllowed, heard_by, heard_along, Runs, RunsJoin}
 
 pub state_joins : (p : Program) (s : State) (events more : List Event) → run p s (events ++ more) ≡ run p (run p s events) more
 state_joins p s [] more = refl
 state_joins p s (e ∷ es) more = state_joins p (happens p s e) es more
 
-frames_join : (p : Program) (s : State) (events more : List Event) → run_frames p s (events ++ more) ≡ run_frames p s events ++ run_frames p (run p s events) more
+pub frames_join : (p : Program) (s : State) (events more : List Event) → run_frames p s (events ++ more) ≡ run_frames p s events ++ run_frames p (run p s events) more
 frames_join p s [] more = refl
 frames_join p s (Contact c closed ∷ es) more = frames_join p (happens p s (Contact c closed)) es more
 frames_join p s (Frame ∷ es) more = ap (λ fs. frame_bytes p s ∷ fs) (frames_join p (after_frame p s) es more)

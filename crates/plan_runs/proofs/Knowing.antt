@@ -1,19 +1,6 @@
 -- What a listener knows between two frames, before and after FIG 0/0.
-use Rattle.std.specs.Prelude.{◌||◌, ◌-◌}
 use Rattle.std.proofs.Common.{◌≡◌, ◌≢◌, ℕ, ◌+◌, ◌%◌, ◌<◌, ◌≤◌, ◌==◌, Bool, true, false, cond, Option, Some, None, is_some, inl, inr, refl, ap, sym, ◌∙◌, subst, arith}
-use Rattle.std.proofs.lemmas.Bool.{eq-eqb, ne_eqb}
-use Rattle.fib_codec.specs.Layouts.{layout_mode}
-use Rattle.mux_config.specs.Configuration.{Configuration}
-use Rattle.mux_types.specs.Entries.{EnsembleInformation}
-use Rattle.fib_codec.specs.declared.modes.Mode.{Mode}
-use Rattle.fib_codec.specs.declared.modes.Mode.TheVariants.{I, II, III, IV}
-use Rattle.fib_codec.specs.Modes.{count_step}
-use Rattle.fib_codec.specs.Ranges.{IsEnsembleInformation}
-use Rattle.fib_reader.specs.Raw.{Raw}
-use Rattle.fib_reader.specs.Listening.{Pictured, blank, Listening, untuned, is_made, swapped, awaiting, at_ensemble}
-use Rattle.plan_code.specs.declared.plan.Plan.{Plan}
-use Rattle.plan_code.specs.Machine.{State}
-use Rattle.plan_runs.specs.Frames.{is_noticed, is_first_noticed, ensemble_of, low_of_swap, left_after_frame}
+use Rattle.plan_runs.proofs.Names.{◌||◌, ◌-◌, eq-eqb, ne_eqb, or_right, layout_mode, Configuration, EnsembleInformation, Mode, I, count_step, IsEnsembleInformation, Raw, Pictured, blank, Listening, untuned, is_made, swapped, awaiting, at_ensemble, Plan, State, is_noticed, is_first_noticed, ensemble_of, low_of_swap, left_after_frame}
 use Rattle.plan_runs.proofs.Knowledge.{IsAhead}
 use Rattle.plan_runs.proofs.Tracked.{Airs, noticed, not_noticed, noticed_from, split_le}
 use Rattle.plan_runs.proofs.Carries.{IsNewly, LeftBy}
@@ -21,6 +8,8 @@ use Rattle.plan_runs.proofs.Right.{ensemble_right, ensemble_within}
 use Rattle.plan_runs.proofs.Announcing.{noticed_information}
 use Rattle.plan_runs.proofs.Pictures.{whole_of, IsPartial, weaker, empty_is_partial}
 use Rattle.plan_runs.proofs.Tuned.{NextBy, Tuned, tuned_weaker}
+use Rattle.plan_runs.proofs.Counted.{swap_not_now, swap_now, next_low}
+use Rattle.plan_runs.proofs.Parts.{clash}
 
 -- with k frames left until the swap: the low part of its count is awaited, or the notice has sent no FIG 0/0 so far
 abbrev pub Waits : Plan → ℕ → ℕ → Option ℕ → Type 0
@@ -161,9 +150,6 @@ some_change e low h is =
 no_change : (e : EnsembleInformation) → e.change ≡ 0 → (e.change == 0) ≡ true
 no_change e none = eq-eqb e.change 0 none
 
-clash : {X : Type 0} (b : Bool) → b ≡ true → b ≡ false → X
-clash b e f = absurd cc
-
 -- the low part of the swap's count is awaited
 waits_low : (plan : Plan) (left : Option ℕ) (count : ℕ) → is_noticed plan.notice left ≡ true → WaitsBy plan left count (Some (low_of_swap count left))
 waits_low plan None count e = absurd cc
@@ -226,9 +212,6 @@ settled plan u airs C N pc pn a is_part next none = settled_by plan u airs C N p
 
 -- ---- no swap is assumed in a frame that makes none
 
-swap_not_now : (count low k : ℕ) → count < 5000 → 1 ≤ k → k < 250 → low ≡ (count + k) % 5000 % 250 → count % 250 ≢ low
-swap_not_now count low k below some short is e = omega (arith, below, some, short, is, e)
-
 not_made_by : (plan : Plan) (u : State) → Airs plan u → plan.notice ≤ 248 → (a left : Option ℕ) → u.left ≡ left → IsAhead left → WaitsBy plan left u.count a → is_made a (ensemble_of plan u) ≡ false
 not_made_by plan u airs short None left is ahead w = refl
 not_made_by plan u airs short (Some low) None is ahead w = absurd cc
@@ -262,25 +245,16 @@ unheaded_ready plan u C N l apart h = record { awaited = h.awaited; knows = h.kn
 
 -- ---- the swap
 
-swap_now : (count low : ℕ) → count < 5000 → low ≡ (count + 0) % 5000 % 250 → count % 250 ≡ low
-swap_now count low below is = omega (arith, below, is)
-
 long_notice : (m : Mode) (notice count : ℕ) → 12 ≤ notice → notice - 0 ≤ (count + (count_step m - 1)) % count_step m → ⊥
 long_notice I notice count long h = omega (arith, long, h)
-long_notice II notice count long h = omega (arith, long, h)
-long_notice III notice count long h = omega (arith, long, h)
-long_notice IV notice count long h = omega (arith, long, h)
-
-or_last : (a b : Bool) → b ≡ true → (a || b) ≡ true
-or_last true b e = refl
-or_last false b e = e
+long_notice _ notice count long h = omega (arith, long, h)
 
 made_by : (plan : Plan) (u : State) (count : ℕ) (a : Option ℕ) → 12 ≤ plan.notice → count < 5000 → u.count ≡ count → Waits plan 0 count a → is_made a (ensemble_of plan u) ≡ true
 made_by plan u count None long below same w = absurd (long_notice (layout_mode plan.layout) plan.notice count long w)
 made_by plan u count (Some low) long below same w =
     let e : EnsembleInformation = ensemble_of plan u in
     let count_is : e.count ≡ count = (ensemble_right plan u).count ∙ same in
-    or_last (e.change == 0) (e.count % 250 == low) (ap (λ (n : ℕ). n % 250 == low) count_is ∙ eq-eqb (count % 250) low (swap_now count low below w))
+    or_right (e.change == 0) (e.count % 250 == low) (ap (λ (n : ℕ). n % 250 == low) count_is ∙ eq-eqb (count % 250) low (swap_now count low below w))
 
 next_blank : (noticed : Bool) (n : Configuration) → NextBy noticed n (λ x. ⊥) blank
 next_blank true n = empty_is_partial (whole_of n)
@@ -307,16 +281,11 @@ headed_untuned plan u airs =
 waits_on : (m : Mode) (notice k count : ℕ) → 1 ≤ k → k ≤ notice → count % count_step m ≢ 0 → notice - k ≤ (count + (count_step m - 1)) % count_step m
     → notice - (k - 1) ≤ ((count + 1) % 5000 + (count_step m - 1)) % count_step m
 waits_on I notice k count some within apart h = omega (arith, some, within, apart, h)
-waits_on II notice k count some within apart h = omega (arith, some, within, apart, h)
-waits_on III notice k count some within apart h = omega (arith, some, within, apart, h)
-waits_on IV notice k count some within apart h = omega (arith, some, within, apart, h)
-
-waits_low_on : (count low k : ℕ) → 1 ≤ k → low ≡ (count + k) % 5000 % 250 → low ≡ ((count + 1) % 5000 + (k - 1)) % 5000 % 250
-waits_low_on count low k some is = omega (arith, some, is)
+waits_on _ notice k count some within apart h = omega (arith, some, within, apart, h)
 
 waits_later : (plan : Plan) (k count : ℕ) (a : Option ℕ) → 1 ≤ k → k ≤ plan.notice → (a ≡ None → count % count_step (layout_mode plan.layout) ≢ 0) → Waits plan k count a → Waits plan (k - 1) ((count + 1) % 5000) a
 waits_later plan k count None some within headless w = waits_on (layout_mode plan.layout) plan.notice k count some within (headless refl) w
-waits_later plan k count (Some low) some within headless w = waits_low_on count low k some w
+waits_later plan k count (Some low) some within headless w = next_low count low k some w
 
 as_awaited : (noticed : Bool) (c n : Configuration) (C N : Raw → Type 0) (a b : Option ℕ) (l : Listening) → a ≡ b → Tuned noticed c n C N a l → Tuned noticed c n C N b l
 as_awaited noticed c n C N a b l e h = subst (λ (o : Option ℕ). Tuned noticed c n C N o l) e h

@@ -1,15 +1,6 @@
 -- What a typing says about a state, now and some frames later.
-use Rattle.std.specs.Prelude.{slice_index}
 use Rattle.std.proofs.Common.{◌≡◌, ◌≢◌, ℕ, ◌+◌, ◌*◌, ◌<◌, ◌≤◌, true, List, length, Option, Some, None, ◌⊎◌}
-use Rattle.mux_config.specs.Configuration.{Configuration}
-use Rattle.mux_config.specs.Sound.{IsSound}
-use Rattle.fib_carousel.specs.Pages.{page_set, rounds}
-use Rattle.plan_code.specs.declared.plan.Plan.{Plan}
-use Rattle.plan_code.specs.declared.flags.Counters.{Counters}
-use Rattle.plan_code.specs.declared.label.Swap.{Swap}
-use Rattle.plan_code.specs.declared.label.Swap.TheVariants.{Idle, Within, Perhaps}
-use Rattle.plan_code.specs.Flags.{is_set}
-use Rattle.plan_verifier.specs.Typing.{Known}
+use Rattle.plan_runs.proofs.Names.{slice_index, Configuration, IsSound, page_set, rounds, Plan, Counters, Swap, Idle, Within, Perhaps, is_set, Known}
 
 -- no swap is pending, and these are the configurations
 pub record IsIdleAs (a b : Configuration) (left : Option ℕ) (c n : Configuration) : Type 0 where

@@ -1,21 +1,8 @@
 -- Only the last level of each contact counts in contact settings.
 use Rattle.std.proofs.Common.{◌≡◌, ◌≢◌, ℕ, ◌-◌, ◌<◌, ◌^◌, Bool, true, false, cond, eqb, List, [], ◌∷◌, ◌++◌, Option, Some, None, refl, sym, ap, subst, ◌∙◌, arith}
-use Rattle.std.specs.Int.{bit_at}
+use Rattle.plan_runs.proofs.Names.{bit_at, bit_at-lt, same_from_bits_below, eqb-true, eqb-false, AllByRecursion, Contacts, is_closed, with_contact, contacts_change_alone, Program, State, Event, Frame, after_frame, frame_bytes, run, run_frames, run_states, Setting, IsSetting, last_of, level_by, last_level, AgreeOnContacts, set_events, schedule, LastLevelsCount}
 use Rattle.std.proofs.lemmas.Nat.{pow_below, or_lt, and_le_l}
-use Rattle.std.proofs.lemmas.Nat.Bits.{bit_at-lt, same_from_bits_below}
-use Rattle.std.proofs.lemmas.Bool.{eqb-true, eqb-false}
-use Rattle.std.specs.List.{AllByRecursion}
-use Rattle.plan_code.specs.declared.flags.Contacts.{Contacts}
-use Rattle.plan_code.specs.Flags.{is_closed, with_contact}
-use Rattle.plan_code.proofs.Bits.{contacts_change_alone}
-use Rattle.plan_code.specs.Program.{Program}
-use Rattle.plan_code.specs.Machine.{State}
-use Rattle.plan_runs.specs.declared.event.Event.{Event}
-use Rattle.plan_runs.specs.declared.event.Event.TheVariants.{Frame}
-use Rattle.plan_runs.specs.Frames.{after_frame, frame_bytes}
-use Rattle.plan_runs.specs.Runs.{run, run_frames, run_states}
-use Rattle.plan_runs.specs.Settings.{Setting, IsSetting, last_of, level_by, last_level, AgreeOnContacts, set_events, schedule, LastLevelsCount}
-use Rattle.plan_runs.proofs.Unmoved.{frame_contacts}
+use Rattle.plan_runs.proofs.Clock.{frame_contacts}
 
 -- ---- the contacts after settings
 

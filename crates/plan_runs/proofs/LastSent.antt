@@ -1,16 +1,6 @@
 -- The frames heard of a notice are the last ones that a run sent.
 use Rattle.std.proofs.Common.{◌≡◌, ℕ, zero, suc, ◌-◌, ◌≤◌, Bool, true, false, cond, List, [], ◌∷◌, ◌++◌, length, Option, Some, None, refl, sym, ap, append_assoc, ◌∙◌, arith, inl, inr}
-use Rattle.std.proofs.lemmas.List.{append-nil}
-use Rattle.plan_code.specs.declared.plan.Plan.{Plan}
-use Rattle.plan_code.specs.Program.{Program}
-use Rattle.plan_code.specs.Machine.{State}
-use Rattle.plan_verifier.specs.Typing.{Known}
-use Rattle.plan_runs.specs.declared.event.Event.{Event}
-use Rattle.plan_runs.specs.declared.event.Event.TheVariants.{Contact, Frame}
-use Rattle.plan_runs.specs.Frames.{is_due, is_noticed, shown, frame_bytes, left_after_frame, with_next_counts, after_frame}
-use Rattle.plan_runs.specs.Runs.{happens, run, run_frames}
-use Rattle.plan_runs.specs.Announced.{heard_before, notice_frames, notice_begin, heard_left, heard_of, heard_along}
-use Rattle.plan_runs.specs.LastSent.{HeardWasSent}
+use Rattle.plan_runs.proofs.Names.{append-nil, Plan, Program, State, Known, Event, Contact, Frame, is_due, is_noticed, shown, frame_bytes, left_after_frame, with_next_counts, after_frame, happens, run, run_frames, heard_before, notice_frames, notice_begin, heard_left, heard_of, heard_along, HeardWasSent}
 use Rattle.plan_runs.proofs.Knowledge.{IsAhead}
 use Rattle.plan_runs.proofs.Passing.{due_is}
 use Rattle.plan_runs.proofs.Tracked.{noticed, split_le}

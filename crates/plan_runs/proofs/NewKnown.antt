@@ -1,29 +1,7 @@
 -- A listener that heard a notice knows the new configuration from the first FIB of the swap's frame on.
-use Rattle.std.specs.Prelude.{take, ◌-◌}
 use Rattle.std.proofs.Common.{◌≡◌, ℕ, zero, suc, ◌+◌, ◌<◌, ◌≤◌, Bool, true, false, cond, List, [], ◌∷◌, ◌++◌, length, Option, Some, None, inl, inr, ◌⊎◌, refl, ap, sym, ◌∙◌, subst, arith}
-use Rattle.std.proofs.lemmas.Bool.{eqb-true}
-use Rattle.std.proofs.lemmas.List.{take-append-le}
+use Rattle.plan_runs.proofs.Names.{take, ◌-◌, eqb-true, or_parts, take-append-le, Contains-append_cases, Contains-append_left, Configuration, marked, IsHeardInRow, OneList, Raw, raw_entry, Listening, untuned, Shows, Plan, Program, State, Known, Event, Contact, Frame, is_due, is_noticed, is_first_noticed, shown, shown_bytes, frame_bytes, ensemble_sent, left_after_frame, after_frame, happens, run, run_frames, heard_before, heard_after, notice_frames, notice_begin, heard_left, heard_of, IsAnnounced, BeginsNoPhase, IsPlayed, fibs_of, HearsAll, IsNotice, MakesNoSwap, IsUntilNextSwap, KnowsTheNew}
 use Rattle.std.proofs.Math.Seq.{take-append-add}
-use Rattle.std.proofs.lemmas.List.Elements.{Contains-append_cases, Contains-append_left}
-use Rattle.mux_config.specs.Configuration.{Configuration}
-use Rattle.mux_types.specs.Facts.{marked}
-use Rattle.fib_codec.specs.Heard.{IsHeardInRow}
-use Rattle.fib_codec.specs.Grammar.{OneList}
-use Rattle.fib_reader.specs.Raw.{Raw, raw_entry}
-use Rattle.fib_reader.specs.Listening.{Listening, untuned}
-use Rattle.fib_reader.specs.Picture.{Shows}
-use Rattle.plan_code.specs.declared.plan.Plan.{Plan}
-use Rattle.plan_code.specs.Program.{Program}
-use Rattle.plan_code.specs.Machine.{State}
-use Rattle.plan_verifier.specs.Typing.{Known}
-use Rattle.plan_runs.specs.declared.event.Event.{Event}
-use Rattle.plan_runs.specs.declared.event.Event.TheVariants.{Contact, Frame}
-use Rattle.plan_runs.specs.Frames.{is_due, is_noticed, is_first_noticed, shown, shown_bytes, frame_bytes, ensemble_sent, left_after_frame, after_frame}
-use Rattle.plan_runs.specs.Runs.{happens, run, run_frames}
-use Rattle.plan_runs.specs.Announced.{heard_before, heard_after, notice_frames, notice_begin, heard_left, heard_of, IsAnnounced}
-use Rattle.plan_runs.specs.RightBytes.{BeginsNoPhase}
-use Rattle.plan_runs.specs.TypedRuns.{IsPlayed}
-use Rattle.plan_runs.specs.Listening.{fibs_of, HearsAll, IsNotice, MakesNoSwap, IsUntilNextSwap, KnowsTheNew}
 use Rattle.plan_runs.proofs.Passing.{not_due}
 use Rattle.plan_runs.proofs.Tracked.{noticed, split_le}
 use Rattle.plan_runs.proofs.Carries.{LeftBy}
@@ -38,7 +16,7 @@ use Rattle.plan_runs.proofs.Contents.{Laws}
 use Rattle.plan_runs.proofs.Knowing.{InFrame, Still, knows_after}
 use Rattle.plan_runs.proofs.HeardFrame.{RowSaid, fibs_in, frame_heard, some_heard, enters, enters_swap, current_shown, due_current, as_fibs}
 use Rattle.plan_runs.proofs.HeardFrames.{KnowsAt, Nothing, knows_weaker, current_part, hears_join, fibs_more, frame_then, waits_run, IsTuning, enters_tuning}
-use Rattle.plan_runs.proofs.CurrentKnown.{SomeSaid, or_parts, fibs_join, tuning, whole_had}
+use Rattle.plan_runs.proofs.CurrentKnown.{SomeSaid, fibs_join, tuning, whole_had}
 
 -- ---- what was heard of the notice
 

@@ -1,15 +1,6 @@
 -- The frames of a notice, one after another; what was heard of them is a function of the state.
-use Rattle.std.specs.Prelude.{Contains, slice_get}
 use Rattle.std.proofs.Common.{◌≡◌, ℕ, zero, suc, ◌+◌, ◌-◌, ◌%◌, ◌<◌, ◌≤◌, Bool, true, false, cond, List, [], ◌∷◌, ◌++◌, Option, Some, None, refl, sym, ap, subst, ◌∙◌, arith, inl, inr}
-use Rattle.mux_config.specs.Configuration.{Configuration}
-use Rattle.fib_carousel.specs.Pages.{page_set, rounds, page_after}
-use Rattle.plan_code.specs.declared.plan.Plan.{Plan}
-use Rattle.plan_code.specs.declared.hold.Hold.TheVariants.{Running}
-use Rattle.plan_code.specs.Program.{Program}
-use Rattle.plan_code.specs.Machine.{State}
-use Rattle.plan_verifier.specs.Typing.{Known}
-use Rattle.plan_runs.specs.Frames.{is_due, with_swap, is_noticed, is_first_noticed, shown, after_burst, shown_bytes, frame_bytes, sent_rounds, left_after_frame, with_next_counts, after_frame}
-use Rattle.plan_runs.specs.Announced.{heard_before, heard_after, notice_frames, notice_begin, heard_left, heard_of}
+use Rattle.plan_runs.proofs.Names.{Contains, slice_get, Configuration, page_set, rounds, page_after, Plan, Running, Program, State, Known, is_due, with_swap, is_noticed, is_first_noticed, shown, after_burst, shown_bytes, frame_bytes, sent_rounds, left_after_frame, with_next_counts, after_frame, heard_before, heard_after, notice_frames, notice_begin, heard_left, heard_of}
 use Rattle.plan_runs.proofs.Knowledge.{IsAhead}
 use Rattle.plan_runs.proofs.Tracked.{Airs, IsTurn, TurnShown, page_of, page_of_first, page_of_next, noticed, not_noticed, split_le}
 use Rattle.plan_runs.proofs.Between.{frame_goes}

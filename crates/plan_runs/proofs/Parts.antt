@@ -1,12 +1,7 @@
 -- A part of a set of entries, given by the known identifiers, and the part after one more entry.
-use Rattle.std.specs.Prelude.{◌||◌, slice_get}
 use Rattle.std.proofs.Common.{◌≡◌, ◌≢◌, ℕ, suc, ◌<◌, ◌≤◌, ◌==◌, Bool, true, false, cond, List, [], ◌∷◌, length, Some, inl, inr, ◌⊎◌, refl, ap, sym, ◌∙◌, subst, lt-ltb, le-ltb, arith}
-use Rattle.std.proofs.lemmas.Bool.{eq-eqb, ne_eqb}
-use Rattle.mux_config.specs.Configuration.{IsAscending}
-use Rattle.std.specs.List.{AllByRecursion}
+use Rattle.plan_runs.proofs.Names.{◌||◌, slice_get, eq-eqb, ne_eqb, or_right, or_left, IsAscending, AllByRecursion, Raw, identifier_of, is_known, kept, has_room}
 use Rattle.mux_config.specs.Tables.{with_entry}
-use Rattle.fib_reader.specs.Raw.{Raw}
-use Rattle.fib_reader.specs.Listening.{identifier_of, is_known, kept, has_room}
 use Rattle.fib_reader.proofs.Keeping.{kept-new, room_for_known, room_for_new, known_where_found, kept_where_found}
 
 abbrev pub In : {T : Type 0} → T → List T → Type 0
@@ -30,15 +25,7 @@ or_none : (a b : Bool) → b ≡ false → (a || b) ≡ a
 or_none true b e = refl
 or_none false b e = e
 
-or_some : (a b : Bool) → b ≡ true → (a || b) ≡ true
-or_some true b e = refl
-or_some false b e = e
-
-or_first : (a b : Bool) → a ≡ true → (a || b) ≡ true
-or_first true b e = refl
-or_first false b e = absurd cc
-
-clash : {X : Type 0} (b : Bool) → b ≡ true → b ≡ false → X
+pub clash : {X : Type 0} (b : Bool) → b ≡ true → b ≡ false → X
 clash b e f = absurd cc
 
 each_cond : (P : Raw → Type 0) (x : Raw) (ys : List Raw) (b : Bool) → P x → AllByRecursion P ys → AllByRecursion P (cond b (x ∷ ys) ys)
@@ -78,7 +65,7 @@ same_above known id (x ∷ xs) h =
     ∙ ap (λ ys. cond (known (identifier_of x)) (x ∷ ys) ys) (same_above known id xs h.1)
 
 known_now : (known : ℕ → Bool) (id : ℕ) → with_known id known id ≡ true
-known_now known id = or_some (known id) (id == id) (eq-eqb id id refl)
+known_now known id = or_right (known id) (id == id) (eq-eqb id id refl)
 
 added_here : (known : ℕ → Bool) (raw : Raw) (xs : List Raw) → IsAscending identifier_of (raw ∷ xs) → known (identifier_of raw) ≡ false
     → with_entry identifier_of raw (partly known (raw ∷ xs)) ≡ partly (with_known (identifier_of raw) known) (raw ∷ xs)
@@ -177,7 +164,7 @@ pub record IsTaken (full : List Raw) (C : Raw → Type 0) (raw : Raw) (part : Li
   pub part_is : IsPart full (Also C raw) (kept raw part)
 
 grown : (known : ℕ → Bool) (id : ℕ) (k : ℕ) → known k ≡ true → with_known id known k ≡ true
-grown known id k e = or_first (known k) (k == id) e
+grown known id k e = or_left (known k) (k == id) e
 
 take_by : (full : List Raw) (C : Raw → Type 0) (raw : Raw) (known : ℕ → Bool) → IsAscending identifier_of full → length full ≤ 64 → In raw full
     → ((x : Raw) → In x full → C x → known (identifier_of x) ≡ true) → (b : Bool) → known (identifier_of raw) ≡ b → IsTaken full C raw (partly known full)

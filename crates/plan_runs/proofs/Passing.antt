@@ -1,12 +1,6 @@
 -- What is known remains valid as a swap is made and as frames pass.
-use Rattle.std.specs.Prelude.{nat_lt}
 use Rattle.std.proofs.Common.{◌≡◌, ℕ, ◌+◌, ◌-◌, ◌<◌, ◌≤◌, Bool, true, false, cond, Option, Some, None, refl, sym, ap, subst, ◌∙◌, arith, inl, inr, ◌⊎◌}
-use Rattle.std.proofs.lemmas.Bool.{eqb-true, eqb-false, ltb-true, ltb-false}
-use Rattle.mux_config.specs.Configuration.{Configuration}
-use Rattle.plan_code.specs.declared.label.Swap.{Swap}
-use Rattle.plan_code.specs.declared.label.Swap.TheVariants.{Idle, Within, Perhaps}
-use Rattle.plan_verifier.specs.Typing.{Known, IsCertain, after_wait, after_pause, known_after_swap, FitsSwap}
-use Rattle.plan_runs.specs.Frames.{is_due, left_after_frame}
+use Rattle.plan_runs.proofs.Names.{nat_lt, eqb-true, eqb-false, ltb-true, ltb-false, Configuration, Swap, Idle, Within, Perhaps, Known, IsCertain, after_wait, after_pause, known_after_swap, FitsSwap, is_due, left_after_frame}
 use Rattle.plan_runs.proofs.Knowledge.{IsIdleAs, IsPendingAs, AgreesBy, ComesBy, PausesBy, JoinsBy, IsAhead}
 
 -- ---- how many frames are left

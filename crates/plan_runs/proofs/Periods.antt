@@ -1,24 +1,6 @@
 -- The whole current configuration is heard in any period of a phase.
-use Rattle.std.specs.Prelude.{Contains, ◌||◌}
-use Rattle.std.proofs.Common.{◌≡◌, ℕ, zero, suc, ◌+◌, ◌-◌, ◌<◌, ◌≤◌, Bool, true, false, cond, ltb, List, [], ◌∷◌, length, Option, Some, None, refl, sym, ap, subst, ◌∙◌, arith, inl, inr}
-use Rattle.std.proofs.lemmas.Bool.{eqb-false, ltb-true, lt-ltb}
-use Rattle.std.proofs.lemmas.List.Elements.{Contains-append_left}
-use Rattle.mux_config.specs.Configuration.{Configuration}
-use Rattle.mux_types.specs.Facts.{Marked, facts_of}
-use Rattle.fib_codec.specs.Heard.{IsHeardInRow}
-use Rattle.fib_carousel.specs.Pages.{page_set, rounds, page_after, page_entries}
-use Rattle.plan_code.specs.declared.plan.Plan.{Plan}
-use Rattle.plan_code.specs.Program.{Program}
-use Rattle.plan_code.specs.Machine.{State}
-use Rattle.plan_verifier.specs.Typing.{Known}
-use Rattle.plan_runs.specs.declared.event.Event.{Event}
-use Rattle.plan_runs.specs.declared.event.Event.TheVariants.{Contact, Frame}
-use Rattle.plan_runs.specs.Frames.{is_due, with_swap, with_due_swap, is_noticed, is_first_noticed, shown, after_burst, frame_bytes, shown_bytes, ensemble_sent, sent_entries, sent_rounds, left_after_frame, with_next_counts, after_frame, begins_phase}
-use Rattle.plan_runs.specs.Phases.{SentBy}
-use Rattle.plan_runs.specs.Runs.{happens, run, run_frames}
-use Rattle.plan_runs.specs.Announced.{IsHeardInSome, IsHeardWhole}
-use Rattle.plan_runs.specs.RightBytes.{BeginsNoPhase, IsOnePhase}
-use Rattle.plan_runs.specs.Headline.{PeriodsAreWhole}
+use Rattle.std.proofs.Common.{◌≡◌, ℕ, zero, suc, ◌+◌, ◌-◌, ◌<◌, ◌≤◌, Bool, true, false, cond, List, [], ◌∷◌, length, Option, Some, None, refl, sym, ap, subst, ◌∙◌, arith, inl, inr}
+use Rattle.plan_runs.proofs.Names.{Contains, eqb-false, lt-ltb, or_parts, Contains-append_left, Configuration, Marked, facts_of, IsHeardInRow, page_set, rounds, page_after, page_entries, Plan, Program, State, Known, Event, Contact, Frame, is_due, with_swap, with_due_swap, is_noticed, is_first_noticed, shown, after_burst, frame_bytes, shown_bytes, ensemble_sent, sent_entries, sent_rounds, left_after_frame, with_next_counts, after_frame, begins_phase, SentBy, happens, run, run_frames, IsHeardInSome, IsHeardWhole, BeginsNoPhase, IsOnePhase, PeriodsAreWhole}
 use Rattle.plan_runs.proofs.Knowledge.{IsAhead, IsOnAir, CommittedBy}
 use Rattle.plan_runs.proofs.Passing.{ahead_from}
 use Rattle.plan_runs.proofs.Tracked.{Airs, noticed, not_noticed, split_le, turn_is_page}
@@ -27,6 +9,8 @@ use Rattle.plan_runs.proofs.Carries.{IsNewly, LeftBy, frame_carries}
 use Rattle.plan_runs.proofs.Facts.{Holds, IsCode, airs, frame_holds, happens_holds, run_holds, code_of, played_holds}
 use Rattle.plan_runs.proofs.Right.{PageLaws, pageable}
 use Rattle.plan_runs.proofs.Notice.{links}
+use Rattle.plan_runs.proofs.Announcing.{page_wraps}
+use Rattle.plan_runs.proofs.Swaps.{left_turned}
 
 -- ---- each page is in turn within as many frames as there are pages
 
@@ -34,15 +18,8 @@ pages_on : ℕ → ℕ → ℕ → ℕ
 pages_on pages zero page_index = page_index
 pages_on pages (suc d) page_index = pages_on pages d (page_after pages page_index)
 
-after_up : (pages page_index : ℕ) → page_index + 1 < pages → page_after pages page_index ≡ page_index + 1
+pub after_up : (pages page_index : ℕ) → page_index + 1 < pages → page_after pages page_index ≡ page_index + 1
 after_up pages page_index below = ap (λ (b : Bool). cond b (page_index + 1) 0) (lt-ltb (page_index + 1) pages below)
-
-wraps_by : (pages k : ℕ) → k + 1 ≡ pages → (b : Bool) → ltb (k + 1) pages ≡ b → cond b (k + 1) 0 ≡ 0
-wraps_by pages k last true e = let below = ltb-true (k + 1) pages e in absurd (omega (arith, below, last))
-wraps_by pages k last false e = refl
-
-after_last : (pages k : ℕ) → k + 1 ≡ pages → page_after pages k ≡ 0
-after_last pages k last = wraps_by pages k last (ltb (k + 1) pages) refl
 
 pages_up : (pages d page_index : ℕ) → page_index + d < pages → pages_on pages d page_index ≡ page_index + d
 unfolding pages_on
@@ -91,7 +68,7 @@ reaches pages page_index page t p =
                 pages_joined pages last (suc page) page_index
                 ∙ ap (pages_on pages (suc page)) (pages_up pages last page_index (omega (arith, t)) ∙ top)
                 ∙ pages_one pages page (pages - 1)
-                ∙ ap (pages_on pages page) (after_last pages (pages - 1) end)
+                ∙ ap (pages_on pages page) (page_wraps pages (pages - 1) end)
                 ∙ pages_up pages page 0 (omega (arith, p))
                 ∙ zero_page;
           }
@@ -155,10 +132,6 @@ heard_first frame frames m h = (frame, (0, omega arith, refl), h)
 heard_later : (frame : List ℕ) (frames : List (List ℕ)) (m : Marked) → IsHeardInSome frames m → IsHeardInSome (frame ∷ frames) m
 heard_later frame frames m h = (h.0, (suc h.1.0, omega (arith, h.1.1), h.1.2), h.2)
 
-or_parts : (a b : Bool) → (a || b) ≡ false → (a ≡ false) × (b ≡ false)
-or_parts true b e = absurd cc
-or_parts false b e = (refl, e)
-
 -- ---- the frames of a phase after its first one
 
 -- a state whose next frame sends these entries, with this page in turn
@@ -181,11 +154,7 @@ turn_kept : (u : State) (b : Bool) → b ≡ false → (cond b (let r : State = 
 turn_kept u true e = absurd cc
 turn_kept u false e = refl
 
-left_kept : (u : State) (b : Bool) → (cond b (let r : State = record u { page_index = 0 } in r) u).left ≡ u.left
-left_kept u true = refl
-left_kept u false = refl
-
-current_kept : (u : State) (b : Bool) → (cond b (let r : State = record u { page_index = 0 } in r) u).current ≡ u.current
+pub current_kept : (u : State) (b : Bool) → (cond b (let r : State = record u { page_index = 0 } in r) u).current ≡ u.current
 current_kept u true = refl
 current_kept u false = refl
 
@@ -202,7 +171,7 @@ sends p ts c s h no_phase ms page_index g =
     let goes = frame_goes p ts c.program c.typing s h.between in
     let carried = frame_carries p c.program s goes.allowed.steps goes.allowed.executes in
     let other : is_first_noticed p.plan.notice v.left ≡ false =
-    ap (is_first_noticed p.plan.notice) (sym (left_kept v (is_first_noticed p.plan.notice v.left))) ∙ parts.1 in
+    ap (is_first_noticed p.plan.notice) (sym (left_turned v (is_first_noticed p.plan.notice v.left))) ∙ parts.1 in
     let same = sent_same p.plan s.count s.left u.left s.current s.next u.next ms (ahead_from s.left parts.0) (link.left parts.0) parts.1 g.sent in
     record {
       entries = ap (λ (x : Configuration). page_set x (cond (is_noticed p.plan.notice u.left) (Some u.next) None)) (link.current parts.0) ∙ same;
@@ -245,7 +214,7 @@ current_inside : (c n : Configuration) (b : Bool) (m : Marked) → Contains (fac
 current_inside c n false m h = h
 current_inside c n true m h = Contains-append_left (facts_of c false) (facts_of n true) m h
 
-contact_current : (s t : State) (b : Bool) → t.current ≡ s.current → t.next ≡ s.next → (cond b (with_swap t) t).current ≡ (cond b (with_swap s) s).current
+pub contact_current : (s t : State) (b : Bool) → t.current ≡ s.current → t.next ≡ s.next → (cond b (with_swap t) t).current ≡ (cond b (with_swap s) s).current
 contact_current s t true c n = n
 contact_current s t false c n = c
 

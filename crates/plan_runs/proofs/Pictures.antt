@@ -1,15 +1,6 @@
 -- Pictures with a part of a configuration's entries.
-use Rattle.std.specs.Prelude.{Contains}
 use Rattle.std.proofs.Common.{◌≡◌, ℕ, zero, suc, ◌<◌, ◌≤◌, ◌==◌, Bool, cond, List, [], ◌∷◌, ◌++◌, length, map, Option, Some, None, inl, inr, ◌⊎◌, refl, ap, sym, ◌∙◌, subst, arith}
-use Rattle.std.proofs.lemmas.List.{length-map}
-use Rattle.mux_config.specs.Configuration.{Configuration, IsConfiguration, IsPlaced, IsService, IsAddressed, IsAscending, sub_key, service_key, packet_key}
-use Rattle.std.specs.List.{AllByRecursion}
-use Rattle.mux_types.specs.Facts.{Marked, marked, sub_entry, service_entry, packet_entry, sub_entries, service_entries}
-use Rattle.mux_types.specs.declared.entry.Entry.{Entry}
-use Rattle.fib_codec.specs.Spelling.{ext_of}
-use Rattle.fib_reader.specs.Raw.{Raw, raw_entry}
-use Rattle.fib_reader.specs.Listening.{Pictured, blank, identifier_of, kept, has_room, pictured}
-use Rattle.fib_reader.specs.Picture.{Shows}
+use Rattle.plan_runs.proofs.Names.{Contains, length-map, Configuration, IsConfiguration, IsPlaced, IsService, IsAddressed, IsAscending, sub_key, service_key, packet_key, AllByRecursion, Marked, marked, sub_entry, service_entry, packet_entry, sub_entries, service_entries, Entry, ext_of, Raw, raw_entry, Pictured, blank, identifier_of, kept, has_room, pictured, Shows}
 use Rattle.fib_reader.proofs.FromEntries.{sub_identified, service_identified, packet_identified}
 use Rattle.fib_reader.proofs.Shown.{ShowsEach, each_shows}
 use Rattle.plan_runs.proofs.Parts.{In, each_in, IsPart, Also, part_takes, part_weaker, part_empty, part_whole}

@@ -1,9 +1,6 @@
 -- A start is reached, and so is every state that follows a reached one.
 use Rattle.std.proofs.Common.{List, [], ◌∷◌, ◌++◌, refl, ap, ◌∙◌}
-use Rattle.std.specs.List.{AllByRecursion}
-use Rattle.plan_runs.specs.declared.event.Event.{Event}
-use Rattle.plan_runs.specs.Runs.{IsEvent, run}
-use Rattle.plan_runs.specs.TypedRuns.{StartsAreReached, ReachedIsKept}
+use Rattle.plan_runs.proofs.Names.{AllByRecursion, Event, IsEvent, run, StartsAreReached, ReachedIsKept}
 use Rattle.plan_runs.proofs.Joined.{state_joins}
 
 pub starts_are_reached : StartsAreReached

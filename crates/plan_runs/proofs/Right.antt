@@ -1,38 +1,7 @@
 -- The bytes of every frame are correct.
-use Rattle.std.specs.Prelude.{Contains, slice_get, map, take, drop, IfSome, ◌==◌, ◌&&◌, not}
 use Rattle.std.proofs.Common.{◌≡◌, ◌≢◌, ℕ, zero, suc, ◌+◌, ◌*◌, ◌/◌, ◌%◌, ◌<◌, ◌≤◌, Bool, true, false, cond, List, [], ◌∷◌, ◌++◌, length, Option, Some, None, refl, sym, ap, subst, ◌∙◌, arith, inl, inr, ◌⊎◌, replicate}
-use Rattle.std.proofs.lemmas.List.{drop-drop}
-use Rattle.std.proofs.lemmas.List.Elements.{Contains-append_cases}
-use Rattle.std.proofs.lemmas.Bool.{eqb-true, eq-eqb}
-use Rattle.fib_codec.specs.Layouts.{layout_mode, frame_fibs, used_fibs, reserved_fibs}
-use Rattle.fib_codec.specs.declared.frame_layout.FrameLayout.{FrameLayout}
-use Rattle.fib_codec.specs.declared.frame_layout.FrameLayout.TheVariants.{Whole, ReserveOne, ReserveTwo}
-use Rattle.mux_config.specs.Configuration.{Configuration, IsConfiguration}
-use Rattle.std.specs.List.{AllByRecursion}
-use Rattle.mux_types.specs.Entries.{EnsembleInformation}
-use Rattle.mux_types.specs.Facts.{Marked, marked, facts_of}
-use Rattle.mux_config.specs.Change.{change_of, bits_of, has_same_subs, has_same_services}
-use Rattle.mux_config.specs.Sameness.{is_same_sub, is_same_service, is_same_packet, is_same_list}
-use Rattle.mux_types.specs.declared.entry.Entry.TheVariants.{Ensemble as EnsembleOf, Sub as SubOf, Short as ShortOf, Service as ServiceOf, Packet as PacketOf}
-use Rattle.mux_types.specs.declared.entry.Entry.{Entry}
+use Rattle.plan_runs.proofs.Names.{Contains, slice_get, map, take, drop, IfSome, ◌==◌, not, drop-drop, Contains-append_cases, eqb-true, eq-eqb, and_parts, layout_mode, frame_fibs, used_fibs, reserved_fibs, FrameLayout, Whole, ReserveOne, ReserveTwo, Configuration, IsConfiguration, AllByRecursion, EnsembleInformation, Marked, marked, facts_of, change_of, bits_of, has_same_subs, has_same_services, is_same_sub, is_same_service, is_same_packet, is_same_list, EnsembleOf, Entry, Mode, I, fib_count, count_step, IsEnsembleInformation, Written, head_of, head_byte, ext_of, bit_of, fig_bytes, entry_bytes, Open, Other, IsValid, fig_of, fib_at, IsHeardInRow, IsInFig, Head, same_head, entries_in_fib, entries_where, page_set, page_entries, EachInAPage, first_fib, later_fibs, packing, reserved_figs, page_figs, AreFibs, ensemble_figs, figs_of, with_entry_first, IsPageable, IsSendable, AreSendable, PageSetsArePageable, PagesAreValid, PagesAreHeard, EnsembleIsCarried, pages_are_valid, pages_are_heard, ensemble_is_heard, page_sets_are_pageable, sendable_where, each_in_a_page, Plan, State, is_noticed, announced_next, sent_entries, ensemble_of, ensemble_sent, low_of_swap, shown_bytes, IsNoHeader, IsFlaggedBy, IsEnsembleOf, IsHeadedBy, IsUnheaded, IsRight}
 use Rattle.mux_config.proofs.Same.{list_same, sub_same, service_same, packet_same}
-use Rattle.fib_codec.specs.declared.modes.Mode.{Mode}
-use Rattle.fib_codec.specs.declared.modes.Mode.TheVariants.{I, II, III, IV}
-use Rattle.fib_codec.specs.Modes.{fib_count, count_step}
-use Rattle.fib_codec.specs.Ranges.{IsEnsembleInformation}
-use Rattle.fib_codec.specs.Spelling.{Written, head_of, head_byte, ext_of, bit_of, fig_bytes, entry_bytes}
-use Rattle.fib_codec.specs.Grammar.{Open, Other, IsValid, fig_of}
-use Rattle.fib_codec.specs.Heard.{fib_at, IsHeardInRow, IsInFig}
-use Rattle.fib_codec.specs.declared.head.Head.{Head}
-use Rattle.fib_carousel.specs.Packing.{same_head, entries_in_fib, entries_where}
-use Rattle.fib_carousel.specs.Pages.{page_set, page_entries, EachInAPage, first_fib, later_fibs}
-use Rattle.fib_carousel.specs.Greedy.{packing}
-use Rattle.fib_carousel.specs.Bytes.{reserved_figs, page_figs, AreFibs, ensemble_figs, figs_of, with_entry_first}
-use Rattle.fib_carousel.specs.Carried.{IsPageable, IsSendable, AreSendable, PageSetsArePageable, PagesAreValid, PagesAreHeard, EnsembleIsCarried}
-use Rattle.plan_code.specs.declared.plan.Plan.{Plan}
-use Rattle.plan_code.specs.Machine.{State}
-use Rattle.plan_runs.specs.Frames.{is_noticed, announced_next, sent_entries, ensemble_of, ensemble_sent, low_of_swap, shown_bytes}
-use Rattle.plan_runs.specs.RightBytes.{IsNoHeader, IsFlaggedBy, IsEnsembleOf, IsHeadedBy, IsUnheaded, IsRight}
 use Rattle.plan_runs.proofs.Knowledge.{CommittedBy}
 use Rattle.plan_runs.proofs.Tracked.{Airs}
 
@@ -45,6 +14,9 @@ pub record PageLaws : Type 0 where
   pub heard : PagesAreHeard
   pub ensemble : EnsembleIsCarried
 
+pub page_laws : PageLaws
+page_laws = record { each = each_in_a_page; pageable = page_sets_are_pageable; valid = pages_are_valid; heard = pages_are_heard; ensemble = ensemble_is_heard }
+
 -- ---- every change sets a change flag
 
 not_both : (a b : Bool) → (cond (not a) 1 0) + (cond (not b) 2 0) ≡ 0 → (a ≡ true) × (b ≡ true)
@@ -53,14 +25,10 @@ not_both true false e = absurd (omega (arith, e))
 not_both false true e = absurd (omega (arith, e))
 not_both false false e = absurd (omega (arith, e))
 
-both_of : (a b : Bool) → (a && b) ≡ true → (a ≡ true) × (b ≡ true)
-both_of true b e = (refl, e)
-both_of false b e = absurd cc
-
 unchanged : (c n : Configuration) → bits_of (change_of c n) ≡ 0 → n ≡ c
 unchanged c n e =
     let both = not_both (has_same_subs c n) (has_same_services c n) e in
-    let parts = both_of (is_same_list is_same_service c.services n.services) (is_same_list is_same_packet c.packets n.packets) both.1 in
+    let parts = and_parts (is_same_list is_same_service c.services n.services) (is_same_list is_same_packet c.packets n.packets) both.1 in
     let subs : c.subs ≡ n.subs = list_same is_same_sub sub_same c.subs n.subs both.0 in
     let services : c.services ≡ n.services = list_same is_same_service service_same c.services n.services parts.0 in
     let packets : c.packets ≡ n.packets = list_same is_same_packet packet_same c.packets n.packets parts.1 in
@@ -85,10 +53,10 @@ change_some c n apart = by (bits_of (change_of c n)) refl
 
 -- ---- FIG 0/0 of a state
 
-plain_within : (eid count : ℕ) → eid < 65536 → count < 5000 → IsEnsembleInformation (record { eid = eid; change = 0; al = false; count = count; occurrence = None })
+pub plain_within : (eid count : ℕ) → eid < 65536 → count < 5000 → IsEnsembleInformation (record { eid = eid; change = 0; al = false; count = count; occurrence = None })
 plain_within eid count e c = record { eid = e; change = omega arith; count = c; flagged = (λ none. absurd cc, λ some. absurd (omega (arith, some))); occurrence = tt }
 
-flagged_within : (eid count change low : ℕ) → eid < 65536 → count < 5000 → change < 4 → 0 < change → low < 256
+pub flagged_within : (eid count change low : ℕ) → eid < 65536 → count < 5000 → change < 4 → 0 < change → low < 256
     → IsEnsembleInformation (record { eid = eid; change = change; al = false; count = count; occurrence = Some low })
 flagged_within eid count change low e c b some l = record { eid = e; change = b; count = c; flagged = (λ there. some, λ more. refl); occurrence = l }
 
@@ -162,12 +130,9 @@ entries_right laws plan s h m heard =
 abbrev IsOrganized : Written → Type 0
 IsOrganized w = (1 ≤ w.head.ext) × (w.head.ext ≤ 3) × (w.head.oe ≡ false)
 
-ext_low : (e : Entry) → ext_of e ≤ 3
+pub ext_low : (e : Entry) → ext_of e ≤ 3
 ext_low (EnsembleOf e) = omega arith
-ext_low (SubOf s) = omega arith
-ext_low (ShortOf s) = omega arith
-ext_low (ServiceOf s) = omega arith
-ext_low (PacketOf p) = omega arith
+ext_low _ = omega arith
 
 head_organized : (m : Marked) (es : List Entry) → 1 ≤ ext_of m.entry → IsOrganized (record { head = head_of m; entries = es })
 head_organized m es some = (some, ext_low m.entry, refl)
@@ -185,7 +150,7 @@ figs_organized : (ms : List Marked) → AreSendable ms → AllByRecursion IsOrga
 figs_organized [] h = tt
 figs_organized (m ∷ ms) h = join_organized m (figs_of ms) h.0.organization (figs_organized ms h.1)
 
-flag_le : (b : Bool) → bit_of b ≤ 1
+pub flag_le : (b : Bool) → bit_of b ≤ 1
 flag_le true = omega arith
 flag_le false = omega arith
 
@@ -212,11 +177,6 @@ sendable_by : (e : Marked) (xs : List Marked) → IsSendable e → AreSendable x
 sendable_by e xs h hs true = (h, hs)
 sendable_by e xs h hs false = hs
 
-sendable_where : (test : ℕ → Bool) (es : List Marked) (ns : List ℕ) → AreSendable es → AreSendable (entries_where test es ns)
-sendable_where test [] ns h = tt
-sendable_where test (e ∷ es) [] h = tt
-sendable_where test (e ∷ es) (n ∷ ns) h = sendable_by e (entries_where test es ns) h.0 (sendable_where test es ns h.1) (test n)
-
 -- FIB n of these FIBs
 pub record IsFibAt (all : List (List Written)) (bytes : List ℕ) (n : ℕ) : Type 0 where
   pub figs : List Written
@@ -233,13 +193,9 @@ fib_is (figs ∷ rest) bytes h (suc n) below =
 
 page_length : (layout : FrameLayout) (o : Option EnsembleInformation) (k : ℕ) (ms : List Marked) → length (page_figs layout o k ms) ≡ frame_fibs layout
 page_length (Whole I) o k ms = refl
-page_length (Whole II) o k ms = refl
-page_length (Whole III) o k ms = refl
-page_length (Whole IV) o k ms = refl
+page_length (Whole _) o k ms = refl
 page_length (ReserveOne I) o k ms = refl
-page_length (ReserveOne II) o k ms = refl
-page_length (ReserveOne III) o k ms = refl
-page_length (ReserveOne IV) o k ms = refl
+page_length (ReserveOne _) o k ms = refl
 page_length ReserveTwo o k ms = refl
 
 -- the reserved FIBs have no FIGs
@@ -273,9 +229,7 @@ valid_at laws plan s h n below =
 
 some_fibs : (mode : Mode) → 0 < fib_count mode
 some_fibs I = omega arith
-some_fibs II = omega arith
-some_fibs III = omega arith
-some_fibs IV = omega arith
+some_fibs _ = omega arith
 
 first_sendable : PageLaws → (plan : Plan) (s : State) → Airs plan s → AreSendable (sent_entries plan s)
 first_sendable laws plan s h = (pageable laws plan s h).entries
@@ -329,14 +283,14 @@ ensemble_right_by plan s false e =
 pub ensemble_right : (plan : Plan) (s : State) → IsEnsembleOf plan s (ensemble_of plan s)
 ensemble_right plan s = ensemble_right_by plan s (is_noticed plan.notice s.left) refl
 
-is_sent : (plan : Plan) (s : State) → s.count % count_step (layout_mode plan.layout) ≡ 0 → ensemble_sent plan s ≡ Some (ensemble_of plan s)
+pub is_sent : (plan : Plan) (s : State) → s.count % count_step (layout_mode plan.layout) ≡ 0 → ensemble_sent plan s ≡ Some (ensemble_of plan s)
 is_sent plan s e = ap (λ (b : Bool). cond b (Some (ensemble_of plan s)) None) (eq-eqb (s.count % count_step (layout_mode plan.layout)) 0 e)
 
 not_sent_by : (plan : Plan) (s : State) (b : Bool) → (s.count % count_step (layout_mode plan.layout) == 0) ≡ b → s.count % count_step (layout_mode plan.layout) ≢ 0 → cond b (Some (ensemble_of plan s)) None ≡ None
 not_sent_by plan s true e apart = absurd (apart (eqb-true (s.count % count_step (layout_mode plan.layout)) 0 e))
 not_sent_by plan s false e apart = refl
 
-not_sent : (plan : Plan) (s : State) → s.count % count_step (layout_mode plan.layout) ≢ 0 → ensemble_sent plan s ≡ None
+pub not_sent : (plan : Plan) (s : State) → s.count % count_step (layout_mode plan.layout) ≢ 0 → ensemble_sent plan s ≡ None
 not_sent plan s apart = not_sent_by plan s (s.count % count_step (layout_mode plan.layout) == 0) refl apart
 
 says_it : (e : EnsembleInformation) → IsEnsembleInformation e → IsInFig (fig_of (record { head = head_of (marked false (EnsembleOf e)); entries = EnsembleOf e ∷ [] })) (marked false (EnsembleOf e))

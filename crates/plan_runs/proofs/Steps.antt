@@ -1,18 +1,7 @@
 -- One instruction of a typed code is allowed, and leaves what is known wherever the machine continues.
-use Rattle.std.specs.Prelude.{IfSome, slice_get, option_map}
 use Rattle.std.proofs.Common.{◌≡◌, ℕ, ◌<◌, ◌≤◌, true, false, eqb, List, length, Option, Some, None, refl, sym, ap, subst, ◌∙◌, arith, ◌⊎◌}
-use Rattle.std.proofs.lemmas.Bool.{eqb-true}
-use Rattle.mux_config.specs.Configuration.{Configuration}
-use Rattle.plan_code.specs.declared.hold.Hold.{Hold}
-use Rattle.plan_code.specs.declared.hold.Hold.TheVariants.{Running, Waits, WaitsDay, WaitsContact, WaitsAny, WaitsSwap, Ended}
-use Rattle.plan_code.specs.declared.flags.Counters.{Counters}
-use Rattle.plan_code.specs.declared.label.Label.{Label}
-use Rattle.plan_code.specs.declared.label.Swap.{Swap}
-use Rattle.plan_code.specs.declared.instr.Instr.{Instr}
-use Rattle.plan_code.specs.Program.{Program, instr_at, label_at}
-use Rattle.plan_code.specs.Machine.{State}
-use Rattle.plan_verifier.specs.Typing.{Known, IsTyping, Arrives, Declares}
-use Rattle.plan_runs.specs.Frames.{is_running, hold_after_frame, left_after_frame}
+use Rattle.plan_runs.proofs.Names.{IfSome, slice_get, option_map, eqb-true, Configuration, Hold, Running, Waits, WaitsDay, WaitsContact, WaitsAny, WaitsSwap, Ended, Counters, Label, Swap, Instr, Program, instr_at, label_at, State, Known, IsTyping, Arrives, is_running, hold_after_frame, left_after_frame}
+use Rattle.plan_verifier.proofs.Tabled.{declared_once}
 use Rattle.plan_runs.proofs.Lookups.{found, get_some, get_below}
 use Rattle.plan_runs.proofs.Knowledge.{AgreesBy, ComesBy, PausesBy, JoinsBy, IsAhead, AreSet, IsKept}
 use Rattle.plan_runs.proofs.Passing.{fits_by}
@@ -47,12 +36,7 @@ IsSuspended Ended = Unit {0}
 
 pub not_running : (hold : Hold) → IsSuspended hold → is_running hold ≡ false
 not_running Running h = absurd h
-not_running (Waits k) h = refl
-not_running (WaitsDay d) h = refl
-not_running (WaitsContact d closed) h = refl
-not_running (WaitsAny closed opened until left) h = refl
-not_running WaitsSwap h = refl
-not_running Ended h = refl
+not_running _ h = refl
 
 -- so it is after the instructions of a frame
 pub record Suspends (p : Program) (ts : List Known) (s : State) : Type 0 where
@@ -86,17 +70,8 @@ same_known a b c n p s w =
     ∙ ap (λ (x : Counters). let k : Known = record { current = b.current; next = b.next; pending = b.pending; counters = x; allowance = a.allowance } in k) s
     ∙ ap (λ (x : ℕ). let k : Known = record { current = b.current; next = b.next; pending = b.pending; counters = b.counters; allowance = x } in k) w
 
-same_some : {A : Type 0} (a b : A) (o : Option A) → o ≡ Some a → o ≡ Some b → a ≡ b
+pub same_some : {A : Type 0} (a b : A) (o : Option A) → o ≡ Some a → o ≡ Some b → a ≡ b
 same_some a b o e f = cc (sym e ∙ f)
-
-declares_one : (p : Program) (label : Label) (a b : Known) → Declares p label a → Declares p label b → a ≡ b
-declares_one p label a b d e =
-    same_known a b
-    (same_some a.current b.current (slice_get p.configurations label.cur) d.current e.current)
-    (same_some a.next b.next (slice_get p.configurations label.next) d.next e.next)
-    (sym d.pending ∙ e.pending)
-    (sym d.counters ∙ e.counters)
-    (sym d.cost ∙ e.cost)
 
 -- what is known there, for a state that arrives
 pub record IsThere (p : Program) (ts : List Known) (pc b : ℕ) (s : State) : Type 0 where
@@ -113,7 +88,7 @@ is_there p ts ty pc b s t (Some label) e arrives affords agrees set =
     let one = found (λ (l : Label). eqb l.pc pc) p.labels label e in
     let place = ty.labels label one.inside in
     let here : label.pc ≡ pc = eqb-true label.pc pc one.passes in
-    let same : arrives.declared ≡ place.known = declares_one p label arrives.declared place.known arrives.declares place.declares in
+    let same : arrives.declared ≡ place.known = declared_once p label arrives.declared place.known arrives.declares place.declares in
     let fits = arrives.fits in
     let cost : label.cost ≡ place.known.allowance = place.declares.cost in
     record {

@@ -1,21 +1,6 @@
 -- A swap is made in the frame that its commit requested, and changes the current configuration in that frame alone.
 use Rattle.std.proofs.Common.{◌≡◌, ℕ, zero, suc, ◌+◌, ◌-◌, ◌%◌, ◌<◌, ◌≤◌, Bool, true, false, cond, List, [], ◌∷◌, Option, Some, None, refl, sym, ap, subst, ◌∙◌, arith, inl, inr, ◌⊎◌}
-use Rattle.fib_codec.specs.Layouts.{layout_mode}
-use Rattle.fib_codec.specs.declared.modes.Mode.{Mode}
-use Rattle.fib_codec.specs.declared.modes.Mode.TheVariants.{I, II, III, IV}
-use Rattle.fib_codec.specs.Modes.{count_step}
-use Rattle.plan_code.specs.declared.plan.Plan.{Plan}
-use Rattle.plan_code.specs.declared.instr.Instr.{Instr}
-use Rattle.plan_code.specs.declared.instr.Instr.TheVariants.{CommitIn, CommitAt}
-use Rattle.plan_code.specs.Program.{Program}
-use Rattle.plan_code.specs.Machine.{State, SwapsInTime, SwapsAtCount, IsAllowed, StepIsAllowed, step, effect, commit, left_in, left_at}
-use Rattle.plan_verifier.specs.Typing.{Known}
-use Rattle.plan_runs.specs.declared.event.Event.{Event}
-use Rattle.plan_runs.specs.declared.event.Event.TheVariants.{Contact, Frame}
-use Rattle.plan_runs.specs.Frames.{is_due, ready, Executes, burst, after_burst, is_first_noticed, shown, left_after_frame, after_frame}
-use Rattle.plan_runs.specs.Runs.{happens}
-use Rattle.plan_runs.specs.Firsts.{CarriesOut, IsFirstWhere}
-use Rattle.plan_runs.specs.Swaps.{IsSwapAtCount, IsSwapAfterDelay, SwapsAreOnSteps, SwapsChangeTheCurrent, CommitsAreKept}
+use Rattle.plan_runs.proofs.Names.{layout_mode, Mode, I, count_step, Plan, Instr, CommitIn, CommitAt, Program, State, SwapsInTime, SwapsAtCount, IsAllowed, StepIsAllowed, step, effect, commit, left_in, left_at, Known, Event, Contact, Frame, is_due, ready, Executes, burst, after_burst, is_first_noticed, shown, left_after_frame, after_frame, happens, CarriesOut, IsFirstWhere, IsSwapAtCount, IsSwapAfterDelay, SwapsAreOnSteps, SwapsChangeTheCurrent, CommitsAreKept}
 use Rattle.plan_runs.proofs.Passing.{some_is, due_is, not_due_from}
 use Rattle.plan_runs.proofs.Between.{step_is, frame_goes}
 use Rattle.plan_runs.proofs.Carries.{LeftBy, Carries, burst_carries}
@@ -67,7 +52,7 @@ pub record IsCommitted (p : Program) (s : State) (i : Instr) (left : ℕ → ℕ
   pub remains : (shown p s).left ≡ Some (left at.count)
   pub count : at.count ≡ s.count
 
-left_turned : (s : State) (b : Bool) → (cond b (let r : State = record s { page_index = 0 } in r) s).left ≡ s.left
+pub left_turned : (s : State) (b : Bool) → (cond b (let r : State = record s { page_index = 0 } in r) s).left ≡ s.left
 left_turned s true = refl
 left_turned s false = refl
 
@@ -97,7 +82,7 @@ committed p ts c s h i left commits (k, below, instr) =
 
 -- ---- the frames from a commit to its swap
 
-shown_left : (plan : Plan) (s u : State) (l : ℕ) (before : Option ℕ) → before ≡ Some l → LeftBy plan s.count before s.next u.left u.next → u.left ≡ Some l
+pub shown_left : (plan : Plan) (s u : State) (l : ℕ) (before : Option ℕ) → before ≡ Some l → LeftBy plan s.count before s.next u.left u.next → u.left ≡ Some l
 shown_left plan s u l None e h = absurd cc
 shown_left plan s u l (Some k) e h = h.0 ∙ e
 
@@ -118,7 +103,7 @@ awaited_later Q number count left some h =
           h.none_before (i + 1) (omega (arith, below)) (subst (λ (x : ℕ). Q (number + (i + 1)) x) when (subst (λ (x : ℕ). Q x (((count + 1) % 5000 + i) % 5000)) place q));
     }
 
-zero_or_more : (n : ℕ) → (n ≡ 0) ⊎ (1 ≤ n)
+pub zero_or_more : (n : ℕ) → (n ≡ 0) ⊎ (1 ≤ n)
 zero_or_more zero = inl refl
 zero_or_more (suc n) = inr (omega arith)
 
@@ -179,9 +164,7 @@ comes_at_count least p ts c s n events h carries =
 
 whole_turns : (m : Mode) (a : ℕ) → a % 5000 % count_step m ≡ a % count_step m
 whole_turns I a = omega arith
-whole_turns II a = omega arith
-whole_turns III a = omega arith
-whole_turns IV a = omega arith
+whole_turns _ a = omega arith
 
 comes_in_time : SwapsInTime → (p : Program) (ts : List Known) → IsCode p ts → (s : State) (k : ℕ) (events : List Event) → Holds p ts s → IsSwapAfterDelay k p s events
 comes_in_time least p ts c s k events h carries =

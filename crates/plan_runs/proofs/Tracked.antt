@@ -1,20 +1,6 @@
 -- The page in turn and the counts, from frame to frame.
-use Rattle.std.specs.Prelude.{nat_lt, nat_le, ◌&&◌}
 use Rattle.std.proofs.Common.{◌≡◌, ℕ, zero, suc, ◌+◌, ◌-◌, ◌%◌, ◌<◌, ◌≤◌, Bool, true, false, cond, leb, List, Option, Some, None, refl, sym, ap, subst, ◌∙◌, arith, inl, inr, ◌⊎◌}
-use Rattle.std.proofs.lemmas.Bool.{eqb-true, eqb-false, ltb-true, leb-true, leb-false}
-use Rattle.fib_codec.specs.Layouts.{layout_mode}
-use Rattle.fib_codec.specs.declared.frame_layout.FrameLayout.{FrameLayout}
-use Rattle.mux_config.specs.Configuration.{Configuration, IsConfiguration}
-use Rattle.mux_types.specs.Facts.{Marked}
-use Rattle.fib_codec.specs.declared.modes.Mode.{Mode}
-use Rattle.fib_codec.specs.declared.modes.Mode.TheVariants.{I, II, III, IV}
-use Rattle.fib_codec.specs.Modes.{count_step}
-use Rattle.fib_carousel.specs.Pages.{page_set, rounds, page_after}
-use Rattle.plan_code.specs.declared.plan.Plan.{Plan}
-use Rattle.plan_code.specs.Program.{Program, IsProgram}
-use Rattle.plan_code.specs.Machine.{State}
-use Rattle.plan_verifier.specs.Typing.{Known, IsTyping}
-use Rattle.plan_runs.specs.Frames.{is_due, with_swap, after_burst, is_noticed, is_first_noticed, shown, sent_rounds, left_after_frame, with_next_counts, after_frame}
+use Rattle.plan_runs.proofs.Names.{nat_lt, nat_le, eqb-true, eqb-false, ltb-true, leb-true, leb-false, and_parts, layout_mode, FrameLayout, Configuration, IsConfiguration, Marked, Mode, I, count_step, page_set, rounds, page_after, Plan, Program, IsProgram, State, Known, IsTyping, is_due, with_swap, after_burst, is_noticed, is_first_noticed, shown, sent_rounds, left_after_frame, with_next_counts, after_frame}
 use Rattle.plan_runs.proofs.Knowledge.{IsAhead, IsOnAir, CommittedBy}
 use Rattle.plan_runs.proofs.Steps.{Suspends}
 use Rattle.plan_runs.proofs.Between.{Between, frame_goes}
@@ -52,13 +38,9 @@ some_rounds m es = omega arith
 
 -- ---- frames of a notice
 
-both_true : (a b : Bool) → (a && b) ≡ true → (a ≡ true) × (b ≡ true)
-both_true true b e = (refl, e)
-both_true false b e = absurd cc
-
 pub noticed_from : (notice l : ℕ) → is_noticed notice (Some l) ≡ true → (1 ≤ l) × (l ≤ notice)
 noticed_from notice l e =
-    let both = both_true (nat_le 1 l) (nat_le l notice) e in
+    let both = and_parts (nat_le 1 l) (nat_le l notice) e in
     (leb-true 1 l both.0, leb-true l notice both.1)
 
 pub noticed : (notice l : ℕ) → 1 ≤ l → l ≤ notice → is_noticed notice (Some l) ≡ true
@@ -150,9 +132,7 @@ count_later count = omega arith
 
 swaps_later : (m : Mode) (count l : ℕ) → 1 ≤ l → (count + l) % count_step m ≡ 0 → ((count + 1) % 5000 + (l - 1)) % count_step m ≡ 0
 swaps_later I count l some h = omega (arith, some, h)
-swaps_later II count l some h = omega (arith, some, h)
-swaps_later III count l some h = omega (arith, some, h)
-swaps_later IV count l some h = omega (arith, some, h)
+swaps_later _ count l some h = omega (arith, some, h)
 
 swaps_on_later : (plan : Plan) (count : ℕ) (left : Option ℕ) → IsAhead left → SwapsOn plan count left → SwapsOn plan ((count + 1) % 5000) (left_after_frame left)
 swaps_on_later plan count None a h = tt
@@ -263,30 +243,24 @@ other_turn plan (Some l) c n page_index e h =
     let apart = eqb-false l plan.notice e in
     record { within = λ inside. h.within (omega (arith, inside, apart)); before = h.before }
 
+airs_with : (p : Program) (ts : List Known) (s u : State) (page_index : ℕ) → Tracked p.plan s → Suspends p ts u → Carried p.plan s u → TurnShown p.plan u.left u.current u.next page_index
+    → Airs p.plan (let r : State = record u { page_index = page_index } in r)
+airs_with p ts s u page_index h d g turn = record {
+  count = subst (λ (x : ℕ). x < 5000) (sym g.count) h.count;
+  eid = subst (λ (x : ℕ). x < 65536) (sym g.eid) h.eid;
+  current = g.current;
+  next = g.next;
+  ahead = d.ahead;
+  on_air = d.kept.on_air;
+  committed = d.kept.committed;
+  swaps = g.swaps;
+  page_index = turn;
+}
+
 airs_by : (p : Program) (ts : List Known) (s u : State) (first : Bool) → is_first_noticed p.plan.notice u.left ≡ first → Tracked p.plan s → Suspends p ts u → Carried p.plan s u
     → Airs p.plan (cond first (let r : State = record u { page_index = 0 } in r) u)
-airs_by p ts s u true e h d g = record {
-  count = subst (λ (x : ℕ). x < 5000) (sym g.count) h.count;
-  eid = subst (λ (x : ℕ). x < 65536) (sym g.eid) h.eid;
-  current = g.current;
-  next = g.next;
-  ahead = d.ahead;
-  on_air = d.kept.on_air;
-  committed = d.kept.committed;
-  swaps = g.swaps;
-  page_index = first_turn p.plan u.left u.current u.next u.page_index e;
-}
-airs_by p ts s u false e h d g = record {
-  count = subst (λ (x : ℕ). x < 5000) (sym g.count) h.count;
-  eid = subst (λ (x : ℕ). x < 65536) (sym g.eid) h.eid;
-  current = g.current;
-  next = g.next;
-  ahead = d.ahead;
-  on_air = d.kept.on_air;
-  committed = d.kept.committed;
-  swaps = g.swaps;
-  page_index = other_turn p.plan u.left u.current u.next u.page_index e g.page_index;
-}
+airs_by p ts s u true e h d g = airs_with p ts s u 0 h d g (first_turn p.plan u.left u.current u.next u.page_index e)
+airs_by p ts s u false e h d g = airs_with p ts s u u.page_index h d g (other_turn p.plan u.left u.current u.next u.page_index e g.page_index)
 
 pub frame_carried : (p : Program) (ts : List Known) → IsProgram p → IsTyping p ts → (s : State) → Between p ts s → Tracked p.plan s → Carried p.plan s (after_burst p s)
 frame_carried p ts pr ty s b h =

@@ -1,13 +1,6 @@
 -- A tuned listener, before and after entries of the current and the next configuration.
 use Rattle.std.proofs.Common.{◌≡◌, ℕ, ◌==◌, Bool, true, false, cond, List, [], ◌∷◌, take, zero, suc, Option, Some, None, inl, inr, ◌⊎◌, refl, ap, sym, ◌∙◌, subst}
-use Rattle.mux_config.specs.Configuration.{Configuration}
-use Rattle.std.specs.List.{AllByRecursion}
-use Rattle.mux_types.specs.Entries.{EnsembleInformation}
-use Rattle.mux_types.specs.Facts.{Marked}
-use Rattle.fib_codec.specs.Grammar.{Fig, IsFib, OneList}
-use Rattle.fib_reader.specs.Raw.{Raw, raw_entry, ensemble_in}
-use Rattle.fib_reader.specs.Listening.{Pictured, blank, pictured, Listening, untuned, picture_of, into, where_heard, hear_entry, hear_figs, at_ensemble}
-use Rattle.plan_runs.specs.Listening.{HearsAll}
+use Rattle.plan_runs.proofs.Names.{Configuration, AllByRecursion, EnsembleInformation, Marked, Fig, IsFib, OneList, Raw, raw_entry, ensemble_in, Pictured, blank, pictured, Listening, untuned, picture_of, into, where_heard, hear_entry, hear_figs, at_ensemble, HearsAll}
 use Rattle.plan_runs.proofs.Parts.{In, Also}
 use Rattle.plan_runs.proofs.Pictures.{whole_of, IsSet, IsOf, IsPartial, grows, weaker, entries_of, entry_is_of}
 use Rattle.plan_runs.proofs.Hearing.{hear_marked, headed}

@@ -1,27 +1,9 @@
 -- A typed code never traps.
-use Rattle.std.specs.Prelude.{slice_get}
 use Rattle.std.proofs.Common.{◌≡◌, ℕ, true, false, eqb, List, [], ◌∷◌, length, replicate, Option, Some, None, refl, sym, ap, subst, ◌∙◌, arith, inl}
-use Rattle.std.specs.Int.{bit_at}
-use Rattle.std.proofs.lemmas.Nat.Bits.{bit_at-zero}
-use Rattle.mux_config.specs.Configuration.{Configuration}
-use Rattle.plan_code.specs.declared.hold.Hold.{Hold}
-use Rattle.plan_code.specs.declared.hold.Hold.TheVariants.{Running}
-use Rattle.plan_code.specs.declared.flags.Counters.{Counters}
-use Rattle.plan_code.specs.declared.label.Label.{Label}
-use Rattle.plan_code.specs.declared.label.Swap.{Swap}
-use Rattle.plan_code.specs.declared.label.Swap.TheVariants.{Idle, Within, Perhaps}
-use Rattle.plan_code.specs.Program.{Program, IsProgram, label_at}
-use Rattle.plan_code.specs.Machine.{State}
-use Rattle.plan_verifier.specs.Typing.{Known, IsTyping, Arrives, CanEnter, FitsSwap}
-use Rattle.plan_runs.specs.declared.event.Event.{Event}
-use Rattle.plan_runs.specs.declared.event.Event.TheVariants.{Contact, Frame}
-use Rattle.plan_runs.specs.declared.event.Start.{Start}
-use Rattle.plan_runs.specs.Frames.{after_frame}
-use Rattle.plan_runs.specs.Runs.{IsStart, IsReached, RunIsAllowed, happens, run}
-use Rattle.plan_runs.specs.TypedRuns.{TypedCodeRuns}
+use Rattle.plan_runs.proofs.Names.{slice_get, bit_at, bit_at-zero, Configuration, Hold, Running, Counters, Label, Swap, Idle, Within, Perhaps, Program, IsProgram, label_at, State, Known, IsTyping, Arrives, CanEnter, FitsSwap, Event, Contact, Frame, Start, after_frame, IsStart, IsReached, RunIsAllowed, happens, run, TypedCodeRuns}
 use Rattle.plan_runs.proofs.Lookups.{found}
 use Rattle.plan_runs.proofs.Knowledge.{IsIdleAs, ComesBy, AreSet, IsOnAir, CommittedBy}
-use Rattle.plan_runs.proofs.Steps.{Expects, ResumesBy}
+use Rattle.plan_runs.proofs.Steps.{Expects, ResumesBy, same_some}
 use Rattle.plan_runs.proofs.Between.{Between, frame_goes, frame_between}
 
 -- ---- the start
@@ -41,9 +23,6 @@ comes_idle : (q : Swap) (a b : Configuration) (left : Option ℕ) (c n : Configu
 comes_idle Idle a b left c n e h = inl h
 comes_idle (Within lo hi) a b left c n e h = absurd cc
 comes_idle (Perhaps hi) a b left c n e h = absurd cc
-
-same_some : {A : Type 0} (a b : A) (o : Option A) → o ≡ Some a → o ≡ Some b → a ≡ b
-same_some a b o e f = cc (sym e ∙ f)
 
 resumes_at : (p : Program) (ts : List Known) (s : State) (pc : ℕ) (hold : Hold) (left : Option ℕ) (counters : List ℕ) → pc ≡ s.pc → hold ≡ s.hold → left ≡ s.left → counters ≡ s.counters
     → ResumesBy p ts pc hold left s.current s.next counters → ResumesBy p ts s.pc s.hold s.left s.current s.next s.counters

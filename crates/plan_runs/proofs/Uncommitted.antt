@@ -1,34 +1,16 @@
 -- Without a commit no swap becomes pending.
 use Rattle.std.proofs.Common.{◌≡◌, ℕ, zero, suc, ◌+◌, ◌<◌, Bool, true, false, cond, Option, Some, None, refl, sym, ap, ◌∙◌, arith, inl, inr, ◌⊎◌}
-use Rattle.plan_code.specs.declared.plan.Plan.{Plan}
-use Rattle.plan_code.specs.declared.hold.Hold.TheVariants.{Running}
-use Rattle.plan_code.specs.declared.instr.Instr.{Instr}
-use Rattle.plan_code.specs.declared.instr.Instr.TheVariants.{Wait, Until, WaitContact, WaitAny, CommitIn, CommitAt, Join, Settle, End, Edit as Edits, Test, TestTime, Jump, Set, Loop}
-use Rattle.plan_code.specs.Program.{Program, instr_at}
-use Rattle.plan_code.specs.Machine.{State, step, settle, effect, effect_of}
-use Rattle.plan_runs.specs.Frames.{is_due, with_swap, with_due_swap, is_running, is_here, ready, burst, burst_steps, after_burst, is_first_noticed, left_after_frame}
-use Rattle.plan_runs.specs.Swaps.{IsCommit, SwapsAreCommitted}
+use Rattle.plan_runs.proofs.Names.{Plan, Running, Instr, CommitIn, CommitAt, Settle, Program, instr_at, State, step, settle, effect, effect_of, is_due, with_swap, with_due_swap, is_running, is_here, ready, burst, burst_steps, after_burst, is_first_noticed, left_after_frame, IsCommit, SwapsAreCommitted}
 
 settle_left : (left : Option ℕ) (s : State) → (settle left s).left ≡ s.left
 settle_left None s = refl
 settle_left (Some left) s = refl
 
 effect_left : (plan : Plan) (i : Instr) (s : State) → (IsCommit i → ⊥) → (effect plan i s).left ≡ s.left
-effect_left plan (Wait n) s other = refl
-effect_left plan (Until t) s other = refl
-effect_left plan (WaitContact c closed) s other = refl
-effect_left plan (WaitAny closed opened until frames) s other = refl
 effect_left plan (CommitIn k) s other = absurd (other tt)
 effect_left plan (CommitAt n) s other = absurd (other tt)
-effect_left plan Join s other = refl
 effect_left plan Settle s other = settle_left s.left s
-effect_left plan End s other = refl
-effect_left plan (Edits e) s other = refl
-effect_left plan (Test c target) s other = refl
-effect_left plan (TestTime from to target) s other = refl
-effect_left plan (Jump target) s other = refl
-effect_left plan (Set r n) s other = refl
-effect_left plan (Loop r target) s other = refl
+effect_left plan _ s other = refl
 
 step_left : (plan : Plan) (o : Option Instr) (s : State) → ((i : Instr) → o ≡ Some i → IsCommit i → ⊥) → (effect_of plan o s).left ≡ s.left
 step_left plan None s other = refl

@@ -1,21 +1,9 @@
 -- Small runs, computed by the checker: the bytes and counts are those of worked examples from practice.
 use Rattle.std.proofs.Common.{◌≡◌, ℕ, zero, suc, true, List, [], ◌∷◌, Some, take, refl}
+use Rattle.plan_runs.proofs.Names.{AddSub, AddService, AddComponent, nothing, Label, Idle, Instr, CommitIn, Join, End, Edits, Line, Program, plan, sub_at_rate, counters, Event, Frame, is_due, frame_bytes, frame_steps, run}
 use Rattle.mux_types.specs.declared.parts.Component.TheVariants.{Sound}
 use Rattle.mux_types.specs.declared.numbers.Sid.TheVariants.{Short}
-use Rattle.mux_config.specs.declared.edit.Edit.TheVariants.{AddSub, AddService, AddComponent}
-use Rattle.mux_config.specs.Configuration.{nothing}
-use Rattle.plan_code.specs.declared.label.Label.{Label}
-use Rattle.plan_code.specs.declared.label.Swap.TheVariants.{Idle}
-use Rattle.plan_code.specs.declared.instr.Instr.{Instr}
-use Rattle.plan_code.specs.declared.instr.Instr.TheVariants.{CommitIn, Join, End, Edit as Edits}
-use Rattle.plan_code.specs.declared.instr.Line.{Line}
-use Rattle.plan_code.specs.Program.{Program}
-use Rattle.plan_verifier.proofs.Samples.{plan, sub_at_rate, counters}
 use Rattle.plan_runs.proofs.Samples.{first_state}
-use Rattle.plan_runs.specs.declared.event.Event.{Event}
-use Rattle.plan_runs.specs.declared.event.Event.TheVariants.{Frame}
-use Rattle.plan_runs.specs.Frames.{is_due, frame_bytes, frame_steps}
-use Rattle.plan_runs.specs.Runs.{run}
 
 abbrev line : ℕ → Instr → Line
 line number instr = record { number = number; instr = instr }

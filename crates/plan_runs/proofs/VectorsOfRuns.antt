@@ -1,24 +1,7 @@
 -- Runs of a code that waits for a frame and ends: for each definition, an example that holds and one that fails.
 use Rattle.std.proofs.Common.{◌≡◌, ℕ, zero, suc, ◌<◌, ◌≤◌, Bool, true, false, cond, List, [], ◌∷◌, length, Some, None, ◌==◌, refl, sym, ap, subst, arith}
-use Rattle.mux_types.specs.Facts.{Marked}
-use Rattle.fib_carousel.specs.Pages.{page_set}
-use Rattle.plan_code.specs.declared.flags.Contacts.{Contacts}
-use Rattle.plan_code.specs.declared.instr.Instr.{Instr}
-use Rattle.plan_code.specs.declared.instr.Line.{Line}
-use Rattle.plan_code.specs.declared.instr.Instr.TheVariants.{Wait, Join, End}
-use Rattle.plan_code.specs.Program.{Program, IsProgram}
-use Rattle.plan_code.specs.Machine.{State, IsAllowed}
+use Rattle.plan_runs.proofs.Names.{Marked, page_set, Contacts, Instr, Line, Wait, Join, End, Program, IsProgram, State, IsAllowed, plan, with_sub, one_sub, one_sub_is, label, line, line_is, code_from, first_from_is, typed_if, refused_if, codes_have_one_verdict, Contact, Frame, Start, ready, Executes, after_burst, after_frame, StartIsInRange, IsEvent, IsStart, EventIsAllowed, IsReached, Setting, IsSetting, AgreeOnContacts, AreAllAlike, last_of, SentBy, IsPlayed, CanBeSent, IsJoined}
 use Rattle.plan_verifier.specs.declared.cause.Cause.TheVariants.{JoinIdle}
-use Rattle.plan_verifier.proofs.Samples.{plan, with_sub, one_sub, one_sub_is, label, line, line_is, code_from, first_from_is}
-use Rattle.plan_verifier.proofs.OneVerdict.{typed_if, refused_if, codes_have_one_verdict}
-use Rattle.plan_runs.specs.declared.event.Event.TheVariants.{Contact, Frame}
-use Rattle.plan_runs.specs.declared.event.Start.{Start}
-use Rattle.plan_runs.specs.Frames.{ready, Executes, after_burst, after_frame}
-use Rattle.plan_runs.specs.Runs.{StartIsInRange, IsEvent, IsStart, EventIsAllowed, IsReached}
-use Rattle.plan_runs.specs.Settings.{Setting, IsSetting, AgreeOnContacts, AreAllAlike, last_of}
-use Rattle.plan_runs.specs.Phases.{SentBy}
-use Rattle.plan_runs.specs.TypedRuns.{IsPlayed, CanBeSent}
-use Rattle.plan_runs.specs.Announced.{IsJoined}
 use Rattle.plan_runs.proofs.Samples.{all_open, start_at, in_range, first_state, it_starts}
 use Rattle.plan_runs.proofs.Joined.{runs_join}
 use Rattle.plan_runs.proofs.Reached.{starts_are_reached, reached_is_kept}
@@ -77,7 +60,7 @@ no_join c i at allowed =
     let some : false ≡ true = pending in
     absurd cc
 
-join_traps : (c : Contacts) (n : ℕ) (t : State) → Executes joins (record first { contacts = c }) n t → ⊥
+pub join_traps : (c : Contacts) (n : ℕ) (t : State) → Executes joins (record first { contacts = c }) n t → ⊥
 join_traps c zero t h = let e : true ≡ false = h.0 in absurd cc
 join_traps c (suc n) t h = no_join c h.1.instr h.1.within h.1.allowed
 

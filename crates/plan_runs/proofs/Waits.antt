@@ -1,24 +1,8 @@
 -- A suspended code resumes in the first frame with which its wait ends.
-use Rattle.std.specs.Prelude.{nat_le, ◌==◌, ◌||◌, ◌⊎◌, IfSome, Option, Some, None}
 use Rattle.std.proofs.Common.{◌≡◌, ℕ, zero, suc, ◌+◌, ◌-◌, ◌≤◌, Bool, true, false, cond, List, [], ◌∷◌, refl, sym, ap, subst, ◌∙◌, arith, inl, inr}
-use Rattle.std.proofs.lemmas.Bool.{eqb-true, eqb-false, eq-eqb, le-leb}
-use Rattle.mux_config.specs.Sameness.{is_same_flag}
-use Rattle.plan_code.specs.declared.hold.Hold.{Hold}
-use Rattle.plan_code.specs.declared.hold.Hold.TheVariants.{Running, Waits, WaitsDay, WaitsContact, WaitsAny, WaitsSwap, Ended}
-use Rattle.plan_code.specs.declared.instr.Instr.{Instr}
-use Rattle.plan_code.specs.declared.instr.Instr.TheVariants.{Wait, Until, WaitContact, WaitAny, CommitIn, CommitAt, Join, Settle, End, Edit as Edits, Test, TestTime, Jump, Set, Loop}
-use Rattle.plan_code.specs.declared.flags.Contacts.{Contacts}
-use Rattle.plan_code.specs.Flags.{is_closed, any_closed, any_open}
+use Rattle.plan_runs.proofs.Names.{nat_le, ◌==◌, IfSome, Option, Some, None, eqb-true, eqb-false, eq-eqb, le-leb, or_cases, or_left, or_right, is_same_flag, Hold, Running, Waits, WaitsDay, WaitsContact, WaitsAny, WaitsSwap, Ended, Instr, Wait, Until, WaitContact, WaitAny, Join, End, Contacts, is_closed, Program, IsInstr, State, step, effect, Event, Contact, Frame, is_due, with_swap, with_due_swap, hold_after_swap, is_running, is_day, is_any_here, is_here, ready, Executes, burst, burst_steps, after_burst, is_first_noticed, shown, left_after_frame, hold_after_frame, after_frame, happens, is_active, CarriesOut, IsFirstWhere, IsPlayed, HasCome, WaitsAreKept, InstructionsSuspend}
+use Rattle.plan_code.specs.Flags.{any_closed, any_open}
 use Rattle.plan_code.proofs.Meeting.{closed_is, is_closed_one, open_is, is_open_one}
-use Rattle.plan_code.specs.Program.{Program, IsInstr}
-use Rattle.plan_code.specs.Machine.{State, step, effect}
-use Rattle.plan_runs.specs.declared.event.Event.{Event}
-use Rattle.plan_runs.specs.declared.event.Event.TheVariants.{Contact, Frame}
-use Rattle.plan_runs.specs.Frames.{is_due, with_swap, with_due_swap, hold_after_swap, is_running, is_day, is_any_here, is_here, ready, Executes, burst, burst_steps, after_burst, is_first_noticed, shown, left_after_frame, hold_after_frame, after_frame}
-use Rattle.plan_runs.specs.Runs.{happens}
-use Rattle.plan_runs.specs.Firsts.{is_active, CarriesOut, IsFirstWhere}
-use Rattle.plan_runs.specs.TypedRuns.{IsPlayed}
-use Rattle.plan_runs.specs.Waits.{HasCome, WaitsAreKept, InstructionsSuspend}
 use Rattle.plan_runs.proofs.Between.{line_formed, step_is, frame_goes, not_due, still_stops}
 use Rattle.plan_runs.proofs.Steps.{IsSuspended}
 use Rattle.plan_runs.proofs.Facts.{code_of, played_holds}
@@ -36,22 +20,12 @@ ends_by s WaitsSwap = is_due s.left
 ends_by s Ended = false
 
 after_swap : (s : State) (h : Hold) → is_due s.left ≡ true → is_here (with_swap s) (hold_after_swap h) ≡ ends_by s h
-after_swap s Running due = refl
-after_swap s (Waits n) due = refl
-after_swap s (WaitsDay t) due = refl
-after_swap s (WaitsContact c closed) due = refl
-after_swap s (WaitsAny closed opened until left) due = refl
 after_swap s WaitsSwap due = sym due
-after_swap s Ended due = refl
+after_swap s _ due = refl
 
 without_swap : (s : State) (h : Hold) → is_due s.left ≡ false → is_here s h ≡ ends_by s h
-without_swap s Running due = refl
-without_swap s (Waits n) due = refl
-without_swap s (WaitsDay t) due = refl
-without_swap s (WaitsContact c closed) due = refl
-without_swap s (WaitsAny closed opened until left) due = refl
 without_swap s WaitsSwap due = sym due
-without_swap s Ended due = refl
+without_swap s _ due = refl
 
 ends_is : (s : State) (due : Bool) → is_due s.left ≡ due → is_here (cond due (with_swap s) s) (cond due (with_swap s) s).hold ≡ ends_by s s.hold
 ends_is s true e = after_swap s s.hold e
@@ -76,7 +50,7 @@ active_is p s some =
 
 -- ---- otherwise it is still suspended after the frame
 
-burst_stays : (most : ℕ) (p : Program) (s : State) → is_running s.hold ≡ false → burst most p s ≡ s
+pub burst_stays : (most : ℕ) (p : Program) (s : State) → is_running s.hold ≡ false → burst most p s ≡ s
 burst_stays zero p s e = refl
 burst_stays (suc most) p s e = ap (λ (b : Bool). cond b (burst most p (step p s)) s) e
 
@@ -88,13 +62,8 @@ hold_shown : (p : Program) (s : State) → (shown p s).hold ≡ (after_burst p s
 hold_shown p s = hold_turned (after_burst p s) (is_first_noticed p.plan.notice (after_burst p s).left)
 
 hold_swapped : (s : State) (h : Hold) → is_due s.left ≡ true → ends_by s h ≡ false → hold_after_swap h ≡ h
-hold_swapped s Running due away = refl
-hold_swapped s (Waits n) due away = refl
-hold_swapped s (WaitsDay t) due away = refl
-hold_swapped s (WaitsContact c closed) due away = refl
-hold_swapped s (WaitsAny closed opened until left) due away = refl
 hold_swapped s WaitsSwap due away = let clash : true ≡ false = sym due ∙ away in absurd cc
-hold_swapped s Ended due away = refl
+hold_swapped s _ due away = refl
 
 hold_begun : (s : State) (due : Bool) → is_due s.left ≡ due → ends_by s s.hold ≡ false → (cond due (with_swap s) s).hold ≡ s.hold
 hold_begun s true e away = hold_swapped s s.hold e away
@@ -150,26 +119,14 @@ day_is day (Some t) here = let same = eqb-true day t here in ap (λ (m : ℕ). S
 is_the_day : (day : ℕ) (until : Option ℕ) → until ≡ Some day → is_day day until ≡ true
 is_the_day day until is = ap (is_day day) is ∙ eq-eqb day day refl
 
-either : (a b : Bool) → (a || b) ≡ true → (a ≡ true) ⊎ (b ≡ true)
-either true b e = inl refl
-either false b e = inr e
-
-first_of : (a b : Bool) → a ≡ true → (a || b) ≡ true
-first_of true b e = refl
-first_of false b e = absurd cc
-
-later_of : (a b : Bool) → b ≡ true → (a || b) ≡ true
-later_of true b e = refl
-later_of false b e = e
-
 alternative : (s : State) (closed opened : Contacts) (until frames : Option ℕ) (n : ℕ) → AreLeft n frames → is_any_here s closed opened until (fewer n frames) ≡ true
     → HasCome (WaitsAny closed opened until frames) n s
 alternative s closed opened until frames n left here =
-    elim (either (any_closed closed s.contacts) _ here) [
+    elim (or_cases (any_closed closed s.contacts) _ here) [
       | inl level ↦ inl (closed_is closed s.contacts level)
-      | inr others ↦ inr (elim (either (any_open opened s.contacts) _ others) [
+      | inr others ↦ inr (elim (or_cases (any_open opened s.contacts) _ others) [
         | inl level ↦ inl (open_is opened s.contacts level)
-        | inr times ↦ inr (elim (either (is_day s.day until) _ times) [
+        | inr times ↦ inr (elim (or_cases (is_day s.day until) _ times) [
           | inl day ↦ inl (day_is s.day until day)
           | inr due ↦ inr (frames_over n frames left due)
         ])
@@ -180,12 +137,12 @@ by_alternative : (s : State) (closed opened : Contacts) (until frames : Option �
     → is_any_here s closed opened until (fewer n frames) ≡ true
 by_alternative s closed opened until frames n came =
     elim came [
-      | inl level ↦ first_of (any_closed closed s.contacts) _ (is_closed_one closed s.contacts level.0 level.1 level.2 level.3)
-      | inr others ↦ later_of (any_closed closed s.contacts) _ (elim others [
-        | inl level ↦ first_of (any_open opened s.contacts) _ (is_open_one opened s.contacts level.0 level.1 level.2 level.3)
-        | inr times ↦ later_of (any_open opened s.contacts) _ (elim times [
-          | inl day ↦ first_of (is_day s.day until) _ (is_the_day s.day until day)
-          | inr over ↦ later_of (is_day s.day until) _ (over_frames n frames over)
+      | inl level ↦ or_left (any_closed closed s.contacts) _ (is_closed_one closed s.contacts level.0 level.1 level.2 level.3)
+      | inr others ↦ or_right (any_closed closed s.contacts) _ (elim others [
+        | inl level ↦ or_left (any_open opened s.contacts) _ (is_open_one opened s.contacts level.0 level.1 level.2 level.3)
+        | inr times ↦ or_right (any_open opened s.contacts) _ (elim times [
+          | inl day ↦ or_left (is_day s.day until) _ (is_the_day s.day until day)
+          | inr over ↦ or_right (is_day s.day until) _ (over_frames n frames over)
         ])
       ])
     ]
@@ -247,13 +204,10 @@ held_later (Waits frames) n s h held e =
     let apart = eqb-false (frames - n) 0 over in
     let fewer : frames - n - 1 ≡ frames - (n + 1) = omega arith in
     (ap hold_after_frame held.0 ∙ ap (λ (k : ℕ). Waits k) fewer, omega (arith, apart, held.1))
-held_later (WaitsDay t) n s h held e = ap hold_after_frame held
-held_later (WaitsContact c closed) n s h held e = ap hold_after_frame held
 held_later (WaitsAny closed opened until frames) n s h held e =
     let away = not_due s closed opened until (fewer n frames) (sym (ap (ends_by s) held.0) ∙ e) in
     (ap hold_after_frame held.0 ∙ ap (λ (left : Option ℕ). WaitsAny closed opened until left) (fewer_later n frames), left_later n frames held.1 away)
-held_later WaitsSwap n s h held e = ap hold_after_frame held
-held_later Ended n s h held e = ap hold_after_frame held
+held_later _ n s h held e = ap hold_after_frame held
 
 frame_waits : (p : Program) (hold : Hold) (n : ℕ) (s : State) (es : List Event) → 1 ≤ p.plan.budget → IsHeld hold n s.hold
     → (IsHeld hold (n + 1) (after_frame p s).hold → IsFirstWhere (is_active p) (HasCome hold) (n + 1) p (after_frame p s) es)
@@ -273,11 +227,8 @@ waits_from p hold n s (Frame ∷ es) some held =
 held_first : (h : Hold) → IsSuspended h → IsHeld h 1 (hold_after_frame h)
 held_first Running e = absurd e
 held_first (Waits n) e = (refl, e)
-held_first (WaitsDay t) e = refl
-held_first (WaitsContact c closed) e = refl
 held_first (WaitsAny closed opened until frames) e = (ap (λ (left : Option ℕ). WaitsAny closed opened until left) (fewer_first frames), e)
-held_first WaitsSwap e = refl
-held_first Ended e = refl
+held_first _ e = refl
 
 pub waits_are_kept : WaitsAreKept
 waits_are_kept p s events h =
@@ -308,14 +259,6 @@ instructions_suspend p s (Wait n) h carries = leaves p s (Wait n) (Waits n) h (�
 instructions_suspend p s (Until d) h carries = leaves p s (Until d) (WaitsDay d) h (λ formed. refl) (λ t. refl) carries
 instructions_suspend p s (WaitContact d closed) h carries = leaves p s (WaitContact d closed) (WaitsContact d closed) h (λ formed. refl) (λ t. refl) carries
 instructions_suspend p s (WaitAny closed opened until frames) h carries = leaves p s (WaitAny closed opened until frames) (WaitsAny closed opened until frames) h (λ formed. refl) (λ t. refl) carries
-instructions_suspend p s (CommitIn k) h carries = tt
-instructions_suspend p s (CommitAt n) h carries = tt
 instructions_suspend p s Join h carries = leaves p s Join WaitsSwap h (λ formed. refl) (λ t. refl) carries
-instructions_suspend p s Settle h carries = tt
 instructions_suspend p s End h carries = leaves p s End Ended h (λ formed. refl) (λ t. refl) carries
-instructions_suspend p s (Edits e) h carries = tt
-instructions_suspend p s (Test d target) h carries = tt
-instructions_suspend p s (TestTime from to target) h carries = tt
-instructions_suspend p s (Jump target) h carries = tt
-instructions_suspend p s (Set r n) h carries = tt
-instructions_suspend p s (Loop r target) h carries = tt
+instructions_suspend p s _ h carries = tt

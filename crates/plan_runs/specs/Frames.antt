@@ -28,13 +28,8 @@ is_due (Some left) = left == 0
 
 -- a wait for the swap ends
 abbrev pub hold_after_swap : Hold → Hold
-hold_after_swap Running = Running
 hold_after_swap WaitsSwap = Running
-hold_after_swap (Waits n) = Waits n
-hold_after_swap (WaitsDay t) = WaitsDay t
-hold_after_swap (WaitsContact c closed) = WaitsContact c closed
-hold_after_swap (WaitsAny closed opened until left) = WaitsAny closed opened until left
-hold_after_swap Ended = Ended
+hold_after_swap hold = hold
 
 -- the next configuration becomes the current one, and page 0 is in turn
 abbrev pub with_swap : State → State
@@ -176,13 +171,9 @@ left_after_frame None = None
 left_after_frame (Some left) = Some (left - 1)
 
 abbrev pub hold_after_frame : Hold → Hold
-hold_after_frame Running = Running
 hold_after_frame (Waits n) = Waits (n - 1)
-hold_after_frame (WaitsDay t) = WaitsDay t
-hold_after_frame (WaitsContact c closed) = WaitsContact c closed
 hold_after_frame (WaitsAny closed opened until left) = WaitsAny closed opened until (left_after_frame left)
-hold_after_frame WaitsSwap = WaitsSwap
-hold_after_frame Ended = Ended
+hold_after_frame hold = hold
 
 abbrev pub with_next_counts : Plan → State → State
 with_next_counts plan s =

@@ -4,7 +4,7 @@ use Rattle.fib_codec.specs.Layouts.{layout_mode}
 use Rattle.fib_codec.specs.Modes.{count_step}
 use Rattle.plan_code.specs.declared.plan.Plan.{Plan}
 use Rattle.plan_code.specs.declared.instr.Instr.{Instr}
-use Rattle.plan_code.specs.declared.instr.Instr.TheVariants.{Wait, Until, WaitContact, WaitAny, CommitIn, CommitAt, Join, Settle, End, Edit as Edits, Test, TestTime, Jump, Set, Loop}
+use Rattle.plan_code.specs.declared.instr.Instr.TheVariants.{CommitIn, CommitAt}
 use Rattle.plan_code.specs.Program.{Program}
 use Rattle.plan_code.specs.Machine.{State}
 use Rattle.plan_runs.specs.declared.event.Event.{Event}
@@ -37,21 +37,9 @@ IsSwapAfterDelay k p s events =
     → IsFirstWhere (λ t. is_due t.left) (λ later t. (k ≤ later) × (t.count % count_step (layout_mode p.plan.layout) ≡ 0)) 1 p (after_frame p s) events
 
 abbrev pub IsCommit : Instr → Type 0
-IsCommit (Wait n) = ⊥
-IsCommit (Until t) = ⊥
-IsCommit (WaitContact c closed) = ⊥
-IsCommit (WaitAny closed opened until frames) = ⊥
 IsCommit (CommitIn k) = Unit {0}
 IsCommit (CommitAt n) = Unit {0}
-IsCommit Join = ⊥
-IsCommit Settle = ⊥
-IsCommit End = ⊥
-IsCommit (Edits e) = ⊥
-IsCommit (Test c target) = ⊥
-IsCommit (TestTime from to target) = ⊥
-IsCommit (Jump target) = ⊥
-IsCommit (Set r n) = ⊥
-IsCommit (Loop r target) = ⊥
+IsCommit _ = ⊥
 
 -- ---- the laws
 

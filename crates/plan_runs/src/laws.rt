@@ -81,27 +81,18 @@ pub fn pages_in_turn()
 /// configuration and, in a notice, of the next one.
 pub fn frames()
     ensures { FramesOfTypedCodeAreRight }
-{
-    fib_carousel::laws::pages();
-    fib_carousel::laws::carried();
-}
+{}
 
 /// The law of the reserve: in every frame of every run of a typed code the reserved FIBs, the last of the frame, are
 /// empty. There is room in them for FIGs from elsewhere, whatever the code sends.
 pub fn reserved()
     ensures { ReservesAreKept }
-{
-    fib_carousel::laws::pages();
-    fib_carousel::laws::carried();
-}
+{}
 
 /// The law of periods: in any P successive frames of one phase the whole current configuration is heard.
 pub fn periods()
     ensures { PeriodsAreWhole }
-{
-    fib_carousel::laws::pages();
-    fib_carousel::laws::carried();
-}
+{}
 
 /// The law of notices: no swap is unannounced. In the frames of its notice, the whole next configuration is heard
 /// three times, and FIG 0/0 three times or more, each with the change flags and the low part of the swap's count. All
@@ -111,10 +102,7 @@ pub fn notices()
     ensures announced { SwapsAreAnnounced }
     ensures counted { SwapsComeAsAnnounced }
     ensures heard { HeardIsKnown }
-{
-    fib_carousel::laws::pages();
-    fib_carousel::laws::carried();
-}
+{}
 
 /// The law of what was heard: over every run of a typed code from its start, the frames of a notice that the state
 /// implies are those heard along the run, and are the last frames that it sent; at a swap there are as many as a notice
@@ -126,10 +114,7 @@ pub fn heard()
 /// The law of FIG 0/0: exactly the FIG 0/0 that the state sends, with C/N 0, is heard in the bytes of a frame.
 pub fn headers()
     ensures { HeadersAreSent }
-{
-    fib_carousel::laws::pages();
-    fib_carousel::laws::carried();
-}
+{}
 
 /// The headline: from every state that a typed code reaches, over every list of contact changes and frames, there is
 /// no trap, no frame executes more instructions than the budget, every frame is the mode's number of correct FIBs,
@@ -137,10 +122,7 @@ pub fn headers()
 /// could be read three times from the bytes.
 pub fn headline()
     ensures { HeadlineHolds }
-{
-    fib_carousel::laws::pages();
-    fib_carousel::laws::carried();
-}
+{}
 
 /// The law of listeners: a listener that starts before any frame of a run of a typed code never runs out of room. Once
 /// tuned, it knows the current configuration after P frames of one phase; and if it heard a whole notice, it knows the
@@ -150,6 +132,4 @@ pub fn listener()
 {
     fib_codec::laws::one_list();
     fib_reader::laws::ensemble();
-    fib_carousel::laws::pages();
-    fib_carousel::laws::carried();
 }
