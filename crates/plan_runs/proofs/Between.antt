@@ -1,12 +1,13 @@
 -- A typed code between frames: what is expected where it resumes, and that each frame is free of traps.
 use Rattle.std.proofs.Common.{◌≡◌, ℕ, zero, suc, ◌+◌, ◌-◌, ◌≤◌, Bool, true, false, cond, List, Option, Some, None, refl, sym, ap, subst, arith, inl, inr}
-use Rattle.plan_runs.proofs.Names.{◌||◌, IfSome, slice_get, option_map, eqb-true, eqb-false, Configuration, AllByRecursion, Contacts, Hold, Running, Waits, WaitsDay, WaitsContact, WaitsAny, WaitsSwap, Ended, Line, Instr, Program, IsProgram, IsLine, IsInstr, instr_at, State, step, effect, effect_of, Known, IsTyping, is_due, with_swap, with_due_swap, hold_after_swap, is_running, is_day, is_any_here, is_here, with_hold_ended, ready, Executes, after_burst, FrameIsAllowed, is_first_noticed, left_after_frame, hold_after_frame, with_next_counts, after_frame, each_at}
+use Rattle.plan_runs.proofs.Names.{◌||◌, IfSome, slice_get, option_map, eqb-true, eqb-false, Configuration, AllByRecursion, Contacts, Hold, Running, Waits, WaitsDay, WaitsContact, WaitsAny, WaitsSwap, Ended, Line, Instr, Program, IsProgram, IsLine, IsInstr, instr_at, State, step, effect, effect_of, Known, IsTyping, is_due, with_swap, with_due_swap, hold_after_swap, is_running, is_day, is_any_here, is_here, with_hold_ended, ready, Executes, after_burst, FrameIsAllowed, is_first_noticed, left_after_frame, hold_after_frame, with_next_counts, after_frame}
 use Rattle.plan_code.specs.Flags.{any_closed, any_open}
 use Rattle.plan_runs.proofs.Knowledge.{ComesBy, IsAhead, IsOnAir, CommittedBy, IsKept}
 use Rattle.plan_runs.proofs.Passing.{swap_comes, swap_pauses, swap_joins, now, pauses_come, comes_later, pauses_later, joins_later, ahead_from}
 use Rattle.plan_runs.proofs.Steps.{Expects, ResumesBy, IsSuspended, not_running, Suspends, RunsAt, Outcome, arrive}
 use Rattle.plan_runs.proofs.Instructions.{IsHere, succeeds}
 use Rattle.plan_runs.proofs.Bursts.{bursts_are_one}
+use Rattle.mux_types.proofs.Walking.{each_at}
 
 -- ---- a burst
 

@@ -1,8 +1,9 @@
 -- What instructions leave unchanged in any code: the current configuration, the counts, and a pending swap.
 use Rattle.std.proofs.Common.{◌≡◌, ℕ, zero, suc, ◌+◌, ◌%◌, ◌<◌, ◌≤◌, Bool, true, false, cond, List, Option, Some, None, refl, sym, subst, ◌∙◌, arith}
-use Rattle.plan_runs.proofs.Names.{layout_mode, Configuration, IsConfiguration, changed, Mode, I, count_step, Plan, Hold, Running, Instr, CommitIn, CommitAt, Settle, Edits, Program, IsProgram, IsInstr, State, step, commit, settle, effect, IsAllowed, left_in, left_at, with_due_swap, is_here, with_hold_ended, ready, Executes, after_burst, in_range}
+use Rattle.plan_runs.proofs.Names.{layout_mode, Configuration, IsConfiguration, changed, Mode, I, count_step, Plan, Hold, Running, Instr, CommitIn, CommitAt, Settle, Edits, Program, IsProgram, IsInstr, State, step, commit, settle, effect, IsAllowed, left_in, left_at, with_due_swap, is_here, with_hold_ended, ready, Executes, after_burst}
 use Rattle.mux_config.proofs.Keeping.{edits_keep}
 use Rattle.plan_runs.proofs.Between.{line_formed, step_is}
+use Rattle.plan_verifier.proofs.OneVerdict.{in_range}
 
 -- where no swap was pending there is none, or one was committed with the whole notice, to a count on the mode's step
 abbrev pub IsNewly : Plan → ℕ → Option ℕ → Type 0

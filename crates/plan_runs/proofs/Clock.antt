@@ -1,7 +1,8 @@
 -- What no instruction changes in any code: the current configuration, the CIF count, the frame of the day and the
 -- contacts; and the counts and the contacts along a run.
 use Rattle.std.proofs.Common.{◌≡◌, ◌≢◌, ℕ, zero, suc, ◌+◌, ◌%◌, ◌<◌, Bool, true, false, cond, eqb, List, [], ◌∷◌, length, Option, Some, None, refl, sym, ap, subst, ◌∙◌, arith}
-use Rattle.plan_runs.proofs.Names.{eqb-true, eqb-false, Configuration, Plan, Instr, Settle, Contacts, is_closed, with_contact, contacts_change_alone, Program, instr_at, State, step, settle, effect, effect_of, is_due, with_swap, with_due_swap, is_running, is_here, burst, ready, after_burst, is_first_noticed, shown, after_frame, Event, Contact, Frame, happens, run, run_frames, level_after, FramesAreCounted, ContactsAreAsSet}
+use Rattle.plan_runs.proofs.Names.{eqb-true, eqb-false, Configuration, Plan, Instr, Settle, Contacts, is_closed, with_contact, Program, instr_at, State, step, settle, effect, effect_of, is_due, with_swap, with_due_swap, is_running, is_here, burst, ready, after_burst, is_first_noticed, shown, after_frame, Event, Contact, Frame, happens, run, run_frames, level_after, FramesAreCounted, ContactsAreAsSet}
+use Rattle.plan_code.proofs.Bits.{contacts_change_alone}
 
 abbrev Unchanged : Type 0
 Unchanged = Configuration × ℕ × ℕ × Contacts

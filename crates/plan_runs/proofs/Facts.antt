@@ -1,9 +1,10 @@
 -- Facts about every state that a typed code reaches.
 use Rattle.std.proofs.Common.{ℕ, ◌<◌, List, [], ◌∷◌, Option, None, sym, subst}
-use Rattle.plan_runs.proofs.Names.{Configuration, IsConfiguration, page_set, Program, IsProgram, State, Known, IsTyping, Event, Contact, Frame, Start, shown, after_frame, IsStart, StartIsInRange, happens, run, IsPlayed, each_at}
+use Rattle.plan_runs.proofs.Names.{Configuration, IsConfiguration, page_set, Program, IsProgram, State, Known, IsTyping, Event, Contact, Frame, Start, shown, after_frame, IsStart, StartIsInRange, happens, run, IsPlayed}
 use Rattle.plan_runs.proofs.Between.{Between, frame_between}
 use Rattle.plan_runs.proofs.TypedRuns.{started_between}
 use Rattle.plan_runs.proofs.Tracked.{Tracked, TurnBefore, SwapsOn, Airs, some_rounds, frame_airs, frame_tracked}
+use Rattle.mux_types.proofs.Walking.{each_at}
 
 pub record Holds (p : Program) (ts : List Known) (s : State) : Type 0 where
   pub between : Between p ts s

@@ -1,9 +1,10 @@
 -- Each kind of instruction of a typed code is allowed, and leaves what is known wherever the machine continues.
 use Rattle.std.proofs.Common.{◌≡◌, ◌≢◌, ℕ, ◌+◌, ◌-◌, ◌<◌, ◌≤◌, Bool, true, false, cond, eqb, List, length, set, Option, Some, None, is_some, refl, sym, ap, subst, ◌∙◌, arith, inl, inr}
-use Rattle.plan_runs.proofs.Names.{IfSome, nat_lt, slice_index, slice_set, eqb-true, eqb-false, ltb-true, get_or-set_same, get_or-set_other, length-set, layout_mode, Configuration, IsSound, edit_fault, changed, Mode, I, count_step, Hold, Waits, WaitsDay, WaitsContact, WaitsAny, WaitsSwap, Counters, Label, Swap, Idle, Within, Perhaps, Instr, Wait, Until, WaitContact, WaitAny, CommitIn, CommitAt, Join, Settle, End, Edits, Test, TestTime, Jump, Set, Loop, is_set, is_closed, with_counter, without_counter, counters_change_alone, Program, IsProgram, IsFrames, IsInstr, label_at, State, advance, suspend, commit, settle, effect, left_in, left_at, counter_of, is_in_window, IsAllowed, IsReady, Known, CanCommit, IsTyping, IsSafe, IsSurelyPending, Arrives, Reaches, leaves, continues, target_of, spent, known_after_swap, after_wait, after_pause, after_settle, is_running, left_after_frame, hold_after_frame}
+use Rattle.plan_runs.proofs.Names.{IfSome, nat_lt, slice_index, slice_set, eqb-true, eqb-false, ltb-true, get_or-set_same, get_or-set_other, length-set, layout_mode, Configuration, IsSound, edit_fault, changed, Mode, I, count_step, Hold, Waits, WaitsDay, WaitsContact, WaitsAny, WaitsSwap, Counters, Label, Swap, Idle, Within, Perhaps, Instr, Wait, Until, WaitContact, WaitAny, CommitIn, CommitAt, Join, Settle, End, Edits, Test, TestTime, Jump, Set, Loop, is_set, is_closed, with_counter, without_counter, Program, IsProgram, IsFrames, IsInstr, label_at, State, advance, suspend, commit, settle, effect, left_in, left_at, counter_of, is_in_window, IsAllowed, IsReady, Known, CanCommit, IsTyping, IsSafe, IsSurelyPending, Arrives, Reaches, leaves, continues, target_of, spent, known_after_swap, after_wait, after_pause, after_settle, is_running, left_after_frame, hold_after_frame}
 use Rattle.plan_runs.proofs.Knowledge.{IsIdleAs, IsPendingAs, AgreesBy, ComesBy, PausesBy, JoinsBy, IsAhead, AreSet, IsCommitted, CommittedBy, IsKept}
 use Rattle.plan_runs.proofs.Passing.{wait_by, pause_by, after_some}
 use Rattle.plan_runs.proofs.Steps.{Expects, ResumesBy, IsSuspended, Suspends, Outcome, arrive}
+use Rattle.plan_code.proofs.Bits.{counters_change_alone}
 
 -- what is known where an instruction is executed
 pub record IsHere (p : Program) (ts : List Known) (b : ℕ) (s : State) (i : Instr) (t : Known) : Type 0 where

@@ -1,8 +1,9 @@
 -- Only the last level of each contact counts in contact settings.
 use Rattle.std.proofs.Common.{◌≡◌, ◌≢◌, ℕ, ◌-◌, ◌<◌, ◌^◌, Bool, true, false, cond, eqb, List, [], ◌∷◌, ◌++◌, Option, Some, None, refl, sym, ap, subst, ◌∙◌, arith}
-use Rattle.plan_runs.proofs.Names.{bit_at, bit_at-lt, same_from_bits_below, eqb-true, eqb-false, AllByRecursion, Contacts, is_closed, with_contact, contacts_change_alone, Program, State, Event, Frame, after_frame, frame_bytes, run, run_frames, run_states, Setting, IsSetting, last_of, level_by, last_level, AgreeOnContacts, set_events, schedule, LastLevelsCount}
+use Rattle.plan_runs.proofs.Names.{bit_at, bit_at-lt, same_from_bits_below, eqb-true, eqb-false, AllByRecursion, Contacts, is_closed, with_contact, Program, State, Event, Frame, after_frame, frame_bytes, run, run_frames, run_states, Setting, IsSetting, last_of, level_by, last_level, AgreeOnContacts, set_events, schedule, LastLevelsCount}
 use Rattle.std.proofs.lemmas.Nat.{pow_below, or_lt, and_le_l}
 use Rattle.plan_runs.proofs.Clock.{frame_contacts}
+use Rattle.plan_code.proofs.Bits.{contacts_change_alone}
 
 -- ---- the contacts after settings
 

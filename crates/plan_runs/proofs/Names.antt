@@ -7,14 +7,11 @@ pub use Rattle.std.proofs.lemmas.Option.{slice_get_within}
 pub use Rattle.std.specs.Int.{bit_at}
 pub use Rattle.std.specs.List.{AllByRecursion}
 pub use Rattle.std.specs.Prelude.{Contains, IfSome, MatchBool, None, Option, Some, drop, find, flat_map, get_or, map, nat_le, nat_lt, not, option_map, slice_get, slice_index, slice_set, take, ◌*◌, ◌-◌, ◌==◌, ◌||◌}
-pub use Rattle.fib_carousel.proofs.Hearing.{ensemble_is_heard, page_sets_are_pageable, pages_are_heard, pages_are_valid, pages_keep_reserve, sendable_where}
-pub use Rattle.fib_carousel.proofs.Pieces.{each_in_a_page, page_is_fibs}
 pub use Rattle.fib_carousel.specs.Bytes.{AreFibs, ensemble_figs, figs_of, page_figs, reserved_figs, with_entry_first}
 pub use Rattle.fib_carousel.specs.Carried.{AreSendable, EnsembleIsCarried, IsPageable, IsSendable, PageSetsArePageable, PagesAreHeard, PagesAreValid, PagesKeepReserve}
 pub use Rattle.fib_carousel.specs.Greedy.{packing}
 pub use Rattle.fib_carousel.specs.Packing.{entries_in_fib, entries_where, same_head}
 pub use Rattle.fib_carousel.specs.Pages.{EachInAPage, PageIsFibs, fib_entries, first_fib, later_fibs, page_after, page_entries, page_set, rounds}
-pub use Rattle.fib_codec.proofs.Uniqueness.{one_fib}
 pub use Rattle.fib_codec.specs.Grammar.{Fig, IsFib, IsValid, OneList, Open, Other, fig_of, is_long, is_next}
 pub use Rattle.fib_codec.specs.Heard.{IsEnsembleHeardInRow, IsHeardInRow, IsInFig, fib_at}
 pub use Rattle.fib_codec.specs.Layouts.{KeepsReserve, frame_fibs, layout_mode, reserved_fibs, used_fibs}
@@ -36,12 +33,10 @@ pub use Rattle.mux_config.specs.Edits.{changed, edit_fault}
 pub use Rattle.mux_config.specs.Sameness.{is_same_flag, is_same_list, is_same_packet, is_same_service, is_same_sub}
 pub use Rattle.mux_config.specs.Sound.{IsSound}
 pub use Rattle.mux_config.specs.declared.edit.Edit.TheVariants.{AddComponent, AddService, AddSub, RateSub}
-pub use Rattle.mux_types.proofs.Walking.{each_at}
 pub use Rattle.mux_types.specs.Entries.{EnsembleInformation}
 pub use Rattle.mux_types.specs.Facts.{Marked, facts_of, marked, packet_entry, service_entries, service_entry, sub_entries, sub_entry}
 pub use Rattle.mux_types.specs.declared.entry.Entry.{Entry}
 pub use Rattle.mux_types.specs.declared.entry.Entry.TheVariants.{Ensemble as EnsembleOf}
-pub use Rattle.plan_code.proofs.Bits.{contacts_change_alone, counters_change_alone}
 pub use Rattle.plan_code.specs.Flags.{is_closed, is_set, with_contact, with_counter, without_counter}
 pub use Rattle.plan_code.specs.Machine.{IsAllowed, IsReady, State, StepIsAllowed, SwapsAtCount, SwapsInTime, advance, commit, counter_of, effect, effect_of, is_in_window, left_at, left_in, settle, step, suspend}
 pub use Rattle.plan_code.specs.Program.{IsFrames, IsInstr, IsLine, IsProgram, Program, instr_at, label_at}
@@ -74,6 +69,4 @@ pub use Rattle.plan_runs.specs.Waits.{HasClosed, HasCome, HasOpen, InstructionsS
 pub use Rattle.plan_runs.specs.declared.event.Event.{Event}
 pub use Rattle.plan_runs.specs.declared.event.Event.TheVariants.{Contact, Frame}
 pub use Rattle.plan_runs.specs.declared.event.Start.{Start}
-pub use Rattle.plan_verifier.proofs.OneVerdict.{codes_have_one_verdict, in_range, refused_if, typed_if}
-pub use Rattle.plan_verifier.proofs.Samples.{code_from, code_under, counters, first_from_is, first_under_is, label, line, line_is, lower_is, one_sub, one_sub_is, plan, sub_at_rate, with_sub}
 pub use Rattle.plan_verifier.specs.Typing.{Arrives, CanCommit, CanEnter, FitsSwap, IsCertain, IsSafe, IsSurelyPending, IsTyping, Known, Reaches, after_pause, after_settle, after_wait, continues, known_after_swap, leaves, spent, target_of}

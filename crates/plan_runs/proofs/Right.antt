@@ -1,9 +1,11 @@
 -- The bytes of every frame are correct.
 use Rattle.std.proofs.Common.{◌≡◌, ◌≢◌, ℕ, zero, suc, ◌+◌, ◌*◌, ◌/◌, ◌%◌, ◌<◌, ◌≤◌, Bool, true, false, cond, List, [], ◌∷◌, ◌++◌, length, Option, Some, None, refl, sym, ap, subst, ◌∙◌, arith, inl, inr, ◌⊎◌, replicate}
-use Rattle.plan_runs.proofs.Names.{Contains, slice_get, map, take, drop, IfSome, ◌==◌, not, drop-drop, Contains-append_cases, eqb-true, eq-eqb, and_parts, layout_mode, frame_fibs, used_fibs, reserved_fibs, FrameLayout, Whole, ReserveOne, ReserveTwo, Configuration, IsConfiguration, AllByRecursion, EnsembleInformation, Marked, marked, facts_of, change_of, bits_of, has_same_subs, has_same_services, is_same_sub, is_same_service, is_same_packet, is_same_list, EnsembleOf, Entry, Mode, I, fib_count, count_step, IsEnsembleInformation, Written, head_of, head_byte, ext_of, bit_of, fig_bytes, entry_bytes, Open, Other, IsValid, fig_of, fib_at, IsHeardInRow, IsInFig, Head, same_head, entries_in_fib, entries_where, page_set, page_entries, EachInAPage, first_fib, later_fibs, packing, reserved_figs, page_figs, AreFibs, ensemble_figs, figs_of, with_entry_first, IsPageable, IsSendable, AreSendable, PageSetsArePageable, PagesAreValid, PagesAreHeard, EnsembleIsCarried, pages_are_valid, pages_are_heard, ensemble_is_heard, page_sets_are_pageable, sendable_where, each_in_a_page, Plan, State, is_noticed, announced_next, sent_entries, ensemble_of, ensemble_sent, low_of_swap, shown_bytes, IsNoHeader, IsFlaggedBy, IsEnsembleOf, IsHeadedBy, IsUnheaded, IsRight}
+use Rattle.plan_runs.proofs.Names.{Contains, slice_get, map, take, drop, IfSome, ◌==◌, not, drop-drop, Contains-append_cases, eqb-true, eq-eqb, and_parts, layout_mode, frame_fibs, used_fibs, reserved_fibs, FrameLayout, Whole, ReserveOne, ReserveTwo, Configuration, IsConfiguration, AllByRecursion, EnsembleInformation, Marked, marked, facts_of, change_of, bits_of, has_same_subs, has_same_services, is_same_sub, is_same_service, is_same_packet, is_same_list, EnsembleOf, Entry, Mode, I, fib_count, count_step, IsEnsembleInformation, Written, head_of, head_byte, ext_of, bit_of, fig_bytes, entry_bytes, Open, Other, IsValid, fig_of, fib_at, IsHeardInRow, IsInFig, Head, same_head, entries_in_fib, entries_where, page_set, page_entries, EachInAPage, first_fib, later_fibs, packing, reserved_figs, page_figs, AreFibs, ensemble_figs, figs_of, with_entry_first, IsPageable, IsSendable, AreSendable, PageSetsArePageable, PagesAreValid, PagesAreHeard, EnsembleIsCarried, Plan, State, is_noticed, announced_next, sent_entries, ensemble_of, ensemble_sent, low_of_swap, shown_bytes, IsNoHeader, IsFlaggedBy, IsEnsembleOf, IsHeadedBy, IsUnheaded, IsRight}
 use Rattle.mux_config.proofs.Same.{list_same, sub_same, service_same, packet_same}
 use Rattle.plan_runs.proofs.Knowledge.{CommittedBy}
 use Rattle.plan_runs.proofs.Tracked.{Airs}
+use Rattle.fib_carousel.proofs.Hearing.{pages_are_valid, pages_are_heard, ensemble_is_heard, page_sets_are_pageable, sendable_where}
+use Rattle.fib_carousel.proofs.Pieces.{each_in_a_page}
 
 -- ---- the laws of pages that are used
 

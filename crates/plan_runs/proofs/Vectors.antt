@@ -1,9 +1,10 @@
 -- Small runs, computed by the checker: the bytes and counts are those of worked examples from practice.
 use Rattle.std.proofs.Common.{◌≡◌, ℕ, zero, suc, true, List, [], ◌∷◌, Some, take, refl}
-use Rattle.plan_runs.proofs.Names.{AddSub, AddService, AddComponent, nothing, Label, Idle, Instr, CommitIn, Join, End, Edits, Line, Program, plan, sub_at_rate, counters, Event, Frame, is_due, frame_bytes, frame_steps, run}
+use Rattle.plan_runs.proofs.Names.{AddSub, AddService, AddComponent, nothing, Label, Idle, Instr, CommitIn, Join, End, Edits, Line, Program, Event, Frame, is_due, frame_bytes, frame_steps, run}
 use Rattle.mux_types.specs.declared.parts.Component.TheVariants.{Sound}
 use Rattle.mux_types.specs.declared.numbers.Sid.TheVariants.{Short}
 use Rattle.plan_runs.proofs.Samples.{first_state}
+use Rattle.plan_verifier.proofs.Samples.{plan, sub_at_rate, counters}
 
 abbrev line : ℕ → Instr → Line
 line number instr = record { number = number; instr = instr }

@@ -1,11 +1,14 @@
 -- Frames of one sub-channel, and of a notice that lowers its rate: what is heard in them, and what is not.
 use Rattle.std.proofs.Common.{◌≡◌, ℕ, zero, suc, ◌<◌, Bool, true, false, List, [], ◌∷◌, Contains, Some, None, refl, sym, ap, subst, ◌∙◌, arith}
-use Rattle.plan_runs.proofs.Names.{slice_get_within, AllByRecursion, Whole, EnsembleInformation, Marked, marked, sub_entry, EnsembleOf, Mode, I, II, Fig, Open, Other, IsInFig, IsEnsembleHeardInRow, fib_at, one_fib, page_entries, page_set, IsPageable, pages_are_heard, ensemble_is_heard, page_sets_are_pageable, Plan, Program, State, sub_at_rate, with_sub, one_sub_is, lower_is, Frame, FrameIsAllowed, sent_entries, ensemble_sent, shown_bytes, after_frame, frame_bytes, IsHeardInSome, IsHeardWhole, HasHeader, IsFlagged, IsAnnounced, FrameRuns, Runs, IsEnsembleFig, IsNoHeader, IsEnsembleOf, IsHeadedBy, IsUnheaded, IsRight, BeginsNoPhase, IsOnePhase, IsAnnouncedIn, AnnouncesOnly, SwapsAt, KeepsCount}
+use Rattle.plan_runs.proofs.Names.{slice_get_within, AllByRecursion, Whole, EnsembleInformation, Marked, marked, sub_entry, EnsembleOf, Mode, I, II, Fig, Open, Other, IsInFig, IsEnsembleHeardInRow, fib_at, page_entries, page_set, IsPageable, Plan, Program, State, Frame, FrameIsAllowed, sent_entries, ensemble_sent, shown_bytes, after_frame, frame_bytes, IsHeardInSome, IsHeardWhole, HasHeader, IsFlagged, IsAnnounced, FrameRuns, Runs, IsEnsembleFig, IsNoHeader, IsEnsembleOf, IsHeadedBy, IsUnheaded, IsRight, BeginsNoPhase, IsOnePhase, IsAnnouncedIn, AnnouncesOnly, SwapsAt, KeepsCount}
 use Rattle.mux_config.proofs.Sounding.{sound_told}
 use Rattle.plan_runs.proofs.Samples.{short_plan, ended, lowering, unflagged, flagged, flagged_is}
 use Rattle.plan_runs.proofs.Passing.{some_is}
 use Rattle.plan_runs.proofs.Tracked.{Airs}
 use Rattle.plan_runs.proofs.Right.{page_laws, frame_right, ensemble_right}
+use Rattle.fib_codec.proofs.Uniqueness.{one_fib}
+use Rattle.fib_carousel.proofs.Hearing.{pages_are_heard, ensemble_is_heard, page_sets_are_pageable}
+use Rattle.plan_verifier.proofs.Samples.{sub_at_rate, with_sub, one_sub_is, lower_is}
 
 abbrev plan : Mode → Plan
 plan mode = short_plan mode 12 20

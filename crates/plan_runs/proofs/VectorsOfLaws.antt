@@ -1,12 +1,13 @@
 -- Swaps, waits, counts, contacts and what was heard: for each definition, examples that hold and examples that fail.
 use Rattle.std.proofs.Common.{◌≡◌, ℕ, zero, suc, ◌<◌, ◌≤◌, ◌%◌, true, false, List, [], ◌∷◌, length, Some, None, refl, ap, arith, inl, inr}
-use Rattle.plan_runs.proofs.Names.{map, get_or, Configuration, EnsembleInformation, I, II, Running, Waits, WaitsSwap, Wait, CommitIn, CommitAt, End, Set, Line, Program, State, with_sub, Contact, Frame, Start, is_due, hold_after_swap, is_running, is_here, with_hold_ended, ensemble_of, shown, frame_bytes, hold_after_frame, after_frame, CarriesOut, IsFirstWhere, IsOnStep, SwapsWhereDue, IsSwapAtCount, IsSwapAfterDelay, IsCommit, IsWaitOf, WaitsUntil, IsCounted, level_after, AreLastSent, HasHeaderOf}
+use Rattle.plan_runs.proofs.Names.{map, get_or, Configuration, EnsembleInformation, I, II, Running, Waits, WaitsSwap, Wait, CommitIn, CommitAt, End, Set, Line, Program, State, Contact, Frame, Start, is_due, hold_after_swap, is_running, is_here, with_hold_ended, ensemble_of, shown, frame_bytes, hold_after_frame, after_frame, CarriesOut, IsFirstWhere, IsOnStep, SwapsWhereDue, IsSwapAtCount, IsSwapAfterDelay, IsCommit, IsWaitOf, WaitsUntil, IsCounted, level_after, AreLastSent, HasHeaderOf}
 use Rattle.mux_types.specs.declared.parts.Sub.{Sub}
 use Rattle.plan_runs.proofs.Samples.{line, start_at, short_plan, ended}
 use Rattle.plan_runs.proofs.Waits.{waits_are_kept}
 use Rattle.plan_runs.proofs.VectorsOfRuns.{waits, first, second, played, played_first}
 use Rattle.plan_runs.proofs.Right.{page_laws}
 use Rattle.plan_runs.proofs.Headline.{headers_are_sent}
+use Rattle.plan_verifier.proofs.Samples.{with_sub}
 
 -- with FIG 0/0 in every frame, and a notice of one frame
 abbrev code : ℕ → List Line → Program

@@ -1,11 +1,12 @@
 -- Listeners to small codes: for each definition of listening, examples that hold and examples that fail.
 use Rattle.std.proofs.Common.{rules, ◌≡◌, ℕ, ◌+◌, Bool, true, false, List, [], ◌∷◌, ◌++◌, length, map, Some, None, inl, inr, refl, ap, arith}
-use Rattle.plan_runs.proofs.Names.{Whole, marked, sub_entry, fig_of, fib_at, ensemble_figs, figs_of, IsSendable, IsPageable, page_set, Raw, blank, Listening, untuned, Shows, frame_bytes, after_frame, RateSub, Configuration, Mode, I, II, one_fib, pages_are_valid, page_is_fibs, EnsembleIsHeard, CommitIn, Join, End, Edits, Program, IsProgram, State, sub_at_rate, with_sub, one_sub, one_sub_is, label, line, line_is, code_under, first_under_is, typed_if, Frame, IsPlayed, HearsFib, HasCount, IsTunedBy, KnowsTheCurrent, KnowsTheNew, IsNeverFull, ListenersKnow}
+use Rattle.plan_runs.proofs.Names.{Whole, marked, sub_entry, fig_of, fib_at, ensemble_figs, figs_of, IsSendable, IsPageable, page_set, Raw, blank, Listening, untuned, Shows, frame_bytes, after_frame, RateSub, Configuration, Mode, I, II, EnsembleIsHeard, CommitIn, Join, End, Edits, Program, IsProgram, State, Frame, IsPlayed, HearsFib, HasCount, IsTunedBy, KnowsTheCurrent, KnowsTheNew, IsNeverFull, ListenersKnow}
 use Rattle.plan_runs.proofs.Samples.{start_at, in_range, starts_under, first_state, short_plan, ended, lowering, unflagged, flagged, unflagged_is, flagged_is}
 use Rattle.plan_runs.proofs.Pictures.{whole_of}
 use Rattle.fib_reader.specs.declared.fault.FibFault.TheVariants.{Entry}
 use Rattle.fib_reader.specs.Faults.{IsFibFault}
 use Rattle.fib_codec.specs.Crc.{IsChecked}
+use Rattle.fib_codec.proofs.Uniqueness.{one_fib}
 use Rattle.fib_reader.specs.FirstFault.{entries_fault, figs_fault}
 use Rattle.fib_reader.proofs.FigFaults.{found_is_fault, no_fault}
 use Rattle.plan_runs.proofs.Reached.{starts_are_reached}
@@ -13,6 +14,10 @@ use Rattle.plan_runs.proofs.Contents.{Laws}
 use Rattle.plan_runs.proofs.CurrentKnown.{never_full, knows_the_current}
 use Rattle.plan_runs.proofs.NewKnown.{knows_the_new}
 use Rattle.plan_runs.proofs.Right.{page_laws}
+use Rattle.fib_carousel.proofs.Hearing.{pages_are_valid}
+use Rattle.fib_carousel.proofs.Pieces.{page_is_fibs}
+use Rattle.plan_verifier.proofs.Samples.{sub_at_rate, with_sub, one_sub, one_sub_is, label, line, line_is, code_under, first_under_is}
+use Rattle.plan_verifier.proofs.OneVerdict.{typed_if}
 
 -- lowers the rate of a sub-channel, and waits for the swap
 abbrev lowers : Mode → Program

@@ -1,7 +1,7 @@
 -- The guarantees of typed codes: for a small code they hold; for an untyped code, or a state that no run reaches, they
 -- fail.
 use Rattle.std.proofs.Common.{◌≡◌, ◌<◌, true, false, List, [], ◌∷◌, refl, arith}
-use Rattle.plan_runs.proofs.Names.{marked, sub_entry, EnsembleInformation, EnsembleOf, Fig, Open, Other, IsInFig, State, plan, sub_at_rate, Event, Contact, Frame, IsOneBurst, ready, after_burst, RunsWell, AlwaysRuns, IsHeardInSome, FrameIsRight, FramesAreRight, IsHeardEachPeriod, MeetsGuarantees}
+use Rattle.plan_runs.proofs.Names.{marked, sub_entry, EnsembleInformation, EnsembleOf, Fig, Open, Other, IsInFig, State, Event, Contact, Frame, IsOneBurst, ready, after_burst, RunsWell, AlwaysRuns, IsHeardInSome, FrameIsRight, FramesAreRight, IsHeardEachPeriod, MeetsGuarantees}
 use Rattle.plan_runs.proofs.Bursts.{bursts_are_one}
 use Rattle.plan_runs.proofs.TypedRuns.{typed_code_runs}
 use Rattle.plan_runs.proofs.Announcing.{swaps_are_announced}
@@ -9,6 +9,7 @@ use Rattle.plan_runs.proofs.Periods.{periods_are_whole}
 use Rattle.plan_runs.proofs.Headline.{frames_are_right, headline_holds}
 use Rattle.plan_runs.proofs.VectorsOfRuns.{waits, joins, first, second, played, frame_traps, one_instruction}
 use Rattle.plan_runs.proofs.Right.{page_laws}
+use Rattle.plan_verifier.proofs.Samples.{plan, sub_at_rate}
 
 -- a frame, a contact that closes, and a frame
 abbrev events : List Event

@@ -1,7 +1,9 @@
 -- Runs of a code that waits for a frame and ends: for each definition, an example that holds and one that fails.
 use Rattle.std.proofs.Common.{◌≡◌, ℕ, zero, suc, ◌<◌, ◌≤◌, Bool, true, false, cond, List, [], ◌∷◌, length, Some, None, ◌==◌, refl, sym, ap, subst, arith}
-use Rattle.plan_runs.proofs.Names.{Marked, page_set, Contacts, Instr, Line, Wait, Join, End, Program, IsProgram, State, IsAllowed, plan, with_sub, one_sub, one_sub_is, label, line, line_is, code_from, first_from_is, typed_if, refused_if, codes_have_one_verdict, Contact, Frame, Start, ready, Executes, after_burst, after_frame, StartIsInRange, IsEvent, IsStart, EventIsAllowed, IsReached, Setting, IsSetting, AgreeOnContacts, AreAllAlike, last_of, SentBy, IsPlayed, CanBeSent, IsJoined}
+use Rattle.plan_runs.proofs.Names.{Marked, page_set, Contacts, Instr, Line, Wait, Join, End, Program, IsProgram, State, IsAllowed, Contact, Frame, Start, ready, Executes, after_burst, after_frame, StartIsInRange, IsEvent, IsStart, EventIsAllowed, IsReached, Setting, IsSetting, AgreeOnContacts, AreAllAlike, last_of, SentBy, IsPlayed, CanBeSent, IsJoined}
 use Rattle.plan_verifier.specs.declared.cause.Cause.TheVariants.{JoinIdle}
+use Rattle.plan_verifier.proofs.Samples.{plan, with_sub, one_sub, one_sub_is, label, line, line_is, code_from, first_from_is}
+use Rattle.plan_verifier.proofs.OneVerdict.{typed_if, refused_if, codes_have_one_verdict}
 use Rattle.plan_runs.proofs.Samples.{all_open, start_at, in_range, first_state, it_starts}
 use Rattle.plan_runs.proofs.Joined.{runs_join}
 use Rattle.plan_runs.proofs.Reached.{starts_are_reached, reached_is_kept}
