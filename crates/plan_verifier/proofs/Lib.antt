@@ -1,3 +1,4 @@
+pub mod Names
 pub mod DecidingFlows
 pub mod Finding
 pub mod Leaving

@@ -1,18 +1,14 @@
--- What vectors speak of: a plan, a sub-channel, labels, instructions and small codes, and that all of them are within their limits.
+-- What vectors speak of: a plan, a sub-channel, labels, instructions and small codes, and that all of them are within
+-- their limits.
 use Rattle.std.proofs.Common.{ℕ, zero, suc, ◌+◌, ◌*◌, ◌<◌, ◌≤◌, List, [], ◌∷◌, length, arith}
+use Rattle.plan_verifier.proofs.Names.{Configuration, IsPlaced, IsConfiguration, IsAscending, nothing, Counters, Instr}
+use Rattle.plan_verifier.proofs.Names.{Line, Label, Idle, Plan, Program, IsProgram, IsPlan, IsLabel, IsLine, IsInstr}
+use Rattle.plan_verifier.proofs.Names.{label_key}
 use Rattle.std.specs.List.{AllByRecursion}
 use Rattle.mux_eep.specs.declared.sizes.EepSet.TheVariants.{A}
 use Rattle.mux_types.specs.declared.parts.Sub.{Sub}
-use Rattle.mux_config.specs.Configuration.{Configuration, IsPlaced, IsConfiguration, IsAscending, nothing}
 use Rattle.fib_codec.specs.declared.frame_layout.FrameLayout.TheVariants.{Whole}
 use Rattle.fib_codec.specs.declared.modes.Mode.TheVariants.{I}
-use Rattle.plan_code.specs.declared.flags.Counters.{Counters}
-use Rattle.plan_code.specs.declared.instr.Instr.{Instr}
-use Rattle.plan_code.specs.declared.instr.Line.{Line}
-use Rattle.plan_code.specs.declared.label.Label.{Label}
-use Rattle.plan_code.specs.declared.label.Swap.TheVariants.{Idle}
-use Rattle.plan_code.specs.declared.plan.Plan.{Plan}
-use Rattle.plan_code.specs.Program.{Program, IsProgram, IsPlan, IsLabel, IsLine, IsInstr, label_key}
 
 abbrev pub plan : Plan
 plan = record { eid = 0xe1c5; layout = Whole I; period = 4; notice = 24; budget = 20 }
@@ -37,7 +33,8 @@ one_sub = with_sub 128
 -- n sub-channels of 8 kbit/s, one after the other: 24 of them take two pages
 abbrev pub small_subs : ℕ → ℕ → List Sub
 small_subs zero id = []
-small_subs (suc n) id = record { id = id; start = 6 * id; protection = record { set = A; level = 3 }; kbits = 8 } ∷ small_subs n (id + 1)
+small_subs (suc n) id = record { id = id; start = 6 * id; protection = record { set = A; level = 3 }; kbits = 8 }
+    ∷ small_subs n (id + 1)
 
 abbrev pub many_subs : Configuration
 many_subs = record { subs = small_subs 24 0; services = []; packets = [] }
@@ -103,8 +100,10 @@ code_from c labels lines = code_under plan c labels lines
 abbrev pub code : List Label → List Line → Program
 code labels lines = code_from nothing labels lines
 
-code_under_is : (plan : Plan) (c : Configuration) (labels : List Label) (lines : List Line) → IsPlan plan → IsConfiguration c → AllByRecursion (IsLabel 1) labels → IsAscending label_key labels
-    → 1 ≤ length labels → length labels ≤ 1024 → AllByRecursion IsLine lines → 1 ≤ length lines → length lines ≤ 4096 → IsProgram (code_under plan c labels lines)
+code_under_is : (plan : Plan) (c : Configuration) (labels : List Label) (lines : List Line) → IsPlan plan
+    → IsConfiguration c → AllByRecursion (IsLabel 1) labels → IsAscending label_key labels
+    → 1 ≤ length labels → length labels ≤ 1024 → AllByRecursion IsLine lines → 1 ≤ length lines → length lines ≤ 4096
+    → IsProgram (code_under plan c labels lines)
 code_under_is plan c labels lines planned is formed ascend from to each first last = record {
   planned = planned;
   configurations_from = omega arith;
@@ -119,20 +118,26 @@ code_under_is plan c labels lines planned is formed ascend from to each first la
   lines_formed = each;
 }
 
-pub code_from_is : (c : Configuration) (labels : List Label) (lines : List Line) → IsConfiguration c → AllByRecursion (IsLabel 1) labels → IsAscending label_key labels → 1 ≤ length labels → length labels ≤ 1024
+pub code_from_is : (c : Configuration) (labels : List Label) (lines : List Line) → IsConfiguration c
+    → AllByRecursion (IsLabel 1) labels → IsAscending label_key labels → 1 ≤ length labels → length labels ≤ 1024
     → AllByRecursion IsLine lines → 1 ≤ length lines → length lines ≤ 4096 → IsProgram (code_from c labels lines)
 code_from_is c labels lines = code_under_is plan c labels lines plan_is
 
 -- with one label, at the first instruction, of this cost
-pub first_under_is : (plan : Plan) (c : Configuration) (cost : ℕ) (lines : List Line) → IsPlan plan → IsConfiguration c → 1 ≤ cost → cost ≤ 255
-    → AllByRecursion IsLine lines → 1 ≤ length lines → length lines ≤ 4096 → IsProgram (code_under plan c (label 0 cost ∷ []) lines)
+pub first_under_is : (plan : Plan) (c : Configuration) (cost : ℕ) (lines : List Line) → IsPlan plan → IsConfiguration c
+    → 1 ≤ cost → cost ≤ 255
+    → AllByRecursion IsLine lines → 1 ≤ length lines → length lines ≤ 4096
+    → IsProgram (code_under plan c (label 0 cost ∷ []) lines)
 first_under_is plan c cost lines planned is from to =
-    code_under_is plan c (label 0 cost ∷ []) lines planned is (label_is 0 cost (omega arith) from to, tt) (tt, tt) (omega arith) (omega arith)
+    code_under_is plan c (label 0 cost ∷ []) lines planned is (label_is 0 cost (omega arith) from to, tt) (tt, tt)
+    (omega arith) (omega arith)
 
-pub first_from_is : (c : Configuration) (cost : ℕ) (lines : List Line) → IsConfiguration c → 1 ≤ cost → cost ≤ 255 → AllByRecursion IsLine lines → 1 ≤ length lines → length lines ≤ 4096
+pub first_from_is : (c : Configuration) (cost : ℕ) (lines : List Line) → IsConfiguration c → 1 ≤ cost → cost ≤ 255
+    → AllByRecursion IsLine lines → 1 ≤ length lines → length lines ≤ 4096
     → IsProgram (code_from c (label 0 cost ∷ []) lines)
 first_from_is c cost lines = first_under_is plan c cost lines plan_is
 
-pub first_is : (cost : ℕ) (lines : List Line) → 1 ≤ cost → cost ≤ 255 → AllByRecursion IsLine lines → 1 ≤ length lines → length lines ≤ 4096
+pub first_is : (cost : ℕ) (lines : List Line) → 1 ≤ cost → cost ≤ 255 → AllByRecursion IsLine lines → 1 ≤ length lines
+    → length lines ≤ 4096
     → IsProgram (code (label 0 cost ∷ []) lines)
 first_is cost lines = first_from_is nothing cost lines empty_is

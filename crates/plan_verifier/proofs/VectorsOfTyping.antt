@@ -1,17 +1,12 @@
 -- Typed codes on a small code: for each definition, an example that holds and one that fails.
 use Rattle.std.proofs.Common.{◌≡◌, ◌≢◌, ℕ, ◌+◌, ◌≤◌, List, [], ◌∷◌, Option, Some, None, inl, inr, refl, ap, arith}
-use Rattle.std.proofs.lemmas.Bool.{false≢true}
-use Rattle.mux_config.specs.Configuration.{Configuration, nothing}
-use Rattle.mux_config.specs.Sound.{IsSound}
-use Rattle.mux_config.specs.declared.edit.Edit.TheVariants.{AddSub}
+use Rattle.plan_verifier.proofs.Names.{false≢true, Configuration, nothing, IsSound, AddSub, Plan, Swap, Idle, Within}
+use Rattle.plan_verifier.proofs.Names.{CommitIn, Join, End, Edits, Program, IsProgram, IsLine, Known, IsFine, Declares}
+use Rattle.plan_verifier.proofs.Names.{Fits, CanEnter, IsInitial, IsOpening, HasOpening, IsLabelTyped, Reaches, IsAfter}
+use Rattle.plan_verifier.proofs.Names.{IsSafe, IsTyping, IsTyped}
 use Rattle.mux_config.proofs.Sounding.{sound_told}
-use Rattle.plan_code.specs.declared.plan.Plan.{Plan}
-use Rattle.plan_code.specs.declared.label.Swap.{Swap}
-use Rattle.plan_code.specs.declared.label.Swap.TheVariants.{Idle, Within}
-use Rattle.plan_code.specs.declared.instr.Instr.TheVariants.{CommitIn, Join, End, Edit as Edits}
-use Rattle.plan_code.specs.Program.{Program, IsProgram, IsLine}
 use Rattle.plan_verifier.proofs.Samples.{plan, sub, one_sub, many_subs, counters, label, line, line_is, code, first_is}
-use Rattle.plan_verifier.specs.Typing.{Known, HasRoom, CanCommit, IsCertain, IsFine, Declares, HasConfigurationsOf, FitsSwap, Fits, CanEnter, IsInitial, IsOpening, HasOpening, IsLabelTyped, Reaches, IsAfter, IsSafe, IsTyping, IsTyped}
+use Rattle.plan_verifier.specs.Typing.{HasRoom, CanCommit, IsCertain, HasConfigurationsOf, FitsSwap}
 use Rattle.plan_verifier.proofs.DecidingFlows.{decides_room, decides_initial}
 use Rattle.plan_verifier.proofs.OneVerdict.{typed_if}
 
@@ -23,7 +18,8 @@ each_frame = record plan { period = 1 }
 
 -- with an empty current configuration
 abbrev pub knows : Configuration → Swap → ℕ → Known
-knows next pending allowance = record { current = nothing; next = next; pending = pending; counters = counters 0; allowance = allowance }
+knows next pending allowance =
+    record { current = nothing; next = next; pending = pending; counters = counters 0; allowance = allowance }
 
 -- adds the sub-channel, commits it, waits for the swap and ends
 abbrev pub joins : Program
@@ -33,7 +29,9 @@ pub adds_sub : IsLine (line (Edits (AddSub sub)))
 adds_sub = line_is (Edits (AddSub sub)) (grind arith)
 
 pub joins_is : IsProgram joins
-joins_is = first_is 3 joins.lines (omega arith) (omega arith) (adds_sub, (line_is (CommitIn 24) (omega arith, omega arith), (line_is Join tt, (line_is End tt, tt)))) (omega arith) (omega arith)
+joins_is = first_is 3 joins.lines (omega arith) (omega arith)
+    (adds_sub, (line_is (CommitIn 24) (omega arith, omega arith), (line_is Join tt, (line_is End tt, tt))))
+    (omega arith) (omega arith)
 
 -- what is known at each of its instructions
 abbrev pub opened : Known
@@ -73,7 +71,12 @@ pub not_the_current : one_sub ≢ nothing
 not_the_current e = let subs : sub ∷ [] ≡ [] = ap (λ (c : Configuration). c.subs) e in absurd cc
 
 pub can_commit_one_sub : CanCommit plan edited
-can_commit_one_sub = record { idle = refl; sound = one_sub_is_sound; changes = not_the_current; room = room_for_one_sub }
+can_commit_one_sub = record {
+  idle = refl;
+  sound = one_sub_is_sound;
+  changes = not_the_current;
+  room = room_for_one_sub;
+}
 
 not_without_a_change : CanCommit plan opened → ⊥
 not_without_a_change h = h.changes refl
@@ -107,7 +110,8 @@ no_configuration_there : Declares joins (record (label 0 3) { next = 1 }) opened
 no_configuration_there h = let e : None ≡ Some nothing = h.next in absurd cc
 
 another_next_one : HasConfigurationsOf opened committed → ⊥
-another_next_one h = let e : nothing ≡ one_sub = h.1 in let subs : [] ≡ sub ∷ [] = ap (λ (c : Configuration). c.subs) e in absurd cc
+another_next_one h = let e : nothing ≡ one_sub = h.1 in let subs : [] ≡ sub ∷ [] =
+    ap (λ (c : Configuration). c.subs) e in absurd cc
 
 -- bounds within those of the label, and bounds outside of them
 narrower_bounds : FitsSwap (Within 24 27) (Within 20 30) committed committed
@@ -123,7 +127,12 @@ pub opened_fits : Fits opened opened
 opened_fits = record { swap = (refl, refl); counters = λ r set. set }
 
 comes_to_its_label : CanEnter joins (label 0 3) opened
-comes_to_its_label = record { declared = opened; declares = its_label_declares; fits = opened_fits; affords = omega arith }
+comes_to_its_label = record {
+  declared = opened;
+  declares = its_label_declares;
+  fits = opened_fits;
+  affords = omega arith;
+}
 
 cannot_afford_it : CanEnter joins (label 0 3) (record opened { allowance = 2 }) → ⊥
 cannot_afford_it h = let e : 3 ≤ 2 = h.affords in omega (arith, e)
@@ -144,7 +153,13 @@ not_with_two_pages : IsOpening each_frame (record joined { current = many_subs; 
 not_with_two_pages h = let e : 2 ≤ 1 = h.within_period in omega (arith, e)
 
 pub its_opening : HasOpening joins
-its_opening = record { label = label 0 3; known = opened; first = refl; declares = its_label_declares; opening = opens_empty }
+its_opening = record {
+  label = label 0 3;
+  known = opened;
+  first = refl;
+  declares = its_label_declares;
+  opening = opens_empty;
+}
 
 no_label_at_its_beginning : HasOpening (code (label 1 3 ∷ []) (line End ∷ line End ∷ [])) → ⊥
 no_label_at_its_beginning h = let e : None ≡ Some h.label = h.first in absurd cc
