@@ -1,6 +1,10 @@
 -- What instructions leave unchanged in any code: the current configuration, the counts, and a pending swap.
-use Rattle.std.proofs.Common.{◌≡◌, ℕ, zero, suc, ◌+◌, ◌%◌, ◌<◌, ◌≤◌, Bool, true, false, cond, List, Option, Some, None, refl, sym, subst, ◌∙◌, arith}
-use Rattle.plan_runs.proofs.Names.{layout_mode, Configuration, IsConfiguration, changed, Mode, I, count_step, Plan, Hold, Running, Instr, CommitIn, CommitAt, Settle, Edits, Program, IsProgram, IsInstr, State, step, commit, settle, effect, IsAllowed, left_in, left_at, with_due_swap, is_here, with_hold_ended, ready, Executes, after_burst}
+use Rattle.std.proofs.Common.{◌≡◌, ℕ, zero, suc, ◌+◌, ◌%◌, ◌<◌, ◌≤◌, Bool, true, false, cond, List, Option, Some, None}
+use Rattle.std.proofs.Common.{refl, sym, subst, ◌∙◌, arith}
+use Rattle.plan_runs.proofs.Names.{layout_mode, Configuration, IsConfiguration, changed, Mode, I, count_step, Plan}
+use Rattle.plan_runs.proofs.Names.{Hold, Running, Instr, CommitIn, CommitAt, Settle, Edits, Program, IsProgram, IsInstr}
+use Rattle.plan_runs.proofs.Names.{State, step, commit, settle, effect, IsAllowed, left_in, left_at, with_due_swap}
+use Rattle.plan_runs.proofs.Names.{is_here, with_hold_ended, ready, Executes, after_burst}
 use Rattle.mux_config.proofs.Keeping.{edits_keep}
 use Rattle.plan_runs.proofs.Between.{line_formed, step_is}
 use Rattle.plan_verifier.proofs.OneVerdict.{in_range}
@@ -26,7 +30,8 @@ left_same : (plan : Plan) (count : ℕ) (left : Option ℕ) (n : Configuration) 
 left_same plan count None n = tt
 left_same plan count (Some l) n = (refl, refl)
 
-left_joined : (plan : Plan) (count : ℕ) (a b c : Option ℕ) (x y z : Configuration) → LeftBy plan count a x b y → LeftBy plan count b y c z → LeftBy plan count a x c z
+left_joined : (plan : Plan) (count : ℕ) (a b c : Option ℕ) (x y z : Configuration) → LeftBy plan count a x b y
+    → LeftBy plan count b y c z → LeftBy plan count a x c z
 left_joined plan count None None c x y z h g = g
 left_joined plan count None (Some l) c x y z h g = subst (λ (o : Option ℕ). IsNewly plan count o) (sym g.0) h
 left_joined plan count (Some l) b c x y z h g =
@@ -34,8 +39,17 @@ left_joined plan count (Some l) b c x y z h g =
     (again.0, again.1 ∙ h.1)
 
 -- a state that differs in its instruction, its wait and its counters alone
-unmoved : (plan : Plan) (s : State) (pc : ℕ) (hold : Hold) (counters : List ℕ) → Carries plan s (let r : State = record s { pc = pc; hold = hold; counters = counters } in r)
-unmoved plan s pc hold counters = record { current = refl; count = refl; eid = refl; page_index = refl; left = left_same plan s.count s.left s.next; next = λ c. c }
+unmoved : (plan : Plan) (s : State) (pc : ℕ) (hold : Hold) (counters : List ℕ)
+    → Carries plan s (let r : State = record s { pc = pc; hold = hold; counters = counters } in r)
+unmoved plan s pc hold counters =
+    record {
+      current = refl;
+      count = refl;
+      eid = refl;
+      page_index = refl;
+      left = left_same plan s.count s.left s.next;
+      next = λ c. c;
+    }
 
 pub carries_itself : (plan : Plan) (s : State) → Carries plan s s
 carries_itself plan s = unmoved plan s s.pc s.hold s.counters
@@ -46,13 +60,15 @@ carries_joined plan s t u h g = record {
   count = g.count ∙ h.count;
   eid = g.eid ∙ h.eid;
   page_index = g.page_index ∙ h.page_index;
-  left = left_joined plan s.count s.left t.left u.left s.next t.next u.next h.left (subst (λ (k : ℕ). LeftBy plan k t.left t.next u.left u.next) h.count g.left);
+  left = left_joined plan s.count s.left t.left u.left s.next t.next u.next h.left
+      (subst (λ (k : ℕ). LeftBy plan k t.left t.next u.left u.next) h.count g.left);
   next = λ c. g.next (h.next c);
 }
 
 -- ---- each instruction
 
-left_new : (plan : Plan) (count : ℕ) (left after : Option ℕ) (n m : Configuration) → left ≡ None → IsNewly plan count after → LeftBy plan count left n after m
+left_new : (plan : Plan) (count : ℕ) (left after : Option ℕ) (n m : Configuration) → left ≡ None
+    → IsNewly plan count after → LeftBy plan count left n after m
 left_new plan count left after n m none new = subst (λ (o : Option ℕ). LeftBy plan count o n after m) (sym none) new
 
 still_none : (plan : Plan) (count : ℕ) (left : Option ℕ) → left ≡ None → IsNewly plan count left
@@ -65,22 +81,32 @@ in_step _ count k = omega arith
 in_notice : (m : Mode) (count k notice : ℕ) → notice ≤ k → notice ≤ left_in (count_step m) count k
 in_notice m count k notice below = omega (arith, below)
 
-at_step : (m : Mode) (count notice n : ℕ) → n < 5000 → n % count_step m ≡ 0 → (count + left_at count notice n) % count_step m ≡ 0
+at_step : (m : Mode) (count notice n : ℕ) → n < 5000 → n % count_step m ≡ 0
+    → (count + left_at count notice n) % count_step m ≡ 0
 at_step I count notice n below whole = omega (arith, below, whole)
 at_step _ count notice n below whole = omega (arith, below, whole)
 
 at_notice : (count notice n : ℕ) → notice ≤ left_at count notice n
 at_notice count notice n = omega arith
 
-committed : (plan : Plan) (s : State) (l : ℕ) → s.left ≡ None → IsNewly plan s.count (Some l) → Carries plan s (commit l s)
+committed : (plan : Plan) (s : State) (l : ℕ) → s.left ≡ None → IsNewly plan s.count (Some l)
+    → Carries plan s (commit l s)
 committed plan s l idle new =
-    record { current = refl; count = refl; eid = refl; page_index = refl; left = left_new plan s.count s.left (Some l) s.next s.next idle new; next = λ c. c }
+    record {
+      current = refl;
+      count = refl;
+      eid = refl;
+      page_index = refl;
+      left = left_new plan s.count s.left (Some l) s.next s.next idle new;
+      next = λ c. c;
+    }
 
 settle_carries : (plan : Plan) (left : Option ℕ) (s : State) → Carries plan s (settle left s)
 settle_carries plan None s = unmoved plan s _ _ _
 settle_carries plan (Some l) s = unmoved plan s _ _ _
 
-effect_carries : (plan : Plan) (i : Instr) (s : State) → IsInstr i → IsAllowed plan i s → Carries plan s (effect plan i s)
+effect_carries : (plan : Plan) (i : Instr) (s : State) → IsInstr i → IsAllowed plan i s
+    → Carries plan s (effect plan i s)
 effect_carries plan (CommitIn k) s f a =
     committed plan s (left_in (count_step (layout_mode plan.layout)) s.count k) a.0.idle
     (in_notice (layout_mode plan.layout) s.count k plan.notice a.1, in_step (layout_mode plan.layout) s.count k)
@@ -101,20 +127,25 @@ effect_carries plan _ s f a = unmoved plan s _ _ _
 
 -- ---- a burst
 
-pub burst_carries : (p : Program) → IsProgram p → (s : State) (n : ℕ) (t : State) → Executes p s n t → Carries p.plan s t
+pub burst_carries : (p : Program) → IsProgram p → (s : State) (n : ℕ) (t : State) → Executes p s n t
+    → Carries p.plan s t
 burst_carries p pr s zero t h = subst (λ (u : State). Carries p.plan s u) h.1 (carries_itself p.plan s)
 burst_carries p pr s (suc n) t h =
     let i = h.1.instr in
     let one = effect_carries p.plan i s (line_formed p.lines s.pc i pr.lines_formed h.1.within) h.1.allowed in
-    let first : Carries p.plan s (step p s) = subst (λ (u : State). Carries p.plan s u) (sym (step_is p s i h.1.within)) one in
+    let first : Carries p.plan s (step p s) =
+    subst (λ (u : State). Carries p.plan s u) (sym (step_is p s i h.1.within)) one in
     carries_joined p.plan s (step p s) t first (burst_carries p pr (step p s) n t h.2)
 
-held_carries : (plan : Plan) (s : State) (b : Bool) → Carries plan s (cond b (let r : State = record s { hold = Running } in r) s)
+held_carries : (plan : Plan) (s : State) (b : Bool) → Carries plan s
+    (cond b (let r : State = record s { hold = Running } in r) s)
 held_carries plan s true = unmoved plan s _ _ _
 held_carries plan s false = carries_itself plan s
 
 ended_carries : (plan : Plan) (s : State) → Carries plan s (with_hold_ended s)
 ended_carries plan s = held_carries plan s (is_here s s.hold)
 
-pub frame_carries : (p : Program) → IsProgram p → (s : State) (n : ℕ) → Executes p (ready s) n (after_burst p s) → Carries p.plan (with_due_swap s) (after_burst p s)
-frame_carries p pr s n h = carries_joined p.plan (with_due_swap s) (ready s) (after_burst p s) (ended_carries p.plan (with_due_swap s)) (burst_carries p pr (ready s) n (after_burst p s) h)
+pub frame_carries : (p : Program) → IsProgram p → (s : State) (n : ℕ) → Executes p (ready s) n (after_burst p s)
+    → Carries p.plan (with_due_swap s) (after_burst p s)
+frame_carries p pr s n h = carries_joined p.plan (with_due_swap s) (ready s) (after_burst p s)
+    (ended_carries p.plan (with_due_swap s)) (burst_carries p pr (ready s) n (after_burst p s) h)

@@ -1,7 +1,12 @@
 -- What no instruction changes in any code: the current configuration, the CIF count, the frame of the day and the
 -- contacts; and the counts and the contacts along a run.
-use Rattle.std.proofs.Common.{◌≡◌, ◌≢◌, ℕ, zero, suc, ◌+◌, ◌%◌, ◌<◌, Bool, true, false, cond, eqb, List, [], ◌∷◌, length, Option, Some, None, refl, sym, ap, subst, ◌∙◌, arith}
-use Rattle.plan_runs.proofs.Names.{eqb-true, eqb-false, Configuration, Plan, Instr, Settle, Contacts, is_closed, with_contact, Program, instr_at, State, step, settle, effect, effect_of, is_due, with_swap, with_due_swap, is_running, is_here, burst, ready, after_burst, is_first_noticed, shown, after_frame, Event, Contact, Frame, happens, run, run_frames, level_after, FramesAreCounted, ContactsAreAsSet}
+use Rattle.std.proofs.Common.{◌≡◌, ◌≢◌, ℕ, zero, suc, ◌+◌, ◌%◌, ◌<◌, Bool, true, false, cond, eqb, List, [], ◌∷◌}
+use Rattle.std.proofs.Common.{length, Option, Some, None, refl, sym, ap, subst, ◌∙◌, arith}
+use Rattle.plan_runs.proofs.Names.{eqb-true, eqb-false, Configuration, Plan, Instr, Settle, Contacts, is_closed}
+use Rattle.plan_runs.proofs.Names.{with_contact, Program, instr_at, State, step, settle, effect, effect_of, is_due}
+use Rattle.plan_runs.proofs.Names.{with_swap, with_due_swap, is_running, is_here, burst, ready, after_burst}
+use Rattle.plan_runs.proofs.Names.{is_first_noticed, shown, after_frame, Event, Contact, Frame, happens, run}
+use Rattle.plan_runs.proofs.Names.{run_frames, level_after, FramesAreCounted, ContactsAreAsSet}
 use Rattle.plan_code.proofs.Bits.{contacts_change_alone}
 
 abbrev Unchanged : Type 0
@@ -45,8 +50,10 @@ shown_clock p s =
     either_clock (is_first_noticed p.plan.notice t.left) _ t (clock (with_due_swap s)) same same
 
 -- the current configuration that the frame sends
-pub shown_current : (p : Program) (s : State) (due : Bool) → is_due s.left ≡ due → (shown p s).current ≡ (cond due (with_swap s) s).current
-shown_current p s due e = ap (λ (x : Unchanged). x.0) (shown_clock p s) ∙ ap (λ (b : Bool). (cond b (with_swap s) s).current) e
+pub shown_current : (p : Program) (s : State) (due : Bool) → is_due s.left ≡ due
+    → (shown p s).current ≡ (cond due (with_swap s) s).current
+shown_current p s due e = ap (λ (x : Unchanged). x.0) (shown_clock p s)
+    ∙ ap (λ (b : Bool). (cond b (with_swap s) s).current) e
 
 due_count : (s : State) (due : Bool) → (cond due (with_swap s) s).count ≡ s.count
 due_count s true = refl
@@ -75,7 +82,8 @@ frame_contacts p s = ap (λ (x : Unchanged). x.3) (shown_clock p s) ∙ due_cont
 abbrev IsLater : ℕ → ℕ → ℕ → State → Type 0
 IsLater count day frames s = (s.count ≡ (count + frames) % 5000) × (s.day ≡ (day + frames) % 3600000)
 
-later : (p : Program) (s : State) (count day frames : ℕ) → IsLater count day frames s → IsLater count day (frames + 1) (after_frame p s)
+later : (p : Program) (s : State) (count day frames : ℕ) → IsLater count day frames s
+    → IsLater count day (frames + 1) (after_frame p s)
 later p s count day frames h =
     let at : (shown p s).count ≡ (count + frames) % 5000 = shown_count p s ∙ h.0 in
     let on : (shown p s).day ≡ (day + frames) % 3600000 = shown_day p s ∙ h.1 in
@@ -83,9 +91,12 @@ later p s count day frames h =
     let dated : ((shown p s).day + 1) % 3600000 ≡ (day + (frames + 1)) % 3600000 = omega (arith, on) in
     (counted, dated)
 
-counted_from : (p : Program) (s : State) (count day frames : ℕ) (events : List Event) → IsLater count day frames s → IsLater count day (frames + length (run_frames p s events)) (run p s events)
-counted_from p s count day frames [] h = let none : frames ≡ frames + 0 = omega arith in subst (λ (n : ℕ). IsLater count day n s) none h
-counted_from p s count day frames (Contact c closed ∷ es) h = counted_from p (happens p s (Contact c closed)) count day frames es h
+counted_from : (p : Program) (s : State) (count day frames : ℕ) (events : List Event) → IsLater count day frames s
+    → IsLater count day (frames + length (run_frames p s events)) (run p s events)
+counted_from p s count day frames [] h = let none : frames ≡ frames + 0 = omega arith in
+    subst (λ (n : ℕ). IsLater count day n s) none h
+counted_from p s count day frames (Contact c closed ∷ es) h =
+    counted_from p (happens p s (Contact c closed)) count day frames es h
 counted_from p s count day frames (Frame ∷ es) h =
     let rest = counted_from p (after_frame p s) count day (frames + 1) es (later p s count day frames h) in
     let n : ℕ = length (run_frames p (after_frame p s) es) in
@@ -99,16 +110,19 @@ frames_are_counted p start first events in_range started =
     let frames : ℕ = length (run_frames p first events) in
     let all : 0 + frames ≡ frames = omega arith in
     let end : IsLater start.count start.day frames (run p first events) =
-    subst (λ (n : ℕ). IsLater start.count start.day n (run p first events)) all (counted_from p first start.count start.day 0 events (count, day)) in
+    subst (λ (n : ℕ). IsLater start.count start.day n (run p first events)) all
+    (counted_from p first start.count start.day 0 events (count, day)) in
     record { count = end.0; day = end.1 }
 
 -- ---- contacts
 
-set_by : (contacts : Contacts) (contact c : ℕ) (closed : Bool) → contact < 16 → c < 16 → (same : Bool) → eqb c contact ≡ same
+set_by : (contacts : Contacts) (contact c : ℕ) (closed : Bool) → contact < 16 → c < 16 → (same : Bool)
+    → eqb c contact ≡ same
     → is_closed (with_contact c closed contacts) contact ≡ cond same closed (is_closed contacts contact)
 set_by contacts contact c closed low within true is =
     let e : c ≡ contact = eqb-true c contact is in
-    subst (λ (d : ℕ). is_closed (with_contact c closed contacts) d ≡ closed) e (contacts_change_alone contacts c closed within).0
+    subst (λ (d : ℕ). is_closed (with_contact c closed contacts) d ≡ closed) e
+    (contacts_change_alone contacts c closed within).0
 set_by contacts contact c closed low within false is =
     let apart : c ≢ contact = eqb-false c contact is in
     (contacts_change_alone contacts c closed within).1 contact low (λ e. apart (sym e))

@@ -14,7 +14,8 @@ starts_are_reached p start s in_range started = record {
   leads = refl;
 }
 
-each_joined : (es fs : List Event) → AllByRecursion IsEvent es → AllByRecursion IsEvent fs → AllByRecursion IsEvent (es ++ fs)
+each_joined : (es fs : List Event) → AllByRecursion IsEvent es → AllByRecursion IsEvent fs
+    → AllByRecursion IsEvent (es ++ fs)
 each_joined [] fs h g = g
 each_joined (e ∷ es) fs h g = (h.0, each_joined es fs h.1 g)
 

@@ -1,7 +1,9 @@
 -- What vectors of runs speak of: a start in range, the state in which a code begins there, and that it begins so.
 use Rattle.std.proofs.Common.{ℕ, ◌<◌, false, List, [], ◌∷◌, Option, Some, None, replicate, refl, arith}
-use Rattle.plan_runs.proofs.Names.{EnsembleInformation, IsEnsembleInformation, Whole, Mode, Configuration, Contacts, Plan, Running, Ended, Line, Program, State, Start, StartIsInRange, IsStart}
-pub use Rattle.plan_verifier.proofs.Samples.{plan, with_sub, one_sub, many_subs, empty_is, one_sub_is, counters, label, line, line_is, code, code_under, code_from, first_under_is, first_from_is}
+use Rattle.plan_runs.proofs.Names.{EnsembleInformation, IsEnsembleInformation, Whole, Mode, Configuration, Contacts}
+use Rattle.plan_runs.proofs.Names.{Plan, Running, Ended, Line, Program, State, Start, StartIsInRange, IsStart}
+pub use Rattle.plan_verifier.proofs.Samples.{plan, with_sub, one_sub, many_subs, empty_is, one_sub_is, counters, label}
+pub use Rattle.plan_verifier.proofs.Samples.{line, line_is, code, code_under, code_from, first_under_is, first_from_is}
 use Rattle.plan_runs.proofs.Right.{plain_within, flagged_within}
 
 abbrev pub all_open : Contacts
@@ -49,14 +51,16 @@ starts_under under c lines count cost = record {
   page_index = refl;
 }
 
-pub it_starts : (c : Configuration) (lines : List Line) (count cost : ℕ) → IsStart (code_from c (label 0 cost ∷ []) lines) (start_at count) (first_state c count)
+pub it_starts : (c : Configuration) (lines : List Line) (count cost : ℕ)
+    → IsStart (code_from c (label 0 cost ∷ []) lines) (start_at count) (first_state c count)
 it_starts c lines count cost = starts_under plan c lines count cost
 
 -- ---- codes that have ended
 
 -- periods of one frame; FIG 0/0 is in every fourth frame of mode I, and in every frame of mode II
 abbrev pub short_plan : Mode → ℕ → ℕ → Plan
-short_plan mode notice budget = record { eid = 0xe1c5; layout = Whole mode; period = 1; notice = notice; budget = budget }
+short_plan mode notice budget =
+    record { eid = 0xe1c5; layout = Whole mode; period = 1; notice = notice; budget = budget }
 
 abbrev pub ended : Plan → Program
 ended plan = record { plan = plan; configurations = []; labels = []; lines = [] }

@@ -1,6 +1,13 @@
 -- Frames of one sub-channel, and of a notice that lowers its rate: what is heard in them, and what is not.
-use Rattle.std.proofs.Common.{◌≡◌, ℕ, zero, suc, ◌<◌, Bool, true, false, List, [], ◌∷◌, Contains, Some, None, refl, sym, ap, subst, ◌∙◌, arith}
-use Rattle.plan_runs.proofs.Names.{slice_get_within, AllByRecursion, Whole, EnsembleInformation, Marked, marked, sub_entry, EnsembleOf, Mode, I, II, Fig, Open, Other, IsInFig, IsEnsembleHeardInRow, fib_at, page_entries, page_set, IsPageable, Plan, Program, State, Frame, FrameIsAllowed, sent_entries, ensemble_sent, shown_bytes, after_frame, frame_bytes, IsHeardInSome, IsHeardWhole, HasHeader, IsFlagged, IsAnnounced, FrameRuns, Runs, IsEnsembleFig, IsNoHeader, IsEnsembleOf, IsHeadedBy, IsUnheaded, IsRight, BeginsNoPhase, IsOnePhase, IsAnnouncedIn, AnnouncesOnly, SwapsAt, KeepsCount}
+use Rattle.std.proofs.Common.{◌≡◌, ℕ, zero, suc, ◌<◌, Bool, true, false, List, [], ◌∷◌, Contains, Some, None, refl, sym}
+use Rattle.std.proofs.Common.{ap, subst, ◌∙◌, arith}
+use Rattle.plan_runs.proofs.Names.{slice_get_within, AllByRecursion, Whole, EnsembleInformation, Marked, marked}
+use Rattle.plan_runs.proofs.Names.{sub_entry, EnsembleOf, Mode, I, II, Fig, Open, Other, IsInFig, IsEnsembleHeardInRow}
+use Rattle.plan_runs.proofs.Names.{fib_at, page_entries, page_set, IsPageable, Plan, Program, State, Frame}
+use Rattle.plan_runs.proofs.Names.{FrameIsAllowed, sent_entries, ensemble_sent, shown_bytes, after_frame, frame_bytes}
+use Rattle.plan_runs.proofs.Names.{IsHeardInSome, IsHeardWhole, HasHeader, IsFlagged, IsAnnounced, FrameRuns, Runs}
+use Rattle.plan_runs.proofs.Names.{IsEnsembleFig, IsNoHeader, IsEnsembleOf, IsHeadedBy, IsUnheaded, IsRight}
+use Rattle.plan_runs.proofs.Names.{BeginsNoPhase, IsOnePhase, IsAnnouncedIn, AnnouncesOnly, SwapsAt, KeepsCount}
 use Rattle.mux_config.proofs.Sounding.{sound_told}
 use Rattle.plan_runs.proofs.Samples.{short_plan, ended, lowering, unflagged, flagged, flagged_is}
 use Rattle.plan_runs.proofs.Passing.{some_is}
@@ -75,7 +82,8 @@ next_sub = marked true (sub_entry (sub_at_rate 96))
 
 has_no_header : HasHeader bare → ⊥
 has_no_header h =
-    let said = (ensemble_is_heard (Whole I) (ensemble_sent (plan I) (lowering None 9)) 0 (sent_entries (plan I) (lowering None 9)) without_header h.0 h.1).0 h.2 in
+    let said = (ensemble_is_heard (Whole I) (ensemble_sent (plan I) (lowering None 9)) 0
+    (sent_entries (plan I) (lowering None 9)) without_header h.0 h.1).0 h.2 in
     let e : None ≡ Some h.1 = said.1 in
     absurd cc
 
@@ -112,7 +120,8 @@ says_header (Other bytes) e h = h
 not_both : (plan : Plan) (s : State) (fib : List ℕ) → IsHeadedBy plan s fib → IsUnheaded fib → ⊥
 not_both plan s fib h u =
     let same : u.0 ≡ h.header ∷ h.others = one_fib fib u.0 (h.header ∷ h.others) u.1 h.first in
-    let each : AllByRecursion IsNoHeader (h.header ∷ h.others) = subst (λ (figs : List Fig). AllByRecursion IsNoHeader figs) same u.2 in
+    let each : AllByRecursion IsNoHeader (h.header ∷ h.others) =
+    subst (λ (figs : List Fig). AllByRecursion IsNoHeader figs) same u.2 in
     each.0 (says_header h.header h.information h.says)
 
 unheaded_with_one : IsUnheaded (fib_at headed 0) → ⊥
@@ -132,26 +141,45 @@ record IsNoticeFrame (count left : ℕ) : Type 0 where
   header : ensemble_sent (plan II) (noticed count left) ≡ Some (flagged count 10)
   next : Contains (page_entries (Whole II) 0 (sent_entries (plan II) (noticed count left))) next_sub
 
-sendable_to_96 : (count low : ℕ) → count < 5000 → low < 256 → IsPageable (Some (flagged count low)) (page_set (with_sub 128) (Some (with_sub 96)))
-sendable_to_96 count low below last = page_sets_are_pageable (with_sub 128) (Some (with_sub 96)) (Some (flagged count low)) one_sub_is lower_is (flagged_is count low below last)
+sendable_to_96 : (count low : ℕ) → count < 5000 → low < 256
+    → IsPageable (Some (flagged count low)) (page_set (with_sub 128) (Some (with_sub 96)))
+sendable_to_96 count low below last =
+    page_sets_are_pageable (with_sub 128) (Some (with_sub 96)) (Some (flagged count low)) one_sub_is lower_is
+    (flagged_is count low below last)
 
 three_before : IsNoticeFrame 7 3
-three_before = record { sendable = sendable_to_96 7 10 (omega arith) (omega arith); header = refl; next = (1, omega arith, refl) }
+three_before = record {
+  sendable = sendable_to_96 7 10 (omega arith) (omega arith);
+  header = refl;
+  next = (1, omega arith, refl);
+}
 
 two_before : IsNoticeFrame 8 2
-two_before = record { sendable = sendable_to_96 8 10 (omega arith) (omega arith); header = refl; next = (1, omega arith, refl) }
+two_before = record {
+  sendable = sendable_to_96 8 10 (omega arith) (omega arith);
+  header = refl;
+  next = (1, omega arith, refl);
+}
 
 one_before : IsNoticeFrame 9 1
-one_before = record { sendable = sendable_to_96 9 10 (omega arith) (omega arith); header = refl; next = (1, omega arith, refl) }
+one_before = record {
+  sendable = sendable_to_96 9 10 (omega arith) (omega arith);
+  header = refl;
+  next = (1, omega arith, refl);
+}
 
-header_of : (count left : ℕ) → IsNoticeFrame count left → IsEnsembleHeardInRow (notice_frame count left) false (flagged count 10)
+header_of : (count left : ℕ) → IsNoticeFrame count left
+    → IsEnsembleHeardInRow (notice_frame count left) false (flagged count 10)
 header_of count left h =
-    (ensemble_is_heard (Whole II) (ensemble_sent (plan II) (noticed count left)) 0 (sent_entries (plan II) (noticed count left)) h.sendable false (flagged count 10)).1
+    (ensemble_is_heard (Whole II) (ensemble_sent (plan II) (noticed count left)) 0
+    (sent_entries (plan II) (noticed count left)) h.sendable false (flagged count 10)).1
     (refl, h.header)
 
-only_header : (count left : ℕ) → IsNoticeFrame count left → (next : Bool) (e : EnsembleInformation) → IsEnsembleHeardInRow (notice_frame count left) next e → flagged count 10 ≡ e
+only_header : (count left : ℕ) → IsNoticeFrame count left → (next : Bool) (e : EnsembleInformation)
+    → IsEnsembleHeardInRow (notice_frame count left) next e → flagged count 10 ≡ e
 only_header count left h next e heard =
-    let said = (ensemble_is_heard (Whole II) (ensemble_sent (plan II) (noticed count left)) 0 (sent_entries (plan II) (noticed count left)) h.sendable next e).0 heard in
+    let said = (ensemble_is_heard (Whole II) (ensemble_sent (plan II) (noticed count left)) 0
+    (sent_entries (plan II) (noticed count left)) h.sendable next e).0 heard in
     cc (h.header, said.1)
 
 has_its_header : (count left : ℕ) → IsNoticeFrame count left → HasHeader (notice_frame count left)
@@ -161,23 +189,30 @@ next_in : (count left : ℕ) → IsNoticeFrame count left → IsHeardInSome (not
 next_in count left h = (
   notice_frame count left,
   (0, omega arith, refl),
-  (pages_are_heard (Whole II) (ensemble_sent (plan II) (noticed count left)) 0 (sent_entries (plan II) (noticed count left)) h.sendable next_sub).1 h.next,
+  (pages_are_heard (Whole II) (ensemble_sent (plan II) (noticed count left)) 0
+      (sent_entries (plan II) (noticed count left)) h.sendable next_sub).1 h.next,
 )
 
-whole_next : (count left : ℕ) → IsNoticeFrame count left → IsHeardWhole (with_sub 96) true (notice_frame count left ∷ [])
-whole_next count left h m (zero, lt, same) = subst (λ (x : Marked). IsHeardInSome (notice_frame count left ∷ []) x) same (next_in count left h)
+whole_next : (count left : ℕ) → IsNoticeFrame count left
+    → IsHeardWhole (with_sub 96) true (notice_frame count left ∷ [])
+whole_next count left h m (zero, lt, same) =
+    subst (λ (x : Marked). IsHeardInSome (notice_frame count left ∷ []) x) same (next_in count left h)
 whole_next count left h m (suc n, lt, same) = absurd (omega (arith, lt))
 
 abbrev notice : List (List ℕ)
 notice = notice_frame 7 3 ∷ notice_frame 8 2 ∷ notice_frame 9 1 ∷ []
 
-flagged_by : (count left : ℕ) → IsNoticeFrame count left → (next : Bool) (e : EnsembleInformation) (frame : List ℕ) → notice_frame count left ≡ frame
+flagged_by : (count left : ℕ) → IsNoticeFrame count left → (next : Bool) (e : EnsembleInformation) (frame : List ℕ)
+    → notice_frame count left ≡ frame
     → IsEnsembleHeardInRow frame next e → IsFlagged (with_sub 128) (with_sub 96) 10 e
 flagged_by count left h next e frame here heard =
-    let there : IsEnsembleHeardInRow (notice_frame count left) next e = subst (λ (bytes : List ℕ). IsEnsembleHeardInRow bytes next e) (sym here) heard in
-    subst (λ (x : EnsembleInformation). IsFlagged (with_sub 128) (with_sub 96) 10 x) (only_header count left h next e there) (refl, refl)
+    let there : IsEnsembleHeardInRow (notice_frame count left) next e =
+    subst (λ (bytes : List ℕ). IsEnsembleHeardInRow bytes next e) (sym here) heard in
+    subst (λ (x : EnsembleInformation). IsFlagged (with_sub 128) (with_sub 96) 10 x)
+    (only_header count left h next e there) (refl, refl)
 
-all_flagged : (frame : List ℕ) (next : Bool) (e : EnsembleInformation) → Contains notice frame → IsEnsembleHeardInRow frame next e → IsFlagged (with_sub 128) (with_sub 96) 10 e
+all_flagged : (frame : List ℕ) (next : Bool) (e : EnsembleInformation) → Contains notice frame
+    → IsEnsembleHeardInRow frame next e → IsFlagged (with_sub 128) (with_sub 96) 10 e
 all_flagged frame next e (zero, lt, same) heard = flagged_by 7 3 three_before next e frame same heard
 all_flagged frame next e (suc zero, lt, same) heard = flagged_by 8 2 two_before next e frame same heard
 all_flagged frame next e (suc (suc zero), lt, same) heard = flagged_by 9 1 one_before next e frame same heard
@@ -208,7 +243,9 @@ announced = record {
 -- and two frames alone announce no swap
 announced_by_two : IsAnnounced (with_sub 128) (with_sub 96) 10 (notice_frame 8 2 ∷ notice_frame 9 1 ∷ []) → ⊥
 announced_by_two h =
-    let within : h.headers.third < 2 = slice_get_within (notice_frame 8 2 ∷ notice_frame 9 1 ∷ []) h.headers.third h.headers.in_third.0 h.headers.in_third.1 in
+    let within : h.headers.third < 2 =
+    slice_get_within (notice_frame 8 2 ∷ notice_frame 9 1 ∷ []) h.headers.third h.headers.in_third.0
+    h.headers.in_third.1 in
     omega (arith, within, h.headers.before_second, h.headers.before_third)
 
 -- ---- the count that a frame announces
@@ -228,7 +265,8 @@ keeps_its_count : KeepsCount (code II) (noticed 9 1) (Frame ∷ Frame ∷ [])
 keeps_its_count = ((λ low h. at_10 low (announces_only_10 low h)), ((λ low h. tt), tt))
   where
     at_10 : (low : ℕ) → low ≡ 10 → SwapsAt low (code II) (after_frame (code II) (noticed 9 1)) (Frame ∷ [])
-    at_10 low same = subst (λ (x : ℕ). SwapsAt x (code II) (after_frame (code II) (noticed 9 1)) (Frame ∷ [])) (sym same) refl
+    at_10 low same = subst (λ (x : ℕ). SwapsAt x (code II) (after_frame (code II) (noticed 9 1)) (Frame ∷ []))
+        (sym same) refl
 
 -- a notice of 251 frames, which no plan has: its first frame would name the count of the second, without a swap
 abbrev too_long : Program
@@ -241,7 +279,8 @@ names_the_second : IsAnnouncedIn (frame_bytes too_long (noticed 0 251)) 1
 names_the_second = (
   false,
   flagged 0 1,
-  (ensemble_is_heard (Whole II) (ensemble_sent too_long.plan (noticed 0 251)) 0 (sent_entries too_long.plan (noticed 0 251)) first_of_251 false (flagged 0 1)).1 (refl, refl),
+  (ensemble_is_heard (Whole II) (ensemble_sent too_long.plan (noticed 0 251)) 0
+      (sent_entries too_long.plan (noticed 0 251)) first_of_251 false (flagged 0 1)).1 (refl, refl),
   refl,
 )
 

@@ -1,6 +1,7 @@
 -- Statements about listeners that hold for one run and fail for another.
 use Rattle.std.proofs.Common.{◌≡◌, true, false, [], ◌∷◌, Some, None, inr, refl}
-use Rattle.plan_runs.proofs.Names.{II, blank, untuned, Shows, Program, Frame, KnowsTheCurrent, IsNotice, MakesNoSwap, IsUntilNextSwap, ListenersKnow}
+use Rattle.plan_runs.proofs.Names.{II, blank, untuned, Shows, Program, Frame, KnowsTheCurrent, IsNotice, MakesNoSwap}
+use Rattle.plan_runs.proofs.Names.{IsUntilNextSwap, ListenersKnow}
 use Rattle.plan_runs.proofs.Samples.{one_sub, short_plan, ended, lowering}
 
 not_blank : Shows blank one_sub → ⊥

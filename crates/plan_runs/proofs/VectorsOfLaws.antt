@@ -1,6 +1,12 @@
 -- Swaps, waits, counts, contacts and what was heard: for each definition, examples that hold and examples that fail.
-use Rattle.std.proofs.Common.{◌≡◌, ℕ, zero, suc, ◌<◌, ◌≤◌, ◌%◌, true, false, List, [], ◌∷◌, length, Some, None, refl, ap, arith, inl, inr}
-use Rattle.plan_runs.proofs.Names.{map, get_or, Configuration, EnsembleInformation, I, II, Running, Waits, WaitsSwap, Wait, CommitIn, CommitAt, End, Set, Line, Program, State, Contact, Frame, Start, is_due, hold_after_swap, is_running, is_here, with_hold_ended, ensemble_of, shown, frame_bytes, hold_after_frame, after_frame, CarriesOut, IsFirstWhere, IsOnStep, SwapsWhereDue, IsSwapAtCount, IsSwapAfterDelay, IsCommit, IsWaitOf, WaitsUntil, IsCounted, level_after, AreLastSent, HasHeaderOf}
+use Rattle.std.proofs.Common.{◌≡◌, ℕ, zero, suc, ◌<◌, ◌≤◌, ◌%◌, true, false, List, [], ◌∷◌, length, Some, None, refl}
+use Rattle.std.proofs.Common.{ap, arith, inl, inr}
+use Rattle.plan_runs.proofs.Names.{map, get_or, Configuration, EnsembleInformation, I, II, Running, Waits, WaitsSwap}
+use Rattle.plan_runs.proofs.Names.{Wait, CommitIn, CommitAt, End, Set, Line, Program, State, Contact, Frame, Start}
+use Rattle.plan_runs.proofs.Names.{is_due, hold_after_swap, is_running, is_here, with_hold_ended, ensemble_of, shown}
+use Rattle.plan_runs.proofs.Names.{frame_bytes, hold_after_frame, after_frame, CarriesOut, IsFirstWhere, IsOnStep}
+use Rattle.plan_runs.proofs.Names.{SwapsWhereDue, IsSwapAtCount, IsSwapAfterDelay, IsCommit, IsWaitOf, WaitsUntil}
+use Rattle.plan_runs.proofs.Names.{IsCounted, level_after, AreLastSent, HasHeaderOf}
 use Rattle.mux_types.specs.declared.parts.Sub.{Sub}
 use Rattle.plan_runs.proofs.Samples.{line, start_at, short_plan, ended}
 use Rattle.plan_runs.proofs.Waits.{waits_are_kept}
@@ -34,7 +40,8 @@ off_the_step : IsOnStep (short_plan I 12 20) (due_at 7) → ⊥
 off_the_step h = let e : 3 ≡ 0 = h refl in omega (arith, e)
 
 other_rate : with_sub 128 ≡ with_sub 96 → ⊥
-other_rate e = let rate : 128 ≡ 96 = ap (λ (c : Configuration). get_or (map (λ (sub : Sub). sub.kbits) c.subs) 0 0) e in omega (arith, rate)
+other_rate e = let rate : 128 ≡ 96 = ap (λ (c : Configuration). get_or (map (λ (sub : Sub). sub.kbits) c.subs) 0 0) e in
+    omega (arith, rate)
 
 swapped : SwapsWhereDue (due_at 8) (record first { current = with_sub 96 })
 swapped = record { becomes_next = λ due. refl; stays = λ none. let clash : true ≡ false = none in absurd cc }
@@ -59,7 +66,8 @@ commits_twice = code 20 (line (CommitAt 1) ∷ line (CommitAt 2) ∷ line End �
 at_another_count : IsSwapAtCount 1 commits_twice first (Frame ∷ []) → ⊥
 at_another_count h = by (h (0, omega arith, refl))
   where
-    by : IsFirstWhere (λ t. is_due t.left) (λ later t. (1 ≤ later) × (t.count ≡ 1)) 1 commits_twice (after_frame commits_twice first) (Frame ∷ []) → ⊥
+    by : IsFirstWhere (λ t. is_due t.left) (λ later t. (1 ≤ later) × (t.count ≡ 1)) 1 commits_twice
+        (after_frame commits_twice first) (Frame ∷ []) → ⊥
     by (inl g) = let clash : false ≡ true = g.0 in absurd cc
     by (inr g) = g.1 (omega arith, refl)
 
@@ -72,7 +80,8 @@ commits_again = code 20 (line (CommitIn 1) ∷ line (CommitIn 2) ∷ line End �
 out_of_time : IsSwapAfterDelay 1 commits_again first (Frame ∷ []) → ⊥
 out_of_time h = by (h (0, omega arith, refl))
   where
-    by : IsFirstWhere (λ t. is_due t.left) (λ later t. (1 ≤ later) × (t.count % 1 ≡ 0)) 1 commits_again (after_frame commits_again first) (Frame ∷ []) → ⊥
+    by : IsFirstWhere (λ t. is_due t.left) (λ later t. (1 ≤ later) × (t.count % 1 ≡ 0)) 1 commits_again
+        (after_frame commits_again first) (Frame ∷ []) → ⊥
     by (inl g) = let clash : false ≡ true = g.0 in absurd cc
     by (inr g) = g.1 (omega arith, refl)
 
@@ -150,7 +159,12 @@ earlier_setting e = let clash : false ≡ true = e in absurd cc
 -- ---- what was heard
 
 nothing_was_heard : AreLastSent waits first (Frame ∷ [])
-nothing_was_heard = record { along = refl; earlier = frame_bytes waits first ∷ []; sent = refl; whole = λ due. let clash : false ≡ true = due in absurd cc }
+nothing_was_heard = record {
+  along = refl;
+  earlier = frame_bytes waits first ∷ [];
+  sent = refl;
+  whole = λ due. let clash : false ≡ true = due in absurd cc;
+}
 
 -- one frame of a notice of 12 frames has passed, but none was sent
 heard_unsent : AreLastSent (record waits { plan = short_plan I 12 20 }) (record (due_at 1) { left = Some 11 }) [] → ⊥

@@ -1,7 +1,13 @@
 -- Listeners to small codes: for each definition of listening, examples that hold and examples that fail.
-use Rattle.std.proofs.Common.{rules, ◌≡◌, ℕ, ◌+◌, Bool, true, false, List, [], ◌∷◌, ◌++◌, length, map, Some, None, inl, inr, refl, ap, arith}
-use Rattle.plan_runs.proofs.Names.{Whole, marked, sub_entry, fig_of, fib_at, ensemble_figs, figs_of, IsSendable, IsPageable, page_set, Raw, blank, Listening, untuned, Shows, frame_bytes, after_frame, RateSub, Configuration, Mode, I, II, EnsembleIsHeard, CommitIn, Join, End, Edits, Program, IsProgram, State, Frame, IsPlayed, HearsFib, HasCount, IsTunedBy, KnowsTheCurrent, KnowsTheNew, IsNeverFull, ListenersKnow}
-use Rattle.plan_runs.proofs.Samples.{start_at, in_range, starts_under, first_state, short_plan, ended, lowering, unflagged, flagged, unflagged_is, flagged_is}
+use Rattle.std.proofs.Common.{rules, ◌≡◌, ℕ, ◌+◌, Bool, true, false, List, [], ◌∷◌, ◌++◌, length, map, Some, None, inl}
+use Rattle.std.proofs.Common.{inr, refl, ap, arith}
+use Rattle.plan_runs.proofs.Names.{Whole, marked, sub_entry, fig_of, fib_at, ensemble_figs, figs_of, IsSendable}
+use Rattle.plan_runs.proofs.Names.{IsPageable, page_set, Raw, blank, Listening, untuned, Shows, frame_bytes}
+use Rattle.plan_runs.proofs.Names.{after_frame, RateSub, Configuration, Mode, I, II, EnsembleIsHeard, CommitIn, Join}
+use Rattle.plan_runs.proofs.Names.{End, Edits, Program, IsProgram, State, Frame, IsPlayed, HearsFib, HasCount}
+use Rattle.plan_runs.proofs.Names.{IsTunedBy, KnowsTheCurrent, KnowsTheNew, IsNeverFull, ListenersKnow}
+use Rattle.plan_runs.proofs.Samples.{start_at, in_range, starts_under, first_state, short_plan, ended, lowering}
+use Rattle.plan_runs.proofs.Samples.{unflagged, flagged, unflagged_is, flagged_is}
 use Rattle.plan_runs.proofs.Pictures.{whole_of}
 use Rattle.fib_reader.specs.declared.fault.FibFault.TheVariants.{Entry}
 use Rattle.fib_reader.specs.Faults.{IsFibFault}
@@ -16,12 +22,14 @@ use Rattle.plan_runs.proofs.NewKnown.{knows_the_new}
 use Rattle.plan_runs.proofs.Right.{page_laws}
 use Rattle.fib_carousel.proofs.Hearing.{pages_are_valid}
 use Rattle.fib_carousel.proofs.Pieces.{page_is_fibs}
-use Rattle.plan_verifier.proofs.Samples.{sub_at_rate, with_sub, one_sub, one_sub_is, label, line, line_is, code_under, first_under_is}
+use Rattle.plan_verifier.proofs.Samples.{sub_at_rate, with_sub, one_sub, one_sub_is, label, line, line_is, code_under}
+use Rattle.plan_verifier.proofs.Samples.{first_under_is}
 use Rattle.plan_verifier.proofs.OneVerdict.{typed_if}
 
 -- lowers the rate of a sub-channel, and waits for the swap
 abbrev lowers : Mode → Program
-lowers mode = code_under (short_plan mode 12 20) one_sub (label 0 3 ∷ []) (line (Edits (RateSub 1 96)) ∷ line (CommitIn 12) ∷ line Join ∷ line End ∷ [])
+lowers mode = code_under (short_plan mode 12 20) one_sub (label 0 3 ∷ [])
+    (line (Edits (RateSub 1 96)) ∷ line (CommitIn 12) ∷ line Join ∷ line End ∷ [])
 
 abbrev first : ℕ → State
 first count = first_state one_sub count
@@ -30,14 +38,19 @@ first count = first_state one_sub count
 
 lowers_is : IsProgram (lowers II)
 lowers_is =
-    first_under_is (short_plan II 12 20) one_sub 3 (lowers II).lines (grind arith) one_sub_is (omega arith) (omega arith)
-    (line_is (Edits (RateSub 1 96)) (omega arith, omega arith), (line_is (CommitIn 12) (omega arith, omega arith), (line_is Join tt, (line_is End tt, tt)))) (omega arith) (omega arith)
+    first_under_is (short_plan II 12 20) one_sub 3 (lowers II).lines (grind arith) one_sub_is (omega arith)
+    (omega arith) (
+      line_is (Edits (RateSub 1 96)) (omega arith, omega arith),
+      (line_is (CommitIn 12) (omega arith, omega arith), (line_is Join tt, (line_is End tt, tt))),
+    ) (omega arith)
+    (omega arith)
 
 played : IsPlayed (lowers II) (first 7)
 played = record {
   program = lowers_is;
   typed = typed_if (lowers II) lowers_is refl;
-  reached = starts_are_reached (lowers II) (start_at 7) (first 7) (in_range 7 (omega arith)) (starts_under (short_plan II 12 20) one_sub (lowers II).lines 7 3);
+  reached = starts_are_reached (lowers II) (start_at 7) (first 7) (in_range 7 (omega arith))
+      (starts_under (short_plan II 12 20) one_sub (lowers II).lines 7 3);
 }
 
 -- ---- listeners to the code
@@ -101,7 +114,10 @@ abbrev swap_frame : List ℕ
 swap_frame = frame_bytes over (after_frame over announces)
 
 noticed_is : IsPageable (Some (flagged 7 8)) (page_set (with_sub 128) (Some twice))
-noticed_is = record { entries = (current_sendable, (sendable true, (sendable true, tt))); ensemble_within = flagged_is 7 8 (omega arith) (omega arith) }
+noticed_is = record {
+  entries = (current_sendable, (sendable true, (sendable true, tt)));
+  ensemble_within = flagged_is 7 8 (omega arith) (omega arith);
+}
 
 swapped_is : IsPageable (Some (unflagged 8)) (page_set twice None)
 swapped_is = record { entries = (sendable false, (sendable false, tt)); ensemble_within = unflagged_is 8 (omega arith) }
@@ -115,17 +131,20 @@ knows_one = record { tuned = true; current = whole_of (with_sub 96); next = blan
 
 hears_the_notice : HearsFib (fib_at notice_frame 0) untuned knows_both
 hears_the_notice =
-    let valid = (pages_are_valid (Whole II) (Some (flagged 7 8)) 0 (page_set (with_sub 128) (Some twice)) noticed_is).0.0 in
+    let valid = (pages_are_valid (Whole II) (Some (flagged 7 8)) 0 (page_set (with_sub 128) (Some twice))
+    noticed_is).0.0 in
     (map fig_of (ensemble_figs (Some (flagged 7 8)) ++ figs_of (page_set (with_sub 128) (Some twice))), valid.fib, refl)
 
 nothing_in_the_second : HearsFib (fib_at notice_frame 1) knows_both knows_both
 nothing_in_the_second =
-    let valid = (pages_are_valid (Whole II) (Some (flagged 7 8)) 0 (page_set (with_sub 128) (Some twice)) noticed_is).0.1.0 in
+    let valid = (pages_are_valid (Whole II) (Some (flagged 7 8)) 0 (page_set (with_sub 128) (Some twice))
+    noticed_is).0.1.0 in
     ([], valid.fib, refl)
 
 nothing_in_the_third : HearsFib (fib_at notice_frame 2) knows_both knows_both
 nothing_in_the_third =
-    let valid = (pages_are_valid (Whole II) (Some (flagged 7 8)) 0 (page_set (with_sub 128) (Some twice)) noticed_is).0.1.1.0 in
+    let valid = (pages_are_valid (Whole II) (Some (flagged 7 8)) 0 (page_set (with_sub 128) (Some twice))
+    noticed_is).0.1.1.0 in
     ([], valid.fib, refl)
 
 hears_the_swap : HearsFib (fib_at swap_frame 0) knows_both knows_one
@@ -139,8 +158,11 @@ shows_one_of_two h = let e : 1 ≡ 2 = ap (λ (raws : List Raw). length raws) h 
 never_known : KnowsTheNew over announces → ⊥
 never_known h =
     shows_one_of_two
-    (h [] (Frame ∷ []) (Frame ∷ []) 1 knows_one (inr refl) (refl, tt, refl) (refl, tt) (omega arith)
-    (knows_both, hears_the_notice, (knows_both, nothing_in_the_second, (knows_both, nothing_in_the_third, (knows_one, hears_the_swap, refl)))))
+    (h [] (Frame ∷ []) (Frame ∷ []) 1 knows_one (inr refl) (refl, tt, refl) (refl, tt) (omega arith) (
+      knows_both,
+      hears_the_notice,
+      (knows_both, nothing_in_the_second, (knows_both, nothing_in_the_third, (knows_one, hears_the_swap, refl))),
+    ))
 
 -- ---- a count that FIG 0/0 can't hold: its high part has 20 values
 

@@ -1,7 +1,9 @@
 -- The guarantees of typed codes: for a small code they hold; for an untyped code, or a state that no run reaches, they
 -- fail.
 use Rattle.std.proofs.Common.{◌≡◌, ◌<◌, true, false, List, [], ◌∷◌, refl, arith}
-use Rattle.plan_runs.proofs.Names.{marked, sub_entry, EnsembleInformation, EnsembleOf, Fig, Open, Other, IsInFig, State, Event, Contact, Frame, IsOneBurst, ready, after_burst, RunsWell, AlwaysRuns, IsHeardInSome, FrameIsRight, FramesAreRight, IsHeardEachPeriod, MeetsGuarantees}
+use Rattle.plan_runs.proofs.Names.{marked, sub_entry, EnsembleInformation, EnsembleOf, Fig, Open, Other, IsInFig, State}
+use Rattle.plan_runs.proofs.Names.{Event, Contact, Frame, IsOneBurst, ready, after_burst, RunsWell, AlwaysRuns}
+use Rattle.plan_runs.proofs.Names.{IsHeardInSome, FrameIsRight, FramesAreRight, IsHeardEachPeriod, MeetsGuarantees}
 use Rattle.plan_runs.proofs.Bursts.{bursts_are_one}
 use Rattle.plan_runs.proofs.TypedRuns.{typed_code_runs}
 use Rattle.plan_runs.proofs.Announcing.{swaps_are_announced}
@@ -71,7 +73,8 @@ heard_each_period = periods_are_whole page_laws waits second played
 -- with a period of no frames nothing is heard
 no_period : IsHeardEachPeriod (record waits { plan = record plan { period = 0 } }) first → ⊥
 no_period h =
-    let heard : IsHeardInSome [] (marked false (sub_entry (sub_at_rate 128))) = h [] [] tt refl (marked false (sub_entry (sub_at_rate 128))) (0, omega arith, refl) in
+    let heard : IsHeardInSome [] (marked false (sub_entry (sub_at_rate 128))) =
+    h [] [] tt refl (marked false (sub_entry (sub_at_rate 128))) (0, omega arith, refl) in
     omega (arith, heard.1.1)
 
 -- ---- all of it

@@ -27,14 +27,16 @@ pub record SwapsWhereDue (before after : State) : Type 0 where
 abbrev pub IsSwapAtCount : ℕ → Program → State → List Event → Type 0
 IsSwapAtCount n p s events =
     CarriesOut p s (CommitAt n)
-    → IsFirstWhere (λ t. is_due t.left) (λ later t. (p.plan.notice ≤ later) × (t.count ≡ n)) 1 p (after_frame p s) events
+    → IsFirstWhere (λ t. is_due t.left) (λ later t. (p.plan.notice ≤ later) × (t.count ≡ n)) 1 p (after_frame p s)
+    events
 
 -- where it executes `CommitIn k`, the first swap after it is due in the first frame on a multiple of the step that is
 -- at least k frames later
 abbrev pub IsSwapAfterDelay : ℕ → Program → State → List Event → Type 0
 IsSwapAfterDelay k p s events =
     CarriesOut p s (CommitIn k)
-    → IsFirstWhere (λ t. is_due t.left) (λ later t. (k ≤ later) × (t.count % count_step (layout_mode p.plan.layout) ≡ 0)) 1 p (after_frame p s) events
+    → IsFirstWhere (λ t. is_due t.left) (λ later t. (k ≤ later)
+    × (t.count % count_step (layout_mode p.plan.layout) ≡ 0)) 1 p (after_frame p s) events
 
 abbrev pub IsCommit : Instr → Type 0
 IsCommit (CommitIn k) = Unit {0}
@@ -53,8 +55,10 @@ SwapsChangeTheCurrent = (p : Program) (s : State) → SwapsWhereDue s (shown p s
 -- if no swap is pending, or one is due, and the frame executes no commit, none is pending after it
 abbrev pub SwapsAreCommitted : Type 0
 SwapsAreCommitted =
-    (p : Program) (s : State) → (s.left ≡ None) ⊎ (is_due s.left ≡ true) → ((i : Instr) → CarriesOut p s i → IsCommit i → ⊥)
+    (p : Program) (s : State) → (s.left ≡ None) ⊎ (is_due s.left ≡ true)
+    → ((i : Instr) → CarriesOut p s i → IsCommit i → ⊥)
     → (after_frame p s).left ≡ None
 
 abbrev pub CommitsAreKept : Type 0
-CommitsAreKept = (p : Program) (s : State) (n : ℕ) (events : List Event) → IsPlayed p s → IsSwapAtCount n p s events × IsSwapAfterDelay n p s events
+CommitsAreKept = (p : Program) (s : State) (n : ℕ) (events : List Event) → IsPlayed p s → IsSwapAtCount n p s events
+    × IsSwapAfterDelay n p s events

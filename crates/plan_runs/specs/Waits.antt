@@ -1,7 +1,8 @@
 -- How long a suspended code waits.
 use Rattle.std.specs.Prelude.{◌≡◌, ◌⊎◌, ℕ, ◌<◌, true, false, List, Some}
 use Rattle.plan_code.specs.declared.hold.Hold.{Hold}
-use Rattle.plan_code.specs.declared.hold.Hold.TheVariants.{Running, Waits, WaitsDay, WaitsContact, WaitsAny, WaitsSwap, Ended}
+use Rattle.plan_code.specs.declared.hold.Hold.TheVariants.{Running, Waits, WaitsDay, WaitsContact, WaitsAny, WaitsSwap}
+use Rattle.plan_code.specs.declared.hold.Hold.TheVariants.{Ended}
 use Rattle.plan_code.specs.declared.instr.Instr.{Instr}
 use Rattle.plan_code.specs.declared.instr.Instr.TheVariants.{Wait, Until, WaitContact, WaitAny, Join, End}
 use Rattle.plan_code.specs.declared.flags.Contacts.{Contacts}
@@ -49,7 +50,8 @@ WaitsUntil p s events = IsFirstWhere (is_active p) (HasCome (shown p s).hold) 1 
 
 -- an instruction that suspends is the last of its frame
 abbrev pub InstructionsSuspend : Type 0
-InstructionsSuspend = (p : Program) (s : State) (i : Instr) → IsPlayed p s → CarriesOut p s i → IsWaitOf i (shown p s).hold
+InstructionsSuspend = (p : Program) (s : State) (i : Instr) → IsPlayed p s → CarriesOut p s i
+    → IsWaitOf i (shown p s).hold
 
 abbrev pub WaitsAreKept : Type 0
 WaitsAreKept = (p : Program) (s : State) (events : List Event) → IsPlayed p s → WaitsUntil p s events

@@ -8,4 +8,8 @@ use Rattle.fib_carousel.proofs.Pieces.{page_is_fibs}
 pub returns : goal.returns
 returns c =
     let laws : Laws = record { pages = page_laws; fibs = page_is_fibs; ensemble = c.ensemble.ensures } in
-    λ p s h. record { room = never_full laws p s h; current = knows_the_current c.one_list.ensures laws p s h; after_swap = knows_the_new c.one_list.ensures laws p s h }
+    λ p s h. record {
+      room = never_full laws p s h;
+      current = knows_the_current c.one_list.ensures laws p s h;
+      after_swap = knows_the_new c.one_list.ensures laws p s h;
+    }
