@@ -1,32 +1,18 @@
 -- Frames that differ in the count alone, one after another.
-use Rattle.std.proofs.Common.{◌≡◌, ℕ, zero, suc, ◌+◌, ◌-◌, ◌*◌, ◌/◌, ◌%◌, ◌<◌, ◌≤◌, ◌==◌, Bool, true, false, cond, ltb, List, [], ◌∷◌, ◌++◌, length, take, drop, map, flat_map, replicate, Option, Some, None, refl, sym, ap, ap₂, subst, ◌∙◌, arith, append_assoc, length-append}
-use Rattle.std.specs.List.{concat}
-use Rattle.std.proofs.lemmas.Bool.{ne_eqb}
-use Rattle.std.proofs.lemmas.List.{append-nil, take_at, drop_at}
-use Rattle.std.proofs.Math.Nat.{suc-mul}
-use Rattle.fib_codec.specs.Layouts.{layout_mode, frame_fibs}
-use Rattle.fib_codec.specs.declared.frame_layout.FrameLayout.{FrameLayout}
-use Rattle.mux_types.specs.Entries.{EnsembleInformation}
-use Rattle.mux_types.specs.Facts.{Marked, marked}
-use Rattle.mux_types.specs.declared.entry.Entry.TheVariants.{Ensemble as EnsembleOf}
-use Rattle.mux_types.specs.declared.limits.TheConstants.{COUNTS}
-use Rattle.fib_codec.specs.Modes.{count_step}
-use Rattle.fib_codec.specs.Spelling.{Written, occurrence_bytes, entries_bytes, figs_bytes, fib_bytes, filled, checked, head_of, head_byte}
-use Rattle.fib_codec.specs.declared.modes.Mode.{Mode}
-use Rattle.fib_codec.specs.declared.modes.Mode.TheVariants.{I, II, III, IV}
+use Rattle.std.proofs.Common.{◌≡◌, ℕ, zero, suc, ◌+◌, ◌-◌, ◌*◌, ◌/◌, ◌%◌, ◌<◌, ◌≤◌, ◌==◌, Bool, true, false, cond, ltb}
+use Rattle.std.proofs.Common.{List, [], ◌∷◌, ◌++◌, length, take, drop, map, flat_map, replicate, Option, Some, None}
+use Rattle.std.proofs.Common.{refl, sym, ap, ap₂, subst, ◌∙◌, arith, append_assoc, length-append}
+use Rattle.plan_player.proofs.Names.{concat, take_at, drop_at, suc-mul, COUNTS, occurrence_bytes, entries_bytes}
+use Rattle.plan_player.proofs.Names.{figs_bytes, fib_bytes, filled, checked, page_bytes, Header, counted_on, header_of}
+use Rattle.plan_player.proofs.Names.{ensemble_at, IsAlike, AreAlike}
+use Rattle.plan_runs.proofs.Names.{ne_eqb, append-nil, layout_mode, frame_fibs, FrameLayout, EnsembleInformation}
+use Rattle.plan_runs.proofs.Names.{Marked, marked, EnsembleOf, count_step, Written, head_of, head_byte, Mode, I}
+use Rattle.plan_runs.proofs.Names.{fib_entries, first_fib, later_fibs, reserved_figs, figs_of, ensemble_figs}
+use Rattle.plan_runs.proofs.Names.{IsPageable, Plan, State, ensemble_of, ensemble_sent, shown_bytes, sent_entries}
+use Rattle.plan_runs.proofs.Names.{notice_frames}
 use Rattle.fib_codec.proofs.Finished.{length-filled}
 use Rattle.fib_codec.proofs.U16.{checked_len}
-use Rattle.fib_carousel.specs.Pages.{fib_entries, first_fib, later_fibs}
-use Rattle.fib_carousel.specs.Bytes.{reserved_figs, figs_of, ensemble_figs, page_bytes}
-use Rattle.fib_carousel.specs.Carried.{IsPageable}
 use Rattle.fib_carousel.proofs.Hearing.{page_fits, pages_are_valid}
-use Rattle.plan_code.specs.declared.plan.Plan.{Plan}
-use Rattle.plan_code.specs.Machine.{State}
-use Rattle.plan_runs.specs.Frames.{ensemble_of, ensemble_sent, shown_bytes, sent_entries}
-use Rattle.plan_runs.specs.Announced.{notice_frames}
-use Rattle.plan_player.specs.declared.machine.sending.Header.{Header}
-use Rattle.plan_player.specs.Quiet.{counted_on}
-use Rattle.plan_player.specs.Stretch.{header_of, ensemble_at, IsAlike, AreAlike}
 use Rattle.plan_player.proofs.CountedOn.{on_more, count_on}
 use Rattle.plan_player.proofs.Together.{ensemble_is, bytes_more}
 
@@ -35,7 +21,8 @@ use Rattle.plan_player.proofs.Together.{ensemble_is, bytes_more}
 -- what follows six bytes at the front of a FIB
 abbrev rest_of : List ℕ → List ℕ
 rest_of t =
-    cond (ltb (length (0 ∷ 0 ∷ 0 ∷ 0 ∷ 0 ∷ 0 ∷ t)) 30) (t ++ 255 ∷ replicate (29 - length (0 ∷ 0 ∷ 0 ∷ 0 ∷ 0 ∷ 0 ∷ t)) 0) t
+    cond (ltb (length (0 ∷ 0 ∷ 0 ∷ 0 ∷ 0 ∷ 0 ∷ t)) 30)
+    (t ++ 255 ∷ replicate (29 - length (0 ∷ 0 ∷ 0 ∷ 0 ∷ 0 ∷ 0 ∷ t)) 0) t
 
 six_by : (b : Bool) (p q r u x y : ℕ) (t z : List ℕ)
     → cond b ((p ∷ q ∷ r ∷ u ∷ x ∷ y ∷ t) ++ z) (p ∷ q ∷ r ∷ u ∷ x ∷ y ∷ t) ≡ p ∷ q ∷ r ∷ u ∷ x ∷ y ∷ cond b (t ++ z) t
@@ -44,7 +31,8 @@ six_by false p q r u x y t z = refl
 
 filled_six : (p q r u x y : ℕ) (t : List ℕ) → filled (p ∷ q ∷ r ∷ u ∷ x ∷ y ∷ t) ≡ p ∷ q ∷ r ∷ u ∷ x ∷ y ∷ rest_of t
 filled_six p q r u x y t =
-    six_by (ltb (length (0 ∷ 0 ∷ 0 ∷ 0 ∷ 0 ∷ 0 ∷ t)) 30) p q r u x y t (255 ∷ replicate (29 - length (0 ∷ 0 ∷ 0 ∷ 0 ∷ 0 ∷ 0 ∷ t)) 0)
+    six_by (ltb (length (0 ∷ 0 ∷ 0 ∷ 0 ∷ 0 ∷ 0 ∷ t)) 30) p q r u x y t
+    (255 ∷ replicate (29 - length (0 ∷ 0 ∷ 0 ∷ 0 ∷ 0 ∷ 0 ∷ t)) 0)
 
 -- its length and its head, which do not depend on the count
 abbrev fig_len : Header → ℕ
@@ -61,37 +49,50 @@ abbrev headed_data : Header → ℕ → ℕ → List Written → List ℕ
 headed_data h high low figs = fig_len h ∷ fig_head h ∷ h.eid / 256 % 256 ∷ h.eid % 256 ∷ high ∷ low ∷ behind h figs
 
 headed_filled : (h : Header) (c : ℕ) (figs : List Written)
-    → filled (figs_bytes (ensemble_figs (Some (ensemble_at h c)) ++ figs)) ≡ headed_data h (h.change * 64 + 0 * 32 + c / 250) (c % 250) figs
+    → filled (figs_bytes (ensemble_figs (Some (ensemble_at h c)) ++ figs))
+    ≡ headed_data h (h.change * 64 + 0 * 32 + c / 250) (c % 250) figs
 headed_filled h c figs =
     filled_six (fig_len h) (fig_head h) (h.eid / 256 % 256) (h.eid % 256) (h.change * 64 + 0 * 32 + c / 250) (c % 250)
     ((occurrence_bytes h.swap ++ []) ++ figs_bytes figs)
 
 -- the first FIB of a page gets another count
-pub page_recounted : (layout : FrameLayout) (h : Header) (c later k : ℕ) (ms : List Marked) → IsPageable (Some (ensemble_at h later)) ms
+pub page_recounted : (layout : FrameLayout) (h : Header) (c later k : ℕ) (ms : List Marked)
+    → IsPageable (Some (ensemble_at h later)) ms
     → (before after bytes fib new : List ℕ) (offset high low : ℕ)
     → bytes ≡ before ++ (page_bytes layout (Some (ensemble_at h c)) k ms ++ after) → length before ≡ offset
     → high ≡ h.change * 64 + later / 250 → low ≡ later % 250
     → fib ≡ take 32 (drop offset bytes)
-    → ((p q r u x y : ℕ) (rest : List ℕ) → length rest ≡ 24 → fib ≡ checked (p ∷ q ∷ r ∷ u ∷ x ∷ y ∷ rest) → new ≡ checked (p ∷ q ∷ r ∷ u ∷ high ∷ low ∷ rest))
-    → take offset bytes ++ (new ++ drop 32 (drop offset bytes)) ≡ before ++ (page_bytes layout (Some (ensemble_at h later)) k ms ++ after)
-page_recounted layout h c later k ms pageable before after bytes fib new offset high low is long is_high is_low part step =
+    → ((p q r u x y : ℕ) (rest : List ℕ) → length rest ≡ 24 → fib ≡ checked (p ∷ q ∷ r ∷ u ∷ x ∷ y ∷ rest)
+    → new ≡ checked (p ∷ q ∷ r ∷ u ∷ high ∷ low ∷ rest))
+    → take offset bytes ++ (new ++ drop 32 (drop offset bytes)) ≡ before
+    ++ (page_bytes layout (Some (ensemble_at h later)) k ms ++ after)
+page_recounted layout h c later k ms pageable before after bytes fib new offset high low is long is_high is_low part
+    step =
     let figs : List Written = figs_of (fib_entries layout (first_fib layout k) ms) in
-    let others : List ℕ = flat_map fib_bytes (map (λ n. figs_of (fib_entries layout n ms)) (later_fibs layout k) ++ reserved_figs layout) in
+    let others : List ℕ = flat_map fib_bytes (map (λ n. figs_of (fib_entries layout n ms)) (later_fibs layout k)
+    ++ reserved_figs layout) in
     let fits = (page_fits layout (Some (ensemble_at h later)) k ms pageable).0 in
     let old_fib : List ℕ = fib_bytes (ensemble_figs (Some (ensemble_at h c)) ++ figs) in
     let new_fib : List ℕ = fib_bytes (ensemble_figs (Some (ensemble_at h later)) ++ figs) in
     let x : ℕ = h.change * 64 + 0 * 32 + c / 250 in
     let old_is : old_fib ≡ checked (headed_data h x (c % 250) figs) = ap checked (headed_filled h c figs) in
-    let new_is : new_fib ≡ checked (headed_data h (h.change * 64 + 0 * 32 + later / 250) (later % 250) figs) = ap checked (headed_filled h later figs) in
+    let new_is : new_fib ≡ checked (headed_data h (h.change * 64 + 0 * 32 + later / 250) (later % 250) figs) =
+    ap checked (headed_filled h later figs) in
     let whole = length-filled (figs_bytes (ensemble_figs (Some (ensemble_at h later)) ++ figs)) fits.short in
     let parts = ap length (headed_filled h later figs) in
     let rest_long : length (behind h figs) ≡ 24 = omega (arith, whole, parts) in
-    let old_long : length old_fib ≡ 32 = ap length old_is ∙ checked_len (headed_data h x (c % 250) figs) (omega (arith, rest_long)) in
-    let text : bytes ≡ before ++ (old_fib ++ (others ++ after)) = is ∙ ap (λ l. before ++ l) (append_assoc old_fib others after) in
-    let front : take offset bytes ≡ before = ap (λ l. take offset l) text ∙ take_at before (old_fib ++ (others ++ after)) offset long in
-    let back : drop offset bytes ≡ old_fib ++ (others ++ after) = ap (λ l. drop offset l) text ∙ drop_at before (old_fib ++ (others ++ after)) offset long in
-    let past : drop 32 (drop offset bytes) ≡ others ++ after = ap (λ l. drop 32 l) back ∙ drop_at old_fib (others ++ after) 32 old_long in
-    let fib_is : fib ≡ checked (headed_data h x (c % 250) figs) = part ∙ ap (λ l. take 32 l) back ∙ take_at old_fib (others ++ after) 32 old_long ∙ old_is in
+    let old_long : length old_fib ≡ 32 = ap length old_is
+    ∙ checked_len (headed_data h x (c % 250) figs) (omega (arith, rest_long)) in
+    let text : bytes ≡ before ++ (old_fib ++ (others ++ after)) =
+    is ∙ ap (λ l. before ++ l) (append_assoc old_fib others after) in
+    let front : take offset bytes ≡ before = ap (λ l. take offset l) text
+    ∙ take_at before (old_fib ++ (others ++ after)) offset long in
+    let back : drop offset bytes ≡ old_fib ++ (others ++ after) =
+    ap (λ l. drop offset l) text ∙ drop_at before (old_fib ++ (others ++ after)) offset long in
+    let past : drop 32 (drop offset bytes) ≡ others ++ after =
+    ap (λ l. drop 32 l) back ∙ drop_at old_fib (others ++ after) 32 old_long in
+    let fib_is : fib ≡ checked (headed_data h x (c % 250) figs) =
+    part ∙ ap (λ l. take 32 l) back ∙ take_at old_fib (others ++ after) 32 old_long ∙ old_is in
     let high_is : high ≡ h.change * 64 + 0 * 32 + later / 250 = omega (arith, is_high) in
     let made : new ≡ new_fib =
     step (fig_len h) (fig_head h) (h.eid / 256 % 256) (h.eid % 256) x (c % 250) (behind h figs) rest_long fib_is
@@ -109,20 +110,25 @@ rest_from plan n k s = concat (notice_frames plan (n - k) (counted_on plan k s))
 abbrev pub mixed : Plan → ℕ → ℕ → State → State → List ℕ
 mixed plan n k s t = concat (notice_frames plan k t) ++ rest_from plan n k s
 
-rest_more : (plan : Plan) (n k : ℕ) (s : State) → k < n → rest_from plan n k s ≡ shown_bytes plan (counted_on plan k s) ++ rest_from plan n (suc k) s
+rest_more : (plan : Plan) (n k : ℕ) (s : State) → k < n → rest_from plan n k s ≡ shown_bytes plan (counted_on plan k s)
+    ++ rest_from plan n (suc k) s
 rest_more plan n k s lt =
     let count : n - k ≡ suc (n - suc k) = omega (arith, lt) in
     ap (λ (m : ℕ). concat (notice_frames plan m (counted_on plan k s))) count
-    ∙ ap (λ (u : State). shown_bytes plan (counted_on plan k s) ++ concat (notice_frames plan (n - suc k) u)) (sym (on_more plan k s))
+    ∙ ap (λ (u : State). shown_bytes plan (counted_on plan k s) ++ concat (notice_frames plan (n - suc k) u))
+    (sym (on_more plan k s))
 
 pub mixed_at : (plan : Plan) (n k : ℕ) (s t : State) → k < n
-    → mixed plan n k s t ≡ concat (notice_frames plan k t) ++ (shown_bytes plan (counted_on plan k s) ++ rest_from plan n (suc k) s)
+    → mixed plan n k s t ≡ concat (notice_frames plan k t)
+    ++ (shown_bytes plan (counted_on plan k s) ++ rest_from plan n (suc k) s)
 mixed_at plan n k s t lt = ap (λ (l : List ℕ). concat (notice_frames plan k t) ++ l) (rest_more plan n k s lt)
 
 pub mixed_next : (plan : Plan) (n k : ℕ) (s t : State)
-    → concat (notice_frames plan k t) ++ (shown_bytes plan (counted_on plan k t) ++ rest_from plan n (suc k) s) ≡ mixed plan n (suc k) s t
+    → concat (notice_frames plan k t) ++ (shown_bytes plan (counted_on plan k t) ++ rest_from plan n (suc k) s)
+    ≡ mixed plan n (suc k) s t
 mixed_next plan n k s t =
-    sym (append_assoc (concat (notice_frames plan k t)) (shown_bytes plan (counted_on plan k t)) (rest_from plan n (suc k) s))
+    sym (append_assoc (concat (notice_frames plan k t)) (shown_bytes plan (counted_on plan k t))
+    (rest_from plan n (suc k) s))
     ∙ ap (λ (l : List ℕ). l ++ rest_from plan n (suc k) s) (sym (bytes_more plan k t))
 
 pub mixed_none : (plan : Plan) (n : ℕ) (s t : State) → concat (notice_frames plan n s) ≡ mixed plan n 0 s t
@@ -139,10 +145,13 @@ mixed_all plan n k s t e =
 
 -- ---- frames without FIG 0/0
 
-no_fig : (plan : Plan) (s : State) → (s.count % count_step (layout_mode plan.layout) == 0) ≡ false → shown_bytes plan s ≡ page_bytes plan.layout None s.page_index (sent_entries plan s)
-no_fig plan s off = ap (λ (b : Bool). page_bytes plan.layout (cond b (Some (ensemble_of plan s)) None) s.page_index (sent_entries plan s)) off
+no_fig : (plan : Plan) (s : State) → (s.count % count_step (layout_mode plan.layout) == 0) ≡ false
+    → shown_bytes plan s ≡ page_bytes plan.layout None s.page_index (sent_entries plan s)
+no_fig plan s off = ap (λ (b : Bool). page_bytes plan.layout (cond b (Some (ensemble_of plan s)) None) s.page_index
+    (sent_entries plan s)) off
 
-same_frame : (plan : Plan) (header : Header) (s t : State) → IsAlike plan header s t → (t.count % count_step (layout_mode plan.layout) == 0) ≡ false → shown_bytes plan s ≡ shown_bytes plan t
+same_frame : (plan : Plan) (header : Header) (s t : State) → IsAlike plan header s t
+    → (t.count % count_step (layout_mode plan.layout) == 0) ≡ false → shown_bytes plan s ≡ shown_bytes plan t
 same_frame plan header s t h off =
     no_fig plan s (h.on_step ∙ off)
     ∙ ap₂ (λ (k : ℕ) (ms : List Marked). page_bytes plan.layout None k ms) h.page_index h.entries
@@ -157,31 +166,39 @@ passed_over plan header n k zero s t alike fits off =
 passed_over plan header n k (suc m) s t alike fits off =
     let lt : k < n = omega (arith, fits) in
     let next : suc k + m ≡ k + suc m = omega arith in
-    let here = same_frame plan header (counted_on plan k s) (counted_on plan k t) (alike k lt) (off k (omega arith) (omega arith)) in
+    let here = same_frame plan header (counted_on plan k s) (counted_on plan k t) (alike k lt)
+    (off k (omega arith) (omega arith)) in
     mixed_at plan n k s t lt
     ∙ ap (λ (l : List ℕ). concat (notice_frames plan k t) ++ (l ++ rest_from plan n (suc k) s)) here
     ∙ mixed_next plan n k s t
-    ∙ passed_over plan header n (suc k) m s t alike (omega (arith, fits)) (λ j from below. off j (omega (arith, from)) (omega (arith, below)))
+    ∙ passed_over plan header n (suc k) m s t alike (omega (arith, fits))
+    (λ j from below. off j (omega (arith, from)) (omega (arith, below)))
     ∙ ap (λ (j : ℕ). mixed plan n j s t) next
 
 -- ---- a frame with FIG 0/0
 
-with_fig : (plan : Plan) (header : Header) (s : State) → header_of plan s ≡ header → (s.count % count_step (layout_mode plan.layout) == 0) ≡ true → ensemble_sent plan s ≡ Some (ensemble_at header s.count)
+with_fig : (plan : Plan) (header : Header) (s : State) → header_of plan s ≡ header
+    → (s.count % count_step (layout_mode plan.layout) == 0) ≡ true
+    → ensemble_sent plan s ≡ Some (ensemble_at header s.count)
 with_fig plan header s is on =
     ap (λ (b : Bool). cond b (Some (ensemble_of plan s)) None) on
     ∙ ap (λ (e : EnsembleInformation). Some e) (ensemble_is plan s ∙ ap (λ (h : Header). ensemble_at h s.count) is)
 
-frame_long : (plan : Plan) (header : Header) (s t : State) → IsAlike plan header s t → length (shown_bytes plan t) ≡ 32 * frame_fibs plan.layout
-frame_long plan header s t h = (pages_are_valid plan.layout (ensemble_sent plan t) t.page_index (sent_entries plan t) h.pageable).1
+frame_long : (plan : Plan) (header : Header) (s t : State) → IsAlike plan header s t
+    → length (shown_bytes plan t) ≡ 32 * frame_fibs plan.layout
+frame_long plan header s t h =
+    (pages_are_valid plan.layout (ensemble_sent plan t) t.page_index (sent_entries plan t) h.pageable).1
 
-pub all_long : (plan : Plan) (header : Header) (n k : ℕ) (s t : State) → AreAlike plan header n s t → k ≤ n → length (concat (notice_frames plan k t)) ≡ k * (32 * frame_fibs plan.layout)
+pub all_long : (plan : Plan) (header : Header) (n k : ℕ) (s t : State) → AreAlike plan header n s t → k ≤ n
+    → length (concat (notice_frames plan k t)) ≡ k * (32 * frame_fibs plan.layout)
 all_long plan header n zero s t alike le =
     let none : 0 * (32 * frame_fibs plan.layout) ≡ 0 = omega arith in
     sym none
 all_long plan header n (suc k) s t alike le =
     let size : ℕ = 32 * frame_fibs plan.layout in
     let last : List ℕ = shown_bytes plan (counted_on plan k t) in
-    let long : length last ≡ size = frame_long plan header (counted_on plan k s) (counted_on plan k t) (alike k (omega (arith, le))) in
+    let long : length last ≡ size =
+    frame_long plan header (counted_on plan k s) (counted_on plan k t) (alike k (omega (arith, le))) in
     let before = all_long plan header n k s t alike (omega (arith, le)) in
     let more : suc k * size ≡ k * size + size = suc-mul k size in
     ap length (bytes_more plan k t)
@@ -189,124 +206,151 @@ all_long plan header n (suc k) s t alike le =
     ∙ ap₂ (λ a b. a + b) before long
     ∙ sym more
 
-pub frame_recounted : (plan : Plan) (header : Header) (n k number offset high low : ℕ) (s t : State) (bytes fib new : List ℕ) → AreAlike plan header n s t → k < n
-    → (counted_on plan k t).count ≡ number → number % count_step (layout_mode plan.layout) ≡ 0 → offset ≡ k * (32 * frame_fibs plan.layout)
+pub frame_recounted : (plan : Plan) (header : Header) (n k number offset high low : ℕ) (s t : State)
+    (bytes fib new : List ℕ) → AreAlike plan header n s t → k < n
+    → (counted_on plan k t).count ≡ number → number % count_step (layout_mode plan.layout) ≡ 0
+    → offset ≡ k * (32 * frame_fibs plan.layout)
     → high ≡ header.change * 64 + number / 250 → low ≡ number % 250
     → bytes ≡ mixed plan n k s t → fib ≡ take 32 (drop offset bytes)
-    → ((p q r u x y : ℕ) (rest : List ℕ) → length rest ≡ 24 → fib ≡ checked (p ∷ q ∷ r ∷ u ∷ x ∷ y ∷ rest) → new ≡ checked (p ∷ q ∷ r ∷ u ∷ high ∷ low ∷ rest))
+    → ((p q r u x y : ℕ) (rest : List ℕ) → length rest ≡ 24 → fib ≡ checked (p ∷ q ∷ r ∷ u ∷ x ∷ y ∷ rest)
+    → new ≡ checked (p ∷ q ∷ r ∷ u ∷ high ∷ low ∷ rest))
     → take offset bytes ++ (new ++ drop 32 (drop offset bytes)) ≡ mixed plan n (suc k) s t
-frame_recounted plan header n k number offset high low s t bytes fib new alike lt at on at_offset is_high is_low is part step =
+frame_recounted plan header n k number offset high low s t bytes fib new alike lt at on at_offset is_high is_low is part
+    step =
     let a : State = counted_on plan k s in
     let b : State = counted_on plan k t in
     let h = alike k lt in
     let before : List ℕ = concat (notice_frames plan k t) in
     let after : List ℕ = rest_from plan n (suc k) s in
-    let there : (b.count % count_step (layout_mode plan.layout) == 0) ≡ true = ap (λ (c : ℕ). c % count_step (layout_mode plan.layout) == 0) at ∙ ap (λ (c : ℕ). c == 0) on in
-    let old : ensemble_sent plan a ≡ Some (ensemble_at header a.count) = with_fig plan header a h.first (h.on_step ∙ there) in
-    let late : ensemble_sent plan b ≡ Some (ensemble_at header number) = with_fig plan header b h.second there ∙ ap (λ (c : ℕ). Some (ensemble_at header c)) at in
-    let old_page : shown_bytes plan a ≡ page_bytes plan.layout (Some (ensemble_at header a.count)) b.page_index (sent_entries plan b) =
+    let there : (b.count % count_step (layout_mode plan.layout) == 0) ≡ true =
+    ap (λ (c : ℕ). c % count_step (layout_mode plan.layout) == 0) at ∙ ap (λ (c : ℕ). c == 0) on in
+    let old : ensemble_sent plan a ≡ Some (ensemble_at header a.count) =
+    with_fig plan header a h.first (h.on_step ∙ there) in
+    let late : ensemble_sent plan b ≡ Some (ensemble_at header number) =
+    with_fig plan header b h.second there ∙ ap (λ (c : ℕ). Some (ensemble_at header c)) at in
+    let old_page : shown_bytes plan a ≡ page_bytes plan.layout (Some (ensemble_at header a.count)) b.page_index
+    (sent_entries plan b) =
     ap (λ (o : Option EnsembleInformation). page_bytes plan.layout o a.page_index (sent_entries plan a)) old
-    ∙ ap₂ (λ (i : ℕ) (ms : List Marked). page_bytes plan.layout (Some (ensemble_at header a.count)) i ms) h.page_index h.entries in
-    let new_page : shown_bytes plan b ≡ page_bytes plan.layout (Some (ensemble_at header number)) b.page_index (sent_entries plan b) =
+    ∙ ap₂ (λ (i : ℕ) (ms : List Marked). page_bytes plan.layout (Some (ensemble_at header a.count)) i ms) h.page_index
+    h.entries in
+    let new_page : shown_bytes plan b ≡ page_bytes plan.layout (Some (ensemble_at header number)) b.page_index
+    (sent_entries plan b) =
     ap (λ (o : Option EnsembleInformation). page_bytes plan.layout o b.page_index (sent_entries plan b)) late in
-    let pageable : IsPageable (Some (ensemble_at header number)) (sent_entries plan b) = subst (λ (o : Option EnsembleInformation). IsPageable o (sent_entries plan b)) late h.pageable in
+    let pageable : IsPageable (Some (ensemble_at header number)) (sent_entries plan b) =
+    subst (λ (o : Option EnsembleInformation). IsPageable o (sent_entries plan b)) late h.pageable in
     let text = is ∙ mixed_at plan n k s t lt ∙ ap (λ (l : List ℕ). before ++ (l ++ after)) old_page in
     let long : length before ≡ offset = all_long plan header n k s t alike (omega (arith, lt)) ∙ sym at_offset in
-    page_recounted plan.layout header a.count number b.page_index (sent_entries plan b) pageable before after bytes fib new offset high low text long is_high is_low part step
+    page_recounted plan.layout header a.count number b.page_index (sent_entries plan b) pageable before after bytes fib
+    new offset high low text long is_high is_low part step
     ∙ ap (λ (l : List ℕ). before ++ (l ++ after)) (sym new_page)
     ∙ mixed_next plan n k s t
 
 -- ---- the counts at which the mode sends FIG 0/0
 
-pub count_at : (plan : Plan) (k : ℕ) (t : State) → t.count < COUNTS → (counted_on plan k t).count ≡ (t.count + k) % COUNTS
+pub count_at : (plan : Plan) (k : ℕ) (t : State) → t.count < COUNTS
+    → (counted_on plan k t).count ≡ (t.count + k) % COUNTS
 count_at plan zero t lt = omega (arith, lt)
 count_at plan (suc k) t lt = count_on plan k t
 
-pub first_on_step : (mode : Mode) (count : ℕ) → (count + (count_step mode - count % count_step mode) % count_step mode) % COUNTS % count_step mode ≡ 0
+pub first_on_step : (mode : Mode) (count : ℕ) → (count + (count_step mode - count % count_step mode) % count_step mode)
+    % COUNTS % count_step mode ≡ 0
 first_on_step I count = omega arith
-first_on_step II count = omega arith
-first_on_step III count = omega arith
-first_on_step IV count = omega arith
+first_on_step _ count = omega arith
 
-pub next_on_step : (mode : Mode) (number : ℕ) → number % count_step mode ≡ 0 → (number + count_step mode) % COUNTS % count_step mode ≡ 0
+pub next_on_step : (mode : Mode) (number : ℕ) → number % count_step mode ≡ 0
+    → (number + count_step mode) % COUNTS % count_step mode ≡ 0
 next_on_step I number on = omega (arith, on)
-next_on_step II number on = omega (arith, on)
-next_on_step III number on = omega (arith, on)
-next_on_step IV number on = omega (arith, on)
+next_on_step _ number on = omega (arith, on)
 
-off_before : (mode : Mode) (count j : ℕ) → j < (count_step mode - count % count_step mode) % count_step mode → (count + j) % COUNTS % count_step mode ≡ 0 → ⊥
+off_before : (mode : Mode) (count j : ℕ) → j < (count_step mode - count % count_step mode) % count_step mode
+    → (count + j) % COUNTS % count_step mode ≡ 0 → ⊥
 off_before I count j lt on = omega (arith, lt, on)
-off_before II count j lt on = omega (arith, lt, on)
-off_before III count j lt on = omega (arith, lt, on)
-off_before IV count j lt on = omega (arith, lt, on)
+off_before _ count j lt on = omega (arith, lt, on)
 
-off_after : (mode : Mode) (count j : ℕ) → 0 < j → j < count_step mode → count % COUNTS % count_step mode ≡ 0 → (count + j) % COUNTS % count_step mode ≡ 0 → ⊥
+off_after : (mode : Mode) (count j : ℕ) → 0 < j → j < count_step mode → count % COUNTS % count_step mode ≡ 0
+    → (count + j) % COUNTS % count_step mode ≡ 0 → ⊥
 off_after I count j some lt here on = omega (arith, some, lt, here, on)
-off_after II count j some lt here on = omega (arith, some, lt, here, on)
-off_after III count j some lt here on = omega (arith, some, lt, here, on)
-off_after IV count j some lt here on = omega (arith, some, lt, here, on)
+off_after _ count j some lt here on = omega (arith, some, lt, here, on)
 
 pub step_small : (mode : Mode) → (1 ≤ count_step mode) × (count_step mode ≤ 4)
 step_small I = (omega arith, omega arith)
-step_small II = (omega arith, omega arith)
-step_small III = (omega arith, omega arith)
-step_small IV = (omega arith, omega arith)
+step_small _ = (omega arith, omega arith)
 
-pub none_before : (plan : Plan) (count j : ℕ) (t : State) → count < COUNTS → t.count ≡ count → j < (count_step (layout_mode plan.layout) - count % count_step (layout_mode plan.layout)) % count_step (layout_mode plan.layout)
+pub none_before : (plan : Plan) (count j : ℕ) (t : State) → count < COUNTS → t.count ≡ count
+    → j < (count_step (layout_mode plan.layout) - count % count_step (layout_mode plan.layout))
+    % count_step (layout_mode plan.layout)
     → ((counted_on plan j t).count % count_step (layout_mode plan.layout) == 0) ≡ false
 none_before plan count j t fits at lt =
-    let here : (counted_on plan j t).count ≡ (count + j) % COUNTS = count_at plan j t (omega (arith, fits, at)) ∙ ap (λ (c : ℕ). (c + j) % COUNTS) at in
-    ap (λ (c : ℕ). c % count_step (layout_mode plan.layout) == 0) here ∙ ne_eqb ((count + j) % COUNTS % count_step (layout_mode plan.layout)) 0 (λ on. off_before (layout_mode plan.layout) count j lt on)
+    let here : (counted_on plan j t).count ≡ (count + j) % COUNTS =
+    count_at plan j t (omega (arith, fits, at)) ∙ ap (λ (c : ℕ). (c + j) % COUNTS) at in
+    ap (λ (c : ℕ). c % count_step (layout_mode plan.layout) == 0) here
+    ∙ ne_eqb ((count + j) % COUNTS % count_step (layout_mode plan.layout)) 0
+    (λ on. off_before (layout_mode plan.layout) count j lt on)
 
-pub none_between : (plan : Plan) (count k j : ℕ) (t : State) → count < COUNTS → t.count ≡ count → (count + k) % COUNTS % count_step (layout_mode plan.layout) ≡ 0 → k < j → j < k + count_step (layout_mode plan.layout)
+pub none_between : (plan : Plan) (count k j : ℕ) (t : State) → count < COUNTS → t.count ≡ count
+    → (count + k) % COUNTS % count_step (layout_mode plan.layout) ≡ 0 → k < j
+    → j < k + count_step (layout_mode plan.layout)
     → ((counted_on plan j t).count % count_step (layout_mode plan.layout) == 0) ≡ false
 none_between plan count k j t fits at here from below =
     let d : ℕ = j - k in
     let far : count + j ≡ count + k + d = omega (arith, from) in
     let there : (counted_on plan j t).count ≡ (count + k + d) % COUNTS =
-    count_at plan j t (omega (arith, fits, at)) ∙ ap (λ (c : ℕ). (c + j) % COUNTS) at ∙ ap (λ (c : ℕ). c % COUNTS) far in
+    count_at plan j t (omega (arith, fits, at)) ∙ ap (λ (c : ℕ). (c + j) % COUNTS) at
+    ∙ ap (λ (c : ℕ). c % COUNTS) far in
     ap (λ (c : ℕ). c % count_step (layout_mode plan.layout) == 0) there
     ∙ ne_eqb ((count + k + d) % COUNTS % count_step (layout_mode plan.layout)) 0
     (λ on. off_after (layout_mode plan.layout) (count + k) d (omega (arith, from)) (omega (arith, from, below)) here on)
 
 -- ---- from one frame with FIG 0/0 to the next
 
-pub entered : (plan : Plan) (header : Header) (n count at step : ℕ) (s t : State) (bytes : List ℕ) → AreAlike plan header n s t → t.count ≡ count → count < COUNTS
-    → step ≡ count_step (layout_mode plan.layout) → at ≡ (step - count % step) % step → bytes ≡ concat (notice_frames plan n s) → bytes ≡ mixed plan n (n - (n - at)) s t
+pub entered : (plan : Plan) (header : Header) (n count at step : ℕ) (s t : State) (bytes : List ℕ)
+    → AreAlike plan header n s t → t.count ≡ count → count < COUNTS
+    → step ≡ count_step (layout_mode plan.layout) → at ≡ (step - count % step) % step
+    → bytes ≡ concat (notice_frames plan n s) → bytes ≡ mixed plan n (n - (n - at)) s t
 entered plan header n count at step s t bytes alike counts fits is_step is_at is =
     let k : ℕ = n - (n - at) in
-    let by_mode : at ≡ (count_step (layout_mode plan.layout) - count % count_step (layout_mode plan.layout)) % count_step (layout_mode plan.layout) = is_at ∙ ap (λ (m : ℕ). (m - count % m) % m) is_step in
+    let by_mode : at ≡ (count_step (layout_mode plan.layout) - count % count_step (layout_mode plan.layout))
+    % count_step (layout_mode plan.layout) = is_at ∙ ap (λ (m : ℕ). (m - count % m) % m) is_step in
     let start : 0 + k ≡ k = omega arith in
     is
     ∙ mixed_none plan n s t
     ∙ passed_over plan header n 0 k s t alike (omega arith)
-    (λ j from below. none_before plan count j t fits counts (let within : j < at = omega (arith, below) in subst (λ (x : ℕ). j < x) by_mode within))
+    (λ j from below. none_before plan count j t fits counts
+    (let within : j < at = omega (arith, below) in subst (λ (x : ℕ). j < x) by_mode within))
     ∙ ap (λ (j : ℕ). mixed plan n j s t) start
 
-pub continued : (plan : Plan) (header : Header) (n count at number step size offset width high low : ℕ) (s t : State) (bytes fib new last : List ℕ) → AreAlike plan header n s t → t.count ≡ count → count < COUNTS
-    → step ≡ count_step (layout_mode plan.layout) → size ≡ 32 * frame_fibs plan.layout → at < n → number ≡ (count + at) % COUNTS → number % count_step (layout_mode plan.layout) ≡ 0 → offset ≡ at * size
+pub continued : (plan : Plan) (header : Header) (n count at number step size offset width high low : ℕ) (s t : State)
+    (bytes fib new last : List ℕ) → AreAlike plan header n s t → t.count ≡ count → count < COUNTS
+    → step ≡ count_step (layout_mode plan.layout) → size ≡ 32 * frame_fibs plan.layout → at < n
+    → number ≡ (count + at) % COUNTS → number % count_step (layout_mode plan.layout) ≡ 0 → offset ≡ at * size
     → width ≡ 32 → high ≡ header.change * 64 + number / 250 → low ≡ number % 250
     → bytes ≡ mixed plan n (n - (n - at)) s t → fib ≡ take width (drop offset bytes)
-    → ((p q r u x y : ℕ) (rest : List ℕ) → length rest ≡ 24 → fib ≡ checked (p ∷ q ∷ r ∷ u ∷ x ∷ y ∷ rest) → new ≡ checked (p ∷ q ∷ r ∷ u ∷ high ∷ low ∷ rest))
-    → last ≡ take offset bytes ++ (new ++ drop width (drop offset bytes)) → last ≡ mixed plan n (n - (n - (at + step))) s t
-continued plan header n count at number step size offset width high low s t bytes fib new last alike counts fits is_step is_size lt at_number on at_offset is_width is_high is_low is part made is_last =
+    → ((p q r u x y : ℕ) (rest : List ℕ) → length rest ≡ 24 → fib ≡ checked (p ∷ q ∷ r ∷ u ∷ x ∷ y ∷ rest)
+    → new ≡ checked (p ∷ q ∷ r ∷ u ∷ high ∷ low ∷ rest))
+    → last ≡ take offset bytes ++ (new ++ drop width (drop offset bytes))
+    → last ≡ mixed plan n (n - (n - (at + step))) s t
+continued plan header n count at number step size offset width high low s t bytes fib new last alike counts fits is_step
+    is_size lt at_number on at_offset is_width is_high is_low is part made is_last =
     let k : ℕ = n - (n - (at + step)) in
     let m : ℕ = k - suc at in
     let some : 1 ≤ step = omega (arith, is_step, (step_small (layout_mode plan.layout)).0) in
     let all : suc at + m ≡ k = omega (arith, lt, some) in
     let here : n - (n - at) ≡ at = omega (arith, lt) in
     let old : bytes ≡ mixed plan n at s t = is ∙ ap (λ (j : ℕ). mixed plan n j s t) here in
-    let there : (counted_on plan at t).count ≡ number = count_at plan at t (omega (arith, fits, counts)) ∙ ap (λ (c : ℕ). (c + at) % COUNTS) counts ∙ sym at_number in
-    let now : (count + at) % COUNTS % count_step (layout_mode plan.layout) ≡ 0 = ap (λ (c : ℕ). c % count_step (layout_mode plan.layout)) (sym at_number) ∙ on in
+    let there : (counted_on plan at t).count ≡ number =
+    count_at plan at t (omega (arith, fits, counts)) ∙ ap (λ (c : ℕ). (c + at) % COUNTS) counts ∙ sym at_number in
+    let now : (count + at) % COUNTS % count_step (layout_mode plan.layout) ≡ 0 =
+    ap (λ (c : ℕ). c % count_step (layout_mode plan.layout)) (sym at_number) ∙ on in
     is_last
     ∙ ap (λ (w : ℕ). take offset bytes ++ (new ++ drop w (drop offset bytes))) is_width
-    ∙ frame_recounted plan header n at number offset high low s t bytes fib new alike lt there on (at_offset ∙ ap (λ (x : ℕ). at * x) is_size) is_high is_low old (part ∙ ap (λ (w : ℕ). take w (drop offset bytes)) is_width) made
+    ∙ frame_recounted plan header n at number offset high low s t bytes fib new alike lt there on
+    (at_offset ∙ ap (λ (x : ℕ). at * x) is_size) is_high is_low old
+    (part ∙ ap (λ (w : ℕ). take w (drop offset bytes)) is_width) made
     ∙ passed_over plan header n (suc at) m s t alike (omega (arith, all))
-    (λ j from below. none_between plan count at j t fits counts now (omega (arith, from)) (omega (arith, below, all, is_step)))
+    (λ j from below. none_between plan count at j t fits counts now (omega (arith, from))
+    (omega (arith, below, all, is_step)))
     ∙ ap (λ (j : ℕ). mixed plan n j s t) all
 
 pub first_near : (mode : Mode) (count : ℕ) → (count_step mode - count % count_step mode) % count_step mode ≤ 4
 first_near I count = omega arith
-first_near II count = omega arith
-first_near III count = omega arith
-first_near IV count = omega arith
+first_near _ count = omega arith

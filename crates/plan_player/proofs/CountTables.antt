@@ -1,7 +1,9 @@
 -- The contents of the tables for the bytes of the count.
-use Rattle.std.proofs.Common.{◌≡◌, ℕ, zero, suc, ◌+◌, ◌<◌, Bool, true, ◌==◌, ◌&&◌, List, [], ◌∷◌, length, get_or, refl, sym, ◌∙◌, ap, arith}
-use Rattle.std.proofs.lemmas.Bool.{and_parts, eqb-true}
-use Rattle.fib_codec.specs.Register.{after, later}
+use Rattle.std.proofs.Common.{◌≡◌, ℕ, zero, suc, ◌+◌, ◌<◌, Bool, true, ◌==◌, ◌&&◌, List, [], ◌∷◌, length, get_or, refl}
+use Rattle.std.proofs.Common.{sym, ◌∙◌, ap, arith}
+use Rattle.plan_player.proofs.Names.{later}
+use Rattle.plan_runs.proofs.Names.{and_parts, eqb-true}
+use Rattle.fib_codec.specs.Register.{after}
 use Rattle.plan_player.specs.declared.count_tables.TheConstants.{LOWS, HIGHS}
 
 -- from `byte` on, a table of the CRC register after each byte and n zero bytes, from a register of zero
@@ -18,7 +20,8 @@ high_table : is_late_table 25 HIGHS 0 ≡ true
 unfolding after
 high_table = refl
 
-at_late_place : (n : ℕ) (ts : List ℕ) (k i : ℕ) → is_late_table n ts k ≡ true → i < length ts → get_or ts i 0 ≡ later n (after 8 (k + i) 0)
+at_late_place : (n : ℕ) (ts : List ℕ) (k i : ℕ) → is_late_table n ts k ≡ true → i < length ts
+    → get_or ts i 0 ≡ later n (after 8 (k + i) 0)
 at_late_place n [] k i h lt = absurd (omega arith)
 at_late_place n (t ∷ ts) k zero h lt =
     let here : k + 0 ≡ k = omega arith in

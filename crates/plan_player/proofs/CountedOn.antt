@@ -1,35 +1,36 @@
 -- Advancing the counts, frame by frame or by many frames at once.
-use Rattle.std.proofs.Common.{◌≡◌, ℕ, zero, suc, ◌+◌, ◌-◌, ◌%◌, ◌<◌, ◌≤◌, Bool, true, false, cond, ltb, List, [], ◌∷◌, ◌++◌, Option, Some, None, refl, sym, ap, subst, ◌∙◌, arith}
-use Rattle.std.proofs.lemmas.Bool.{ltb-true, ltb-false}
-use Rattle.std.proofs.Math.Nat.{mod-eq_of_lt, mod-add-mod, mod_self, mod-lt}
-use Rattle.mux_types.specs.declared.limits.TheConstants.{COUNTS}
-use Rattle.fib_carousel.specs.Pages.{page_after}
-use Rattle.plan_code.specs.declared.hold.Hold.{Hold}
-use Rattle.plan_code.specs.declared.hold.Hold.TheVariants.{Running, Waits, WaitsDay, WaitsContact, WaitsAny, WaitsSwap, Ended}
-use Rattle.plan_code.specs.declared.limits.TheConstants.{FRAMES_A_DAY}
-use Rattle.plan_code.specs.declared.plan.Plan.{Plan}
-use Rattle.plan_code.specs.Machine.{State}
-use Rattle.plan_runs.specs.Frames.{shown_bytes, sent_rounds, left_after_frame, hold_after_frame, with_next_counts}
-use Rattle.plan_runs.specs.Announced.{notice_frames}
-use Rattle.plan_player.specs.Quiet.{counted_on}
-use Rattle.plan_player.specs.Stretch.{left_later, hold_later, HasRounds}
+use Rattle.std.proofs.Common.{◌≡◌, ℕ, zero, suc, ◌+◌, ◌-◌, ◌%◌, ◌<◌, ◌≤◌, Bool, true, false, cond, ltb, List, [], ◌∷◌}
+use Rattle.std.proofs.Common.{◌++◌, Option, Some, None, refl, sym, ap, subst, ◌∙◌, arith}
+use Rattle.plan_player.proofs.Names.{mod-eq_of_lt, mod-add-mod, mod_self, mod-lt, COUNTS, FRAMES_A_DAY, counted_on}
+use Rattle.plan_player.proofs.Names.{left_later, hold_later, HasRounds}
+use Rattle.plan_runs.proofs.Names.{ltb-true, ltb-false, page_after, Hold, Waits, WaitsAny, Plan, State, shown_bytes}
+use Rattle.plan_runs.proofs.Names.{sent_rounds, left_after_frame, hold_after_frame, with_next_counts, notice_frames}
 
 -- ---- one frame more
 
-pub on_more : (plan : Plan) (k : ℕ) (s : State) → counted_on plan (suc k) s ≡ with_next_counts plan (counted_on plan k s)
+pub on_more : (plan : Plan) (k : ℕ) (s : State) → counted_on plan (suc k) s
+    ≡ with_next_counts plan (counted_on plan k s)
 on_more plan zero s = refl
 on_more plan (suc k) s = on_more plan k (with_next_counts plan s)
 
-pub frames_more : (plan : Plan) (k : ℕ) (s : State) → notice_frames plan (suc k) s ≡ notice_frames plan k s ++ shown_bytes plan (counted_on plan k s) ∷ []
+pub frames_more : (plan : Plan) (k : ℕ) (s : State) → notice_frames plan (suc k) s ≡ notice_frames plan k s
+    ++ shown_bytes plan (counted_on plan k s) ∷ []
 frames_more plan zero s = refl
-frames_more plan (suc k) s = ap (λ (fs : List (List ℕ)). shown_bytes plan s ∷ fs) (frames_more plan k (with_next_counts plan s))
+frames_more plan (suc k) s = ap (λ (fs : List (List ℕ)). shown_bytes plan s ∷ fs)
+    (frames_more plan k (with_next_counts plan s))
 
 -- ---- each part of the state after k frames
 
 -- everything but the counts is unchanged
 pub apart : (plan : Plan) (k : ℕ) (s : State) → counted_on plan k s
     ≡ (let t : State = counted_on plan k s in
-    let r : State = record s { left = t.left; hold = t.hold; count = t.count; day = t.day; page_index = t.page_index } in
+    let r : State = record s {
+      left = t.left;
+      hold = t.hold;
+      count = t.count;
+      day = t.day;
+      page_index = t.page_index;
+    } in
     r)
 apart plan zero s = refl
 apart plan (suc k) s = apart plan k (with_next_counts plan s)
@@ -51,26 +52,19 @@ left_on plan zero s = left_none s.left
 left_on plan (suc k) s = left_on plan k (with_next_counts plan s) ∙ left_step k s.left
 
 hold_none : (hold : Hold) → hold ≡ hold_later 0 hold
-hold_none Running = refl
 hold_none (Waits n) =
     let same : n ≡ n - 0 = omega arith in
     ap (λ (k : ℕ). Waits k) same
-hold_none (WaitsDay t) = refl
-hold_none (WaitsContact c closed) = refl
 hold_none (WaitsAny closed opened until left) = ap (λ (l : Option ℕ). WaitsAny closed opened until l) (left_none left)
-hold_none WaitsSwap = refl
-hold_none Ended = refl
+hold_none _ = refl
 
 hold_step : (n : ℕ) (hold : Hold) → hold_later n (hold_after_frame hold) ≡ hold_later (suc n) hold
-hold_step n Running = refl
 hold_step n (Waits m) =
     let same : m - 1 - n ≡ m - suc n = omega arith in
     ap (λ (k : ℕ). Waits k) same
-hold_step n (WaitsDay t) = refl
-hold_step n (WaitsContact c closed) = refl
-hold_step n (WaitsAny closed opened until left) = ap (λ (l : Option ℕ). WaitsAny closed opened until l) (left_step n left)
-hold_step n WaitsSwap = refl
-hold_step n Ended = refl
+hold_step n (WaitsAny closed opened until left) =
+    ap (λ (l : Option ℕ). WaitsAny closed opened until l) (left_step n left)
+hold_step n _ = refl
 
 hold_on : (plan : Plan) (k : ℕ) (s : State) → (counted_on plan k s).hold ≡ hold_later k s.hold
 hold_on plan zero s = hold_none s.hold
@@ -89,7 +83,8 @@ day_on : (plan : Plan) (k : ℕ) (s : State) → (counted_on plan (suc k) s).day
 day_on plan zero s = refl
 day_on plan (suc k) s = day_on plan k (with_next_counts plan s) ∙ wraps_later s.day k FRAMES_A_DAY
 
-turns_by : (pages page_index : ℕ) → page_index < pages → (b : Bool) → ltb (page_index + 1) pages ≡ b → cond b (page_index + 1) 0 ≡ (page_index + 1) % pages
+turns_by : (pages page_index : ℕ) → page_index < pages → (b : Bool) → ltb (page_index + 1) pages ≡ b
+    → cond b (page_index + 1) 0 ≡ (page_index + 1) % pages
 turns_by pages page_index lt true e = sym (mod-eq_of_lt (ltb-true (page_index + 1) pages e))
 turns_by pages page_index lt false e =
     let past = ltb-false (page_index + 1) pages e in
@@ -99,15 +94,18 @@ turns_by pages page_index lt false e =
 cycle : (pages page_index : ℕ) → page_index < pages → page_after pages page_index ≡ (page_index + 1) % pages
 cycle pages page_index lt = turns_by pages page_index lt (ltb (page_index + 1) pages) refl
 
-pub turn_on : (plan : Plan) (k pages : ℕ) (s : State) → s.page_index < pages → HasRounds plan k s pages → (counted_on plan k s).page_index ≡ (s.page_index + k) % pages
+pub turn_on : (plan : Plan) (k pages : ℕ) (s : State) → s.page_index < pages → HasRounds plan k s pages
+    → (counted_on plan k s).page_index ≡ (s.page_index + k) % pages
 turn_on plan zero pages s lt rounds =
     let same : s.page_index + 0 ≡ s.page_index = omega arith in
     sym (ap (λ (x : ℕ). x % pages) same ∙ mod-eq_of_lt lt)
 turn_on plan (suc k) pages s lt rounds =
     let first : sent_rounds plan s ≡ pages = rounds 0 (omega arith) in
-    let next : (with_next_counts plan s).page_index ≡ (s.page_index + 1) % pages = ap (λ (r : ℕ). page_after r s.page_index) first ∙ cycle pages s.page_index lt in
+    let next : (with_next_counts plan s).page_index ≡ (s.page_index + 1) % pages =
+    ap (λ (r : ℕ). page_after r s.page_index) first ∙ cycle pages s.page_index lt in
     let some : 0 < pages = omega (arith, lt) in
-    let within : (with_next_counts plan s).page_index < pages = subst (λ (x : ℕ). x < pages) (sym next) (mod-lt (s.page_index + 1) some) in
+    let within : (with_next_counts plan s).page_index < pages =
+    subst (λ (x : ℕ). x < pages) (sym next) (mod-lt (s.page_index + 1) some) in
     let later : HasRounds plan k (with_next_counts plan s) pages = λ j below. rounds (suc j) (omega (arith, below)) in
     let same : s.page_index + 1 + k ≡ s.page_index + suc k = omega arith in
     turn_on plan k pages (with_next_counts plan s) within later
@@ -118,14 +116,38 @@ turn_on plan (suc k) pages s lt rounds =
 -- ---- all parts at once
 
 pub passed : (plan : Plan) (n pages : ℕ) (s : State) → 1 ≤ n → s.page_index < pages → HasRounds plan n s pages
-    → (let r : State = record s { left = left_later n s.left; hold = hold_later n s.hold; count = (s.count + n) % COUNTS; day = (s.day + n) % FRAMES_A_DAY; page_index = (s.page_index + n) % pages } in
+    → (let r : State = record s {
+      left = left_later n s.left;
+      hold = hold_later n s.hold;
+      count = (s.count + n) % COUNTS;
+      day = (s.day + n) % FRAMES_A_DAY;
+      page_index = (s.page_index + n) % pages;
+    } in
     r ≡ counted_on plan n s)
 passed plan zero pages s some lt rounds = absurd (omega (arith, some))
 passed plan (suc k) pages s some lt rounds =
     let n : ℕ = suc k in
     let t : State = counted_on plan n s in
-    let before : State = record s { left = t.left; hold = t.hold; count = t.count; day = t.day; page_index = t.page_index } in
-    let after : State = record s { left = left_later n s.left; hold = hold_later n s.hold; count = (s.count + n) % COUNTS; day = (s.day + n) % FRAMES_A_DAY; page_index = (s.page_index + n) % pages } in
+    let before : State = record s {
+      left = t.left;
+      hold = t.hold;
+      count = t.count;
+      day = t.day;
+      page_index = t.page_index;
+    } in
+    let after : State = record s {
+      left = left_later n s.left;
+      hold = hold_later n s.hold;
+      count = (s.count + n) % COUNTS;
+      day = (s.day + n) % FRAMES_A_DAY;
+      page_index = (s.page_index + n) % pages;
+    } in
     let parts : before ≡ after =
-    λ i. record s { left = left_on plan n s i; hold = hold_on plan n s i; count = count_on plan k s i; day = day_on plan k s i; page_index = turn_on plan n pages s lt rounds i } in
+    λ i. record s {
+      left = left_on plan n s i;
+      hold = hold_on plan n s i;
+      count = count_on plan k s i;
+      day = day_on plan k s i;
+      page_index = turn_on plan n pages s lt rounds i;
+    } in
     sym (apart plan n s ∙ parts)

@@ -1,26 +1,16 @@
 -- Quiet frames that come whole cycles after others, and differ from these in the count alone.
-use Rattle.std.proofs.Common.{◌≡◌, ℕ, zero, suc, ◌+◌, ◌-◌, ◌*◌, ◌%◌, ◌<◌, ◌≤◌, ◌==◌, Bool, cond, List, ◌∷◌, ◌++◌, length, take, drop, Option, Some, None, refl, sym, ap, ap₂, subst, ◌∙◌, arith, length-append, length-drop, length-take-le}
-use Rattle.std.specs.List.{concat, copy_within}
-use Rattle.std.proofs.lemmas.List.{take_at, drop_at, drop-take, take-append-le, take-append-drop}
+use Rattle.std.proofs.Common.{◌≡◌, ℕ, zero, suc, ◌+◌, ◌-◌, ◌*◌, ◌%◌, ◌<◌, ◌≤◌, ◌==◌, Bool, cond, List, ◌∷◌, ◌++◌}
+use Rattle.std.proofs.Common.{length, take, drop, Option, Some, None, refl, sym, ap, ap₂, subst, ◌∙◌, arith}
+use Rattle.std.proofs.Common.{length-append, length-drop, length-take-le}
+use Rattle.plan_player.proofs.Names.{concat, copy_within, take_at, drop_at, drop-take, take-append-drop, paste}
+use Rattle.plan_player.proofs.Names.{take-append-add, suc-mul, mod-add-mod, concat-append, COUNTS, PhasePages, Header}
+use Rattle.plan_player.proofs.Names.{counted_on, SwapIsAway, header_of, IsStretch, IsAlike, AreAlike, AreRecounted}
+use Rattle.plan_runs.proofs.Names.{take-append-le, layout_mode, frame_fibs, fib_count, count_step, Mode, I, page_set}
+use Rattle.plan_runs.proofs.Names.{Plan, State, is_noticed, shown_bytes, sent_entries, with_next_counts, notice_frames}
 use Rattle.std.proofs.lemmas.List.Edits.{take-paste}
-use Rattle.std.proofs.Math.Seq.{paste, take-append-add}
-use Rattle.std.proofs.Math.Nat.{suc-mul, mod-add-mod}
-use Rattle.fib_codec.specs.Layouts.{layout_mode, frame_fibs}
-use Rattle.mux_types.specs.declared.limits.TheConstants.{COUNTS}
-use Rattle.fib_codec.specs.Modes.{fib_count, count_step}
-use Rattle.fib_codec.specs.declared.modes.Mode.{Mode}
-use Rattle.fib_codec.specs.declared.modes.Mode.TheVariants.{I, II, III, IV}
-use Rattle.fib_carousel.specs.Pages.{page_set}
-use Rattle.plan_code.specs.declared.plan.Plan.{Plan}
-use Rattle.plan_code.specs.Machine.{State}
-use Rattle.plan_runs.specs.Frames.{is_noticed, shown_bytes, sent_entries, with_next_counts}
-use Rattle.plan_runs.specs.Announced.{notice_frames}
-use Rattle.plan_player.specs.declared.phase_pages.PhasePages.{PhasePages}
-use Rattle.plan_player.specs.declared.machine.sending.Header.{Header}
-use Rattle.plan_player.specs.Quiet.{counted_on, SwapIsAway}
-use Rattle.plan_player.specs.Stretch.{header_of, IsStretch, IsAlike, AreAlike, AreRecounted}
 use Rattle.plan_player.proofs.CountedOn.{apart, left_on, turn_on}
-use Rattle.plan_player.proofs.Together.{noticed_later, header_later, stretch_rounds, fewer_rounds, stretch_page, turn_within, frame_size, concat_join, bytes_more}
+use Rattle.plan_player.proofs.Together.{noticed_later, header_later, stretch_rounds, fewer_rounds, stretch_page}
+use Rattle.plan_player.proofs.Together.{turn_within, frame_size, bytes_more}
 use Rattle.plan_player.proofs.Alike.{count_at}
 
 -- ---- frames in two parts
@@ -33,7 +23,8 @@ on_split plan (suc a) b s =
     let e : suc (a + b) ≡ suc a + b = omega arith in
     on_split plan a b (with_next_counts plan s) ∙ ap (λ (n : ℕ). counted_on plan n s) e
 
-frames_split : (plan : Plan) (a b : ℕ) (s : State) → notice_frames plan a s ++ notice_frames plan b (counted_on plan a s) ≡ notice_frames plan (a + b) s
+frames_split : (plan : Plan) (a b : ℕ) (s : State) → notice_frames plan a s
+    ++ notice_frames plan b (counted_on plan a s) ≡ notice_frames plan (a + b) s
 frames_split plan zero b s =
     let e : b ≡ 0 + b = omega arith in
     ap (λ (n : ℕ). notice_frames plan n s) e
@@ -42,12 +33,14 @@ frames_split plan (suc a) b s =
     ap (λ (fs : List (List ℕ)). shown_bytes plan s ∷ fs) (frames_split plan a b (with_next_counts plan s))
     ∙ ap (λ (n : ℕ). notice_frames plan n s) e
 
-pub bytes_split : (plan : Plan) (a b : ℕ) (s : State) → concat (notice_frames plan a s) ++ concat (notice_frames plan b (counted_on plan a s)) ≡ concat (notice_frames plan (a + b) s)
+pub bytes_split : (plan : Plan) (a b : ℕ) (s : State) → concat (notice_frames plan a s)
+    ++ concat (notice_frames plan b (counted_on plan a s)) ≡ concat (notice_frames plan (a + b) s)
 bytes_split plan a b s =
-    sym (concat_join (notice_frames plan a s) (notice_frames plan b (counted_on plan a s)))
+    sym (concat-append (notice_frames plan a s) (notice_frames plan b (counted_on plan a s)))
     ∙ ap (λ (fs : List (List ℕ)). concat fs) (frames_split plan a b s)
 
-pub bytes_long : (plan : Plan) (n k : ℕ) (s : State) (pages : PhasePages) → IsStretch plan n s pages → k ≤ n → length (concat (notice_frames plan k s)) ≡ k * (32 * frame_fibs plan.layout)
+pub bytes_long : (plan : Plan) (n k : ℕ) (s : State) (pages : PhasePages) → IsStretch plan n s pages → k ≤ n
+    → length (concat (notice_frames plan k s)) ≡ k * (32 * frame_fibs plan.layout)
 bytes_long plan n zero s pages h le =
     let none : 0 * (32 * frame_fibs plan.layout) ≡ 0 = omega arith in
     sym none
@@ -66,9 +59,11 @@ bytes_long plan n (suc k) s pages h le =
 
 fewer_away : (notice m n : ℕ) (left : Option ℕ) → m ≤ n → SwapIsAway notice left n → SwapIsAway notice left m
 fewer_away notice m n None le away = tt
-fewer_away notice m n (Some l) le away = (omega (arith, le, away.0), λ from. let far = away.1 from in omega (arith, le, far))
+fewer_away notice m n (Some l) le away =
+    (omega (arith, le, away.0), λ from. let far = away.1 from in omega (arith, le, far))
 
-pub fewer : (plan : Plan) (m n : ℕ) (s : State) (pages : PhasePages) → m ≤ n → IsStretch plan n s pages → IsStretch plan m s pages
+pub fewer : (plan : Plan) (m n : ℕ) (s : State) (pages : PhasePages) → m ≤ n → IsStretch plan n s pages
+    → IsStretch plan m s pages
 fewer plan m n s pages le h = record {
   whole = h.whole;
   away = fewer_away plan.notice m n s.left le h.away;
@@ -77,15 +72,19 @@ fewer plan m n s pages le h = record {
 
 -- ---- what is the same after a cycle
 
-entries_later : (plan : Plan) (n k : ℕ) (s : State) → SwapIsAway plan.notice s.left n → k < n → sent_entries plan (counted_on plan k s) ≡ sent_entries plan s
+entries_later : (plan : Plan) (n k : ℕ) (s : State) → SwapIsAway plan.notice s.left n → k < n
+    → sent_entries plan (counted_on plan k s) ≡ sent_entries plan s
 entries_later plan n zero s away lt = refl
 entries_later plan n (suc k) s away lt =
     let t : State = counted_on plan (suc k) s in
-    let on = ap (λ (o : Option ℕ). is_noticed plan.notice o) (left_on plan (suc k) s) ∙ noticed_later plan.notice n (suc k) s.left away lt in
-    ap (λ (u : State). page_set u.current (cond (is_noticed plan.notice t.left) (Some u.next) None)) (apart plan (suc k) s)
+    let on = ap (λ (o : Option ℕ). is_noticed plan.notice o) (left_on plan (suc k) s)
+    ∙ noticed_later plan.notice n (suc k) s.left away lt in
+    ap (λ (u : State). page_set u.current (cond (is_noticed plan.notice t.left) (Some u.next) None))
+    (apart plan (suc k) s)
     ∙ ap (λ (b : Bool). page_set s.current (cond b (Some s.next) None)) on
 
-turn_again : (page_index done k pages : ℕ) → done % pages ≡ 0 → (page_index + k) % pages ≡ (page_index + (done + k)) % pages
+turn_again : (page_index done k pages : ℕ) → done % pages ≡ 0
+    → (page_index + k) % pages ≡ (page_index + (done + k)) % pages
 turn_again page_index done k pages whole =
     let first : 0 + (page_index + k) ≡ page_index + k = omega arith in
     let last : done + (page_index + k) ≡ page_index + (done + k) = omega arith in
@@ -94,14 +93,15 @@ turn_again page_index done k pages whole =
     ∙ mod-add-mod done pages (page_index + k)
     ∙ ap (λ (x : ℕ). x % pages) last
 
-step_again : (mode : Mode) (count done k : ℕ) → done % count_step mode ≡ 0 → (count + k) % COUNTS % count_step mode ≡ (count + (done + k)) % COUNTS % count_step mode
+step_again : (mode : Mode) (count done k : ℕ) → done % count_step mode ≡ 0
+    → (count + k) % COUNTS % count_step mode ≡ (count + (done + k)) % COUNTS % count_step mode
 step_again I count done k whole = omega (arith, whole)
-step_again II count done k whole = omega (arith, whole)
-step_again III count done k whole = omega (arith, whole)
-step_again IV count done k whole = omega (arith, whole)
+step_again _ count done k whole = omega (arith, whole)
 
-one_alike : (plan : Plan) (n done k : ℕ) (s : State) (pages : PhasePages) (header : Header) → IsStretch plan n s pages → header ≡ header_of plan s
-    → done % pages.made ≡ 0 → done % count_step (layout_mode plan.layout) ≡ 0 → done + k < n → IsAlike plan header (counted_on plan k s) (counted_on plan (done + k) s)
+one_alike : (plan : Plan) (n done k : ℕ) (s : State) (pages : PhasePages) (header : Header) → IsStretch plan n s pages
+    → header ≡ header_of plan s
+    → done % pages.made ≡ 0 → done % count_step (layout_mode plan.layout) ≡ 0 → done + k < n
+    → IsAlike plan header (counted_on plan k s) (counted_on plan (done + k) s)
 one_alike plan n done k s pages header h is cycle steps lt =
     let few : k < n = omega (arith, lt) in
     let inside = turn_within plan n s pages (omega (arith, lt)) h in
@@ -109,11 +109,13 @@ one_alike plan n done k s pages header h is cycle steps lt =
     let counts = (h.ready 0 (omega (arith, lt))).sent.count in
     let page = stretch_page plan n (done + k) s pages h lt in
     let before : (counted_on plan k s).count ≡ (s.count + k) % COUNTS = count_at plan k s counts in
-    let after : (counted_on plan (done + k) s).count ≡ (s.count + (done + k)) % COUNTS = count_at plan (done + k) s counts in
+    let after : (counted_on plan (done + k) s).count ≡ (s.count + (done + k)) % COUNTS =
+    count_at plan (done + k) s counts in
     record {
       page_index = turn_on plan k pages.made s inside (fewer_rounds plan k n s pages.made (omega (arith, few)) rounds)
           ∙ turn_again s.page_index done k pages.made cycle
-          ∙ sym (turn_on plan (done + k) pages.made s inside (fewer_rounds plan (done + k) n s pages.made (omega (arith, lt)) rounds));
+          ∙ sym (turn_on plan (done + k) pages.made s inside
+          (fewer_rounds plan (done + k) n s pages.made (omega (arith, lt)) rounds));
       entries = entries_later plan n k s h.away few ∙ sym (entries_later plan n (done + k) s h.away lt);
       first = header_later plan n k s h.away few ∙ sym is;
       second = header_later plan n (done + k) s h.away lt ∙ sym is;
@@ -123,28 +125,37 @@ one_alike plan n done k s pages header h is cycle steps lt =
       pageable = record { entries = page.kept.sendable; ensemble_within = (h.ready (done + k) lt).sent.ensemble };
     }
 
-alike : (plan : Plan) (n done more : ℕ) (s : State) (pages : PhasePages) (header : Header) → IsStretch plan n s pages → header ≡ header_of plan s
-    → done % pages.made ≡ 0 → done % count_step (layout_mode plan.layout) ≡ 0 → done + more ≤ n → AreAlike plan header more s (counted_on plan done s)
+alike : (plan : Plan) (n done more : ℕ) (s : State) (pages : PhasePages) (header : Header) → IsStretch plan n s pages
+    → header ≡ header_of plan s
+    → done % pages.made ≡ 0 → done % count_step (layout_mode plan.layout) ≡ 0 → done + more ≤ n
+    → AreAlike plan header more s (counted_on plan done s)
 alike plan n done more s pages header h is cycle steps le k lt =
     subst (λ (u : State). IsAlike plan header (counted_on plan k s) u) (sym (on_split plan done k s))
     (one_alike plan n done k s pages header h is cycle steps (omega (arith, lt, le)))
 
 -- further frames are copies of the first ones with other counts
-pub turn_on_turn : (plan : Plan) (n done more number : ℕ) (s : State) (pages : PhasePages) (header : Header) (old new text : List ℕ) → IsStretch plan n s pages → header ≡ header_of plan s
-    → done % pages.made ≡ 0 → done % count_step (layout_mode plan.layout) ≡ 0 → 1 ≤ n → more ≤ done → done + more ≤ n → number ≡ (s.count + done) % COUNTS
-    → old ≡ concat (notice_frames plan done s) → new ≡ old ++ text → AreRecounted plan header number more (take (more * (32 * frame_fibs plan.layout)) old) text
+pub turn_on_turn : (plan : Plan) (n done more number : ℕ) (s : State) (pages : PhasePages) (header : Header)
+    (old new text : List ℕ) → IsStretch plan n s pages → header ≡ header_of plan s
+    → done % pages.made ≡ 0 → done % count_step (layout_mode plan.layout) ≡ 0 → 1 ≤ n → more ≤ done → done + more ≤ n
+    → number ≡ (s.count + done) % COUNTS
+    → old ≡ concat (notice_frames plan done s) → new ≡ old ++ text
+    → AreRecounted plan header number more (take (more * (32 * frame_fibs plan.layout)) old) text
     → new ≡ concat (notice_frames plan (done + more) s)
-turn_on_turn plan n done more number s pages header old new text h is cycle steps some few le at before is_new recounted =
+turn_on_turn plan n done more number s pages header old new text h is cycle steps some few le at before is_new
+    recounted =
     let t : State = counted_on plan done s in
     let size : ℕ = 32 * frame_fibs plan.layout in
     let counts = (h.ready 0 (omega (arith, some))).sent.count in
     let all : more + (done - more) ≡ done = omega (arith, few) in
     let first : List ℕ = concat (notice_frames plan more s) in
     let others : List ℕ = concat (notice_frames plan (done - more) (counted_on plan more s)) in
-    let parts : old ≡ first ++ others = before ∙ sym (bytes_split plan more (done - more) s ∙ ap (λ (k : ℕ). concat (notice_frames plan k s)) all) in
-    let front : take (more * size) old ≡ first = ap (λ (l : List ℕ). take (more * size) l) parts ∙ take_at first others (more * size) (bytes_long plan n more s pages h (omega (arith, few, le))) in
+    let parts : old ≡ first ++ others =
+    before ∙ sym (bytes_split plan more (done - more) s ∙ ap (λ (k : ℕ). concat (notice_frames plan k s)) all) in
+    let front : take (more * size) old ≡ first = ap (λ (l : List ℕ). take (more * size) l) parts
+    ∙ take_at first others (more * size) (bytes_long plan n more s pages h (omega (arith, few, le))) in
     let text_is : text ≡ concat (notice_frames plan more t) =
-    recounted s t (alike plan n done more s pages header h is cycle steps le) (count_at plan done s counts ∙ sym at) front in
+    recounted s t (alike plan n done more s pages header h is cycle steps le) (count_at plan done s counts ∙ sym at)
+    front in
     is_new ∙ ap₂ (λ a b. a ++ b) before text_is ∙ bytes_split plan done more s
 
 -- ---- whole cycles
@@ -152,17 +163,18 @@ turn_on_turn plan n done more number s pages header old new text h is cycle step
 pub twice_whole : (done pages : ℕ) → done % pages ≡ 0 → (done + done) % pages ≡ 0
 twice_whole done pages whole =
     let none : 0 + done ≡ done = omega arith in
-    sym (mod-add-mod done pages done) ∙ ap (λ (x : ℕ). (x + done) % pages) whole ∙ ap (λ (x : ℕ). x % pages) none ∙ whole
+    sym (mod-add-mod done pages done) ∙ ap (λ (x : ℕ). (x + done) % pages) whole ∙ ap (λ (x : ℕ). x % pages) none
+    ∙ whole
 
-pub room : (mode : Mode) (done more : ℕ) → done + more ≤ 128 → done * (32 * fib_count mode) + more * (32 * fib_count mode) ≤ 16384
+pub room : (mode : Mode) (done more : ℕ) → done + more ≤ 128
+    → done * (32 * fib_count mode) + more * (32 * fib_count mode) ≤ 16384
 room I done more le = omega (arith, le)
-room II done more le = omega (arith, le)
-room III done more le = omega (arith, le)
-room IV done more le = omega (arith, le)
+room _ done more le = omega (arith, le)
 
 -- ---- in a buffer of bytes
 
-pub copied : (b : List ℕ) (offset len : ℕ) (copy : List ℕ) → len ≤ offset → offset + len ≤ length b → copy ≡ take offset b ++ (take len b ++ drop (offset + len) b)
+pub copied : (b : List ℕ) (offset len : ℕ) (copy : List ℕ) → len ≤ offset → offset + len ≤ length b
+    → copy ≡ take offset b ++ (take len b ++ drop (offset + len) b)
     → take len (drop offset copy) ≡ take len (take offset b)
 copied b offset len copy few fits is =
     let front : length (take offset b) ≡ offset = length-take-le offset b (omega (arith, fits)) in
@@ -173,11 +185,14 @@ copied b offset len copy few fits is =
     ∙ ap (λ (l : List ℕ). take len l) (sym (take-append-drop offset b))
     ∙ take-append-le len (take offset b) (drop offset b) (omega (arith, few, front))
 
-pub appended : (b copy text last : List ℕ) (offset len : ℕ) → offset + len ≤ length b → copy ≡ take offset b ++ (take len b ++ drop (offset + len) b)
-    → length text ≡ len → last ≡ take offset copy ++ (text ++ drop len (drop offset copy)) → take (offset + len) last ≡ take offset b ++ text
+pub appended : (b copy text last : List ℕ) (offset len : ℕ) → offset + len ≤ length b → copy ≡ take offset b
+    ++ (take len b ++ drop (offset + len) b)
+    → length text ≡ len → last ≡ take offset copy ++ (text ++ drop len (drop offset copy))
+    → take (offset + len) last ≡ take offset b ++ text
 appended b copy text last offset len fits is long is_last =
     let front : length (take offset b) ≡ offset = length-take-le offset b (omega (arith, fits)) in
-    let same : take offset copy ≡ take offset b = ap (λ (l : List ℕ). take offset l) is ∙ take_at (take offset b) (take len b ++ drop (offset + len) b) offset front in
+    let same : take offset copy ≡ take offset b = ap (λ (l : List ℕ). take offset l) is
+    ∙ take_at (take offset b) (take len b ++ drop (offset + len) b) offset front in
     let past : List ℕ = drop len (drop offset copy) in
     ap (λ (l : List ℕ). take (offset + len) l) (is_last ∙ ap (λ (l : List ℕ). l ++ (text ++ past)) same)
     ∙ ap (λ (k : ℕ). take (k + len) (take offset b ++ (text ++ past))) (sym front)
@@ -185,7 +200,8 @@ appended b copy text last offset len fits is long is_last =
     ∙ ap (λ (l : List ℕ). take offset b ++ l) (take_at text past len long)
 
 -- the first bytes are removed, and the others moved to the front
-pub moved : (bytes after : List ℕ) (len count : ℕ) → count ≤ length (take len bytes) → len ≤ length bytes → after ≡ copy_within bytes count len 0 → take (len - count) after ≡ drop count (take len bytes)
+pub moved : (bytes after : List ℕ) (len count : ℕ) → count ≤ length (take len bytes) → len ≤ length bytes
+    → after ≡ copy_within bytes count len 0 → take (len - count) after ≡ drop count (take len bytes)
 moved bytes after len count few fits is =
     let front : length (take len bytes) ≡ len = length-take-le len bytes fits in
     let left : ℕ = len - count in

@@ -1,34 +1,55 @@
 -- What the player's calls require of a state that a typed code reaches.
-use Rattle.std.specs.Prelude.{◌||◌}
-use Rattle.std.proofs.Common.{◌≡◌, ℕ, ◌<◌, Bool, true, false, cond, List, [], ◌∷◌, Option, Some, None, refl, sym, ap, subst, ◌∙◌, arith}
-use Rattle.std.proofs.lemmas.Bool.{eqb-false}
-use Rattle.fib_codec.specs.declared.frame_layout.FrameLayout.{FrameLayout}
-use Rattle.mux_config.specs.Configuration.{Configuration}
-use Rattle.mux_config.specs.Change.{change_of, bits_of}
-use Rattle.mux_types.specs.Facts.{Marked}
-use Rattle.fib_carousel.specs.Pages.{page_set}
-use Rattle.plan_code.specs.declared.plan.Plan.{Plan}
-use Rattle.plan_code.specs.Program.{Program, IsProgram}
-use Rattle.plan_code.specs.Machine.{State}
+use Rattle.std.proofs.Common.{◌≡◌, ℕ, ◌<◌, Bool, true, false, cond, List, [], ◌∷◌, Option, Some, None, refl, sym, ap}
+use Rattle.std.proofs.Common.{subst, ◌∙◌, arith, ◌≤◌}
+use Rattle.plan_player.proofs.Names.{IsPlan, PhasePages, Keeps, HasChange, KeepsChange, IsFrameReady, IsGoing, Progress}
+use Rattle.plan_runs.proofs.Names.{◌||◌, eqb-false, FrameLayout, Configuration, change_of, bits_of, Marked, page_set}
+use Rattle.plan_runs.proofs.Names.{rounds, Plan, Program, IsProgram, State, is_due, with_swap}
+use Rattle.plan_runs.proofs.Names.{is_noticed, is_first_noticed, left_after_frame, shown, after_burst, sent_entries}
+use Rattle.plan_runs.proofs.Names.{after_frame, frame_steps, begins_phase, SentBy, StartIsInRange, IsStart, happens}
+use Rattle.plan_runs.proofs.Names.{IsPlayed}
 use Rattle.plan_verifier.specs.Typing.{IsTyped}
-use Rattle.plan_runs.specs.declared.event.Event.TheVariants.{Contact, Frame}
-use Rattle.plan_runs.specs.declared.event.Start.{Start}
-use Rattle.plan_runs.specs.Frames.{is_due, with_swap, is_noticed, is_first_noticed, left_after_frame, shown, after_burst, sent_entries, after_frame, frame_steps, begins_phase}
-use Rattle.plan_runs.specs.Phases.{SentBy}
-use Rattle.plan_runs.specs.Runs.{StartIsInRange, IsStart, happens}
-use Rattle.plan_runs.specs.TypedRuns.{IsPlayed}
+use Rattle.plan_runs.proofs.Carries.{IsNewly, LeftBy, frame_carries}
+use Rattle.plan_runs.proofs.Knowledge.{IsAhead, IsOnAir, CommittedBy}
+use Rattle.plan_runs.proofs.Notice.{Links, links}
+use Rattle.plan_runs.proofs.Swaps.{left_turned}
+use Rattle.plan_runs.proofs.Headline.{frames_can_be_sent}
 use Rattle.plan_runs.proofs.TypedRuns.{typed_code_runs}
 use Rattle.plan_runs.proofs.Reached.{starts_are_reached, reached_is_kept}
 use Rattle.plan_runs.proofs.Facts.{airs, code_of, played_holds}
-use Rattle.plan_runs.proofs.Carries.{IsNewly, LeftBy, frame_carries}
-use Rattle.plan_runs.proofs.Knowledge.{IsAhead}
 use Rattle.plan_runs.proofs.Tracked.{noticed, noticed_from}
-use Rattle.plan_runs.proofs.Notice.{Links, links}
 use Rattle.plan_runs.proofs.Periods.{sends, after_goes}
-use Rattle.plan_player.proofs.Continuing.{typed_code_progresses, frame_plays}
-use Rattle.plan_player.specs.declared.phase_pages.PhasePages.{PhasePages}
-use Rattle.plan_player.specs.Playing.{Playing}
-use Rattle.plan_player.specs.Phase.{Keeps, HasChange, KeepsChange, IsFrameReady, IsGoing}
+use Rattle.plan_runs.specs.declared.event.Event.TheVariants.{Contact, Frame}
+use Rattle.plan_runs.specs.declared.event.Start.{Start}
+
+-- ---- progress: a typed code can always continue
+
+-- what is sent takes at most the period
+few_by : (plan : Plan) (left : Option ℕ) (c n : Configuration) → IsPlan plan → IsOnAir plan c
+    → CommittedBy plan left c n
+    → (b : Bool) → is_noticed plan.notice left ≡ b → rounds plan.layout (page_set c (cond b (Some n) None)) ≤ 60
+few_by plan None c n formed air committed true e = absurd cc
+few_by plan (Some l) c n formed air committed true e = omega (arith, committed.within_period, formed.period_to)
+few_by plan left c n formed air committed false e = omega (arith, air.within_period, formed.period_to)
+
+pub typed_code_progresses : Progress
+typed_code_progresses p s h =
+    let frame = (typed_code_runs p s (Frame ∷ []) h).allowed.0 in
+    let a = airs p h.typed.0 (code_of p s h) s (played_holds p s h) in
+    let t = shown p s in
+    record {
+      runs = record { steps = frame.steps; end = after_burst p s; within = frame.within; executes = frame.executes };
+      sent = frames_can_be_sent p s h;
+      few = few_by p.plan t.left t.current t.next h.program.planned a.on_air a.committed
+          (is_noticed p.plan.notice t.left) refl;
+    }
+
+-- the state after a frame is again one that the code reaches
+pub frame_plays : (p : Program) (s : State) → IsPlayed p s → IsPlayed p (after_frame p s)
+frame_plays p s h = record {
+  program = h.program;
+  typed = h.typed;
+  reached = reached_is_kept p s (Frame ∷ []) h.reached (tt, tt);
+}
 
 -- ---- the page in turn as a phase begins
 
@@ -36,19 +57,18 @@ due_turn : (s : State) (b : Bool) → b ≡ true → (cond b (with_swap s) s).pa
 due_turn s true e = refl
 due_turn s false e = absurd cc
 
-first_turn : (u : State) (b : Bool) → b ≡ true → (cond b (let r : State = record u { page_index = 0 } in r) u).page_index ≡ 0
+first_turn : (u : State) (b : Bool) → b ≡ true
+    → (cond b (let r : State = record u { page_index = 0 } in r) u).page_index ≡ 0
 first_turn u true e = refl
 first_turn u false e = absurd cc
 
-kept_turn : (u : State) (b : Bool) → u.page_index ≡ 0 → (cond b (let r : State = record u { page_index = 0 } in r) u).page_index ≡ 0
+kept_turn : (u : State) (b : Bool) → u.page_index ≡ 0
+    → (cond b (let r : State = record u { page_index = 0 } in r) u).page_index ≡ 0
 kept_turn u true e = refl
 kept_turn u false e = e
 
-left_kept : (u : State) (b : Bool) → (cond b (let r : State = record u { page_index = 0 } in r) u).left ≡ u.left
-left_kept u true = refl
-left_kept u false = refl
-
-begun : (u : State) (due first : Bool) (b : Bool) → (due || first) ≡ true → (due ≡ true → u.page_index ≡ 0) → (first ≡ b) → (cond b (let r : State = record u { page_index = 0 } in r) u).page_index ≡ 0
+begun : (u : State) (due first : Bool) (b : Bool) → (due || first) ≡ true → (due ≡ true → u.page_index ≡ 0)
+    → (first ≡ b) → (cond b (let r : State = record u { page_index = 0 } in r) u).page_index ≡ 0
 begun u true first b e zero same = kept_turn u b (zero refl)
 begun u false first b e zero same = first_turn u b (sym same ∙ e)
 
@@ -57,20 +77,23 @@ first_page p s h begins =
     let u : State = after_burst p s in
     let frame = (typed_code_runs p s (Frame ∷ []) h).allowed.0 in
     let carried = frame_carries p h.program s frame.steps frame.executes in
-    let same = ap (is_first_noticed p.plan.notice) (left_kept u (is_first_noticed p.plan.notice u.left)) in
-    begun u (is_due s.left) (is_first_noticed p.plan.notice (shown p s).left) (is_first_noticed p.plan.notice u.left) begins
+    let same = ap (is_first_noticed p.plan.notice) (left_turned u (is_first_noticed p.plan.notice u.left)) in
+    begun u (is_due s.left) (is_first_noticed p.plan.notice (shown p s).left) (is_first_noticed p.plan.notice u.left)
+    begins
     (λ due. carried.page_index ∙ due_turn s (is_due s.left) due) same
 
 -- ---- the change flags of a notice
 
-newly_off : (plan : Plan) (count : ℕ) (left : Option ℕ) → IsNewly plan count left → is_first_noticed plan.notice left ≡ false → is_noticed plan.notice left ≡ true → ⊥
+newly_off : (plan : Plan) (count : ℕ) (left : Option ℕ) → IsNewly plan count left
+    → is_first_noticed plan.notice left ≡ false → is_noticed plan.notice left ≡ true → ⊥
 newly_off plan count None new other on = absurd cc
 newly_off plan count (Some l) new other on =
     let apart = eqb-false l plan.notice other in
     let within = noticed_from plan.notice l on in
     omega (arith, new.0, apart, within.1)
 
-change_on : (plan : Plan) (count : ℕ) (before left : Option ℕ) (c n m : Configuration) (change : ℕ) → LeftBy plan count before n left m → is_first_noticed plan.notice left ≡ false
+change_on : (plan : Plan) (count : ℕ) (before left : Option ℕ) (c n m : Configuration) (change : ℕ)
+    → LeftBy plan count before n left m → is_first_noticed plan.notice left ≡ false
     → KeepsChange plan.notice before c n change → HasChange plan.notice left c m change
 change_on plan count None left c n m change g other h on = absurd (newly_off plan count left g other on)
 change_on plan count (Some l) left c n m change g other h on =
@@ -78,23 +101,29 @@ change_on plan count (Some l) left c n m change g other h on =
     let within = noticed_from plan.notice l (subst (λ (o : Option ℕ). is_noticed plan.notice o ≡ true) g.0 on) in
     h (omega (arith, apart, within.1)) ∙ ap (λ (x : Configuration). bits_of (change_of c x)) (sym g.1)
 
-change_known : (plan : Plan) (s u : State) (change : ℕ) → Links plan s u → (b : Bool) → is_due s.left ≡ b → is_first_noticed plan.notice u.left ≡ false → KeepsChange plan.notice s.left s.current s.next change
+change_known : (plan : Plan) (s u : State) (change : ℕ) → Links plan s u → (b : Bool) → is_due s.left ≡ b
+    → is_first_noticed plan.notice u.left ≡ false → KeepsChange plan.notice s.left s.current s.next change
     → HasChange plan.notice u.left u.current u.next change
 change_known plan s u change link true due other h on = absurd (newly_off plan s.count u.left (link.due due) other on)
 change_known plan s u change link false due other h on =
-    change_on plan s.count s.left u.left s.current s.next u.next change (link.left due) other h on ∙ ap (λ (x : Configuration). bits_of (change_of x u.next)) (sym (link.current due))
+    change_on plan s.count s.left u.left s.current s.next u.next change (link.left due) other h on
+    ∙ ap (λ (x : Configuration). bits_of (change_of x u.next)) (sym (link.current due))
 
-change_later : (notice : ℕ) (left : Option ℕ) (c n : Configuration) (change : ℕ) → IsAhead left → HasChange notice left c n change → KeepsChange notice (left_after_frame left) c n change
+change_later : (notice : ℕ) (left : Option ℕ) (c n : Configuration) (change : ℕ) → IsAhead left
+    → HasChange notice left c n change → KeepsChange notice (left_after_frame left) c n change
 change_later notice None c n change a h = tt
 change_later notice (Some l) c n change a h = λ earlier. h (noticed notice l a (omega (arith, earlier, a)))
 
 -- ---- a frame
 
-same_pages : (layout : FrameLayout) (pages : PhasePages) (ms ns : List Marked) (page_index page : ℕ) → ns ≡ ms → page ≡ page_index → Keeps layout ms page_index pages → Keeps layout ns page pages
+same_pages : (layout : FrameLayout) (pages : PhasePages) (ms ns : List Marked) (page_index page : ℕ) → ns ≡ ms
+    → page ≡ page_index → Keeps layout ms page_index pages → Keeps layout ns page pages
 same_pages layout pages ms ns page_index page e f k =
-    subst (λ (es : List Marked). Keeps layout es page pages) (sym e) (subst (λ (n : ℕ). Keeps layout ms n pages) (sym f) k)
+    subst (λ (es : List Marked). Keeps layout es page pages) (sym e)
+    (subst (λ (n : ℕ). Keeps layout ms n pages) (sym f) k)
 
-pub frame_ready : (p : Program) (s : State) (steps : ℕ) (pages : PhasePages) → IsGoing p s steps pages → IsFrameReady p s pages
+pub frame_ready : (p : Program) (s : State) (steps : ℕ) (pages : PhasePages) → IsGoing p s steps pages
+    → IsFrameReady p s pages
 frame_ready p s steps pages h =
     let goes = typed_code_progresses p s h.played in
     let ms : List Marked = h.phase.entries in
@@ -104,15 +133,18 @@ frame_ready p s steps pages h =
       few = goes.few;
       first = first_page p s h.played;
       kept = λ no_phase.
-          let sent = sends p h.played.typed.0 (code_of p s h.played) s (played_holds p s h.played) no_phase ms s.page_index (record { sent = h.phase.sent; turn_is = refl }) in
-          same_pages p.plan.layout pages ms (sent_entries p.plan (shown p s)) s.page_index (shown p s).page_index sent.entries sent.turn_is h.phase.keeps;
+          let sent = sends p h.played.typed.0 (code_of p s h.played) s (played_holds p s h.played) no_phase ms
+          s.page_index (record { sent = h.phase.sent; turn_is = refl }) in
+          same_pages p.plan.layout pages ms (sent_entries p.plan (shown p s)) s.page_index (shown p s).page_index
+          sent.entries sent.turn_is h.phase.keeps;
       change = λ other.
           let link = links p h.played.typed.0 (code_of p s h.played) s (played_holds p s h.played) in
           change_known p.plan s (shown p s) pages.change link (is_due s.left) refl other h.phase.change;
     }
 
 pub frame_goes : (p : Program) (s : State) (steps : ℕ) (pages after : PhasePages) → IsGoing p s steps pages
-    → Keeps p.plan.layout (sent_entries p.plan (shown p s)) (after_frame p s).page_index after → HasChange p.plan.notice (shown p s).left (shown p s).current (shown p s).next after.change
+    → Keeps p.plan.layout (sent_entries p.plan (shown p s)) (after_frame p s).page_index after
+    → HasChange p.plan.notice (shown p s).left (shown p s).current (shown p s).next after.change
     → IsGoing p (after_frame p s) (frame_steps p s) after
 frame_goes p s steps pages after h keeps change =
     let u : State = shown p s in
@@ -131,38 +163,48 @@ frame_goes p s steps pages after h keeps change =
     }
 
 -- the same for a borrowed code
-pub lent_ready : (p q : Program) (s : State) (steps : ℕ) (pages : PhasePages) → q ≡ p → IsGoing p s steps pages → IsFrameReady q s pages
-lent_ready p q s steps pages e h = subst (λ (x : Program). IsFrameReady x s pages) (sym e) (frame_ready p s steps pages h)
+pub lent_ready : (p q : Program) (s : State) (steps : ℕ) (pages : PhasePages) → q ≡ p → IsGoing p s steps pages
+    → IsFrameReady q s pages
+lent_ready p q s steps pages e h =
+    subst (λ (x : Program). IsFrameReady x s pages) (sym e) (frame_ready p s steps pages h)
 
-pub lent_goes : (p q : Program) (s t : State) (steps made : ℕ) (pages after : PhasePages) → q ≡ p → IsGoing p s steps pages → t ≡ after_frame q s → made ≡ frame_steps q s
-    → Keeps q.plan.layout (sent_entries q.plan (shown q s)) (after_frame q s).page_index after → HasChange q.plan.notice (shown q s).left (shown q s).current (shown q s).next after.change → IsGoing p t made after
+pub lent_goes : (p q : Program) (s t : State) (steps made : ℕ) (pages after : PhasePages) → q ≡ p
+    → IsGoing p s steps pages → t ≡ after_frame q s → made ≡ frame_steps q s
+    → Keeps q.plan.layout (sent_entries q.plan (shown q s)) (after_frame q s).page_index after
+    → HasChange q.plan.notice (shown q s).left (shown q s).current (shown q s).next after.change
+    → IsGoing p t made after
 lent_goes p q s t steps made pages after e h state count keeps change =
     let here : Keeps p.plan.layout (sent_entries p.plan (shown p s)) (after_frame p s).page_index after =
-    subst (λ (x : Program). Keeps x.plan.layout (sent_entries x.plan (shown x s)) (after_frame x s).page_index after) e keeps in
+    subst (λ (x : Program). Keeps x.plan.layout (sent_entries x.plan (shown x s)) (after_frame x s).page_index after) e
+    keeps in
     let flags : HasChange p.plan.notice (shown p s).left (shown p s).current (shown p s).next after.change =
-    subst (λ (x : Program). HasChange x.plan.notice (shown x s).left (shown x s).current (shown x s).next after.change) e change in
+    subst (λ (x : Program). HasChange x.plan.notice (shown x s).left (shown x s).current (shown x s).next after.change)
+    e change in
     let on = frame_goes p s steps pages after h here flags in
     let state_is : t ≡ after_frame p s = state ∙ ap (λ (x : Program). after_frame x s) e in
     let count_is : made ≡ frame_steps p s = count ∙ ap (λ (x : Program). frame_steps x s) e in
-    subst (λ (u : State). IsGoing p u made after) (sym state_is) (subst (λ (n : ℕ). IsGoing p (after_frame p s) n after) (sym count_is) on)
-
--- and what holds of it holds of the player's code and state
-pub lent_holds : (P : Program → State → Type 0) (p q : Program) (s : State) (steps : ℕ) (old : Playing) → q ≡ p
-    → (let here : Playing = record { code = p; state = s; steps = steps } in here ≡ old) → P q s → P old.code old.state
-lent_holds P p q s steps old e same h = subst (λ (x : Playing). P x.code x.state) same (subst (λ (x : Program). P x s) e h)
+    subst (λ (u : State). IsGoing p u made after) (sym state_is)
+    (subst (λ (n : ℕ). IsGoing p (after_frame p s) n after) (sym count_is) on)
 
 -- ---- a contact
 
-pub contact_goes : (p : Program) (s : State) (steps : ℕ) (pages : PhasePages) (c : ℕ) (closed : Bool) → IsGoing p s steps pages → c < 16 → IsGoing p (happens p s (Contact c closed)) steps pages
+pub contact_goes : (p : Program) (s : State) (steps : ℕ) (pages : PhasePages) (c : ℕ) (closed : Bool)
+    → IsGoing p s steps pages → c < 16 → IsGoing p (happens p s (Contact c closed)) steps pages
 contact_goes p s steps pages c closed h below = record {
-  played = record { program = h.played.program; typed = h.played.typed; reached = reached_is_kept p s (Contact c closed ∷ []) h.played.reached (below, tt) };
+  played = record {
+    program = h.played.program;
+    typed = h.played.typed;
+    reached = reached_is_kept p s (Contact c closed ∷ []) h.played.reached (below, tt);
+  };
   phase = record { entries = h.phase.entries; sent = h.phase.sent; keeps = h.phase.keeps; change = h.phase.change };
   within = h.within;
 }
 
 -- ---- the start
 
-pub start_goes : (p : Program) (start : Start) (s : State) (pages : PhasePages) → IsProgram p → IsTyped p → StartIsInRange start → IsStart p start s → ((layout : FrameLayout) (ms : List Marked) → Keeps layout ms 0 pages) → IsGoing p s 0 pages
+pub start_goes : (p : Program) (start : Start) (s : State) (pages : PhasePages) → IsProgram p → IsTyped p
+    → StartIsInRange start → IsStart p start s → ((layout : FrameLayout) (ms : List Marked) → Keeps layout ms 0 pages)
+    → IsGoing p s 0 pages
 start_goes p start s pages formed typed range starts none =
     let ms : List Marked = page_set s.current None in
     let sent : SentBy p.plan None s.current s.next ms = refl in
@@ -172,7 +214,8 @@ start_goes p start s pages formed typed range starts none =
         entries = ms;
         sent = subst (λ (o : Option ℕ). SentBy p.plan o s.current s.next ms) (sym starts.left) sent;
         keeps = subst (λ (n : ℕ). Keeps p.plan.layout ms n pages) (sym starts.page_index) (none p.plan.layout ms);
-        change = subst (λ (o : Option ℕ). KeepsChange p.plan.notice o s.current s.next pages.change) (sym starts.left) tt;
+        change = subst (λ (o : Option ℕ). KeepsChange p.plan.notice o s.current s.next pages.change) (sym starts.left)
+            tt;
       };
       within = omega arith;
     }

@@ -1,50 +1,53 @@
 -- Playing events, and then more events.
-use Rattle.std.specs.Prelude.{replicate}
-use Rattle.std.proofs.Common.{◌≡◌, ℕ, zero, suc, ◌+◌, ◌-◌, ◌<◌, ◌≤◌, List, [], ◌∷◌, ◌++◌, length, take, Option, refl, sym, ap, subst, ◌∙◌, arith, append_assoc, length-append}
-use Rattle.std.specs.Io.KnownBytes.{Appends}
-use Rattle.std.proofs.KnownBytes.{Appends-trans}
+use Rattle.std.proofs.Common.{◌≡◌, ℕ, zero, suc, ◌+◌, ◌-◌, ◌<◌, ◌≤◌, List, [], ◌∷◌, ◌++◌, length, take, Option, refl}
+use Rattle.std.proofs.Common.{sym, ap, subst, ◌∙◌, arith, append_assoc, length-append}
+use Rattle.plan_player.proofs.Names.{replicate, Appends, Appends-trans, Playing, played, frames_of, played_bytes}
+use Rattle.plan_player.proofs.Names.{next_frame, Delivered, Stopped, AreQuiet}
+use Rattle.plan_runs.proofs.Names.{append-nil, Program, State, after_frame, happens, run_frames}
 use Rattle.plan_runs.specs.declared.event.Event.{Event}
 use Rattle.plan_runs.specs.declared.event.Event.TheVariants.{Contact, Frame}
-use Rattle.plan_code.specs.Program.{Program}
-use Rattle.plan_code.specs.Machine.{State}
-use Rattle.plan_runs.specs.Frames.{after_frame}
-use Rattle.plan_runs.specs.Runs.{happens, run_frames}
-use Rattle.plan_runs.proofs.Joined.{runs_join}
-use Rattle.plan_player.specs.Playing.{Playing, played}
-use Rattle.plan_player.specs.Delivery.{frames_of, played_bytes, next_frame, Delivered, Stopped}
-use Rattle.plan_player.proofs.Delivering.{played_join, bytes_join}
+use Rattle.plan_player.proofs.Delivering.{played_join, bytes_join, frames_join}
 
-frames_join : (p : Playing) (events more : List Event) → frames_of p (events ++ more) ≡ frames_of p events ++ frames_of (played p events) more
-frames_join p events more = (runs_join p.code p.state [] events more).frames
-
-counts_join : (p : Playing) (events more : List Event) → length (frames_of p (events ++ more)) ≡ length (frames_of p events) + length (frames_of (played p events) more)
-counts_join p events more = ap (λ (fs : List (List ℕ)). length fs) (frames_join p events more) ∙ length-append (frames_of p events) (frames_of (played p events) more)
+counts_join : (p : Playing) (events more : List Event)
+    → length (frames_of p (events ++ more)) ≡ length (frames_of p events) + length (frames_of (played p events) more)
+counts_join p events more = ap (λ (fs : List (List ℕ)). length fs) (frames_join p events more)
+    ∙ length-append (frames_of p events) (frames_of (played p events) more)
 
 -- ---- events that were delivered, and then more
 
-pub joined : (a b c : Playing) (es fs : List Event) (x y z : Option (List ℕ)) (m n : ℕ) → Delivered a b es x y m → Delivered b c fs y z n → Delivered a c (es ++ fs) x z (m + n)
+pub joined : (a b c : Playing) (es fs : List Event) (x y z : Option (List ℕ)) (m n : ℕ) → Delivered a b es x y m
+    → Delivered b c fs y z n → Delivered a c (es ++ fs) x z (m + n)
 joined a b c es fs x y z m n d e =
-    let bytes : played_bytes a es ++ played_bytes b fs ≡ played_bytes a (es ++ fs) = ap (λ (p : Playing). played_bytes a es ++ played_bytes p fs) d.state ∙ sym (bytes_join a es fs) in
-    let count : length (frames_of b fs) ≡ length (frames_of (played a es) fs) = ap (λ (p : Playing). length (frames_of p fs)) d.state in
+    let bytes : played_bytes a es ++ played_bytes b fs ≡ played_bytes a (es ++ fs) =
+    ap (λ (p : Playing). played_bytes a es ++ played_bytes p fs) d.state ∙ sym (bytes_join a es fs) in
+    let count : length (frames_of b fs) ≡ length (frames_of (played a es) fs) =
+    ap (λ (p : Playing). length (frames_of p fs)) d.state in
     let all = counts_join a es fs in
     record {
       state = e.state ∙ ap (λ (p : Playing). played p fs) d.state ∙ sym (played_join a es fs);
-      out = subst (λ (l : List ℕ). Appends x z l) bytes (Appends-trans x y z (played_bytes a es) (played_bytes b fs) d.out e.out);
+      out = subst (λ (l : List ℕ). Appends x z l) bytes
+          (Appends-trans x y z (played_bytes a es) (played_bytes b fs) d.out e.out);
       whole = omega (arith, d.whole, e.whole, count, all);
     }
 
 -- ---- the sink fails in the later events
 
-pub stopped_later : (a b c : Playing) (es fs : List Event) (x y z : Option (List ℕ)) (m n k : ℕ) → Delivered a b es x y m → Stopped b c fs y z n k → Stopped a c (es ++ fs) x z (m + n) k
+pub stopped_later : (a b c : Playing) (es fs : List Event) (x y z : Option (List ℕ)) (m n k : ℕ)
+    → Delivered a b es x y m → Stopped b c fs y z n k → Stopped a c (es ++ fs) x z (m + n) k
 stopped_later a b c es fs x y z m n k d s =
-    let at : played b s.done ≡ played a (es ++ s.done) = ap (λ (p : Playing). played p s.done) d.state ∙ sym (played_join a es s.done) in
-    let next : next_frame (played b s.done) ≡ next_frame (played a (es ++ s.done)) = ap (λ (p : Playing). next_frame p) at in
-    let before : played_bytes a es ++ played_bytes b s.done ≡ played_bytes a (es ++ s.done) = ap (λ (p : Playing). played_bytes a es ++ played_bytes p s.done) d.state ∙ sym (bytes_join a es s.done) in
-    let bytes : played_bytes a es ++ (played_bytes b s.done ++ take k (next_frame (played b s.done))) ≡ played_bytes a (es ++ s.done) ++ take k (next_frame (played a (es ++ s.done))) =
+    let at : played b s.done ≡ played a (es ++ s.done) =
+    ap (λ (p : Playing). played p s.done) d.state ∙ sym (played_join a es s.done) in
+    let next : next_frame (played b s.done) ≡ next_frame (played a (es ++ s.done)) =
+    ap (λ (p : Playing). next_frame p) at in
+    let before : played_bytes a es ++ played_bytes b s.done ≡ played_bytes a (es ++ s.done) =
+    ap (λ (p : Playing). played_bytes a es ++ played_bytes p s.done) d.state ∙ sym (bytes_join a es s.done) in
+    let bytes : played_bytes a es ++ (played_bytes b s.done ++ take k (next_frame (played b s.done)))
+    ≡ played_bytes a (es ++ s.done) ++ take k (next_frame (played a (es ++ s.done))) =
     sym (append_assoc (played_bytes a es) (played_bytes b s.done) (take k (next_frame (played b s.done))))
     ∙ ap (λ (l : List ℕ). l ++ take k (next_frame (played b s.done))) before
     ∙ ap (λ (l : List ℕ). played_bytes a (es ++ s.done) ++ take k l) next in
-    let count : length (frames_of b s.done) ≡ length (frames_of (played a es) s.done) = ap (λ (p : Playing). length (frames_of p s.done)) d.state in
+    let count : length (frames_of b s.done) ≡ length (frames_of (played a es) s.done) =
+    ap (λ (p : Playing). length (frames_of p s.done)) d.state in
     let all = counts_join a es s.done in
     record {
       done = es ++ s.done;
@@ -52,13 +55,17 @@ stopped_later a b c es fs x y z m n k d s =
       cut = ap (λ (l : List Event). es ++ l) s.cut ∙ sym (append_assoc es s.done (Frame ∷ s.rest));
       whole = omega (arith, d.whole, s.whole, count, all);
       part = subst (λ (l : List ℕ). k < length l) next s.part;
-      state = s.state ∙ ap (λ (p : Playing). played p (s.done ++ Frame ∷ [])) d.state ∙ sym (played_join a es (s.done ++ Frame ∷ []))
+      state = s.state ∙ ap (λ (p : Playing). played p (s.done ++ Frame ∷ [])) d.state
+          ∙ sym (played_join a es (s.done ++ Frame ∷ []))
           ∙ ap (λ (l : List Event). played a l) (sym (append_assoc es s.done (Frame ∷ [])));
-      out = subst (λ (l : List ℕ). Appends x z l) bytes (Appends-trans x y z (played_bytes a es) (played_bytes b s.done ++ take k (next_frame (played b s.done))) d.out s.out);
+      out = subst (λ (l : List ℕ). Appends x z l) bytes
+          (Appends-trans x y z (played_bytes a es) (played_bytes b s.done ++ take k (next_frame (played b s.done)))
+          d.out s.out);
     }
 
 -- no later event was played
-pub stopped_before : (a c : Playing) (es fs : List Event) (x z : Option (List ℕ)) (n k : ℕ) → Stopped a c es x z n k → Stopped a c (es ++ fs) x z n k
+pub stopped_before : (a c : Playing) (es fs : List Event) (x z : Option (List ℕ)) (n k : ℕ) → Stopped a c es x z n k
+    → Stopped a c (es ++ fs) x z n k
 stopped_before a c es fs x z n k s = record {
   done = s.done;
   rest = s.rest ++ fs;
@@ -76,12 +83,15 @@ few p s [] = omega arith
 few p s (Contact c closed ∷ es) = omega (arith, few p (happens p s (Contact c closed)) es)
 few p s (Frame ∷ es) = omega (arith, few p (after_frame p s) es)
 
-pub few_delivered : (a b : Playing) (es : List Event) (x y : Option (List ℕ)) (m : ℕ) → Delivered a b es x y m → m ≤ length es
+pub few_delivered : (a b : Playing) (es : List Event) (x y : Option (List ℕ)) (m : ℕ) → Delivered a b es x y m
+    → m ≤ length es
 few_delivered a b es x y m d = omega (arith, d.whole, few a.code a.state es)
 
-pub few_stopped : (a c : Playing) (es : List Event) (x z : Option (List ℕ)) (n k : ℕ) → Stopped a c es x z n k → n ≤ length es
+pub few_stopped : (a c : Playing) (es : List Event) (x z : Option (List ℕ)) (n k : ℕ) → Stopped a c es x z n k
+    → n ≤ length es
 few_stopped a c es x z n k s =
-    let all : length es ≡ length s.done + length (Frame ∷ s.rest) = ap (λ (l : List Event). length l) s.cut ∙ length-append s.done (Frame ∷ s.rest) in
+    let all : length es ≡ length s.done + length (Frame ∷ s.rest) =
+    ap (λ (l : List Event). length l) s.cut ∙ length-append s.done (Frame ∷ s.rest) in
     omega (arith, s.whole, few a.code a.state s.done, all)
 
 -- ---- frames one after another
@@ -99,23 +109,56 @@ length_replicate zero = refl
 length_replicate (suc n) = ap (λ (k : ℕ). suc k) (length_replicate n)
 
 -- the sink fails in the first n of m frames
-pub stopped_among : (a b : Playing) (n m : ℕ) (x y : Option (List ℕ)) (frames bytes : ℕ) → n ≤ m → Stopped a b (replicate n Frame) x y frames bytes → Stopped a b (replicate m Frame) x y frames bytes
+pub stopped_among : (a b : Playing) (n m : ℕ) (x y : Option (List ℕ)) (frames bytes : ℕ) → n ≤ m
+    → Stopped a b (replicate n Frame) x y frames bytes → Stopped a b (replicate m Frame) x y frames bytes
 stopped_among a b n m x y frames bytes le s =
     let all : n + (m - n) ≡ m = omega (arith, le) in
-    let cut : replicate n Frame ++ replicate (m - n) Frame ≡ replicate m Frame = sym (replicate_more n (m - n)) ∙ ap (λ (k : ℕ). replicate k Frame) all in
-    subst (λ (l : List Event). Stopped a b l x y frames bytes) cut (stopped_before a b (replicate n Frame) (replicate (m - n) Frame) x y frames bytes s)
+    let cut : replicate n Frame ++ replicate (m - n) Frame ≡ replicate m Frame =
+    sym (replicate_more n (m - n)) ∙ ap (λ (k : ℕ). replicate k Frame) all in
+    subst (λ (l : List Event). Stopped a b l x y frames bytes) cut
+    (stopped_before a b (replicate n Frame) (replicate (m - n) Frame) x y frames bytes s)
 
 -- n frames were delivered, and then more of the m
-pub joined_frames : (a b c : Playing) (x y z : Option (List ℕ)) (n k : ℕ) → Delivered a b (replicate n Frame) x y n → Delivered b c (replicate k Frame) y z k → Delivered a c (replicate (n + k) Frame) x z (n + k)
+pub joined_frames : (a b c : Playing) (x y z : Option (List ℕ)) (n k : ℕ) → Delivered a b (replicate n Frame) x y n
+    → Delivered b c (replicate k Frame) y z k → Delivered a c (replicate (n + k) Frame) x z (n + k)
 joined_frames a b c x y z n k d e =
-    subst (λ (l : List Event). Delivered a c l x z (n + k)) (sym (replicate_more n k)) (joined a b c (replicate n Frame) (replicate k Frame) x y z n k d e)
+    subst (λ (l : List Event). Delivered a c l x z (n + k)) (sym (replicate_more n k))
+    (joined a b c (replicate n Frame) (replicate k Frame) x y z n k d e)
 
-pub stopped_frames : (a b c : Playing) (x y z : Option (List ℕ)) (n m frames bytes : ℕ) → n ≤ m → Delivered a b (replicate n Frame) x y n → Stopped b c (replicate (m - n) Frame) y z frames bytes
+pub stopped_frames : (a b c : Playing) (x y z : Option (List ℕ)) (n m frames bytes : ℕ) → n ≤ m
+    → Delivered a b (replicate n Frame) x y n → Stopped b c (replicate (m - n) Frame) y z frames bytes
     → Stopped a c (replicate m Frame) x z (n + frames) bytes
 stopped_frames a b c x y z n m frames bytes le d s =
     let all : n + (m - n) ≡ m = omega (arith, le) in
-    let cut : replicate n Frame ++ replicate (m - n) Frame ≡ replicate m Frame = sym (replicate_more n (m - n)) ∙ ap (λ (k : ℕ). replicate k Frame) all in
-    subst (λ (l : List Event). Stopped a c l x z (n + frames) bytes) cut (stopped_later a b c (replicate n Frame) (replicate (m - n) Frame) x y z n frames bytes d s)
+    let cut : replicate n Frame ++ replicate (m - n) Frame ≡ replicate m Frame =
+    sym (replicate_more n (m - n)) ∙ ap (λ (k : ℕ). replicate k Frame) all in
+    subst (λ (l : List Event). Stopped a c l x z (n + frames) bytes) cut
+    (stopped_later a b c (replicate n Frame) (replicate (m - n) Frame) x y z n frames bytes d s)
 
-pub few_frames : (a c : Playing) (m : ℕ) (x z : Option (List ℕ)) (frames bytes : ℕ) → Stopped a c (replicate m Frame) x z frames bytes → frames ≤ m
-few_frames a c m x z frames bytes s = omega (arith, few_stopped a c (replicate m Frame) x z frames bytes s, length_replicate m)
+pub few_frames : (a c : Playing) (m : ℕ) (x z : Option (List ℕ)) (frames bytes : ℕ)
+    → Stopped a c (replicate m Frame) x z frames bytes → frames ≤ m
+few_frames a c m x z frames bytes s =
+    omega (arith, few_stopped a c (replicate m Frame) x z frames bytes s, length_replicate m)
+
+-- ---- one frame as a run of one frame event
+
+pub one_delivered : (a b : Playing) (x y : Option (List ℕ)) → b ≡ played a (Frame ∷ []) → Appends x y (next_frame a)
+    → Delivered a b (replicate 1 Frame) x y 1
+one_delivered a b x y state out =
+    let bytes : next_frame a ≡ next_frame a ++ [] = sym (append-nil (next_frame a)) in
+    record { state = state; out = subst (λ (l : List ℕ). Appends x y l) bytes out; whole = refl }
+
+pub one_stopped : (a b : Playing) (x y : Option (List ℕ)) (k : ℕ) → b ≡ played a (Frame ∷ [])
+    → k < length (next_frame a) → Appends x y (take k (next_frame a))
+    → Stopped a b (replicate 1 Frame) x y 0 k
+one_stopped a b x y k state part out =
+    record { done = []; rest = []; cut = refl; whole = refl; part = part; state = state; out = out }
+
+-- there are as many frames as frame events
+pub all_frames : (p : Program) (s : State) (n : ℕ) → n ≡ length (run_frames p s (replicate n Frame))
+all_frames p s zero = refl
+all_frames p s (suc n) = ap (λ (k : ℕ). suc k) (all_frames p (after_frame p s) n)
+
+-- the first of some quiet frames, and the rest
+pub first_quiet : (p : Program) (s : State) (n m : ℕ) → n ≡ suc m → AreQuiet p n s → AreQuiet p (suc m) s
+first_quiet p s n m e quiet = subst (λ (k : ℕ). AreQuiet p k s) e quiet

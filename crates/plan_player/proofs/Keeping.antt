@@ -1,17 +1,11 @@
 -- Keeping the pages of a phase.
-use Rattle.std.specs.Prelude.{slice_get, slice_set}
-use Rattle.std.proofs.Common.{◌≡◌, ℕ, zero, suc, ◌+◌, ◌<◌, ◌≤◌, Bool, true, false, cond, eqb, List, [], ◌∷◌, length, length-set, Option, Some, refl, sym, ap, subst, ◌∙◌, arith}
+use Rattle.std.proofs.Common.{◌≡◌, ℕ, zero, suc, ◌+◌, ◌<◌, ◌≤◌, Bool, true, false, cond, eqb, List, [], ◌∷◌, length}
+use Rattle.std.proofs.Common.{length-set, Option, Some, refl, sym, ap, subst, ◌∙◌, arith}
+use Rattle.plan_player.proofs.Names.{KeptPage, Cursor, IsKept, IsAtPage, cursor_page, PhasePages, HasPage, Keeps}
+use Rattle.plan_runs.proofs.Names.{slice_get, slice_set, eqb-true, eqb-false, ltb-true, ltb-false, FrameLayout, Marked}
+use Rattle.plan_runs.proofs.Names.{rounds, page_after}
+use Rattle.plan_runs.proofs.Periods.{after_up}
 use Rattle.std.proofs.Math.Dec.{ltb}
-use Rattle.std.proofs.lemmas.Bool.{eqb-true, eqb-false, ltb-true, ltb-false, lt-ltb}
-use Rattle.fib_codec.specs.declared.frame_layout.FrameLayout.{FrameLayout}
-use Rattle.mux_types.specs.Facts.{Marked}
-use Rattle.fib_carousel.specs.declared.kept_page.KeptPage.{KeptPage}
-use Rattle.fib_carousel.specs.declared.page_cursor.Cursor.{Cursor}
-use Rattle.fib_carousel.specs.Pages.{rounds, page_after}
-use Rattle.fib_carousel.specs.Kept.{IsKept}
-use Rattle.fib_carousel.specs.Walk.{IsAtPage, cursor_page}
-use Rattle.plan_player.specs.declared.phase_pages.PhasePages.{PhasePages}
-use Rattle.plan_player.specs.Phase.{HasPage, Keeps}
 
 get_set_same : {X : Type 0} (xs : List X) (i : ℕ) (x : X) → i < length xs → slice_get (slice_set xs i x) i ≡ Some x
 get_set_same [] i x lt = absurd (omega (arith, lt))
@@ -24,15 +18,15 @@ get_set_other (y ∷ ys) zero j x lt = absurd (omega (arith, lt))
 get_set_other (y ∷ ys) (suc i) zero x lt = refl
 get_set_other (y ∷ ys) (suc i) (suc j) x lt = get_set_other ys i j x (omega (arith, lt))
 
-page_up : (pages k : ℕ) → k + 1 < pages → page_after pages k ≡ k + 1
-page_up pages k lt = ap (λ (b : Bool). cond b (k + 1) 0) (lt-ltb (k + 1) pages lt)
-
 -- one page more is made
-each_more : (layout : FrameLayout) (ms : List Marked) (made : ℕ) (pages : List (Option KeptPage)) (page : KeptPage) → made < length pages → IsKept layout ms made page
-    → ((n : ℕ) → n < made → HasPage layout ms n pages) → (n : ℕ) → n < made + 1 → (b : Bool) → eqb n made ≡ b → HasPage layout ms n (slice_set pages made (Some page))
+each_more : (layout : FrameLayout) (ms : List Marked) (made : ℕ) (pages : List (Option KeptPage)) (page : KeptPage)
+    → made < length pages → IsKept layout ms made page
+    → ((n : ℕ) → n < made → HasPage layout ms n pages) → (n : ℕ) → n < made + 1 → (b : Bool) → eqb n made ≡ b
+    → HasPage layout ms n (slice_set pages made (Some page))
 each_more layout ms made pages page room kept each n below true e =
     let same : n ≡ made = eqb-true n made e in
-    let here : HasPage layout ms made (slice_set pages made (Some page)) = record { page = page; held = get_set_same pages made (Some page) room; kept = kept } in
+    let here : HasPage layout ms made (slice_set pages made (Some page)) =
+    record { page = page; held = get_set_same pages made (Some page) room; kept = kept } in
     subst (λ (k : ℕ). HasPage layout ms k (slice_set pages made (Some page))) (sym same) here
 each_more layout ms made pages page room kept each n below false e =
     let apart = eqb-false n made e in
@@ -49,38 +43,60 @@ more_of : (b : Bool) (count k : ℕ) → ltb (k + 1) count ≡ b → (cond b (k 
 more_of true count k e other = ltb-true (k + 1) count e
 more_of false count k e other = absurd (other refl)
 
-pub one_more : (layout : FrameLayout) (ms : List Marked) (p : PhasePages) (place : ℕ) (page : KeptPage) (number : ℕ) (cursor : Cursor) → Keeps layout ms p.made p → place ≡ p.made → p.made < 60 → p.made < rounds layout ms
-    → IsKept layout ms p.made page → IsAtPage layout ms (page_after (rounds layout ms) p.made) cursor → number ≡ cursor_page cursor
-    → Keeps layout ms p.made (record { pages = slice_set p.pages place (Some page); made = p.made + 1; is_whole = eqb number 0; cursor = cursor; change = p.change; sent = p.sent; headed = p.headed })
+pub one_more : (layout : FrameLayout) (ms : List Marked) (p : PhasePages) (place : ℕ) (page : KeptPage) (number : ℕ)
+    (cursor : Cursor) → Keeps layout ms p.made p → place ≡ p.made → p.made < 60 → p.made < rounds layout ms
+    → IsKept layout ms p.made page → IsAtPage layout ms (page_after (rounds layout ms) p.made) cursor
+    → number ≡ cursor_page cursor
+    → Keeps layout ms p.made (record {
+      pages = slice_set p.pages place (Some page);
+      made = p.made + 1;
+      is_whole = eqb number 0;
+      cursor = cursor;
+      change = p.change;
+      sent = p.sent;
+      headed = p.headed;
+    })
 one_more layout ms p place page number cursor k at room within kept stands is =
     let cycle : number ≡ page_after (rounds layout ms) p.made = is ∙ stands.1 in
     record {
       whole = length-set p.pages place (Some page) ∙ k.whole;
       room = omega (arith, room);
       index_within = omega arith;
-      each = λ n below. subst (λ (i : ℕ). HasPage layout ms n (slice_set p.pages i (Some page))) (sym at) (each_more layout ms p.made p.pages page (omega (arith, room, k.whole)) kept k.each n below (eqb n p.made) refl);
-      all = λ e. last_of (ltb (p.made + 1) (rounds layout ms)) (rounds layout ms) p.made refl within (sym cycle ∙ eqb-true number 0 e);
-      more = λ e. more_of (ltb (p.made + 1) (rounds layout ms)) (rounds layout ms) p.made refl (λ none. eqb-false number 0 e (cycle ∙ none));
-      cursor = λ more. subst (λ (t : ℕ). IsAtPage layout ms t cursor) (page_up (rounds layout ms) p.made more) stands;
+      each = λ n below. subst (λ (i : ℕ). HasPage layout ms n (slice_set p.pages i (Some page))) (sym at)
+          (each_more layout ms p.made p.pages page (omega (arith, room, k.whole)) kept k.each n below (eqb n p.made)
+          refl);
+      all = λ e. last_of (ltb (p.made + 1) (rounds layout ms)) (rounds layout ms) p.made refl within
+          (sym cycle ∙ eqb-true number 0 e);
+      more = λ e. more_of (ltb (p.made + 1) (rounds layout ms)) (rounds layout ms) p.made refl
+          (λ none. eqb-false number 0 e (cycle ∙ none));
+      cursor = λ more. subst (λ (t : ℕ). IsAtPage layout ms t cursor) (after_up (rounds layout ms) p.made more) stands;
     }
 
 -- the next index, with the page count or, before all pages have been made, with one more than were made
-page_next : (layout : FrameLayout) (ms : List Marked) (page_index count : ℕ) (p : PhasePages) → Keeps layout ms page_index p → page_index < p.made → (b : Bool) → p.is_whole ≡ b
-    → (p.is_whole ≡ true → count ≡ p.made) → (p.is_whole ≡ false → count ≡ p.made + 1) → page_after count page_index ≡ page_after (rounds layout ms) page_index
-page_next layout ms page_index count p k lt true e whole more = ap (λ (n : ℕ). page_after n page_index) (whole e ∙ k.all e)
+page_next : (layout : FrameLayout) (ms : List Marked) (page_index count : ℕ) (p : PhasePages)
+    → Keeps layout ms page_index p → page_index < p.made → (b : Bool) → p.is_whole ≡ b
+    → (p.is_whole ≡ true → count ≡ p.made) → (p.is_whole ≡ false → count ≡ p.made + 1)
+    → page_after count page_index ≡ page_after (rounds layout ms) page_index
+page_next layout ms page_index count p k lt true e whole more =
+    ap (λ (n : ℕ). page_after n page_index) (whole e ∙ k.all e)
 page_next layout ms page_index count p k lt false e whole more =
-    page_up count page_index (omega (arith, lt, more e)) ∙ sym (page_up (rounds layout ms) page_index (omega (arith, lt, k.more e)))
+    after_up count page_index (omega (arith, lt, more e))
+    ∙ sym (after_up (rounds layout ms) page_index (omega (arith, lt, k.more e)))
 
-pub next_page : (layout : FrameLayout) (ms : List Marked) (page_index count : ℕ) (p : PhasePages) → Keeps layout ms page_index p → page_index < p.made
-    → (p.is_whole ≡ true → count ≡ p.made) → (p.is_whole ≡ false → count ≡ p.made + 1) → page_after count page_index ≡ page_after (rounds layout ms) page_index
-next_page layout ms page_index count p k lt whole more = page_next layout ms page_index count p k lt p.is_whole refl whole more
+pub next_page : (layout : FrameLayout) (ms : List Marked) (page_index count : ℕ) (p : PhasePages)
+    → Keeps layout ms page_index p → page_index < p.made
+    → (p.is_whole ≡ true → count ≡ p.made) → (p.is_whole ≡ false → count ≡ p.made + 1)
+    → page_after count page_index ≡ page_after (rounds layout ms) page_index
+next_page layout ms page_index count p k lt whole more =
+    page_next layout ms page_index count p k lt p.is_whole refl whole more
 
 -- the page in turn next is one of those made, or page 0
 next_within : (b : Bool) (page_index made : ℕ) → page_index < made → cond b (page_index + 1) 0 ≤ made
 next_within true page_index made lt = omega (arith, lt)
 next_within false page_index made lt = omega arith
 
-pub turned : (layout : FrameLayout) (ms : List Marked) (page_index count : ℕ) (p : PhasePages) → Keeps layout ms page_index p → page_index < p.made → Keeps layout ms (page_after count page_index) p
+pub turned : (layout : FrameLayout) (ms : List Marked) (page_index count : ℕ) (p : PhasePages)
+    → Keeps layout ms page_index p → page_index < p.made → Keeps layout ms (page_after count page_index) p
 turned layout ms page_index count p k lt = record {
   whole = k.whole;
   room = k.room;
@@ -92,7 +108,8 @@ turned layout ms page_index count p k lt = record {
 }
 
 -- the page stored at an index is that page
-pub held_is : (layout : FrameLayout) (ms : List Marked) (n : ℕ) (pages : List (Option KeptPage)) (page : KeptPage) → HasPage layout ms n pages → slice_get pages n ≡ Some (Some page) → IsKept layout ms n page
+pub held_is : (layout : FrameLayout) (ms : List Marked) (n : ℕ) (pages : List (Option KeptPage)) (page : KeptPage)
+    → HasPage layout ms n pages → slice_get pages n ≡ Some (Some page) → IsKept layout ms n page
 held_is layout ms n pages page h e =
     let both : Some (Some h.page) ≡ Some (Some page) = sym h.held ∙ e in
     let same : h.page ≡ page = cc both in

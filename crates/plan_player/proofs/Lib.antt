@@ -1,5 +1,5 @@
+pub mod Names
 pub mod Remaining
-pub mod Continuing
 pub mod Keeping
 pub mod FrameFacts
 pub mod Delivering
@@ -9,15 +9,12 @@ mod VectorsOfBursts
 mod VectorsOfPhases
 mod VectorsOfQuiet
 pub mod Joining
-pub mod OneFrame
 pub mod Quiet
-pub mod QuietFacts
 mod CountedOn
 mod Together
-mod Stretches
+pub mod Stretches
 mod VectorsOfStretches
 mod CountTables
 mod Recounting
 mod Alike
 mod Cycles
-mod UnderAnyPlan

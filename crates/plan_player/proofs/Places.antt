@@ -1,34 +1,28 @@
 -- The pc is within the code in every state that a typed code reaches.
-use Rattle.std.specs.Prelude.{slice_get, option_map, IsSome}
-use Rattle.std.proofs.Common.{◌≡◌, ℕ, zero, suc, ◌<◌, Bool, true, false, cond, eqb, List, [], ◌∷◌, length, Option, Some, None, refl, sym, ap, subst, ◌∙◌, arith}
-use Rattle.std.proofs.lemmas.Bool.{eqb-true}
-use Rattle.plan_code.specs.declared.hold.Hold.{Hold}
-use Rattle.plan_code.specs.declared.hold.Hold.TheVariants.{Running, Waits, WaitsDay, WaitsContact, WaitsAny, WaitsSwap, Ended}
-use Rattle.plan_code.specs.declared.instr.Instr.{Instr}
-use Rattle.plan_code.specs.declared.instr.Instr.TheVariants.{Wait, Until, WaitContact, WaitAny, CommitIn, CommitAt, Join, Settle, End, Edit as Edits, Test, TestTime, Jump, Set, Loop}
-use Rattle.plan_code.specs.declared.instr.Line.{Line}
-use Rattle.plan_code.specs.declared.label.Label.{Label}
-use Rattle.plan_code.specs.declared.plan.Plan.{Plan}
-use Rattle.plan_code.specs.Program.{Program, label_at, line_at}
-use Rattle.plan_code.specs.Machine.{State, step, effect, settle}
-use Rattle.plan_verifier.specs.Typing.{Known, IsTyping, Arrives}
-use Rattle.plan_runs.specs.declared.event.Event.{Event}
-use Rattle.plan_runs.specs.declared.event.Event.TheVariants.{Contact, Frame}
-use Rattle.plan_runs.specs.Frames.{is_due, with_swap, with_due_swap, is_running, is_here, ready, Executes, after_burst, is_first_noticed, hold_after_frame, left_after_frame, after_frame}
-use Rattle.plan_runs.specs.Runs.{happens, run}
-use Rattle.plan_runs.specs.TypedRuns.{IsPlayed}
+use Rattle.std.proofs.Common.{◌≡◌, ℕ, zero, suc, ◌<◌, Bool, true, false, cond, eqb, List, [], ◌∷◌, length, Option, Some}
+use Rattle.std.proofs.Common.{None, refl, sym, ap, subst, ◌∙◌, arith}
+use Rattle.plan_player.proofs.Names.{IsSome, line_at}
+use Rattle.plan_runs.proofs.Names.{slice_get, option_map, eqb-true, Hold, Running, Ended, Instr, Wait, Until}
+use Rattle.plan_runs.proofs.Names.{WaitContact, WaitAny, Join, Settle, End, Line, Label, Plan, Program, label_at, State}
+use Rattle.plan_runs.proofs.Names.{step, effect, settle, Known, IsTyping, Arrives, is_due}
+use Rattle.plan_runs.proofs.Names.{with_swap, with_due_swap, is_running, is_here, ready, Executes, after_burst}
+use Rattle.plan_runs.proofs.Names.{is_first_noticed, hold_after_frame, left_after_frame, after_frame, happens, run}
+use Rattle.plan_runs.proofs.Names.{IsPlayed}
 use Rattle.plan_runs.proofs.Lookups.{found, get_below}
 use Rattle.plan_runs.proofs.Steps.{Expects, ResumesBy}
 use Rattle.plan_runs.proofs.Between.{frame_goes, step_is}
 use Rattle.plan_runs.proofs.Facts.{Holds, IsCode, happens_holds, code_of, played_holds}
 use Rattle.plan_runs.proofs.Reached.{starts_are_reached}
+use Rattle.plan_runs.specs.declared.event.Event.{Event}
+use Rattle.plan_runs.specs.declared.event.Event.TheVariants.{Contact, Frame}
 
 abbrev pub IsInside : Program → ℕ → Type 0
 IsInside p pc = pc < length p.lines
 
 -- ---- after a suspension other than `End`
 
-arrives_inside : (p : Program) (ts : List Known) → IsTyping p ts → (pc : ℕ) (t : Known) (o : Option Label) → label_at p pc ≡ o → Arrives p ts pc o t → IsInside p pc
+arrives_inside : (p : Program) (ts : List Known) → IsTyping p ts → (pc : ℕ) (t : Known) (o : Option Label)
+    → label_at p pc ≡ o → Arrives p ts pc o t → IsInside p pc
 arrives_inside p ts ty pc t None e arrives = omega (arith, get_below ts pc t arrives, ty.each)
 arrives_inside p ts ty pc t (Some label) e arrives =
     let one = found (λ (l : Label). eqb l.pc pc) p.labels label e in
@@ -36,12 +30,14 @@ arrives_inside p ts ty pc t (Some label) e arrives =
     let here : label.pc ≡ pc = eqb-true label.pc pc one.passes in
     omega (arith, get_below ts label.pc place.known place.there, ty.each, here)
 
-expects_inside : (p : Program) (ts : List Known) → IsTyping p ts → (pc : ℕ) (counters : List ℕ) (R : Known → Type 0) → Expects p ts pc counters R → IsInside p pc
+expects_inside : (p : Program) (ts : List Known) → IsTyping p ts → (pc : ℕ) (counters : List ℕ) (R : Known → Type 0)
+    → Expects p ts pc counters R → IsInside p pc
 expects_inside p ts ty pc counters R h = arrives_inside p ts ty pc h.known (label_at p pc) refl h.arrives
 
 -- ---- after `End`
 
-line_inside : (lines : List Line) (pc : ℕ) (i : Instr) (o : Option Line) → slice_get lines pc ≡ o → option_map (λ (l : Line). l.instr) o ≡ Some i → pc < length lines
+line_inside : (lines : List Line) (pc : ℕ) (i : Instr) (o : Option Line) → slice_get lines pc ≡ o
+    → option_map (λ (l : Line). l.instr) o ≡ Some i → pc < length lines
 line_inside lines pc i None e h = absurd cc
 line_inside lines pc i (Some l) e h = get_below lines pc l e
 
@@ -54,24 +50,19 @@ settle_ends : (s : State) (left : Option ℕ) → is_running s.hold ≡ true →
 settle_ends s None runs e = not_ended s.hold runs e
 settle_ends s (Some l) runs e = absurd cc
 
-effect_inside : (p : Program) (plan : Plan) (i : Instr) (s : State) → is_running s.hold ≡ true → IsInside p s.pc → (effect plan i s).hold ≡ Ended → IsInside p (effect plan i s).pc
+effect_inside : (p : Program) (plan : Plan) (i : Instr) (s : State) → is_running s.hold ≡ true → IsInside p s.pc
+    → (effect plan i s).hold ≡ Ended → IsInside p (effect plan i s).pc
 effect_inside p plan (Wait n) s runs inside e = absurd cc
 effect_inside p plan (Until d) s runs inside e = absurd cc
 effect_inside p plan (WaitContact d closed) s runs inside e = absurd cc
 effect_inside p plan (WaitAny closed opened until frames) s runs inside e = absurd cc
-effect_inside p plan (CommitIn k) s runs inside e = absurd (not_ended s.hold runs e)
-effect_inside p plan (CommitAt n) s runs inside e = absurd (not_ended s.hold runs e)
 effect_inside p plan Join s runs inside e = absurd cc
 effect_inside p plan Settle s runs inside e = absurd (settle_ends s s.left runs e)
 effect_inside p plan End s runs inside e = inside
-effect_inside p plan (Edits d) s runs inside e = absurd (not_ended s.hold runs e)
-effect_inside p plan (Test d target) s runs inside e = absurd (not_ended s.hold runs e)
-effect_inside p plan (TestTime from to target) s runs inside e = absurd (not_ended s.hold runs e)
-effect_inside p plan (Jump target) s runs inside e = absurd (not_ended s.hold runs e)
-effect_inside p plan (Set r n) s runs inside e = absurd (not_ended s.hold runs e)
-effect_inside p plan (Loop r target) s runs inside e = absurd (not_ended s.hold runs e)
+effect_inside p plan _ s runs inside e = absurd (not_ended s.hold runs e)
 
-ends_inside : (p : Program) (n : ℕ) (s t : State) → Executes p s n t → (s.hold ≡ Ended → IsInside p s.pc) → t.hold ≡ Ended → IsInside p t.pc
+ends_inside : (p : Program) (n : ℕ) (s t : State) → Executes p s n t → (s.hold ≡ Ended → IsInside p s.pc)
+    → t.hold ≡ Ended → IsInside p t.pc
 ends_inside p zero s t h here e =
     let same : s ≡ t = h.1 in
     subst (λ (u : State). IsInside p u.pc) same (here (ap (λ (u : State). u.hold) same ∙ e))
@@ -80,7 +71,8 @@ ends_inside p (suc n) s t h here e =
     let inside : IsInside p s.pc = line_inside p.lines s.pc i (slice_get p.lines s.pc) refl h.1.within in
     let is : step p s ≡ effect p.plan i s = step_is p s i h.1.within in
     let next : (step p s).hold ≡ Ended → IsInside p (step p s).pc =
-    λ ended. subst (λ (u : State). IsInside p u.pc) (sym is) (effect_inside p p.plan i s h.0 inside (ap (λ (u : State). u.hold) (sym is) ∙ ended)) in
+    λ ended. subst (λ (u : State). IsInside p u.pc) (sym is)
+    (effect_inside p p.plan i s h.0 inside (ap (λ (u : State). u.hold) (sym is) ∙ ended)) in
     ends_inside p n (step p s) t h.2 next e
 
 -- ---- a frame
@@ -94,48 +86,57 @@ held_place s true = refl
 held_place s false = refl
 
 ready_place : (s : State) → (ready s).pc ≡ s.pc
-ready_place s = held_place (with_due_swap s) (is_here (with_due_swap s) (with_due_swap s).hold) ∙ due_place s (is_due s.left)
+ready_place s = held_place (with_due_swap s) (is_here (with_due_swap s) (with_due_swap s).hold)
+    ∙ due_place s (is_due s.left)
 
 turned_place : (u : State) (b : Bool) → (cond b (let r : State = record u { page_index = 0 } in r) u).pc ≡ u.pc
 turned_place u true = refl
 turned_place u false = refl
 
-suspended_inside : (p : Program) (ts : List Known) → IsTyping p ts → (u : State) (hold : Hold) → u.hold ≡ hold → ResumesBy p ts u.pc (hold_after_frame hold) (left_after_frame u.left) u.current u.next u.counters
+suspended_inside : (p : Program) (ts : List Known) → IsTyping p ts → (u : State) (hold : Hold) → u.hold ≡ hold
+    → ResumesBy p ts u.pc (hold_after_frame hold) (left_after_frame u.left) u.current u.next u.counters
     → (u.hold ≡ Ended → IsInside p u.pc) → IsInside p u.pc
-suspended_inside p ts ty u Running e h ended = expects_inside p ts ty u.pc u.counters _ h
-suspended_inside p ts ty u (Waits k) e h ended = expects_inside p ts ty u.pc u.counters _ h
-suspended_inside p ts ty u (WaitsDay d) e h ended = expects_inside p ts ty u.pc u.counters _ h
-suspended_inside p ts ty u (WaitsContact d closed) e h ended = expects_inside p ts ty u.pc u.counters _ h
-suspended_inside p ts ty u (WaitsAny closed opened until left) e h ended = expects_inside p ts ty u.pc u.counters _ h
-suspended_inside p ts ty u WaitsSwap e h ended = expects_inside p ts ty u.pc u.counters _ h
 suspended_inside p ts ty u Ended e h ended = ended e
+suspended_inside p ts ty u _ e h ended = expects_inside p ts ty u.pc u.counters _ h
 
-frame_inside : (p : Program) (ts : List Known) → IsCode p ts → (s : State) → Holds p ts s → IsInside p s.pc → IsInside p (after_frame p s).pc
+frame_inside : (p : Program) (ts : List Known) → IsCode p ts → (s : State) → Holds p ts s → IsInside p s.pc
+    → IsInside p (after_frame p s).pc
 frame_inside p ts c s h inside =
     let u : State = after_burst p s in
     let goes = frame_goes p ts c.program c.typing s h.between in
     let first : IsInside p (ready s).pc = subst (λ (n : ℕ). IsInside p n) (sym (ready_place s)) inside in
-    let ended : u.hold ≡ Ended → IsInside p u.pc = ends_inside p goes.allowed.steps (ready s) u goes.allowed.executes (λ e. first) in
+    let ended : u.hold ≡ Ended → IsInside p u.pc =
+    ends_inside p goes.allowed.steps (ready s) u goes.allowed.executes (λ e. first) in
     let here : IsInside p u.pc = suspended_inside p ts c.typing u u.hold refl goes.suspends.resumes ended in
     subst (λ (n : ℕ). IsInside p n) (sym (turned_place u (is_first_noticed p.plan.notice u.left))) here
 
-happens_inside : (p : Program) (ts : List Known) → IsCode p ts → (s : State) (e : Event) → Holds p ts s → IsInside p s.pc → IsInside p (happens p s e).pc
+happens_inside : (p : Program) (ts : List Known) → IsCode p ts → (s : State) (e : Event) → Holds p ts s
+    → IsInside p s.pc → IsInside p (happens p s e).pc
 happens_inside p ts c s (Contact d closed) h inside = inside
 happens_inside p ts c s Frame h inside = frame_inside p ts c s h inside
 
-run_inside : (p : Program) (ts : List Known) → IsCode p ts → (s : State) (events : List Event) → Holds p ts s → IsInside p s.pc → IsInside p (run p s events).pc
+run_inside : (p : Program) (ts : List Known) → IsCode p ts → (s : State) (events : List Event) → Holds p ts s
+    → IsInside p s.pc → IsInside p (run p s events).pc
 run_inside p ts c s [] h inside = inside
-run_inside p ts c s (e ∷ es) h inside = run_inside p ts c (happens p s e) es (happens_holds p ts c s e h) (happens_inside p ts c s e h inside)
+run_inside p ts c s (e ∷ es) h inside =
+    run_inside p ts c (happens p s e) es (happens_holds p ts c s e h) (happens_inside p ts c s e h inside)
 
 pub played_inside : (p : Program) (s : State) → IsPlayed p s → IsInside p s.pc
 played_inside p s h =
     let r = h.reached in
     let ts : List Known = h.typed.0 in
-    let start : IsPlayed p r.first = record { program = h.program; typed = h.typed; reached = starts_are_reached p r.start r.first r.in_range r.started } in
+    let start : IsPlayed p r.first =
+    record {
+      program = h.program;
+      typed = h.typed;
+      reached = starts_are_reached p r.start r.first r.in_range r.started;
+    } in
     let zero_inside : IsInside p r.first.pc = omega (arith, r.started.pc, h.program.lines_from) in
-    subst (λ (t : State). IsInside p t.pc) r.leads (run_inside p ts (code_of p s h) r.first r.events (played_holds p r.first start) zero_inside)
+    subst (λ (t : State). IsInside p t.pc) r.leads
+    (run_inside p ts (code_of p s h) r.first r.events (played_holds p r.first start) zero_inside)
 
-some_line : (lines : List Line) (pc : ℕ) → pc < length lines → IsSome (option_map (λ (l : Line). l.number) (slice_get lines pc))
+some_line : (lines : List Line) (pc : ℕ) → pc < length lines
+    → IsSome (option_map (λ (l : Line). l.number) (slice_get lines pc))
 some_line [] pc below = absurd (omega (arith, below))
 some_line (l ∷ ls) zero below = refl
 some_line (l ∷ ls) (suc pc) below = some_line ls pc (omega (arith, below))

@@ -1,22 +1,19 @@
 -- Quiet frames: what they are, from the state alone, and how many there are.
-use Rattle.std.specs.Prelude.{◌||◌, IfSome, replicate}
-use Rattle.std.proofs.Common.{◌≡◌, ℕ, zero, suc, ◌+◌, ◌%◌, ◌≤◌, ◌==◌, Bool, true, false, cond, List, ◌∷◌, Option, Some, None, refl, sym, ap, subst, ◌∙◌, arith}
-use Rattle.std.proofs.lemmas.Bool.{eqb-true}
-use Rattle.std.proofs.Math.Nat.{mod-eq_of_lt}
-use Rattle.mux_config.specs.Sameness.{is_same_flag}
-use Rattle.plan_code.specs.declared.hold.Hold.{Hold}
-use Rattle.plan_code.specs.declared.hold.Hold.TheVariants.{Running, Waits, WaitsDay, WaitsContact, WaitsAny, WaitsSwap, Ended}
-use Rattle.plan_code.specs.declared.limits.TheConstants.{FRAMES_A_DAY}
-use Rattle.plan_code.specs.declared.plan.Plan.{Plan}
-use Rattle.plan_code.specs.Flags.{is_closed, any_closed, any_open}
-use Rattle.plan_code.specs.Program.{Program}
-use Rattle.plan_code.specs.Machine.{State}
+use Rattle.std.proofs.Common.{◌≡◌, ℕ, zero, suc, ◌+◌, ◌%◌, ◌≤◌, ◌==◌, Bool, true, false, cond, List, ◌∷◌, Option, Some}
+use Rattle.std.proofs.Common.{None, refl, sym, ap, subst, ◌∙◌, arith}
+use Rattle.plan_player.proofs.Names.{replicate, mod-eq_of_lt, FRAMES_A_DAY, last_steps, IsQuiet, AreQuiet, counted_on}
+use Rattle.plan_player.proofs.Names.{QuietFramesAreCopied, SwapIsAway, DayIsAway, HoldIsAway}
+use Rattle.plan_runs.proofs.Names.{◌||◌, IfSome, eqb-true, is_same_flag, Hold, Running, Waits, WaitsDay, WaitsContact}
+use Rattle.plan_runs.proofs.Names.{WaitsAny, WaitsSwap, Ended, Plan, is_closed, Program, State, is_due}
+use Rattle.plan_runs.proofs.Names.{with_swap, with_due_swap, is_running, is_day, is_here, with_hold_ended, ready, burst}
+use Rattle.plan_runs.proofs.Names.{burst_steps, after_burst, frame_steps, is_first_noticed, shown, shown_bytes}
+use Rattle.plan_runs.proofs.Names.{left_after_frame, hold_after_frame, with_next_counts, frame_bytes, after_frame}
+use Rattle.plan_runs.proofs.Names.{run_frames, notice_frames}
+use Rattle.std.proofs.lemmas.Bool.{or_from}
+use Rattle.plan_code.specs.Flags.{any_closed, any_open}
+use Rattle.plan_runs.proofs.Waits.{burst_stays}
+use Rattle.plan_runs.proofs.Between.{still_stops}
 use Rattle.plan_runs.specs.declared.event.Event.TheVariants.{Frame}
-use Rattle.plan_runs.specs.Frames.{is_due, with_swap, with_due_swap, is_running, is_day, is_here, with_hold_ended, ready, burst, burst_steps, after_burst, frame_steps, is_first_noticed, shown, shown_bytes, left_after_frame, hold_after_frame, with_next_counts, frame_bytes, after_frame}
-use Rattle.plan_runs.specs.Runs.{run_frames}
-use Rattle.plan_runs.specs.Announced.{notice_frames}
-use Rattle.plan_player.specs.Playing.{last_steps}
-use Rattle.plan_player.specs.Quiet.{IsQuiet, AreQuiet, counted_on, QuietFramesAreCopied, SwapIsAway, DayIsAway, HoldIsAway}
 
 -- ---- a quiet frame
 
@@ -34,12 +31,9 @@ not_resumed s false e = refl
 is_ready : (p : Program) (s : State) → is_due s.left ≡ false → is_running (ready s).hold ≡ false → ready s ≡ s
 is_ready p s no_swap suspended =
     let unswapped : with_due_swap s ≡ s = no_swap_due s (is_due s.left) no_swap in
-    let stays : is_running (with_hold_ended s).hold ≡ false = subst (λ (t : State). is_running (with_hold_ended t).hold ≡ false) unswapped suspended in
+    let stays : is_running (with_hold_ended s).hold ≡ false =
+    subst (λ (t : State). is_running (with_hold_ended t).hold ≡ false) unswapped suspended in
     ap (λ (t : State). with_hold_ended t) unswapped ∙ not_resumed s (is_here s s.hold) stays
-
-held_burst : (most : ℕ) (p : Program) (s : State) → is_running s.hold ≡ false → burst most p s ≡ s
-held_burst zero p s held = refl
-held_burst (suc most) p s held = rw held refl
 
 held_steps : (most : ℕ) (p : Program) (s : State) → is_running s.hold ≡ false → burst_steps most p s ≡ 0
 held_steps zero p s held = refl
@@ -72,13 +66,17 @@ pub stays : (p : Program) (s : State) → IsQuiet p s → Stays p s
 stays p s quiet =
     let at : ready s ≡ s = is_ready p s quiet.no_swap quiet.suspended in
     let held : is_running s.hold ≡ false = subst (λ (t : State). is_running t.hold ≡ false) at quiet.suspended in
-    let ran : after_burst p s ≡ s = ap (λ (t : State). burst p.plan.budget p t) at ∙ held_burst p.plan.budget p s held in
+    let ran : after_burst p s ≡ s = ap (λ (t : State). burst p.plan.budget p t) at
+    ∙ burst_stays p.plan.budget p s held in
     let notice = p.plan.notice in
-    let left : (shown p s).left ≡ s.left = left_kept (after_burst p s) (is_first_noticed notice (after_burst p s).left) ∙ ap (λ (t : State). t.left) ran in
+    let left : (shown p s).left ≡ s.left = left_kept (after_burst p s) (is_first_noticed notice (after_burst p s).left)
+    ∙ ap (λ (t : State). t.left) ran in
     let later : is_first_noticed notice s.left ≡ false =
-    subst (λ (o : Option ℕ). is_first_noticed notice o ≡ false) left (or_false (is_due s.left) (is_first_noticed notice (shown p s).left) quiet.no_phase) in
+    subst (λ (o : Option ℕ). is_first_noticed notice o ≡ false) left
+    (or_false (is_due s.left) (is_first_noticed notice (shown p s).left) quiet.no_phase) in
     let same : shown p s ≡ s =
-    ap (λ (t : State). cond (is_first_noticed notice t.left) (at_first_page t) t) ran ∙ no_phase_begun s (is_first_noticed notice s.left) later in
+    ap (λ (t : State). cond (is_first_noticed notice t.left) (at_first_page t) t) ran
+    ∙ no_phase_begun s (is_first_noticed notice s.left) later in
     record {
       shows = same;
       bytes = ap (λ (t : State). shown_bytes p.plan t) same;
@@ -96,7 +94,8 @@ quiet_frames_are_copied p (suc n) s quiet =
     let later = quiet_frames_are_copied p n (after_frame p s) quiet.1 in
     record {
       frames = ap (λ (f : List ℕ). f ∷ run_frames p (after_frame p s) (replicate n Frame)) now.bytes
-          ∙ ap (λ (fs : List (List ℕ)). shown_bytes p.plan s ∷ fs) (later.frames ∙ ap (λ (t : State). notice_frames p.plan n t) now.after);
+          ∙ ap (λ (fs : List (List ℕ)). shown_bytes p.plan s ∷ fs)
+          (later.frames ∙ ap (λ (t : State). notice_frames p.plan n t) now.after);
       state = later.state ∙ ap (λ (t : State). counted_on p.plan n t) now.after;
       no_steps = ap (λ (k : ℕ). last_steps p (after_frame p s) k (replicate n Frame)) now.no_steps ∙ later.no_steps;
     }
@@ -112,7 +111,8 @@ fewer_day day t m n le away = λ some.
     let at = away (omega (arith, le, some)) in
     (omega (arith, le, at.0), λ before. omega (arith, le, at.1 before))
 
-pub fewer_until : (day : ℕ) (until : Option ℕ) (m n : ℕ) → n ≤ m → IfSome until (DayIsAway day m) → IfSome until (DayIsAway day n)
+pub fewer_until : (day : ℕ) (until : Option ℕ) (m n : ℕ) → n ≤ m → IfSome until (DayIsAway day m)
+    → IfSome until (DayIsAway day n)
 fewer_until day None m n le away = tt
 fewer_until day (Some t) m n le away = fewer_day day t m n le away
 
@@ -142,14 +142,16 @@ not_due : (notice : ℕ) (left : Option ℕ) (n : ℕ) → SwapIsAway notice lef
 not_due notice None n away = refl
 not_due notice (Some l) n away = not_zero l (omega (arith, away.0)) (l == 0) refl
 
-not_noticed : (notice : ℕ) (left : Option ℕ) (n : ℕ) → SwapIsAway notice left (suc n) → (b : Bool) → is_first_noticed notice left ≡ b → b ≡ false
+not_noticed : (notice : ℕ) (left : Option ℕ) (n : ℕ) → SwapIsAway notice left (suc n) → (b : Bool)
+    → is_first_noticed notice left ≡ b → b ≡ false
 not_noticed notice None n away b e = sym e
 not_noticed notice (Some l) n away true e =
     let same : l ≡ notice = eqb-true l notice e in
     absurd (omega (arith, same, away.1 (omega (arith, same))))
 not_noticed notice (Some l) n away false e = refl
 
-swap_nearer : (notice : ℕ) (left : Option ℕ) (n : ℕ) → SwapIsAway notice left (suc n) → SwapIsAway notice (left_after_frame left) n
+swap_nearer : (notice : ℕ) (left : Option ℕ) (n : ℕ) → SwapIsAway notice left (suc n)
+    → SwapIsAway notice (left_after_frame left) n
 swap_nearer notice None n away = tt
 swap_nearer notice (Some l) n away = (omega (arith, away.0), λ from. omega (arith, from, away.1 (omega (arith, from))))
 
@@ -171,19 +173,16 @@ left_not_here : (left : Option ℕ) (n : ℕ) → IfSome left (λ k. suc n ≤ k
 left_not_here None n away = refl
 left_not_here (Some k) n away = not_zero k (omega (arith, away)) (k == 0) refl
 
-neither : (a b : Bool) → a ≡ false → b ≡ false → (a || b) ≡ false
-neither true b e f = absurd cc
-neither false b e f = f
-
 not_here : (s : State) (hold : Hold) (n : ℕ) → HoldIsAway s hold (suc n) → is_here s hold ≡ false
 not_here s Running n away = absurd (omega (arith, away))
 not_here s (Waits k) n away = not_zero k (omega (arith, away)) (k == 0) refl
 not_here s (WaitsDay t) n away = day_not_here s.day t n (away (omega arith)).1 (s.day == t) refl
 not_here s (WaitsContact c closed) n away = contact_not_here (is_same_flag (is_closed s.contacts c) closed) n away
 not_here s (WaitsAny closed opened until left) n away =
-    neither (any_closed closed s.contacts) _ (contact_not_here (any_closed closed s.contacts) n away.closed_away)
-    (neither (any_open opened s.contacts) _ (contact_not_here (any_open opened s.contacts) n away.opened_away)
-    (neither (is_day s.day until) _ (until_not_here s.day until n away.until_away) (left_not_here left n away.left_away)))
+    or_from (any_closed closed s.contacts) _ (contact_not_here (any_closed closed s.contacts) n away.closed_away)
+    (or_from (any_open opened s.contacts) _ (contact_not_here (any_open opened s.contacts) n away.opened_away)
+    (or_from (is_day s.day until) _ (until_not_here s.day until n away.until_away)
+    (left_not_here left n away.left_away)))
 not_here s WaitsSwap n away = refl
 not_here s Ended n away = refl
 
@@ -191,18 +190,9 @@ not_ended : (s : State) (b : Bool) → b ≡ false → cond b (resumed s) s ≡ 
 not_ended s true e = absurd cc
 not_ended s false e = refl
 
--- a machine whose wait condition is not met is suspended
-not_running : (s : State) (hold : Hold) → is_here s hold ≡ false → is_running hold ≡ false
-not_running s Running e = absurd cc
-not_running s (Waits k) e = refl
-not_running s (WaitsDay t) e = refl
-not_running s (WaitsContact c closed) e = refl
-not_running s (WaitsAny closed opened until left) e = refl
-not_running s WaitsSwap e = refl
-not_running s Ended e = refl
-
--- neither a swap nor a notice nor the end of the wait falls on the next frame
-pub is_quiet : (p : Program) (s : State) (n : ℕ) → SwapIsAway p.plan.notice s.left (suc n) → HoldIsAway s s.hold (suc n) → IsQuiet p s
+-- or_from a swap nor a notice nor the end of the wait falls on the next frame
+pub is_quiet : (p : Program) (s : State) (n : ℕ) → SwapIsAway p.plan.notice s.left (suc n) → HoldIsAway s s.hold (suc n)
+    → IsQuiet p s
 is_quiet p s n swap hold =
     let notice = p.plan.notice in
     let due : is_due s.left ≡ false = not_due notice s.left n swap in
@@ -210,15 +200,18 @@ is_quiet p s n swap hold =
     let unswapped : with_due_swap s ≡ s = no_swap_due s (is_due s.left) due in
     let unheld : with_hold_ended s ≡ s = not_ended s (is_here s s.hold) here in
     let at : ready s ≡ s = ap (λ (t : State). with_hold_ended t) unswapped ∙ unheld in
-    let held : is_running s.hold ≡ false = not_running s s.hold here in
-    let ran : after_burst p s ≡ s = ap (λ (t : State). burst p.plan.budget p t) at ∙ held_burst p.plan.budget p s held in
-    let left : (shown p s).left ≡ s.left = left_kept (after_burst p s) (is_first_noticed notice (after_burst p s).left) ∙ ap (λ (t : State). t.left) ran in
+    let held : is_running s.hold ≡ false = still_stops s s.hold here in
+    let ran : after_burst p s ≡ s = ap (λ (t : State). burst p.plan.budget p t) at
+    ∙ burst_stays p.plan.budget p s held in
+    let left : (shown p s).left ≡ s.left = left_kept (after_burst p s) (is_first_noticed notice (after_burst p s).left)
+    ∙ ap (λ (t : State). t.left) ran in
     let later : is_first_noticed notice (shown p s).left ≡ false =
-    ap (λ (o : Option ℕ). is_first_noticed notice o) left ∙ not_noticed notice s.left n swap (is_first_noticed notice s.left) refl in
+    ap (λ (o : Option ℕ). is_first_noticed notice o) left
+    ∙ not_noticed notice s.left n swap (is_first_noticed notice s.left) refl in
     record {
       no_swap = due;
       suspended = ap (λ (t : State). is_running t.hold) at ∙ held;
-      no_phase = neither (is_due s.left) (is_first_noticed notice (shown p s).left) due later;
+      no_phase = or_from (is_due s.left) (is_first_noticed notice (shown p s).left) due later;
     }
 
 day_nearer : (day t n : ℕ) → DayIsAway day (suc n) t → DayIsAway ((day + 1) % FRAMES_A_DAY) n t
@@ -227,7 +220,8 @@ day_nearer day t n away = λ some.
     let next : (day + 1) % FRAMES_A_DAY ≡ day + 1 = mod-eq_of_lt (omega (arith, some, at.0)) in
     (omega (arith, next, at.0), λ before. omega (arith, next, at.1 (omega (arith, next, before))))
 
-until_nearer : (day : ℕ) (until : Option ℕ) (n : ℕ) → IfSome until (DayIsAway day (suc n)) → IfSome until (DayIsAway ((day + 1) % FRAMES_A_DAY) n)
+until_nearer : (day : ℕ) (until : Option ℕ) (n : ℕ) → IfSome until (DayIsAway day (suc n))
+    → IfSome until (DayIsAway ((day + 1) % FRAMES_A_DAY) n)
 until_nearer day None n away = tt
 until_nearer day (Some t) n away = day_nearer day t n away
 
@@ -238,7 +232,8 @@ left_nearer (Some k) n away = omega (arith, away)
 none_before : (n : ℕ) → suc n ≡ 0 → n ≡ 0
 none_before n none = absurd (omega (arith, none))
 
-hold_nearer : (plan : Plan) (s : State) (hold : Hold) (n : ℕ) → HoldIsAway s hold (suc n) → HoldIsAway (with_next_counts plan s) (hold_after_frame hold) n
+hold_nearer : (plan : Plan) (s : State) (hold : Hold) (n : ℕ) → HoldIsAway s hold (suc n)
+    → HoldIsAway (with_next_counts plan s) (hold_after_frame hold) n
 hold_nearer plan s Running n away = absurd (omega (arith, away))
 hold_nearer plan s (Waits k) n away = omega (arith, away)
 hold_nearer plan s (WaitsDay t) n away = day_nearer s.day t n away
@@ -254,10 +249,12 @@ hold_nearer plan s (WaitsAny closed opened until left) n away = record {
 hold_nearer plan s WaitsSwap n away = tt
 hold_nearer plan s Ended n away = tt
 
-pub are_quiet : (p : Program) (s : State) (n : ℕ) → SwapIsAway p.plan.notice s.left n → HoldIsAway s s.hold n → AreQuiet p n s
+pub are_quiet : (p : Program) (s : State) (n : ℕ) → SwapIsAway p.plan.notice s.left n → HoldIsAway s s.hold n
+    → AreQuiet p n s
 are_quiet p s zero swap hold = tt
 are_quiet p s (suc n) swap hold =
     let quiet = is_quiet p s n swap hold in
     let on : State = with_next_counts p.plan s in
-    let later : AreQuiet p n on = are_quiet p on n (swap_nearer p.plan.notice s.left n swap) (hold_nearer p.plan s s.hold n hold) in
+    let later : AreQuiet p n on =
+    are_quiet p on n (swap_nearer p.plan.notice s.left n swap) (hold_nearer p.plan s s.hold n hold) in
     (quiet, subst (λ (t : State). AreQuiet p n t) (sym (stays p s quiet).after) later)

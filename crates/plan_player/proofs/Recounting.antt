@@ -1,12 +1,13 @@
 -- The CRC is linear, so changing two bytes of a FIB changes it by the contribution of each.
-use Rattle.std.specs.Prelude.{slice_index_or, slice_set, bit_xor}
-use Rattle.std.proofs.Common.{◌≡◌, ℕ, zero, suc, ◌+◌, ◌*◌, ◌/◌, ◌%◌, ◌<◌, List, [], ◌∷◌, ◌++◌, length, refl, sym, ◌∙◌, ap, ap₂, arith}
+use Rattle.std.proofs.Common.{◌≡◌, ℕ, zero, suc, ◌+◌, ◌*◌, ◌/◌, ◌%◌, ◌<◌, List, [], ◌∷◌, ◌++◌, length, refl, sym, ◌∙◌}
+use Rattle.std.proofs.Common.{ap, ap₂, arith}
+use Rattle.plan_player.proofs.Names.{slice_index_or, bit_xor, set-append_right, get_or-append_right, checked, after_all}
+use Rattle.plan_player.proofs.Names.{later}
+use Rattle.plan_runs.proofs.Names.{slice_set}
 use Rattle.std.specs.Int.Bits.{xor_assoc, xor_self}
 use Rattle.std.proofs.lemmas.Nat.{xor_comm, xor_of_16}
-use Rattle.std.proofs.lemmas.List.{set-append_right, get_or-append_right}
 use Rattle.fib_codec.specs.Crc.{crc_value}
-use Rattle.fib_codec.specs.Spelling.{checked}
-use Rattle.fib_codec.specs.Register.{after, after_all, later}
+use Rattle.fib_codec.specs.Register.{after}
 use Rattle.fib_codec.proofs.Division.{word_checks}
 use Rattle.fib_codec.proofs.Linear.{apart, zeros_apart, one_byte, byte_below}
 use Rattle.fib_codec.proofs.U16.{word_checked, check_word_below}
@@ -76,7 +77,8 @@ all_on (k ∷ ys) r d =
 -- two changed bytes, followed by others
 two_others : (x y high low r : ℕ) (rest : List ℕ)
     → after_all rest (after 8 low (after 8 high r))
-    ≡ bit_xor (bit_xor (after_all rest (after 8 y (after 8 x r))) (later (suc (length rest)) (after 8 (bit_xor x high) 0))) (later (length rest) (after 8 (bit_xor y low) 0))
+    ≡ bit_xor (bit_xor (after_all rest (after 8 y (after 8 x r)))
+    (later (suc (length rest)) (after 8 (bit_xor x high) 0))) (later (length rest) (after 8 (bit_xor y low) 0))
 two_others x y high low r rest =
     let first = after 8 (bit_xor x high) 0 in
     let second = after 8 (bit_xor y low) 0 in
@@ -87,7 +89,8 @@ two_others x y high low r rest =
     ∙ ap (λ n. bit_xor n second) (one_on y (after 8 x r) first) in
     ap (after_all rest) turned
     ∙ all_on rest (bit_xor both (after 8 0 first)) second
-    ∙ ap (λ n. bit_xor n (later (length rest) second)) (all_on rest both (after 8 0 first) ∙ ap (bit_xor (after_all rest both)) (later_more (length rest) first))
+    ∙ ap (λ n. bit_xor n (later (length rest) second))
+    (all_on rest both (after 8 0 first) ∙ ap (bit_xor (after_all rest both)) (later_more (length rest) first))
 
 -- ---- the CRC
 
@@ -98,10 +101,12 @@ all_below (k ∷ bytes) r lt = all_below bytes (after 8 k r) (byte_below k r)
 word_is : (bytes : List ℕ) → bit_xor (after_all bytes 65535) 65535 ≡ crc_value bytes
 word_is bytes =
     let r = after_all bytes 65535 in
-    word_checked bytes (bit_xor r 65535) (xor_of_16 r 65535 (all_below bytes 65535 (omega arith)) (omega arith)) (word_checks bytes r refl)
+    word_checked bytes (bit_xor r 65535) (xor_of_16 r 65535 (all_below bytes 65535 (omega arith)) (omega arith))
+    (word_checks bytes r refl)
 
 other_word : (a b c d x y high low : ℕ) (rest : List ℕ) → length rest ≡ 24
-    → bit_xor (crc_value (a ∷ b ∷ c ∷ d ∷ x ∷ y ∷ rest)) (bit_xor (later 25 (after 8 (bit_xor x high) 0)) (later 24 (after 8 (bit_xor y low) 0)))
+    → bit_xor (crc_value (a ∷ b ∷ c ∷ d ∷ x ∷ y ∷ rest))
+    (bit_xor (later 25 (after 8 (bit_xor x high) 0)) (later 24 (after 8 (bit_xor y low) 0)))
     ≡ crc_value (a ∷ b ∷ c ∷ d ∷ high ∷ low ∷ rest)
 other_word a b c d x y high low rest long =
     let old = a ∷ b ∷ c ∷ d ∷ x ∷ y ∷ rest in
@@ -121,7 +126,8 @@ other_word a b c d x y high low rest long =
 
 -- ---- the FIB
 
-last_set : (bytes : List ℕ) (v w p q : ℕ) → length bytes ≡ 30 → slice_set (slice_set (bytes ++ v ∷ w ∷ []) 30 p) 31 q ≡ bytes ++ p ∷ q ∷ []
+last_set : (bytes : List ℕ) (v w p q : ℕ) → length bytes ≡ 30
+    → slice_set (slice_set (bytes ++ v ∷ w ∷ []) 30 p) 31 q ≡ bytes ++ p ∷ q ∷ []
 last_set bytes v w p q long =
     ap (λ l. slice_set l 31 q) (set-append_right bytes (v ∷ w ∷ []) 30 30 p long (omega arith))
     ∙ set-append_right bytes (p ∷ w ∷ []) 30 31 q long (omega arith)
@@ -129,9 +135,11 @@ last_set bytes v w p q long =
 pub recounted : (fib : List ℕ) (high low p q hi lo a b c d x y : ℕ) (rest : List ℕ) → length rest ≡ 24
     → fib ≡ checked (a ∷ b ∷ c ∷ d ∷ x ∷ y ∷ rest)
     → p ≡ slice_index_or fib 30 0 → q ≡ slice_index_or fib 31 0
-    → hi ≡ later 25 (after 8 (bit_xor (slice_index_or fib 4 0) high) 0) → lo ≡ later 24 (after 8 (bit_xor (slice_index_or fib 5 0) low) 0)
+    → hi ≡ later 25 (after 8 (bit_xor (slice_index_or fib 4 0) high) 0)
+    → lo ≡ later 24 (after 8 (bit_xor (slice_index_or fib 5 0) low) 0)
     → (let word = bit_xor (p * 256 + q) (bit_xor hi lo) in
-    slice_set (slice_set (slice_set (slice_set fib 4 high) 5 low) 30 (word / 256)) 31 (word % 256) ≡ checked (a ∷ b ∷ c ∷ d ∷ high ∷ low ∷ rest))
+    slice_set (slice_set (slice_set (slice_set fib 4 high) 5 low) 30 (word / 256)) 31 (word % 256)
+    ≡ checked (a ∷ b ∷ c ∷ d ∷ high ∷ low ∷ rest))
 recounted fib high low p q hi lo a b c d x y rest long is is_p is_q is_hi is_lo =
     let old = a ∷ b ∷ c ∷ d ∷ x ∷ y ∷ rest in
     let new = a ∷ b ∷ c ∷ d ∷ high ∷ low ∷ rest in
@@ -140,10 +148,14 @@ recounted fib high low p q hi lo a b c d x y rest long is is_p is_q is_hi is_lo 
     let v = old_word / 256 % 256 in
     let w = old_word % 256 in
     let whole : length old ≡ 30 = omega (arith, long) in
-    let at_p : p ≡ v = is_p ∙ ap (λ l. slice_index_or l 30 0) is ∙ get_or-append_right old (v ∷ w ∷ []) 30 30 0 whole (omega arith) in
-    let at_q : q ≡ w = is_q ∙ ap (λ l. slice_index_or l 31 0) is ∙ get_or-append_right old (v ∷ w ∷ []) 30 31 0 whole (omega arith) in
-    let at_hi : hi ≡ later 25 (after 8 (bit_xor x high) 0) = is_hi ∙ ap (λ l. later 25 (after 8 (bit_xor (slice_index_or l 4 0) high) 0)) is in
-    let at_lo : lo ≡ later 24 (after 8 (bit_xor y low) 0) = is_lo ∙ ap (λ l. later 24 (after 8 (bit_xor (slice_index_or l 5 0) low) 0)) is in
+    let at_p : p ≡ v = is_p ∙ ap (λ l. slice_index_or l 30 0) is
+    ∙ get_or-append_right old (v ∷ w ∷ []) 30 30 0 whole (omega arith) in
+    let at_q : q ≡ w = is_q ∙ ap (λ l. slice_index_or l 31 0) is
+    ∙ get_or-append_right old (v ∷ w ∷ []) 30 31 0 whole (omega arith) in
+    let at_hi : hi ≡ later 25 (after 8 (bit_xor x high) 0) =
+    is_hi ∙ ap (λ l. later 25 (after 8 (bit_xor (slice_index_or l 4 0) high) 0)) is in
+    let at_lo : lo ≡ later 24 (after 8 (bit_xor y low) 0) =
+    is_lo ∙ ap (λ l. later 24 (after 8 (bit_xor (slice_index_or l 5 0) low) 0)) is in
     let sum : p * 256 + q ≡ old_word = omega (arith, at_p, at_q, check_word_below old) in
     let word = bit_xor (p * 256 + q) (bit_xor hi lo) in
     let same : word ≡ new_word =

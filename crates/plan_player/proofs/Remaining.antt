@@ -1,10 +1,9 @@
 -- The instructions of a frame that remain to be executed.
 use Rattle.std.proofs.Common.{◌≡◌, ℕ, zero, suc, ◌+◌, ◌≤◌, true, false, sym, subst, ◌∙◌, arith}
-use Rattle.plan_code.specs.Program.{Program, IsProgram}
-use Rattle.plan_code.specs.Machine.{State, step, StepIsAllowed}
-use Rattle.plan_runs.specs.Frames.{is_running, Executes, burst, burst_steps}
+use Rattle.plan_player.proofs.Names.{CanRun}
+use Rattle.plan_runs.proofs.Names.{Program, IsProgram, State, step, StepIsAllowed, is_running, Executes, burst}
+use Rattle.plan_runs.proofs.Names.{burst_steps}
 use Rattle.plan_runs.proofs.Bursts.{bursts_are_one}
-use Rattle.plan_player.specs.Positions.{CanRun}
 
 -- this many instructions took the first state to this one, and the rest of the frame's instructions remain
 pub record Remains (p : Program) (first : State) (steps : ℕ) (s : State) : Type 0 where
@@ -30,7 +29,8 @@ pub record Goes (p : Program) (first : State) (steps : ℕ) (s : State) : Type 0
   pub counted : steps + 1 ≤ 255
   pub next : Remains p first (steps + 1) (step p s)
 
-goes_by : (p : Program) (first s : State) (steps left : ℕ) → steps + left ≡ burst_steps p.plan.budget p first → steps + left ≤ 255
+goes_by : (p : Program) (first s : State) (steps left : ℕ) → steps + left ≡ burst_steps p.plan.budget p first
+    → steps + left ≤ 255
     → Executes p s left (burst p.plan.budget p first) → is_running s.hold ≡ true → Goes p first steps s
 goes_by p first s steps zero counted within executes runs = let stops = executes.0 in absurd cc
 goes_by p first s steps (suc left) counted within executes runs =
@@ -41,7 +41,8 @@ goes_by p first s steps (suc left) counted within executes runs =
       next = record { left = left; counted = same ∙ counted; within = omega (arith, within); executes = executes.2 };
     }
 
-pub goes : (p : Program) (first : State) (steps : ℕ) (s : State) → Remains p first steps s → is_running s.hold ≡ true → Goes p first steps s
+pub goes : (p : Program) (first : State) (steps : ℕ) (s : State) → Remains p first steps s → is_running s.hold ≡ true
+    → Goes p first steps s
 goes p first steps s h runs = goes_by p first s steps h.left h.counted h.within h.executes runs
 
 -- a suspended machine is at the end of the frame's instructions
@@ -56,5 +57,6 @@ stops_by p first s steps zero counted executes held =
     record { state = executes.1; counted = same ∙ counted }
 stops_by p first s steps (suc left) counted executes held = let runs = executes.0 in absurd cc
 
-pub stops : (p : Program) (first : State) (steps : ℕ) (s : State) → Remains p first steps s → is_running s.hold ≡ false → Stops p first steps s
+pub stops : (p : Program) (first : State) (steps : ℕ) (s : State) → Remains p first steps s → is_running s.hold ≡ false
+    → Stops p first steps s
 stops p first steps s h held = stops_by p first s steps h.left h.counted h.executes held

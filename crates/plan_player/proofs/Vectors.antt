@@ -1,26 +1,16 @@
 -- The state of a player and what a sink receives, for a code that waits for a frame and ends: examples that hold and
 -- examples that fail for each definition.
 use Rattle.std.proofs.Common.{◌≡◌, ℕ, List, [], ◌∷◌, ◌++◌, length, take, replicate, Some, None, refl, ap, arith}
-use Rattle.std.proofs.lemmas.List.{length-append}
-use Rattle.fib_codec.specs.declared.frame_layout.FrameLayout.TheVariants.{Whole}
-use Rattle.mux_config.specs.Configuration.{nothing}
-use Rattle.fib_codec.specs.declared.modes.Mode.TheVariants.{I}
-use Rattle.fib_carousel.specs.Bytes.{page_bytes}
-use Rattle.fib_carousel.specs.declared.kept_page.KeptPage.{KeptPage}
-use Rattle.plan_code.specs.declared.instr.Line.{Line}
-use Rattle.plan_code.specs.declared.instr.Instr.TheVariants.{Wait, End}
-use Rattle.plan_code.specs.Program.{Program}
-use Rattle.plan_code.specs.Machine.{State}
+use Rattle.plan_player.proofs.Names.{length-append, page_bytes, KeptPage, Playing, start_fault, IsAtStart, last_steps}
+use Rattle.plan_player.proofs.Names.{played, frames_of, played_bytes, next_frame, Stopped, StoppedBy, Kept, HasPage}
+use Rattle.plan_player.proofs.Names.{ShowsAs, HasChange, KeepsChange}
+use Rattle.plan_runs.proofs.Names.{Whole, nothing, I, Line, Wait, End, Program, State}
+use Rattle.plan_runs.proofs.Samples.{label, code, start_at, first_state, it_starts}
 use Rattle.plan_runs.specs.declared.event.Event.{Event}
 use Rattle.plan_runs.specs.declared.event.Event.TheVariants.{Frame}
 use Rattle.plan_runs.specs.declared.event.Start.{Start}
-use Rattle.plan_runs.proofs.Samples.{label, code, start_at, first_state, it_starts}
 use Rattle.plan_player.specs.declared.fault.StartFault.TheVariants.{Count, Day}
 use Rattle.plan_player.specs.declared.fault.PlayFault.TheVariants.{Write}
-use Rattle.plan_player.specs.Playing.{Playing, start_fault, IsAtStart, last_steps, played}
-use Rattle.plan_player.specs.Delivery.{frames_of, played_bytes, next_frame, Stopped, StoppedBy}
-use Rattle.plan_player.specs.declared.phase_pages.Sent.TheVariants.{Kept}
-use Rattle.plan_player.specs.Phase.{HasPage, ShowsAs, HasChange, KeepsChange}
 
 -- ---- values shared by these vectors: an empty multiplex
 
@@ -112,7 +102,8 @@ contacts_alone h =
 told_of_too_many : StoppedBy fresh (played fresh (frames 1)) (frames 1) (Some []) (Some []) (Write 1 0) → ⊥
 told_of_too_many h =
     let none : 1 ≡ length (frames_of fresh h.done) = h.whole in
-    let same : length (frames_of fresh h.done) ≡ 0 = ap (λ (done : List Event). length (frames_of fresh done)) (nothing_done h.done h.rest h.cut) in
+    let same : length (frames_of fresh h.done) ≡ 0 =
+    ap (λ (done : List Event). length (frames_of fresh done)) (nothing_done h.done h.rest h.cut) in
     omega (arith, none, same)
 
 -- ---- the change flags of a notice of 24 frames that changes nothing

@@ -1,44 +1,15 @@
 -- The pages that a player keeps of a phase, and its invariant between frames, for a code with one sub-channel that
 -- waits for a frame and ends: examples that hold and examples that fail for each definition.
-use Rattle.std.specs.Prelude.{get_or}
-use Rattle.std.proofs.Common.{◌≡◌, ℕ, zero, suc, ◌<◌, ◌≤◌, true, false, List, [], ◌∷◌, Some, None, replicate, refl, ap, arith}
-use Rattle.fib_codec.specs.declared.frame_layout.FrameLayout.TheVariants.{Whole}
-use Rattle.mux_types.specs.Facts.{Marked}
-use Rattle.fib_codec.specs.declared.modes.Mode.TheVariants.{I}
-use Rattle.fib_carousel.specs.declared.kept_page.KeptPage.{KeptPage}
-use Rattle.fib_carousel.specs.declared.page_cursor.Cursor.{Cursor}
-use Rattle.fib_carousel.specs.Bytes.{page_bytes}
+use Rattle.std.proofs.Common.{◌≡◌, ℕ, zero, suc, ◌<◌, ◌≤◌, true, false, List, ◌∷◌, Some, None, replicate, refl, ap}
+use Rattle.std.proofs.Common.{arith}
+use Rattle.plan_player.proofs.Names.{KeptPage, Cursor, page_bytes, PhasePages, Kept, Headed, HasPage, Keeps, ShowsBytes}
+use Rattle.plan_player.proofs.Names.{IsInPhase, IsFrameReady, IsGoing}
+use Rattle.plan_runs.proofs.Names.{get_or, Whole, Marked, I, page_set, rounds}
 use Rattle.fib_carousel.specs.Greedy.{start as before_all}
-use Rattle.fib_carousel.specs.Pages.{page_set, rounds}
 use Rattle.fib_carousel.proofs.Sendable.{sendable_page_set}
-use Rattle.plan_code.specs.declared.instr.Instr.TheVariants.{Wait, End}
-use Rattle.plan_code.specs.Program.{Program, IsProgram}
-use Rattle.plan_code.specs.Machine.{State}
-use Rattle.plan_verifier.proofs.OneVerdict.{typed_if}
-use Rattle.plan_runs.proofs.Samples.{plan, with_sub, one_sub, one_sub_is, label, line, line_is, code_from, first_from_is, start_at, in_range, first_state, it_starts}
-use Rattle.plan_runs.specs.declared.event.Event.TheVariants.{Frame}
-use Rattle.plan_runs.specs.declared.event.Start.{Start}
-use Rattle.plan_runs.specs.Frames.{after_frame}
-use Rattle.plan_runs.specs.TypedRuns.{IsPlayed}
-use Rattle.plan_runs.proofs.Reached.{starts_are_reached, reached_is_kept}
-use Rattle.plan_player.specs.declared.phase_pages.PhasePages.{PhasePages}
-use Rattle.plan_player.specs.declared.phase_pages.Sent.TheVariants.{Kept, Headed}
-use Rattle.plan_player.specs.Phase.{HasPage, Keeps, ShowsBytes, IsInPhase, IsFrameReady, IsGoing}
+use Rattle.plan_runs.proofs.VectorsOfRuns.{played, waits, first, second}
+use Rattle.plan_runs.proofs.Samples.{plan, with_sub, one_sub_is}
 use Rattle.plan_player.proofs.FrameFacts.{frame_ready}
-
--- ---- values shared by these vectors: one sub-channel, at 128 kbit/s and at 96 kbit/s, and a code with it
-
-abbrev pub waits : Program
-waits = code_from one_sub (label 0 1 ∷ []) (line (Wait 1) ∷ line End ∷ [])
-
-abbrev start : Start
-start = start_at 0
-
-abbrev first : State
-first = first_state one_sub 0
-
-abbrev pub second : State
-second = after_frame waits first
 
 -- ---- the pages of a phase
 
@@ -79,7 +50,11 @@ kept = record {
 }
 
 has_page : HasPage (Whole I) (entries 128) 0 kept.pages
-has_page = record { page = page_of 128; held = refl; kept = record { plain = refl; sendable = sendable_page_set (with_sub 128) None one_sub_is tt } }
+has_page = record {
+  page = page_of 128;
+  held = refl;
+  kept = record { plain = refl; sendable = sendable_page_set (with_sub 128) None one_sub_is tt };
+}
 
 each_made : (n : ℕ) → n < 1 → HasPage (Whole I) (entries 128) n kept.pages
 each_made zero below = has_page
@@ -126,16 +101,6 @@ in_phase = record { entries = entries 128; sent = refl; keeps = keeps_one 0 (ome
 -- page 2 can't be in turn if there is one page
 not_at_page_two : IsInPhase plan (record first { page_index = 2 }) kept → ⊥
 not_at_page_two h = let e : 2 ≤ 1 = h.keeps.index_within in omega (arith, e)
-
-waits_is : IsProgram waits
-waits_is = first_from_is one_sub 1 waits.lines one_sub_is (omega arith) (omega arith) (line_is (Wait 1) (omega arith, omega arith), (line_is End tt, tt)) (omega arith) (omega arith)
-
-played : IsPlayed waits second
-played = record {
-  program = waits_is;
-  typed = typed_if waits waits_is refl;
-  reached = reached_is_kept waits first (Frame ∷ []) (starts_are_reached waits start first (in_range 0 (omega arith)) (it_starts one_sub waits.lines 0 1)) (tt, tt);
-}
 
 -- the first frame executed the wait, and sent page 0, which is in turn again
 going : IsGoing waits second 1 kept

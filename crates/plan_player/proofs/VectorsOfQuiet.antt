@@ -1,16 +1,10 @@
 -- Quiet frames of a code that waits, with an empty multiplex: examples that hold and examples that fail.
 use Rattle.std.proofs.Common.{◌≡◌, ℕ, zero, suc, true, false, [], ◌∷◌, Option, Some, None, refl, arith}
-use Rattle.mux_config.specs.Configuration.{nothing}
-use Rattle.plan_code.specs.declared.flags.Contacts.{Contacts}
-use Rattle.plan_code.specs.declared.hold.Hold.{Hold}
-use Rattle.plan_code.specs.declared.hold.Hold.TheVariants.{Waits, WaitsAny, Ended}
-use Rattle.plan_code.specs.declared.instr.Instr.TheVariants.{Wait, End}
-use Rattle.plan_code.specs.Flags.{any_closed, any_open}
-use Rattle.plan_code.specs.Program.{Program}
-use Rattle.plan_code.specs.Machine.{State}
+use Rattle.plan_player.proofs.Names.{IsQuiet, AreQuiet, counted_on, AreCopied, SwapIsAway, DayIsAway, AreAway}
+use Rattle.plan_player.proofs.Names.{HoldIsAway, hold_later}
+use Rattle.plan_runs.proofs.Names.{nothing, Contacts, Hold, Waits, WaitsAny, Ended, Wait, End, Program, State}
 use Rattle.plan_runs.proofs.Samples.{plan, line, code, first_state}
-use Rattle.plan_player.specs.Quiet.{IsQuiet, AreQuiet, counted_on, AreCopied, SwapIsAway, DayIsAway, AreAway, HoldIsAway}
-use Rattle.plan_player.specs.Stretch.{hold_later}
+use Rattle.plan_code.specs.Flags.{any_closed, any_open}
 use Rattle.plan_player.proofs.Quiet.{quiet_frames_are_copied}
 
 abbrev waits : Program
@@ -31,8 +25,10 @@ at_a_swap h = let e : true ≡ false = h.no_swap in absurd cc
 -- ---- frames one after another
 
 two_frames : AreQuiet waits (suc (suc zero)) (at (Waits 2) None)
-two_frames =
-    (record { no_swap = refl; suspended = refl; no_phase = refl }, (record { no_swap = refl; suspended = refl; no_phase = refl }, tt))
+two_frames = (
+  record { no_swap = refl; suspended = refl; no_phase = refl },
+  (record { no_swap = refl; suspended = refl; no_phase = refl }, tt),
+)
 
 -- the third executes an instruction
 no_third : AreQuiet waits (suc (suc (suc zero))) (at (Waits 2) None) → ⊥
@@ -92,5 +88,6 @@ two_of_three = record {
 not_four_of_three : AreAway (at Ended None) third no_contacts None (Some 3) 4 → ⊥
 not_four_of_three h = omega (arith, h.left_away)
 
-fewer_are_left : hold_later 2 (WaitsAny third no_contacts (Some 42) (Some 3)) ≡ WaitsAny third no_contacts (Some 42) (Some 1)
+fewer_are_left : hold_later 2 (WaitsAny third no_contacts (Some 42) (Some 3))
+    ≡ WaitsAny third no_contacts (Some 42) (Some 1)
 fewer_are_left = refl

@@ -1,19 +1,16 @@
 -- Quiet frames that go to a sink together: for each definition, an example that holds and one that fails.
-use Rattle.std.proofs.Common.{◌≡◌, ℕ, zero, suc, ◌<◌, false, true, List, [], length, take, Option, Some, None, refl, ap, ◌∙◌, arith}
-use Rattle.std.specs.List.{concat}
-use Rattle.fib_carousel.specs.Carried.{IsPageable}
-use Rattle.fib_codec.specs.declared.modes.Mode.TheVariants.{I}
-use Rattle.plan_code.specs.declared.hold.Hold.TheVariants.{Running, Waits}
-use Rattle.plan_code.specs.Machine.{State}
-use Rattle.plan_runs.specs.Frames.{shown, ensemble_sent, shown_bytes, sent_entries}
-use Rattle.plan_runs.specs.Announced.{notice_frames}
-use Rattle.plan_player.specs.declared.machine.sending.Header.{Header}
-use Rattle.plan_player.specs.Quiet.{counted_on}
-use Rattle.plan_player.specs.Stretch.{header_of, ensemble_at, headed_at, IsPageReady, IsStretch, IsCut, IsAlike, AreAlike, AreRecounted, left_later, hold_later, HasRounds}
+use Rattle.std.proofs.Common.{◌≡◌, ℕ, zero, suc, ◌<◌, false, true, List, [], length, take, Option, Some, None, refl, ap}
+use Rattle.std.proofs.Common.{◌∙◌, arith}
+use Rattle.plan_player.proofs.Names.{concat, Header, counted_on, header_of, ensemble_at, headed_at, IsPageReady}
+use Rattle.plan_player.proofs.Names.{IsStretch, IsCut, IsAlike, AreAlike, AreRecounted, left_later, hold_later}
+use Rattle.plan_player.proofs.Names.{HasRounds}
+use Rattle.plan_runs.proofs.Names.{IsPageable, I, Running, Waits, State, shown, ensemble_sent, shown_bytes}
+use Rattle.plan_runs.proofs.Names.{sent_entries, notice_frames}
 use Rattle.plan_runs.proofs.Samples.{plan}
+use Rattle.plan_runs.proofs.VectorsOfRuns.{waits, second}
 use Rattle.plan_player.proofs.Together.{stretch_page}
 use Rattle.plan_player.proofs.Cycles.{bytes_long}
-use Rattle.plan_player.proofs.VectorsOfPhases.{waits, second, fresh, kept, ready_for_the_second}
+use Rattle.plan_player.proofs.VectorsOfPhases.{fresh, kept, ready_for_the_second}
 
 -- ---- the counts
 
@@ -108,10 +105,20 @@ no_second_frame before after h = let e : 1 < 1 = h.few in omega (arith, e)
 -- ---- frames that differ in the count alone
 
 pageable : IsPageable (ensemble_sent plan at) (sent_entries plan at)
-pageable = record { entries = (stretch_page plan 1 0 at kept one_frame (omega arith)).kept.sendable; ensemble_within = page_ready.sent.ensemble }
+pageable = record {
+  entries = (stretch_page plan 1 0 at kept one_frame (omega arith)).kept.sendable;
+  ensemble_within = page_ready.sent.ensemble;
+}
 
 as_itself : IsAlike plan (header_of plan at) at at
-as_itself = record { page_index = refl; entries = refl; first = refl; second = refl; on_step = refl; pageable = pageable }
+as_itself = record {
+  page_index = refl;
+  entries = refl;
+  first = refl;
+  second = refl;
+  on_step = refl;
+  pageable = pageable;
+}
 
 -- another page is in turn
 no_other_page : IsAlike plan (header_of plan at) (record at { page_index = 1 }) at → ⊥

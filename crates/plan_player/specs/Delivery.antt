@@ -22,14 +22,16 @@ next_frame p = frame_bytes p.code p.state
 
 -- these events were played to the end: the player is in the state after them, the sink has their bytes, and this many
 -- frames were written
-pub record Delivered (old new : Playing) (events : List Event) (before after : Option (List ℕ)) (frames : ℕ) : Type 0 where
+pub record Delivered (old new : Playing) (events : List Event) (before after : Option (List ℕ)) (frames : ℕ) : Type
+    0 where
   pub state : new ≡ played old events
   pub out : Appends before after (played_bytes old events)
   pub whole : frames ≡ length (frames_of old events)
 
 -- playback stopped in a frame that the sink didn't accept in full: the events up to and including it were played, and
 -- no later one; this many frames were written before it, and this many of its bytes, fewer than all
-pub record Stopped (old new : Playing) (events : List Event) (before after : Option (List ℕ)) (frames bytes : ℕ) : Type 0 where
+pub record Stopped (old new : Playing) (events : List Event) (before after : Option (List ℕ)) (frames bytes : ℕ) : Type
+    0 where
   pub done : List Event
   pub rest : List Event
   pub cut : events ≡ done ++ Frame ∷ rest

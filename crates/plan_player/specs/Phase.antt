@@ -70,7 +70,8 @@ pub record IsFrameReady (p : Program) (s : State) (pages : PhasePages) : Type 0 
   pub sent : CanBeSent p.plan (shown p s)
   pub few : sent_rounds p.plan (shown p s) ≤ 60
   pub first : begins_phase p s ≡ true → (shown p s).page_index ≡ 0
-  pub kept : begins_phase p s ≡ false → Keeps p.plan.layout (sent_entries p.plan (shown p s)) (shown p s).page_index pages
+  pub kept : begins_phase p s ≡ false → Keeps p.plan.layout (sent_entries p.plan (shown p s)) (shown p s).page_index
+      pages
   pub change : is_first_noticed p.plan.notice (shown p s).left ≡ false
       → HasChange p.plan.notice (shown p s).left (shown p s).current (shown p s).next pages.change
 

@@ -1,5 +1,6 @@
 -- Quiet frames that go to a sink together: all their pages have been made, and their FIG 0/0 differ in the count alone.
-use Rattle.std.specs.Prelude.{◌≡◌, ℕ, suc, ◌-◌, ◌<◌, ◌≤◌, ◌%◌, ◌==◌, ◌++◌, true, false, if◌then◌else◌, List, length, take, Option, Some, None}
+use Rattle.std.specs.Prelude.{◌≡◌, ℕ, suc, ◌-◌, ◌<◌, ◌≤◌, ◌%◌, ◌==◌, ◌++◌, true, false, if◌then◌else◌, List, length}
+use Rattle.std.specs.Prelude.{take, Option, Some, None}
 use Rattle.std.specs.List.{concat}
 use Rattle.std.specs.Io.KnownBytes.{Appends}
 use Rattle.fib_codec.specs.Layouts.{layout_mode}
@@ -9,7 +10,7 @@ use Rattle.fib_codec.specs.Modes.{count_step}
 use Rattle.fib_codec.specs.declared.modes.Mode.{Mode}
 use Rattle.fib_carousel.specs.Carried.{IsPageable}
 use Rattle.plan_code.specs.declared.hold.Hold.{Hold}
-use Rattle.plan_code.specs.declared.hold.Hold.TheVariants.{Running, Waits, WaitsDay, WaitsContact, WaitsAny, WaitsSwap, Ended}
+use Rattle.plan_code.specs.declared.hold.Hold.TheVariants.{Waits, WaitsAny}
 use Rattle.plan_code.specs.declared.plan.Plan.{Plan}
 use Rattle.plan_code.specs.Machine.{State}
 use Rattle.plan_runs.specs.Frames.{is_noticed, low_of_swap, ensemble_sent, shown_bytes, sent_entries, sent_rounds}
@@ -31,7 +32,13 @@ header_of plan s =
 
 -- its content in a frame with this count
 abbrev pub ensemble_at : Header → ℕ → EnsembleInformation
-ensemble_at header count = record { eid = header.eid; change = header.change; al = false; count = count; occurrence = header.swap }
+ensemble_at header count = record {
+  eid = header.eid;
+  change = header.change;
+  al = false;
+  count = count;
+  occurrence = header.swap;
+}
 
 abbrev pub headed_at : Mode → Header → ℕ → Option EnsembleInformation
 headed_at mode header count = if count % count_step mode == 0 then Some (ensemble_at header count) else None
@@ -57,7 +64,8 @@ pub record IsCut (plan : Plan) (n : ℕ) (s t : State) (before after : Option (L
   pub few : frames < n
   pub part : bytes < length (shown_bytes plan (counted_on plan frames s))
   pub state : t ≡ counted_on plan (suc frames) s
-  pub out : Appends before after (concat (notice_frames plan frames s) ++ take bytes (shown_bytes plan (counted_on plan frames s)))
+  pub out : Appends before after (concat (notice_frames plan frames s)
+      ++ take bytes (shown_bytes plan (counted_on plan frames s)))
 
 -- ---- frames that differ in the count alone
 
@@ -67,7 +75,8 @@ pub record IsAlike (plan : Plan) (header : Header) (s t : State) : Type 0 where
   pub entries : sent_entries plan s ≡ sent_entries plan t
   pub first : header_of plan s ≡ header
   pub second : header_of plan t ≡ header
-  pub on_step : (s.count % count_step (layout_mode plan.layout) == 0) ≡ (t.count % count_step (layout_mode plan.layout) == 0)
+  pub on_step : (s.count % count_step (layout_mode plan.layout) == 0)
+      ≡ (t.count % count_step (layout_mode plan.layout) == 0)
   pub pageable : IsPageable (ensemble_sent plan t) (sent_entries plan t)
 
 abbrev pub AreAlike : Plan → Header → ℕ → State → State → Type 0
@@ -87,13 +96,9 @@ left_later n None = None
 left_later n (Some left) = Some (left - n)
 
 abbrev pub hold_later : ℕ → Hold → Hold
-hold_later n Running = Running
 hold_later n (Waits frames) = Waits (frames - n)
-hold_later n (WaitsDay t) = WaitsDay t
-hold_later n (WaitsContact c closed) = WaitsContact c closed
 hold_later n (WaitsAny closed opened until left) = WaitsAny closed opened until (left_later n left)
-hold_later n WaitsSwap = WaitsSwap
-hold_later n Ended = Ended
+hold_later n hold = hold
 
 -- in each of n frames what is sent takes this many pages
 abbrev pub HasRounds : Plan → ℕ → State → ℕ → Type 0

@@ -31,8 +31,8 @@ fn copy_front(bytes: &mut [u8], len: usize, offset: usize)
 }
 
 impl Bytes<SIZE> {
-    /// Appends this many frames, starting with this count, for which there has to be room: copies of its first frames
-    /// that differ in the count alone.
+    /// Appends this many frames, starting with this count, for which there has to be room: copies
+    /// of its first frames that differ in the count alone.
     pub(crate) fn repeat(&mut self, plan: &Plan, header: Header, count: u16, frames: u16)
         requires count { count < COUNTS }
         requires change { header.change < 4 }

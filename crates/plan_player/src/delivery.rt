@@ -1,6 +1,7 @@
 //! Playing events into a sink.
 
-ghost use Rattle.std.specs.Prelude.{◌≡◌, ◌<◌, ◌≤◌, [], ◌∷◌, length, take, false, true, IfOk, OnOk, IfErr, OnErr};
+ghost use Rattle.std.specs.Prelude.{◌≡◌, ◌<◌, ◌≤◌, [], ◌∷◌, length, take, false, true, IfOk, OnOk};
+ghost use Rattle.std.specs.Prelude.{IfErr, OnErr};
 ghost use Rattle.std.specs.Io.KnownBytes.{Appends};
 ghost use Rattle.plan_runs.specs.declared.event.Event.TheVariants.{Frame};
 ghost use Rattle.plan_runs.specs.Headline.{MeetsGuarantees};
@@ -8,13 +9,13 @@ ghost use Rattle.plan_player.specs.Playing.{played};
 ghost use Rattle.plan_player.specs.Delivery.{frames_of, played_bytes, next_frame, StoppedBy};
 
 use crate::fault::PlayFault;
-use crate::player::Player;
+use crate::player::{Player, promise};
 use crate::sink::Sink;
 use mux_config::Store;
-use plan_runs::{Event, laws};
+use plan_runs::Event;
 
-/// Plays one event and returns the number of frames made. `Err`: the event is a frame, of which the sink accepted this
-/// many bytes, fewer than all.
+/// Plays one event and returns the number of frames made. `Err`: the event is a frame, of which the
+/// sink accepted this many bytes, fewer than all.
 fn play_event<'a, S: Store, K: Sink>(
     player: &mut Player<'a, S>,
     event: Event,
@@ -45,21 +46,13 @@ fn play_event<'a, S: Store, K: Sink>(
     }
 }
 
-/// The guarantees of the headline for these events.
-fn promise<'a, S: Store>(player: &Player<'a, S>, events: &[Event])
-    ensures { MeetsGuarantees player.now.code player.now.state events.now }
-{
-    // Read for the proof: a value's invariant is known where the value is read.
-    let _current = player.current();
-    let _count = events.len();
-    laws::headline();
-}
-
-/// Plays these events, writes each frame to the sink, which must not have failed, and returns the number of frames.
-/// There is no trap, every frame is correct, and each swap falls on the announced count, after its change
-/// flags were sent and the whole next configuration could be read three times.
+/// Plays these events, writes each frame to the sink, which must not have failed, and returns the
+/// number of frames. There is no trap, every frame is correct, and each swap falls on the announced
+/// count, after its change flags were sent and the whole next configuration could be read three
+/// times.
 ///
-/// `Write`: the sink failed. The event whose frame it didn't accept in full has been played, and later ones have not.
+/// `Write`: the sink failed. The event whose frame it didn't accept in full has been played, and
+/// later ones have not.
 pub fn play<'a, S: Store, K: Sink>(
     player: &mut Player<'a, S>,
     events: &[Event],
@@ -76,7 +69,7 @@ pub fn play<'a, S: Store, K: Sink>(
     ensures fails { OnErr result (K.has_failed sink.new ≡ true) }
     ensures headline { MeetsGuarantees player.old.code player.old.state events.now }
 {
-    promise(player, events);
+    promise(player);
     let mut frames = 0u64;
     for event in events {
         match play_event(player, *event, sink) {

@@ -21,12 +21,14 @@ pub enum PlayFault {
     Write {
         /// The number of frames that the sink accepted in full.
         frames: u64,
-        /// The number of bytes that it accepted of the next frame, fewer than a frame has: 0 to 95, in mode III to 127.
+        /// The number of bytes that it accepted of the next frame, fewer than a frame has: 0 to 95,
+        /// in mode III to 127.
         bytes: usize,
     },
 }
 
-/// How far playback got before the sink failed: the full frames, and the bytes of the next one, that were accepted.
+/// How far playback got before the sink failed: the full frames, and the bytes of the next one,
+/// that were accepted.
 #[derive(Clone, Copy, Debug, PartialEq, Eq)]
 pub(crate) struct Accepted {
     pub(crate) frames: u32,

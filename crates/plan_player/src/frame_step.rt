@@ -5,7 +5,9 @@ ghost use Rattle.mux_types.specs.Facts.{Marked};
 ghost use Rattle.fib_codec.specs.declared.frame_layout.FrameLayout.{FrameLayout};
 ghost use Rattle.fib_carousel.specs.Pages.{page_after};
 ghost use Rattle.fib_carousel.specs.Bytes.{page_bytes};
-ghost use Rattle.plan_runs.specs.Frames.{is_first_noticed, shown, shown_bytes, sent_entries, sent_rounds, with_next_counts, frame_bytes, frame_steps, after_frame};
+ghost use Rattle.plan_runs.specs.Frames.{is_first_noticed, shown, shown_bytes, sent_entries};
+ghost use Rattle.plan_runs.specs.Frames.{sent_rounds, with_next_counts, frame_bytes, frame_steps};
+ghost use Rattle.plan_runs.specs.Frames.{after_frame};
 ghost use Rattle.plan_runs.specs.TypedRuns.{CanBeSent};
 ghost use Rattle.plan_player.specs.Positions.{state_of};
 ghost use Rattle.plan_player.specs.Phase.{HasPage, Keeps, ShowsBytes, HasChange, IsFrameReady};
@@ -33,8 +35,8 @@ fn make_page_to_send<S: Store>(plan: &Plan, machine: &Machine<S>, pages: &mut Ph
     make_if_new(
         pages,
         plan.layout,
-        machine.page_index(),
-        machine.current(),
+        machine.page_index,
+        &machine.current,
         next,
     );
 }
@@ -74,7 +76,8 @@ fn show(pages: &mut PhasePages, number: u8, ensemble: Option<Ensemble>)
     }
 }
 
-/// Makes a frame from the page in turn and advances the counts, which is all that a quiet frame needs.
+/// Makes a frame from the page in turn and advances the counts, which is all that a quiet frame
+/// needs.
 pub(crate) fn send<S: Store>(plan: &Plan, machine: &mut Machine<S>, pages: &mut PhasePages)
     requires sent { CanBeSent plan.now (state_of S.content machine.old) }
     requires few { sent_rounds plan.now (state_of S.content machine.old) ≤ 60 }
@@ -92,7 +95,7 @@ pub(crate) fn send<S: Store>(plan: &Plan, machine: &mut Machine<S>, pages: &mut 
 {
     make_page_to_send(plan, machine, pages);
     let ensemble = ensemble(plan, machine, pages.change);
-    let page_index = machine.page_index();
+    let page_index = machine.page_index;
     show(pages, page_index, ensemble);
     pass(page_after(pages.count(), page_index), machine);
 }
@@ -119,13 +122,13 @@ fn note_change<S: Store>(plan: &Plan, machine: &Machine<S>, pages: &mut PhasePag
     ensures keeps { (layout : FrameLayout) (ms : List Marked) (page_index : ℕ) →
         Keeps layout ms page_index pages.old → Keeps layout ms page_index pages.new }
 {
-    if is_first_noticed(plan.notice, machine.left()) {
-        pages.change = change(machine.current(), machine.next()).bits();
+    if is_first_noticed(plan.notice, machine.left) {
+        pages.change = change(&machine.current, &machine.next).bits();
     }
 }
 
-/// Makes a due swap and executes the frame's instructions, up to the state that its bytes are made from. Returns the
-/// number of instructions.
+/// Makes a due swap and executes the frame's instructions, up to the state that its bytes are made
+/// from. Returns the number of instructions.
 fn prepare<S: Store>(
     code: &Code,
     plan: &Plan,
@@ -148,7 +151,8 @@ fn prepare<S: Store>(
     steps
 }
 
-/// Makes one frame, which can then be read from the pages. Returns the number of instructions executed.
+/// Makes one frame, which can then be read from the pages. Returns the number of instructions
+/// executed.
 pub(crate) fn make_frame<S: Store>(
     code: &Code,
     machine: &mut Machine<S>,

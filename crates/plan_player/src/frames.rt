@@ -1,28 +1,19 @@
 //! Playing a number of frames into a sink, with no event between them.
 
-ghost use Rattle.std.specs.Prelude.{◌≡◌, ◌≤◌, List, false, true, length, replicate, IfOk, OnOk, IfErr, OnErr};
+ghost use Rattle.std.specs.Prelude.{◌≡◌, ◌≤◌, false, true, length, replicate, IfOk, OnOk, IfErr};
+ghost use Rattle.std.specs.Prelude.{OnErr};
 ghost use Rattle.std.specs.Io.KnownBytes.{Appends};
-ghost use Rattle.plan_runs.specs.declared.event.Event.{Event};
 ghost use Rattle.plan_runs.specs.declared.event.Event.TheVariants.{Frame};
 ghost use Rattle.plan_runs.specs.Headline.{MeetsGuarantees};
 ghost use Rattle.plan_player.specs.Playing.{played};
-ghost use Rattle.plan_player.specs.Delivery.{frames_of, played_bytes, Delivered, Stopped, StoppedBy};
+ghost use Rattle.plan_player.specs.Delivery.{frames_of, played_bytes, Delivered, Stopped};
+ghost use Rattle.plan_player.specs.Delivery.{StoppedBy};
 ghost use Rattle.plan_player.specs.Quiet.{AreQuiet};
 
 use crate::fault::{Accepted, PlayFault};
-use crate::player::Player;
+use crate::player::{Player, promise};
 use crate::sink::Sink;
 use mux_config::Store;
-use plan_runs::laws;
-
-/// The guarantees of the headline for any events.
-fn promise<'a, S: Store>(player: &Player<'a, S>)
-    ensures { (events : List Event) → MeetsGuarantees player.now.code player.now.state events }
-{
-    // Read for the proof: a value's invariant is known where the value is read.
-    let _current = player.current();
-    laws::headline();
-}
 
 /// Plays this many frames, all of which are quiet.
 #[inline(never)]
@@ -56,25 +47,8 @@ fn play_quiet<'a, S: Store, K: Sink>(
     Ok(())
 }
 
-/// Plays the next frame.
-#[inline(never)]
-fn play_one<'a, S: Store, K: Sink>(player: &mut Player<'a, S>, sink: &mut K) -> Result<(), Accepted>
-    requires working { K.has_failed sink.old ≡ false }
-    ensures done { OnOk result (Delivered player.old player.new (replicate 1 Frame)
-        (K.taken sink.old) (K.taken sink.new) 1) }
-    ensures works { OnOk result (K.has_failed sink.new ≡ false) }
-    ensures stopped { IfErr result (λ cut. Stopped player.old player.new
-        (replicate 1 Frame) (K.taken sink.old) (K.taken sink.new) cut.frames cut.bytes) }
-    ensures fails { OnErr result (K.has_failed sink.new ≡ true) }
-{
-    match player.put_frame(sink) {
-        Ok(()) => Ok(()),
-        Err(bytes) => Err(Accepted { frames: 0, bytes }),
-    }
-}
-
-/// Plays quiet frames from the next one on, at most this many; or one frame, if it isn't quiet. Returns the number of
-/// frames played.
+/// Plays quiet frames from the next one on, at most this many; or one frame, if it isn't quiet.
+/// Returns the number of frames played.
 fn play_some<'a, S: Store, K: Sink>(
     player: &mut Player<'a, S>,
     most: u32,
@@ -92,9 +66,9 @@ fn play_some<'a, S: Store, K: Sink>(
 {
     let quiet = player.quiet_frames(most);
     if quiet == 0 {
-        return match play_one(player, sink) {
+        return match player.put_frame(sink) {
             Ok(()) => Ok(1),
-            Err(cut) => Err(cut),
+            Err(bytes) => Err(Accepted { frames: 0, bytes }),
         };
     }
     match play_quiet(player, quiet, sink) {
@@ -103,11 +77,13 @@ fn play_some<'a, S: Store, K: Sink>(
     }
 }
 
-/// Plays this many frames, writes each to the sink, which must not have failed, and returns the number of frames: the
-/// same as [`play`](crate::play) with that many frame events. A stretch of frames without a swap, an instruction or the
-/// start of a phase is detected once, not frame by frame.
+/// Plays this many frames, writes each to the sink, which must not have failed, and returns the
+/// number of frames: the same as [`play`](crate::play) with that many frame events. A stretch of
+/// frames without a swap, an instruction or the start of a phase is detected once, not frame by
+/// frame.
 ///
-/// `Write`: the sink failed. The frame that it didn't accept in full has been made, and later ones have not.
+/// `Write`: the sink failed. The frame that it didn't accept in full has been made, and later ones
+/// have not.
 pub fn play_frames<'a, S: Store, K: Sink>(
     player: &mut Player<'a, S>,
     count: u32,

@@ -1,10 +1,11 @@
 //! The player: plays a plan code frame by frame.
 //!
-//! A [`Player`] plays a code that `plan_verifier` accepted, over any store of configurations; [`play`] writes the
-//! frames of a list of events to a [`Sink`], and [`play_frames`] a number of frames with no event between them. Their
-//! behaviour is defined in `plan_runs`, whose events, starts and laws this crate re-exports. `specs/Playing.antt`
-//! defines the state of a player, `specs/Delivery.antt` what a sink receives, and `specs/Quiet.antt` the frames that
-//! need nothing but their page and their counts.
+//! A [`Player`] plays a code that `plan_verifier` accepted, over any store of configurations;
+//! [`play`] writes the frames of a list of events to a [`Sink`], and [`play_frames`] a number of
+//! frames with no event between them. Their behaviour is defined in `plan_runs`, whose events,
+//! starts and laws this crate re-exports. `specs/Playing.antt` defines the state of a player,
+//! `specs/Delivery.antt` what a sink receives, and `specs/Quiet.antt` the frames that need nothing
+//! but their page and their counts.
 #![tactic(auto)]
 
 mod batch;

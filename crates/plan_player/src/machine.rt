@@ -26,40 +26,42 @@ pub(crate) use sending::{
     Header, begin_notice, ensemble, is_first_noticed, is_on_step, make_header, next_sent,
 };
 
-/// The machine between two steps of a frame: its current and its next configuration in two stores, its wait condition
-/// and its counts. In contracts it is a `State`. Each step of a frame is a function: `begin` makes a due swap and ends
-/// a wait, `run` executes the frame's instructions without testing for traps, `begin_notice` and `ensemble` give what
-/// is sent, and `pass` advances the counts. `quiet_frames` counts frames in which the first three have nothing to do;
-/// for these, `make_header` gives what is sent, and `pass_many` advances the counts.
+/// The machine between two steps of a frame: its current and its next configuration in two stores,
+/// its wait condition and its counts. In contracts it is a `State`. Each step of a frame is a
+/// function: `begin` makes a due swap and ends a wait, `run` executes the frame's instructions
+/// without testing for traps, `begin_notice` and `ensemble` give what is sent, and `pass` advances
+/// the counts. `quiet_frames` counts frames in which the first three have nothing to do; for these,
+/// `make_header` gives what is sent, and `pass_many` advances the counts.
 #[derive(Drop)]
 pub(crate) struct Machine<S: Store> {
     /// The current configuration.
-    current: S,
+    pub(crate) current: S,
     /// The next configuration.
-    next: S,
+    pub(crate) next: S,
     /// The number of frames left until the swap, if one is pending.
-    left: Option<u16>,
+    pub(crate) left: Option<u16>,
     /// The index of the next instruction, from 0.
-    pc: u16,
+    pub(crate) pc: u16,
     /// What the machine waits for before it executes that instruction.
-    hold: Hold,
+    pub(crate) hold: Hold,
     /// The remaining iterations of each of the eight counters: 0 where it is not set.
     counters: [u16; 8],
     /// The contacts that are closed.
     contacts: Contacts,
     /// The CIF count of the next frame, 0 to 4999 (EN 300 401 clause 5.1).
-    count: u16,
+    pub(crate) count: u16,
     /// The frame of the day, 0 to 3,599,999, in frames of 24 ms.
-    day: u32,
+    pub(crate) day: u32,
     /// The identifier of the ensemble, EId (EN 300 401 clause 6.4).
     eid: u16,
     /// The index of the page in turn, from 0.
-    page_index: u8,
+    pub(crate) page_index: u8,
 }
 
 impl<S: Store> Machine<S> {
-    /// The machine at the start of a typed code: both configurations are those of its first label, no swap is
-    /// pending, no counter is set, and the instructions start in the first frame. It does not allocate.
+    /// The machine at the start of a typed code: both configurations are those of its first label,
+    /// no swap is pending, no counter is set, and the instructions start in the first frame. It
+    /// does not allocate.
     pub(crate) fn start(code: &Verified, start: Start) -> Machine<S>
         ensures { IsStart code.now start (state_of S.content result) }
     {
@@ -87,61 +89,5 @@ impl<S: Store> Machine<S> {
             happens p (state_of S.content self.old) (Contact contact closed) }
     {
         self.contacts = self.contacts.with(contact, closed);
-    }
-
-    /// The current configuration.
-    pub(crate) fn current(&self) -> &S
-        ensures { result.now ≡ self.now.current }
-    {
-        &self.current
-    }
-
-    /// The next configuration.
-    pub(crate) fn next(&self) -> &S
-        ensures { result.now ≡ self.now.next }
-    {
-        &self.next
-    }
-
-    /// The number of frames left until the swap, if one is pending.
-    pub(crate) fn left(&self) -> Option<u16>
-        ensures { result ≡ self.now.left }
-    {
-        self.left
-    }
-
-    /// The index of the next instruction, from 0.
-    pub(crate) fn pc(&self) -> u16
-        ensures { result ≡ self.now.pc }
-    {
-        self.pc
-    }
-
-    /// What the machine waits for before it executes that instruction.
-    pub(crate) fn hold(&self) -> Hold
-        ensures { result ≡ self.now.hold }
-    {
-        self.hold
-    }
-
-    /// The CIF count of the next frame, 0 to 4999 (EN 300 401 clause 5.1).
-    pub(crate) fn count(&self) -> u16
-        ensures { result ≡ self.now.count }
-    {
-        self.count
-    }
-
-    /// The frame of the day, 0 to 3,599,999, in frames of 24 ms.
-    pub(crate) fn day(&self) -> u32
-        ensures { result ≡ self.now.day }
-    {
-        self.day
-    }
-
-    /// The index of the page in turn, from 0.
-    pub(crate) fn page_index(&self) -> u8
-        ensures { result ≡ self.now.page_index }
-    {
-        self.page_index
     }
 }

@@ -24,8 +24,8 @@ pub(crate) enum Sent {
     Headed,
 }
 
-/// The pages of a phase that have been made. Each is packed when it is first in turn, and then kept until the phase
-/// ends.
+/// The pages of a phase that have been made. Each is packed when it is first in turn, and then kept
+/// until the phase ends.
 #[derive(Drop)]
 pub(crate) struct PhasePages {
     /// The pages made so far, from page 0 on; later entries are from an earlier phase.

@@ -1,6 +1,7 @@
 //! The player of typed codes.
 
-ghost use Rattle.std.specs.Prelude.{◌≡◌, ◌<◌, ◌≤◌, List, [], ◌∷◌, length, take, replicate, true, false, Some, None, IfOk, IfErr, OnOk, OnErr};
+ghost use Rattle.std.specs.Prelude.{◌≡◌, ◌<◌, ◌≤◌, List, [], ◌∷◌, length, take, replicate, true};
+ghost use Rattle.std.specs.Prelude.{false, Some, None, IfOk, IfErr, OnOk, OnErr};
 ghost use Rattle.std.specs.Result.{result_err};
 ghost use Rattle.std.specs.Io.KnownBytes.{Appends};
 ghost use Rattle.mux_config.specs.Sound.{IsSound};
@@ -12,7 +13,7 @@ ghost use Rattle.plan_runs.specs.Runs.{StartIsInRange, happens};
 ghost use Rattle.plan_runs.specs.TypedRuns.{IsPlayed};
 ghost use Rattle.plan_runs.specs.Announced.{FrameRuns, heard_of};
 ghost use Rattle.plan_runs.specs.RightBytes.{FrameIsRight, IsHeardEachPeriod};
-ghost use Rattle.plan_runs.specs.Headline.{KeepsCount};
+ghost use Rattle.plan_runs.specs.Headline.{MeetsGuarantees, KeepsCount};
 ghost use Rattle.plan_player.specs.Positions.{state_of};
 ghost use Rattle.plan_player.specs.Playing.{start_fault, IsAtStart, played};
 ghost use Rattle.plan_player.specs.Delivery.{next_frame, Delivered, Stopped};
@@ -36,8 +37,8 @@ use std::marker::Model;
 /// The number of instructions that a quiet frame executes.
 const QUIET_STEPS: u8 = 0;
 
-/// Plays a typed code, frame by frame, with the current and the next configuration in two stores of this type. It
-/// does not allocate, and does not test for traps: a typed code has none.
+/// Plays a typed code, frame by frame, with the current and the next configuration in two stores of
+/// this type. It does not allocate, and does not test for traps: a typed code has none.
 #[derive(Drop)]
 pub struct Player<'a, S: Store> {
     code: &'a Verified,
@@ -80,25 +81,20 @@ fn fault_of(start: Start) -> Option<StartFault>
     None
 }
 
-/// The guarantees of the headline for the next frame: it has no trap, a swap in it was announced, its bytes are
-/// correct; from it on, each period carries the whole configuration, and each swap falls on the announced count.
-fn promise<S: Store>(code: &Code, machine: &Machine<S>)
-    requires { IsPlayed code.now (state_of S.content machine.now) }
-    ensures announced { let s = state_of S.content machine.now in
-        FrameRuns code.now s (heard_of code.now.plan s) }
-    ensures right { FrameIsRight code.now (state_of S.content machine.now) }
-    ensures whole { IsHeardEachPeriod code.now (state_of S.content machine.now) }
-    ensures counted { (events : List Event)
-        → KeepsCount code.now (state_of S.content machine.now) events }
+/// The guarantees of the headline, from the next frame on.
+pub(crate) fn promise<'a, S: Store>(player: &Player<'a, S>)
+    ensures { (events : List Event) → MeetsGuarantees player.now.code player.now.state events }
 {
+    // Read for the proof: a value's invariant is known where the value is read.
+    let _current = player.current();
     laws::headline();
 }
 
 impl<'a, S: Store> Player<'a, S> {
     /// A player of this code with this start. No frame has been made yet.
     ///
-    /// `Count`: the CIF count is 5000 or more; `Day`: the frame of the day is 3,600,000 or more. `Count` takes
-    /// precedence.
+    /// `Count`: the CIF count is 5000 or more; `Day`: the frame of the day is 3,600,000 or more.
+    /// `Count` takes precedence.
     pub fn new(code: &'a Verified, start: Start) -> Result<Player<'a, S>, StartFault>
         ensures begins { IfOk result (λ p. IsAtStart code.now start p) }
         ensures fault { result_err result ≡ start_fault start }
@@ -130,11 +126,13 @@ impl<'a, S: Store> Player<'a, S> {
         self.machine.set_contact(contact, closed);
     }
 
-    /// Makes the next frame: a due swap, the instructions, the FIBs, and then the counts. It cannot fail.
+    /// Makes the next frame: a due swap, the instructions, the FIBs, and then the counts. It cannot
+    /// fail.
     ///
-    /// Its bytes and the state after it are those of the definitions. It has no trap, executes no more instructions
-    /// than the budget, and its FIBs are correct; a swap in it was announced by the frames before it. For any later
-    /// events, each period from it on has the whole current configuration, and each swap falls on the announced count.
+    /// Its bytes and the state after it are those of the definitions. It has no trap, executes no
+    /// more instructions than the budget, and its FIBs are correct; a swap in it was announced by
+    /// the frames before it. For any later events, each period from it on has the whole current
+    /// configuration, and each swap falls on the announced count.
     pub fn frame(&mut self) -> FibFrame
         ensures bytes { result ≡ frame_bytes self.old.code self.old.state }
         ensures state { self.new ≡ record self.old {
@@ -150,13 +148,14 @@ impl<'a, S: Store> Player<'a, S> {
             → KeepsCount self.old.code self.old.state events }
         ensures played { IsPlayed self.new.code self.new.state }
     {
+        promise(self);
         let code = self.code.code();
-        promise(code, &self.machine);
         self.steps = make_frame(code, &mut self.machine, &mut self.pages);
         *self.pages.frame()
     }
 
-    /// Makes the next frame and writes it to the sink. `Err`: the sink accepted this many of its bytes, fewer than all.
+    /// Makes the next frame and writes it to the sink. `Err`: the sink accepted this many of its
+    /// bytes, fewer than all.
     pub(crate) fn put_frame<K: Sink>(&mut self, sink: &mut K) -> Result<(), usize>
         requires working { K.has_failed sink.old ≡ false }
         ensures state { self.new ≡ played self.old (Frame ∷ []) }
@@ -181,8 +180,8 @@ impl<'a, S: Store> Player<'a, S> {
         quiet_frames(self.code.code(), &self.machine, most)
     }
 
-    /// Makes the next frame, which is quiet, and writes it to the sink: the same as [`Player::put_frame`], without
-    /// testing for a swap, instructions and the start of a phase.
+    /// Makes the next frame, which is quiet, and writes it to the sink: the same as
+    /// [`Player::put_frame`], without testing for a swap, instructions and the start of a phase.
     pub(crate) fn put_quiet_frame<K: Sink>(
         &mut self,
         plan: &Plan,
@@ -205,8 +204,9 @@ impl<'a, S: Store> Player<'a, S> {
         put_all(sink, self.pages.frame().bytes())
     }
 
-    /// Makes at most `most` of the next frames, all of them quiet, writes them to the sink, and returns their number,
-    /// at least one. If all pages of the phase have been made, they are written together.
+    /// Makes at most `most` of the next frames, all of them quiet, writes them to the sink, and
+    /// returns their number, at least one. If all pages of the phase have been made, they are
+    /// written together.
     pub(crate) fn put_quiet<K: Sink>(
         &mut self,
         plan: &Plan,
@@ -250,49 +250,50 @@ impl<'a, S: Store> Player<'a, S> {
         ensures sound { IsSound self.now.state.current }
         ensures played { IsPlayed self.now.code self.now.state }
     {
-        self.machine.current()
+        &self.machine.current
     }
 
     /// The next configuration: the one that a pending swap makes current, or that edits prepare.
     pub fn next(&self) -> &S
         ensures value { S.content result.now ≡ self.now.state.next }
     {
-        self.machine.next()
+        &self.machine.next
     }
 
-    /// The number of frames left until the swap; None where none is pending. It is 0 if the next frame makes the swap.
+    /// The number of frames left until the swap; None where none is pending. It is 0 if the next
+    /// frame makes the swap.
     pub fn remaining(&self) -> Option<u16>
         ensures value { result ≡ self.now.state.left }
     {
-        self.machine.left()
+        self.machine.left
     }
 
     /// The CIF count of the next frame, 0 to 4999.
     pub fn count(&self) -> u16
         ensures value { result ≡ self.now.state.count }
     {
-        self.machine.count()
+        self.machine.count
     }
 
     /// The frame of the day of the next frame, 0 to 3,599,999.
     pub fn day(&self) -> u32
         ensures value { result ≡ self.now.state.day }
     {
-        self.machine.day()
+        self.machine.day
     }
 
     /// The index of the next instruction, from 0.
     pub fn pc(&self) -> u16
         ensures value { result ≡ self.now.state.pc }
     {
-        self.machine.pc()
+        self.machine.pc
     }
 
     /// What the machine waits for before it executes that instruction.
     pub fn hold(&self) -> Hold
         ensures value { result ≡ self.now.state.hold }
     {
-        self.machine.hold()
+        self.machine.hold
     }
 
     /// The plan that is played.
@@ -307,10 +308,11 @@ impl<'a, S: Store> Player<'a, S> {
     pub fn line(&self) -> u16
         ensures value { line_at self.now.code self.now.state.pc ≡ Some result }
     {
-        self.code.code().line_at(self.machine.pc()).unwrap()
+        self.code.code().line_at(self.machine.pc).unwrap()
     }
 
-    /// The number of instructions that the last frame executed, at most the budget; 0 before the first frame.
+    /// The number of instructions that the last frame executed, at most the budget; 0 before the
+    /// first frame.
     pub fn steps(&self) -> u8
         ensures value { result ≡ self.now.steps }
         ensures within { self.now.steps ≤ self.now.code.plan.budget }

@@ -10,8 +10,8 @@ use crate::machine::{Header, count_later};
 use plan_code::Plan;
 use plan_code::limits::COUNTS;
 
-/// Replaces the count of the FIG 0/0 at the start of a FIB: its third and fourth byte of data, and the CRC, updated by
-/// the contributions of these two.
+/// Replaces the count of the FIG 0/0 at the start of a FIB: its third and fourth byte of data, and
+/// the CRC, updated by the contributions of these two.
 pub(crate) fn recount(fib: &mut [u8], high: u8, low: u8)
     requires { length fib.old ≡ 32 }
     ensures bytes { (a b c d x y : ℕ) (rest : List ℕ) → length rest ≡ 24
@@ -27,7 +27,8 @@ pub(crate) fn recount(fib: &mut [u8], high: u8, low: u8)
     fib[31] = (word % 256) as u8;
 }
 
-/// The number of frames before the first whose count is a multiple of the step, starting with this count.
+/// The number of frames before the first whose count is a multiple of the step, starting with this
+/// count.
 fn before_step(step: u16, count: u16) -> u16
     requires { 1 ≤ step }
     ensures { result ≡ (step - count % step) % step }
@@ -35,8 +36,8 @@ fn before_step(step: u16, count: u16) -> u16
     (step - count % step) % step
 }
 
-/// Changes these frames into the ones that are alike but start with this count: the count is replaced in each frame
-/// with FIG 0/0.
+/// Changes these frames into the ones that are alike but start with this count: the count is
+/// replaced in each frame with FIG 0/0.
 pub(crate) fn recount_frames(plan: &Plan, header: Header, count: u16, frames: u16, bytes: &mut [u8])
     requires count { count < COUNTS }
     requires change { header.change < 4 }

@@ -1,6 +1,7 @@
 //! Receivers of the bytes of frames.
 
-ghost use Rattle.std.specs.Prelude.{◌≡◌, ◌<◌, ◌≤◌, length, take, true, false, IfSome, IfNone, IfErr, OnOk, OnErr};
+ghost use Rattle.std.specs.Prelude.{◌≡◌, ◌<◌, ◌≤◌, length, take, true, false, IfSome, IfNone};
+ghost use Rattle.std.specs.Prelude.{IfErr, OnOk, OnErr};
 ghost use Rattle.std.specs.Io.KnownBytes.{Appends, Keeps};
 
 use std::io::Write;
@@ -15,8 +16,8 @@ pub trait Sink {
     /// Whether it has failed.
     ghost has_failed: { Self → Bool };
 
-    /// Accepts a non-empty prefix of these bytes, which must not be empty, and returns its length. `None`: it accepted
-    /// nothing, and has failed from then on. Nothing else makes it fail.
+    /// Accepts a non-empty prefix of these bytes, which must not be empty, and returns its length.
+    /// `None`: it accepted nothing, and has failed from then on. Nothing else makes it fail.
     fn put(&mut self, bytes: &[u8]) -> Option<usize>
         requires { 0 < length bytes.now }
         ensures bound { IfSome result (λ n. (1 ≤ n) × (n ≤ length bytes.now)) }
@@ -31,8 +32,8 @@ pub trait Sink {
         ensures { result ≡ has_failed self.now };
 }
 
-/// A writer as a sink. It fails if the writer fails, also if the write is interrupted, and if the writer accepts
-/// nothing. It reports its bytes if the writer does.
+/// A writer as a sink. It fails if the writer fails, also if the write is interrupted, and if the
+/// writer accepts nothing. It reports its bytes if the writer does.
 #[derive(Drop)]
 pub struct Writer<W> {
     inner: W,
@@ -84,8 +85,8 @@ impl<W: Write> Sink for Writer<W> {
     }
 }
 
-/// Writes all bytes to a sink that has not failed, in any number of calls. `Err`: it failed after this many of
-/// them, fewer than all.
+/// Writes all bytes to a sink that has not failed, in any number of calls. `Err`: it failed after
+/// this many of them, fewer than all.
 pub fn put_all<K: Sink>(sink: &mut K, bytes: &[u8]) -> Result<(), usize>
     requires working { K.has_failed sink.old ≡ false }
     ensures all { OnOk result (Appends (K.taken sink.old) (K.taken sink.new) bytes.now) }

@@ -1,6 +1,7 @@
 //! Writing a stretch of quiet frames to a sink in one batch.
 
-ghost use Rattle.std.specs.Prelude.{◌≡◌, ℕ, ◌+◌, ◌≤◌, ◌<◌, ◌%◌, ◌==◌, ◌++◌, List, length, true, false, IfOk, IfErr, OnOk, OnErr};
+ghost use Rattle.std.specs.Prelude.{◌≡◌, ℕ, ◌+◌, ◌≤◌, ◌<◌, ◌%◌, ◌==◌, ◌++◌, List, length, true};
+ghost use Rattle.std.specs.Prelude.{false, IfOk, IfErr, OnOk, OnErr};
 ghost use Rattle.std.specs.List.{concat};
 ghost use Rattle.std.specs.Io.KnownBytes.{Appends};
 ghost use Rattle.fib_codec.specs.Layouts.{layout_mode};
@@ -51,8 +52,8 @@ fn push(
     }
 }
 
-/// After this many frames, the pages with and without FIG 0/0 repeat: a multiple of the number of pages and of the step
-/// of the counts.
+/// After this many frames, the pages with and without FIG 0/0 repeat: a multiple of the number of
+/// pages and of the step of the counts.
 fn whole_cycle(pages: u8, step: u16) -> u16
     requires pages { (1 ≤ pages) × (pages ≤ 60) }
     requires step { (1 ≤ step) × (step ≤ 4) }
@@ -88,8 +89,8 @@ fn begin<S: Store>(
     batch.clear();
     let rounds = usize::from(pages.made);
     let mut headed = FibFrame::new(plan.layout.mode());
-    let mut page_index = machine.page_index();
-    let mut number = machine.count();
+    let mut page_index = machine.page_index;
+    let mut number = machine.count;
     let mut done = 0u16;
     while done < count {
         let page = held(&pages.pages, page_index);
@@ -100,8 +101,8 @@ fn begin<S: Store>(
     }
 }
 
-/// Extends a batch that has whole cycles of quiet frames to this many: with copies of its frames that have other
-/// counts.
+/// Extends a batch that has whole cycles of quiet frames to this many: with copies of its frames
+/// that have other counts.
 fn repeat<S: Store>(
     plan: &Plan,
     machine: &Machine<S>,
@@ -127,7 +128,7 @@ fn repeat<S: Store>(
     let mut done = cycle;
     while done < count {
         let more = done.min(count - done);
-        batch.repeat(plan, header, count_later(machine.count(), done), more);
+        batch.repeat(plan, header, count_later(machine.count, done), more);
         done += more;
     }
 }
@@ -157,8 +158,8 @@ fn fill<S: Store>(
     repeat(plan, machine, pages, header, cycle, count, batch);
 }
 
-/// Makes this many quiet frames, writes them to the sink together, and returns their number. `Err`: it failed in one
-/// of them, which has been made, and later ones have not.
+/// Makes this many quiet frames, writes them to the sink together, and returns their number. `Err`:
+/// it failed in one of them, which has been made, and later ones have not.
 pub(crate) fn put_stretch<S: Store, K: Sink>(
     plan: &Plan,
     machine: &mut Machine<S>,

@@ -1,36 +1,22 @@
 -- Every swap was announced by the frames of its notice.
-use Rattle.std.specs.Prelude.{Contains, slice_get, ◌==◌}
-use Rattle.std.proofs.Common.{◌≡◌, ℕ, zero, suc, ◌+◌, ◌-◌, ◌*◌, ◌%◌, ◌<◌, ◌≤◌, Bool, true, false, cond, ltb, List, [], ◌∷◌, ◌++◌, Option, Some, None, refl, sym, ap, subst, append_assoc, ◌∙◌, arith}
-use Rattle.std.proofs.lemmas.Bool.{eq-eqb, ltb-true, lt-ltb}
-use Rattle.std.proofs.lemmas.List.Elements.{Contains-append_right}
-use Rattle.fib_codec.specs.Layouts.{layout_mode}
-use Rattle.mux_config.specs.Configuration.{Configuration, IsConfiguration}
-use Rattle.mux_types.specs.Entries.{EnsembleInformation}
-use Rattle.mux_types.specs.Facts.{Marked, facts_of}
-use Rattle.mux_config.specs.Change.{change_of, bits_of}
-use Rattle.fib_codec.specs.declared.modes.Mode.{Mode}
-use Rattle.fib_codec.specs.declared.modes.Mode.TheVariants.{I, II, III, IV}
-use Rattle.fib_codec.specs.Modes.{count_step}
-use Rattle.fib_codec.specs.Heard.{IsHeardInRow, IsEnsembleHeardInRow}
-use Rattle.fib_carousel.specs.Pages.{page_set, page_after, page_entries}
-use Rattle.plan_code.specs.declared.plan.Plan.{Plan}
-use Rattle.plan_code.specs.Flags.{with_contact}
-use Rattle.plan_code.specs.Program.{Program}
-use Rattle.plan_code.specs.Machine.{State}
-use Rattle.plan_verifier.specs.Typing.{Known}
-use Rattle.plan_runs.specs.declared.event.Event.{Event}
-use Rattle.plan_runs.specs.declared.event.Event.TheVariants.{Contact, Frame}
-use Rattle.plan_runs.specs.Frames.{is_due, is_noticed, shown_bytes, low_of_swap, ensemble_of, ensemble_sent, sent_entries, after_frame}
-use Rattle.plan_runs.specs.Runs.{happens, run}
-use Rattle.plan_runs.specs.Announced.{IsHeardWhole, heard_left, heard_of, heard_after, heard_along, HasHeader, IsHeaded, HasThreeHeaders, IsFlagged, IsAnnounced, FrameRuns, Runs}
-use Rattle.plan_runs.specs.Headline.{SwapsAreAnnounced, HeardIsKnown}
+use Rattle.std.proofs.Common.{◌≡◌, ℕ, zero, suc, ◌+◌, ◌-◌, ◌*◌, ◌%◌, ◌<◌, ◌≤◌, Bool, true, false, cond, ltb, List, []}
+use Rattle.std.proofs.Common.{◌∷◌, ◌++◌, Option, Some, None, refl, sym, ap, subst, append_assoc, ◌∙◌, arith}
+use Rattle.plan_runs.proofs.Names.{Contains, slice_get, ◌==◌, ltb-true, lt-ltb, Contains-append_right, layout_mode}
+use Rattle.plan_runs.proofs.Names.{Configuration, IsConfiguration, EnsembleInformation, Marked, facts_of, change_of}
+use Rattle.plan_runs.proofs.Names.{bits_of, Mode, I, count_step, IsHeardInRow, IsEnsembleHeardInRow, page_set}
+use Rattle.plan_runs.proofs.Names.{page_after, page_entries, Plan, with_contact, Program, State, Known, Event, Contact}
+use Rattle.plan_runs.proofs.Names.{Frame, is_due, is_noticed, shown_bytes, low_of_swap, ensemble_of, ensemble_sent}
+use Rattle.plan_runs.proofs.Names.{sent_entries, after_frame, happens, run, IsHeardWhole, heard_left, heard_of}
+use Rattle.plan_runs.proofs.Names.{heard_after, heard_along, HasHeader, IsHeaded, HasThreeHeaders, IsFlagged}
+use Rattle.plan_runs.proofs.Names.{IsAnnounced, FrameRuns, Runs, SwapsAreAnnounced, HeardIsKnown}
 use Rattle.plan_runs.proofs.Knowledge.{IsOnAir, IsCommitted, CommittedBy}
 use Rattle.plan_runs.proofs.Passing.{due_is}
 use Rattle.plan_runs.proofs.Tracked.{Airs, SwapsOn, page_of, page_of_first, page_of_next, noticed, some_rounds}
 use Rattle.plan_runs.proofs.Between.{frame_goes}
 use Rattle.plan_runs.proofs.Facts.{Holds, IsCode, frame_holds, happens_holds, code_of, played_holds}
-use Rattle.plan_runs.proofs.Right.{PageLaws, pageable}
-use Rattle.plan_runs.proofs.Notice.{frames_from, frames_cut, frames_get, frames_contain, contains_frame, noticed_state, both_rounds, notice_at, notice_at_is, base_of, heard_is, heard_frame}
+use Rattle.plan_runs.proofs.Right.{PageLaws, pageable, is_sent}
+use Rattle.plan_runs.proofs.Notice.{frames_from, frames_cut, frames_get, frames_contain, contains_frame, noticed_state}
+use Rattle.plan_runs.proofs.Notice.{both_rounds, notice_at, notice_at_is, base_of, heard_is, heard_frame}
 
 -- ---- the cycle of pages
 
@@ -40,19 +26,21 @@ page_up pages (suc k) below =
     let before = page_up pages k (omega (arith, below)) in
     let test : k + 1 < pages = omega (arith, below) in
     let one : k + 1 ≡ suc k = omega arith in
-    page_of_next pages k ∙ ap (page_after pages) before ∙ ap (λ (b : Bool). cond b (k + 1) 0) (lt-ltb (k + 1) pages test) ∙ one
+    page_of_next pages k ∙ ap (page_after pages) before
+    ∙ ap (λ (b : Bool). cond b (k + 1) 0) (lt-ltb (k + 1) pages test) ∙ one
 
 wraps_by : (pages k : ℕ) → k + 1 ≡ pages → (b : Bool) → ltb (k + 1) pages ≡ b → cond b (k + 1) 0 ≡ 0
 wraps_by pages k last true e = let below = ltb-true (k + 1) pages e in absurd (omega (arith, below, last))
 wraps_by pages k last false e = refl
 
-page_wraps : (pages k : ℕ) → k + 1 ≡ pages → page_after pages k ≡ 0
+pub page_wraps : (pages k : ℕ) → k + 1 ≡ pages → page_after pages k ≡ 0
 page_wraps pages k last = wraps_by pages k last (ltb (k + 1) pages) refl
 
 -- after as many frames as there are pages, page 0 is in turn again
 page_whole : (pages : ℕ) → 1 ≤ pages → page_of pages pages ≡ 0
 page_whole zero some = absurd (omega (arith, some))
-page_whole (suc k) some = page_of_next (suc k) k ∙ ap (page_after (suc k)) (page_up (suc k) k (omega arith)) ∙ page_wraps (suc k) k (omega arith)
+page_whole (suc k) some = page_of_next (suc k) k ∙ ap (page_after (suc k)) (page_up (suc k) k (omega arith))
+    ∙ page_wraps (suc k) k (omega arith)
 
 page_round : (pages k : ℕ) → 1 ≤ pages → page_of pages (pages + k) ≡ page_of pages k
 page_round pages zero some =
@@ -60,7 +48,8 @@ page_round pages zero some =
     ap (page_of pages) same ∙ page_whole pages some ∙ sym (page_of_first pages)
 page_round pages (suc k) some =
     let up : pages + suc k ≡ suc (pages + k) = omega arith in
-    ap (page_of pages) up ∙ page_of_next pages (pages + k) ∙ ap (page_after pages) (page_round pages k some) ∙ sym (page_of_next pages k)
+    ap (page_of pages) up ∙ page_of_next pages (pages + k) ∙ ap (page_after pages) (page_round pages k some)
+    ∙ sym (page_of_next pages k)
 
 -- ---- one frame of a notice
 
@@ -79,14 +68,13 @@ pub record IsDue (plan : Plan) (c n : Configuration) (eid count : ℕ) : Type 0 
 swap_base : (m : Mode) (notice count i : ℕ) → i < notice → notice ≤ 248 → count < 5000 → count % count_step m ≡ 0
     → (((count + 0 + 5000 - notice) % 5000 + i) % 5000 + (notice - i)) % count_step m ≡ 0
 swap_base I notice count i below short low whole = omega (arith, below, short, low, whole)
-swap_base II notice count i below short low whole = omega (arith, below, short, low, whole)
-swap_base III notice count i below short low whole = omega (arith, below, short, low, whole)
-swap_base IV notice count i below short low whole = omega (arith, below, short, low, whole)
+swap_base _ notice count i below short low whole = omega (arith, below, short, low, whole)
 
 frame_count : (x : ℕ) → x % 5000 < 5000
 frame_count x = omega arith
 
-pub notice_airs : (plan : Plan) (c n : Configuration) (eid count i : ℕ) → IsDue plan c n eid count → i < plan.notice → Airs plan (noticed_state plan c n eid (base_of plan count 0) i)
+pub notice_airs : (plan : Plan) (c n : Configuration) (eid count i : ℕ) → IsDue plan c n eid count → i < plan.notice
+    → Airs plan (noticed_state plan c n eid (base_of plan count 0) i)
 notice_airs plan c n eid count i d below =
     let ahead : 1 ≤ plan.notice - i = omega (arith, below) in
     let back : plan.notice - (plan.notice - i) ≡ i = omega (arith, below) in
@@ -105,85 +93,100 @@ notice_airs plan c n eid count i d below =
       };
     }
 
-notice_entries : (plan : Plan) (c n : Configuration) (eid base i : ℕ) → i < plan.notice → sent_entries plan (noticed_state plan c n eid base i) ≡ page_set c (Some n)
+notice_entries : (plan : Plan) (c n : Configuration) (eid base i : ℕ) → i < plan.notice
+    → sent_entries plan (noticed_state plan c n eid base i) ≡ page_set c (Some n)
 notice_entries plan c n eid base i below =
     let yes = noticed plan.notice (plan.notice - i) (omega (arith, below)) (omega arith) in
     ap (λ (b : Bool). page_set c (cond b (Some n) None)) yes
 
 -- an entry of the page in turn is heard
-notice_hears : PageLaws → (plan : Plan) (c n : Configuration) (eid count i : ℕ) → IsDue plan c n eid count → i < plan.notice → (m : Marked)
-    → Contains (page_entries plan.layout (page_of (both_rounds plan c n) i) (page_set c (Some n))) m → IsHeardInRow (notice_at plan c n eid (base_of plan count 0) i) m
+notice_hears : PageLaws → (plan : Plan) (c n : Configuration) (eid count i : ℕ) → IsDue plan c n eid count
+    → i < plan.notice → (m : Marked)
+    → Contains (page_entries plan.layout (page_of (both_rounds plan c n) i) (page_set c (Some n))) m
+    → IsHeardInRow (notice_at plan c n eid (base_of plan count 0) i) m
 notice_hears laws plan c n eid count i d below m inside =
     let base : ℕ = base_of plan count 0 in
     let st : State = noticed_state plan c n eid base i in
     let a = notice_airs plan c n eid count i d below in
     let there : Contains (page_entries plan.layout st.page_index (sent_entries plan st)) m =
-    subst (λ (es : List Marked). Contains (page_entries plan.layout (page_of (both_rounds plan c n) i) es) m) (sym (notice_entries plan c n eid base i below)) inside in
-    let heard : IsHeardInRow (shown_bytes plan st) m = (laws.heard plan.layout (ensemble_sent plan st) st.page_index (sent_entries plan st) (pageable laws plan st a) m).1 there in
+    subst (λ (es : List Marked). Contains (page_entries plan.layout (page_of (both_rounds plan c n) i) es) m)
+    (sym (notice_entries plan c n eid base i below)) inside in
+    let heard : IsHeardInRow (shown_bytes plan st) m =
+    (laws.heard plan.layout (ensemble_sent plan st) st.page_index (sent_entries plan st) (pageable laws plan st a)
+    m).1 there in
     subst (λ (b : List ℕ). IsHeardInRow b m) (sym (notice_at_is plan c n eid base i)) heard
 
 -- ---- three parts
 
 -- a part of the notice that starts when page 0 is in turn, and has all pages
-part_whole : PageLaws → (plan : Plan) (c n : Configuration) (eid count a k : ℕ) → IsDue plan c n eid count → ((j : ℕ) → page_of (both_rounds plan c n) (a + j) ≡ page_of (both_rounds plan c n) j)
-    → both_rounds plan c n ≤ k → a + k ≤ plan.notice → IsHeardWhole n true (frames_from (notice_at plan c n eid (base_of plan count 0)) a k)
+part_whole : PageLaws → (plan : Plan) (c n : Configuration) (eid count a k : ℕ) → IsDue plan c n eid count
+    → ((j : ℕ) → page_of (both_rounds plan c n) (a + j) ≡ page_of (both_rounds plan c n) j)
+    → both_rounds plan c n ≤ k → a + k ≤ plan.notice → IsHeardWhole n true
+    (frames_from (notice_at plan c n eid (base_of plan count 0)) a k)
 part_whole laws plan c n eid count a k d again long within m inside =
     let f : ℕ → List ℕ = notice_at plan c n eid (base_of plan count 0) in
     let pages : ℕ = both_rounds plan c n in
-    let there = laws.each plan.layout (page_set c (Some n)) m (Contains-append_right (facts_of c false) (facts_of n true) m inside) in
+    let there = laws.each plan.layout (page_set c (Some n)) m
+    (Contains-append_right (facts_of c false) (facts_of n true) m inside) in
     let j : ℕ = there.0 in
     let page_index : page_of pages (a + j) ≡ j = again j ∙ page_up pages j there.1 in
     let here : Contains (page_entries plan.layout (page_of pages (a + j)) (page_set c (Some n))) m =
     subst (λ (x : ℕ). Contains (page_entries plan.layout x (page_set c (Some n))) m) (sym page_index) there.2 in
-    let below : a + j < plan.notice = omega (arith, there.1, long, within) in
-    (f (a + j), contains_frame f a k (a + j) (omega arith) (omega (arith, there.1, long)), notice_hears laws plan c n eid count (a + j) d below m here)
+    let below : a + j < plan.notice = omega (arith, there.1, long, within) in (
+      f (a + j),
+      contains_frame f a k (a + j) (omega arith) (omega (arith, there.1, long)),
+      notice_hears laws plan c n eid count (a + j) d below m here,
+    )
 
 -- ---- FIG 0/0 of the notice
 
 -- a frame in which FIG 0/0 is sent: there are three of them before the swap
-header_count : (m : Mode) (notice count j : ℕ) → 1 ≤ j → j ≤ 3 → 12 ≤ notice → notice ≤ 248 → count < 5000 → count % count_step m ≡ 0
+header_count : (m : Mode) (notice count j : ℕ) → 1 ≤ j → j ≤ 3 → 12 ≤ notice → notice ≤ 248 → count < 5000
+    → count % count_step m ≡ 0
     → ((count + 0 + 5000 - notice) % 5000 + (notice - j * count_step m)) % 5000 % count_step m ≡ 0
 header_count I notice count j some three long short low whole = omega (arith, some, three, long, short, low, whole)
-header_count II notice count j some three long short low whole = omega (arith, some, three, long, short, low, whole)
-header_count III notice count j some three long short low whole = omega (arith, some, three, long, short, low, whole)
-header_count IV notice count j some three long short low whole = omega (arith, some, three, long, short, low, whole)
+header_count _ notice count j some three long short low whole = omega (arith, some, three, long, short, low, whole)
 
-sent_here : (plan : Plan) (s : State) → s.count % count_step (layout_mode plan.layout) ≡ 0 → ensemble_sent plan s ≡ Some (ensemble_of plan s)
-sent_here plan s e = ap (λ (b : Bool). cond b (Some (ensemble_of plan s)) None) (eq-eqb (s.count % count_step (layout_mode plan.layout)) 0 e)
-
-header_at : PageLaws → (plan : Plan) (c n : Configuration) (eid count i : ℕ) → IsDue plan c n eid count → i < plan.notice → (base_of plan count 0 + i) % 5000 % count_step (layout_mode plan.layout) ≡ 0
+header_at : PageLaws → (plan : Plan) (c n : Configuration) (eid count i : ℕ) → IsDue plan c n eid count
+    → i < plan.notice → (base_of plan count 0 + i) % 5000 % count_step (layout_mode plan.layout) ≡ 0
     → HasHeader (notice_at plan c n eid (base_of plan count 0) i)
 header_at laws plan c n eid count i d below whole =
     let base : ℕ = base_of plan count 0 in
     let st : State = noticed_state plan c n eid base i in
     let a = notice_airs plan c n eid count i d below in
     let heard : IsEnsembleHeardInRow (shown_bytes plan st) false (ensemble_of plan st) =
-    (laws.ensemble plan.layout (ensemble_sent plan st) st.page_index (sent_entries plan st) (pageable laws plan st a) false (ensemble_of plan st)).1 (refl, sent_here plan st whole) in
-    (false, ensemble_of plan st, subst (λ (b : List ℕ). IsEnsembleHeardInRow b false (ensemble_of plan st)) (sym (notice_at_is plan c n eid base i)) heard)
+    (laws.ensemble plan.layout (ensemble_sent plan st) st.page_index (sent_entries plan st) (pageable laws plan st a)
+    false (ensemble_of plan st)).1 (refl, is_sent plan st whole) in (
+      false,
+      ensemble_of plan st,
+      subst (λ (b : List ℕ). IsEnsembleHeardInRow b false (ensemble_of plan st))
+          (sym (notice_at_is plan c n eid base i)) heard,
+    )
 
 header_below : (m : Mode) (notice j : ℕ) → 1 ≤ j → 12 ≤ notice → notice - j * count_step m < notice
 header_below I notice j some long = omega (arith, some, long)
-header_below II notice j some long = omega (arith, some, long)
-header_below III notice j some long = omega (arith, some, long)
-header_below IV notice j some long = omega (arith, some, long)
+header_below _ notice j some long = omega (arith, some, long)
 
 headed_at : PageLaws → (plan : Plan) (c n : Configuration) (eid count j : ℕ) → IsDue plan c n eid count → 1 ≤ j → j ≤ 3
-    → IsHeaded (frames_from (notice_at plan c n eid (base_of plan count 0)) 0 plan.notice) (plan.notice - j * count_step (layout_mode plan.layout))
+    → IsHeaded (frames_from (notice_at plan c n eid (base_of plan count 0)) 0 plan.notice)
+    (plan.notice - j * count_step (layout_mode plan.layout))
 headed_at laws plan c n eid count j d some three =
     let f : ℕ → List ℕ = notice_at plan c n eid (base_of plan count 0) in
     let i : ℕ = plan.notice - j * count_step (layout_mode plan.layout) in
     let below : i < plan.notice = header_below (layout_mode plan.layout) plan.notice j some d.notice_from in
-    let whole = header_count (layout_mode plan.layout) plan.notice count j some three d.notice_from d.notice_to d.count_low d.on_step in
-    let at : slice_get (frames_from f 0 plan.notice) i ≡ Some (f i) = frames_get f 0 plan.notice i below ∙ ap (λ (x : ℕ). Some (f x)) (omega arith) in
+    let whole = header_count (layout_mode plan.layout) plan.notice count j some three d.notice_from d.notice_to
+    d.count_low d.on_step in
+    let at : slice_get (frames_from f 0 plan.notice) i ≡ Some (f i) =
+    frames_get f 0 plan.notice i below ∙ ap (λ (x : ℕ). Some (f x)) (omega arith) in
     (f i, at, header_at laws plan c n eid count i d below whole)
 
-headers_rise : (m : Mode) (notice : ℕ) → 12 ≤ notice → (notice - 3 * count_step m < notice - 2 * count_step m) × (notice - 2 * count_step m < notice - 1 * count_step m)
+headers_rise : (m : Mode) (notice : ℕ) → 12 ≤ notice → (notice - 3 * count_step m < notice - 2 * count_step m)
+    × (notice - 2 * count_step m < notice - 1 * count_step m)
 headers_rise I notice long = (omega (arith, long), omega (arith, long))
-headers_rise II notice long = (omega (arith, long), omega (arith, long))
-headers_rise III notice long = (omega (arith, long), omega (arith, long))
-headers_rise IV notice long = (omega (arith, long), omega (arith, long))
+headers_rise _ notice long = (omega (arith, long), omega (arith, long))
 
-three_headers : PageLaws → (plan : Plan) (c n : Configuration) (eid count : ℕ) → IsDue plan c n eid count → HasThreeHeaders (frames_from (notice_at plan c n eid (base_of plan count 0)) 0 plan.notice)
+three_headers : PageLaws → (plan : Plan) (c n : Configuration) (eid count : ℕ) → IsDue plan c n eid count
+    → HasThreeHeaders (frames_from (notice_at plan c n eid (base_of plan count 0)) 0 plan.notice)
 three_headers laws plan c n eid count d =
     let rise = headers_rise (layout_mode plan.layout) plan.notice d.notice_from in
     record {
@@ -199,15 +202,18 @@ three_headers laws plan c n eid count d =
 
 -- ---- each FIG 0/0 is flagged
 
-swap_low : (notice count i : ℕ) → i < notice → notice ≤ 248 → count < 5000 → (((count + 0 + 5000 - notice) % 5000 + i) % 5000 + (notice - i)) % 5000 % 250 ≡ count % 250
+swap_low : (notice count i : ℕ) → i < notice → notice ≤ 248 → count < 5000
+    → (((count + 0 + 5000 - notice) % 5000 + i) % 5000 + (notice - i)) % 5000 % 250 ≡ count % 250
 swap_low notice count i below short low = omega (arith, below, short, low)
 
 -- the ensemble information that is sent is that of the state
-sent_by : (plan : Plan) (s : State) (e : EnsembleInformation) (b : Bool) → cond b (Some (ensemble_of plan s)) None ≡ Some e → ensemble_of plan s ≡ e
+sent_by : (plan : Plan) (s : State) (e : EnsembleInformation) (b : Bool)
+    → cond b (Some (ensemble_of plan s)) None ≡ Some e → ensemble_of plan s ≡ e
 sent_by plan s e true h = cc h
 sent_by plan s e false h = absurd cc
 
-pub sent_is : (plan : Plan) (s : State) (e : EnsembleInformation) → ensemble_sent plan s ≡ Some e → ensemble_of plan s ≡ e
+pub sent_is : (plan : Plan) (s : State) (e : EnsembleInformation) → ensemble_sent plan s ≡ Some e
+    → ensemble_of plan s ≡ e
 sent_is plan s e h = sent_by plan s e (s.count % count_step (layout_mode plan.layout) == 0) h
 
 -- in a notice it has the change flags and the occurrence
@@ -217,31 +223,44 @@ pub record IsNoticeInformation (s : State) (e : EnsembleInformation) : Type 0 wh
 
 noticed_by : (s : State) (b : Bool) → b ≡ true
     → IsNoticeInformation s
-    (cond b (let r : EnsembleInformation = record { eid = s.eid; change = bits_of (change_of s.current s.next); al = false; count = s.count; occurrence = Some (low_of_swap s.count s.left) } in r)
+    (cond b (let r : EnsembleInformation = record {
+      eid = s.eid;
+      change = bits_of (change_of s.current s.next);
+      al = false;
+      count = s.count;
+      occurrence = Some (low_of_swap s.count s.left);
+    } in r)
     (record { eid = s.eid; change = 0; al = false; count = s.count; occurrence = None }))
 noticed_by s true e = record { change = refl; occurrence = refl }
 noticed_by s false e = absurd cc
 
-pub noticed_information : (plan : Plan) (s : State) → is_noticed plan.notice s.left ≡ true → IsNoticeInformation s (ensemble_of plan s)
+pub noticed_information : (plan : Plan) (s : State) → is_noticed plan.notice s.left ≡ true
+    → IsNoticeInformation s (ensemble_of plan s)
 noticed_information plan s e = noticed_by s (is_noticed plan.notice s.left) e
 
-flagged_at : PageLaws → (plan : Plan) (c n : Configuration) (eid count i : ℕ) → IsDue plan c n eid count → i < plan.notice → (marked : Bool) (e : EnsembleInformation)
+flagged_at : PageLaws → (plan : Plan) (c n : Configuration) (eid count i : ℕ) → IsDue plan c n eid count
+    → i < plan.notice → (marked : Bool) (e : EnsembleInformation)
     → IsEnsembleHeardInRow (notice_at plan c n eid (base_of plan count 0) i) marked e → IsFlagged c n count e
 flagged_at laws plan c n eid count i d below marked e heard =
     let base : ℕ = base_of plan count 0 in
     let st : State = noticed_state plan c n eid base i in
     let a = notice_airs plan c n eid count i d below in
-    let there : IsEnsembleHeardInRow (shown_bytes plan st) marked e = subst (λ (b : List ℕ). IsEnsembleHeardInRow b marked e) (notice_at_is plan c n eid base i) heard in
-    let sent = (laws.ensemble plan.layout (ensemble_sent plan st) st.page_index (sent_entries plan st) (pageable laws plan st a) marked e).0 there in
+    let there : IsEnsembleHeardInRow (shown_bytes plan st) marked e =
+    subst (λ (b : List ℕ). IsEnsembleHeardInRow b marked e) (notice_at_is plan c n eid base i) heard in
+    let sent = (laws.ensemble plan.layout (ensemble_sent plan st) st.page_index (sent_entries plan st)
+    (pageable laws plan st a) marked e).0 there in
     let same = sent_is plan st e sent.1 in
-    let info = noticed_information plan st (noticed plan.notice (plan.notice - i) (omega (arith, below)) (omega arith)) in
+    let info = noticed_information plan st
+    (noticed plan.notice (plan.notice - i) (omega (arith, below)) (omega arith)) in
     let low = swap_low plan.notice count i below d.notice_to d.count_low in
-    let flags : IsFlagged c n count (ensemble_of plan st) = (info.change, info.occurrence ∙ ap (λ (x : ℕ). Some x) low) in
+    let flags : IsFlagged c n count (ensemble_of plan st) =
+    (info.change, info.occurrence ∙ ap (λ (x : ℕ). Some x) low) in
     subst (λ (x : EnsembleInformation). IsFlagged c n count x) same flags
 
 -- ---- the notice
 
-pub notice_announces : PageLaws → (plan : Plan) (c n : Configuration) (eid count : ℕ) → IsDue plan c n eid count → IsAnnounced c n count (frames_from (notice_at plan c n eid (base_of plan count 0)) 0 plan.notice)
+pub notice_announces : PageLaws → (plan : Plan) (c n : Configuration) (eid count : ℕ) → IsDue plan c n eid count
+    → IsAnnounced c n count (frames_from (notice_at plan c n eid (base_of plan count 0)) 0 plan.notice)
 notice_announces laws plan c n eid count d =
     let f : ℕ → List ℕ = notice_at plan c n eid (base_of plan count 0) in
     let pages : ℕ = both_rounds plan c n in
@@ -249,13 +268,19 @@ notice_announces laws plan c n eid count d =
     let room : 3 * pages ≤ plan.notice = d.committed.three_times in
     let rest : ℕ = plan.notice - (pages + pages) in
     let all : plan.notice ≡ pages + (pages + rest) = omega (arith, room) in
-    let cut : frames_from f 0 plan.notice ≡ frames_from f 0 pages ++ frames_from f (0 + pages) pages ++ frames_from f (0 + pages + pages) rest =
-    ap (frames_from f 0) all ∙ frames_cut f 0 pages (pages + rest) ∙ ap (λ xs. frames_from f 0 pages ++ xs) (frames_cut f (0 + pages) pages rest)
-    ∙ sym (append_assoc (frames_from f 0 pages) (frames_from f (0 + pages) pages) (frames_from f (0 + pages + pages) rest)) in
-    let none : (j : ℕ) → page_of pages (0 + j) ≡ page_of pages j = λ j. let same : 0 + j ≡ j = omega arith in ap (page_of pages) same in
-    let once : (j : ℕ) → page_of pages (0 + pages + j) ≡ page_of pages j = λ j. let same : 0 + pages + j ≡ pages + j = omega arith in ap (page_of pages) same ∙ page_round pages j some in
+    let cut : frames_from f 0 plan.notice ≡ frames_from f 0 pages ++ frames_from f (0 + pages) pages
+    ++ frames_from f (0 + pages + pages) rest =
+    ap (frames_from f 0) all ∙ frames_cut f 0 pages (pages + rest)
+    ∙ ap (λ xs. frames_from f 0 pages ++ xs) (frames_cut f (0 + pages) pages rest)
+    ∙ sym (append_assoc (frames_from f 0 pages) (frames_from f (0 + pages) pages)
+    (frames_from f (0 + pages + pages) rest)) in
+    let none : (j : ℕ) → page_of pages (0 + j) ≡ page_of pages j = λ j. let same : 0 + j ≡ j = omega arith in
+    ap (page_of pages) same in
+    let once : (j : ℕ) → page_of pages (0 + pages + j) ≡ page_of pages j = λ j. let same : 0 + pages + j ≡ pages + j =
+    omega arith in ap (page_of pages) same ∙ page_round pages j some in
     let twice : (j : ℕ) → page_of pages (0 + pages + pages + j) ≡ page_of pages j =
-    λ j. let same : 0 + pages + pages + j ≡ pages + (pages + j) = omega arith in ap (page_of pages) same ∙ page_round pages (pages + j) some ∙ page_round pages j some in
+    λ j. let same : 0 + pages + pages + j ≡ pages + (pages + j) = omega arith in
+    ap (page_of pages) same ∙ page_round pages (pages + j) some ∙ page_round pages j some in
     record {
       first = frames_from f 0 pages;
       second = frames_from f (0 + pages) pages;
@@ -263,23 +288,27 @@ notice_announces laws plan c n eid count d =
       cut = cut;
       whole_in_first = part_whole laws plan c n eid count 0 pages d none (omega arith) (omega (arith, room));
       whole_in_second = part_whole laws plan c n eid count (0 + pages) pages d once (omega arith) (omega (arith, room));
-      whole_in_third = part_whole laws plan c n eid count (0 + pages + pages) rest d twice (omega (arith, room)) (omega (arith, room));
+      whole_in_third = part_whole laws plan c n eid count (0 + pages + pages) rest d twice (omega (arith, room))
+          (omega (arith, room));
       headers = three_headers laws plan c n eid count d;
       flagged = λ frame marked e inside heard.
           let at = frames_contain f 0 plan.notice frame inside in
-          flagged_at laws plan c n eid count at.number d (omega (arith, at.below)) marked e (subst (λ (b : List ℕ). IsEnsembleHeardInRow b marked e) (sym at.is) heard);
+          flagged_at laws plan c n eid count at.number d (omega (arith, at.below)) marked e
+          (subst (λ (b : List ℕ). IsEnsembleHeardInRow b marked e) (sym at.is) heard);
     }
 
 -- ---- runs
 
-due_left : (left : Option ℕ) → is_due left ≡ true → left ≡ Some 0
+pub due_left : (left : Option ℕ) → is_due left ≡ true → left ≡ Some 0
 due_left None e = absurd cc
 due_left (Some l) e = ap (λ (x : ℕ). Some x) (due_is l e)
 
-swap_announced : PageLaws → (p : Program) (ts : List Known) → IsCode p ts → (s : State) → Holds p ts s → is_due s.left ≡ true → IsAnnounced s.current s.next s.count (heard_of p.plan s)
+swap_announced : PageLaws → (p : Program) (ts : List Known) → IsCode p ts → (s : State) → Holds p ts s
+    → is_due s.left ≡ true → IsAnnounced s.current s.next s.count (heard_of p.plan s)
 swap_announced laws p ts c s h due =
     let is = due_left s.left due in
-    let whole : (s.count + 0) % count_step (layout_mode p.plan.layout) ≡ 0 = subst (λ (o : Option ℕ). SwapsOn p.plan s.count o) is h.tracked.swaps in
+    let whole : (s.count + 0) % count_step (layout_mode p.plan.layout) ≡ 0 =
+    subst (λ (o : Option ℕ). SwapsOn p.plan s.count o) is h.tracked.swaps in
     let none : s.count + 0 ≡ s.count = omega arith in
     let all : p.plan.notice - 0 ≡ p.plan.notice = omega arith in
     let d : IsDue p.plan s.current s.next s.eid s.count =
@@ -294,19 +323,27 @@ swap_announced laws p ts c s h due =
       committed = subst (λ (o : Option ℕ). CommittedBy p.plan o s.current s.next) is h.between.kept.committed;
       on_step = subst (λ (x : ℕ). x % count_step (layout_mode p.plan.layout) ≡ 0) none whole;
     } in
-    let heard : heard_of p.plan s ≡ frames_from (notice_at p.plan s.current s.next s.eid (base_of p.plan s.count 0)) 0 p.plan.notice =
-    heard_is p.plan s 0 is ∙ ap (frames_from (notice_at p.plan s.current s.next s.eid (base_of p.plan s.count 0)) 0) all in
-    subst (λ (xs : List (List ℕ)). IsAnnounced s.current s.next s.count xs) (sym heard) (notice_announces laws p.plan s.current s.next s.eid s.count d)
+    let heard : heard_of p.plan s ≡ frames_from (notice_at p.plan s.current s.next s.eid (base_of p.plan s.count 0)) 0
+    p.plan.notice =
+    heard_is p.plan s 0 is ∙ ap (frames_from (notice_at p.plan s.current s.next s.eid (base_of p.plan s.count 0)) 0)
+    all in
+    subst (λ (xs : List (List ℕ)). IsAnnounced s.current s.next s.count xs) (sym heard)
+    (notice_announces laws p.plan s.current s.next s.eid s.count d)
 
 -- contacts do not affect what was heard
-pub heard_contacts : (plan : Plan) (s : State) (d : ℕ) (closed : Bool) (left : Option ℕ) → s.left ≡ left → heard_of plan (let r : State = record s { contacts = with_contact d closed s.contacts } in r) ≡ heard_of plan s
-heard_contacts plan s d closed None e = ap (heard_left plan (record s { contacts = with_contact d closed s.contacts })) e ∙ sym (ap (heard_left plan s) e)
-heard_contacts plan s d closed (Some l) e = heard_is plan (record s { contacts = with_contact d closed s.contacts }) l e ∙ sym (heard_is plan s l e)
+pub heard_contacts : (plan : Plan) (s : State) (d : ℕ) (closed : Bool) (left : Option ℕ) → s.left ≡ left
+    → heard_of plan (let r : State = record s { contacts = with_contact d closed s.contacts } in r) ≡ heard_of plan s
+heard_contacts plan s d closed None e =
+    ap (heard_left plan (record s { contacts = with_contact d closed s.contacts })) e ∙ sym (ap (heard_left plan s) e)
+heard_contacts plan s d closed (Some l) e = heard_is plan (record s { contacts = with_contact d closed s.contacts }) l e
+    ∙ sym (heard_is plan s l e)
 
-runs_as : (p : Program) (s : State) (a b : List (List ℕ)) (events : List Event) → a ≡ b → Runs p s a events → Runs p s b events
+runs_as : (p : Program) (s : State) (a b : List (List ℕ)) (events : List Event) → a ≡ b → Runs p s a events
+    → Runs p s b events
 runs_as p s a b events e h = subst (λ (xs : List (List ℕ)). Runs p s xs events) e h
 
-pub swaps_run : PageLaws → (p : Program) (ts : List Known) → IsCode p ts → (s : State) (events : List Event) → Holds p ts s → Runs p s (heard_of p.plan s) events
+pub swaps_run : PageLaws → (p : Program) (ts : List Known) → IsCode p ts → (s : State) (events : List Event)
+    → Holds p ts s → Runs p s (heard_of p.plan s) events
 swaps_run laws p ts c s [] h = tt
 swaps_run laws p ts c s (Contact d closed ∷ es) h =
     let t : State = happens p s (Contact d closed) in
@@ -316,14 +353,19 @@ swaps_run laws p ts c s (Frame ∷ es) h =
     let t : State = after_frame p s in
     let rest = swaps_run laws p ts c t es (frame_holds p ts c s h) in
     let one : FrameRuns p s (heard_of p.plan s) =
-    record { allowed = (frame_goes p ts c.program c.typing s h.between).allowed; announced = swap_announced laws p ts c s h } in
+    record {
+      allowed = (frame_goes p ts c.program c.typing s h.between).allowed;
+      announced = swap_announced laws p ts c s h;
+    } in
     (one, runs_as p t (heard_of p.plan t) (heard_after p s (heard_of p.plan s)) es (sym (heard_frame p ts c s h)) rest)
 
-pub heard_run : (p : Program) (ts : List Known) → IsCode p ts → (s : State) (events : List Event) → Holds p ts s → heard_along p s (heard_of p.plan s) events ≡ heard_of p.plan (run p s events)
+pub heard_run : (p : Program) (ts : List Known) → IsCode p ts → (s : State) (events : List Event) → Holds p ts s
+    → heard_along p s (heard_of p.plan s) events ≡ heard_of p.plan (run p s events)
 heard_run p ts c s [] h = refl
 heard_run p ts c s (Contact d closed ∷ es) h =
     let t : State = happens p s (Contact d closed) in
-    ap (λ xs. heard_along p t xs es) (sym (heard_contacts p.plan s d closed s.left refl)) ∙ heard_run p ts c t es (happens_holds p ts c s (Contact d closed) h)
+    ap (λ xs. heard_along p t xs es) (sym (heard_contacts p.plan s d closed s.left refl))
+    ∙ heard_run p ts c t es (happens_holds p ts c s (Contact d closed) h)
 heard_run p ts c s (Frame ∷ es) h =
     let t : State = after_frame p s in
     ap (λ xs. heard_along p t xs es) (heard_frame p ts c s h) ∙ heard_run p ts c t es (frame_holds p ts c s h)

@@ -1,10 +1,9 @@
 -- A frame's instructions determine one final state, and their number is the frame's step count.
 use Rattle.std.proofs.Common.{◌≡◌, ℕ, zero, suc, ◌+◌, ◌≤◌, cond, refl, sym, ap, ◌∙◌, arith}
-use Rattle.plan_code.specs.Program.{Program}
-use Rattle.plan_code.specs.Machine.{State, step}
-use Rattle.plan_runs.specs.Frames.{Executes, burst, burst_steps, BurstsAreOne}
+use Rattle.plan_runs.proofs.Names.{Program, State, step, Executes, burst, burst_steps, BurstsAreOne}
 
-only_one : (p : Program) (s : State) (n : ℕ) (t : State) → Executes p s n t → (m : ℕ) (u : State) → Executes p s m u → (m ≡ n) × (u ≡ t)
+only_one : (p : Program) (s : State) (n : ℕ) (t : State) → Executes p s n t → (m : ℕ) (u : State) → Executes p s m u
+    → (m ≡ n) × (u ≡ t)
 only_one p s zero t h zero u g = (refl, sym g.1 ∙ h.1)
 only_one p s zero t h (suc m) u g = let stops = h.0 in let runs = g.0 in absurd cc
 only_one p s (suc n) t h zero u g = let stops = g.0 in let runs = h.0 in absurd cc
@@ -12,7 +11,8 @@ only_one p s (suc n) t h (suc m) u g =
     let rest = only_one p (step p s) n t h.2 m u g.2 in
     (ap (λ k. suc k) rest.0, rest.1)
 
-computed : (p : Program) (s : State) (n : ℕ) (t : State) → Executes p s n t → (most : ℕ) → n ≤ most → (burst most p s ≡ t) × (burst_steps most p s ≡ n)
+computed : (p : Program) (s : State) (n : ℕ) (t : State) → Executes p s n t → (most : ℕ) → n ≤ most
+    → (burst most p s ≡ t) × (burst_steps most p s ≡ n)
 computed p s zero t h zero below = (h.1, refl)
 computed p s zero t h (suc most) below =
     (ap (λ b. cond b (burst most p (step p s)) s) h.0 ∙ h.1, ap (λ b. cond b (1 + burst_steps most p (step p s)) 0) h.0)

@@ -1,22 +1,13 @@
 -- What instructions leave unchanged in any code: the current configuration, the counts, and a pending swap.
-use Rattle.std.proofs.Common.{◌≡◌, ℕ, zero, suc, ◌+◌, ◌%◌, ◌<◌, ◌≤◌, Bool, true, false, cond, Option, Some, None, refl, sym, subst, ◌∙◌, arith}
-use Rattle.fib_codec.specs.Layouts.{layout_mode}
-use Rattle.mux_config.specs.Configuration.{Configuration, IsConfiguration}
-use Rattle.mux_config.specs.Edits.{changed, IsInRange}
-use Rattle.mux_config.specs.declared.edit.Edit.{Edit}
-use Rattle.mux_config.specs.declared.edit.Edit.TheVariants.{AddSub, DropSub, MoveSub, RateSub, AddService, DropService, AddComponent, DropComponent, AddPacket, DropPacket}
+use Rattle.std.proofs.Common.{◌≡◌, ℕ, zero, suc, ◌+◌, ◌%◌, ◌<◌, ◌≤◌, Bool, true, false, cond, List, Option, Some, None}
+use Rattle.std.proofs.Common.{refl, sym, subst, ◌∙◌, arith}
+use Rattle.plan_runs.proofs.Names.{layout_mode, Configuration, IsConfiguration, changed, Mode, I, count_step, Plan}
+use Rattle.plan_runs.proofs.Names.{Hold, Running, Instr, CommitIn, CommitAt, Settle, Edits, Program, IsProgram, IsInstr}
+use Rattle.plan_runs.proofs.Names.{State, step, commit, settle, effect, IsAllowed, left_in, left_at, with_due_swap}
+use Rattle.plan_runs.proofs.Names.{is_here, with_hold_ended, ready, Executes, after_burst}
 use Rattle.mux_config.proofs.Keeping.{edits_keep}
-use Rattle.fib_codec.specs.declared.modes.Mode.{Mode}
-use Rattle.fib_codec.specs.declared.modes.Mode.TheVariants.{I, II, III, IV}
-use Rattle.fib_codec.specs.Modes.{count_step}
-use Rattle.plan_code.specs.declared.plan.Plan.{Plan}
-use Rattle.plan_code.specs.declared.hold.Hold.TheVariants.{Running}
-use Rattle.plan_code.specs.declared.instr.Instr.{Instr}
-use Rattle.plan_code.specs.declared.instr.Instr.TheVariants.{Wait, Until, WaitContact, WaitAny, CommitIn, CommitAt, Join, Settle, End, Edit as Edits, Test, TestTime, Jump, Set, Loop}
-use Rattle.plan_code.specs.Program.{Program, IsProgram, IsInstr, IsEdit}
-use Rattle.plan_code.specs.Machine.{State, step, settle, effect, IsAllowed, left_in, left_at}
-use Rattle.plan_runs.specs.Frames.{with_due_swap, is_here, with_hold_ended, ready, Executes, after_burst}
 use Rattle.plan_runs.proofs.Between.{line_formed, step_is}
+use Rattle.plan_verifier.proofs.OneVerdict.{in_range}
 
 -- where no swap was pending there is none, or one was committed with the whole notice, to a count on the mode's step
 abbrev pub IsNewly : Plan → ℕ → Option ℕ → Type 0
@@ -39,15 +30,29 @@ left_same : (plan : Plan) (count : ℕ) (left : Option ℕ) (n : Configuration) 
 left_same plan count None n = tt
 left_same plan count (Some l) n = (refl, refl)
 
-left_joined : (plan : Plan) (count : ℕ) (a b c : Option ℕ) (x y z : Configuration) → LeftBy plan count a x b y → LeftBy plan count b y c z → LeftBy plan count a x c z
+left_joined : (plan : Plan) (count : ℕ) (a b c : Option ℕ) (x y z : Configuration) → LeftBy plan count a x b y
+    → LeftBy plan count b y c z → LeftBy plan count a x c z
 left_joined plan count None None c x y z h g = g
 left_joined plan count None (Some l) c x y z h g = subst (λ (o : Option ℕ). IsNewly plan count o) (sym g.0) h
 left_joined plan count (Some l) b c x y z h g =
     let again : LeftBy plan count (Some l) y c z = subst (λ (o : Option ℕ). LeftBy plan count o y c z) h.0 g in
     (again.0, again.1 ∙ h.1)
 
+-- a state that differs in its instruction, its wait and its counters alone
+unmoved : (plan : Plan) (s : State) (pc : ℕ) (hold : Hold) (counters : List ℕ)
+    → Carries plan s (let r : State = record s { pc = pc; hold = hold; counters = counters } in r)
+unmoved plan s pc hold counters =
+    record {
+      current = refl;
+      count = refl;
+      eid = refl;
+      page_index = refl;
+      left = left_same plan s.count s.left s.next;
+      next = λ c. c;
+    }
+
 pub carries_itself : (plan : Plan) (s : State) → Carries plan s s
-carries_itself plan s = record { current = refl; count = refl; eid = refl; page_index = refl; left = left_same plan s.count s.left s.next; next = λ c. c }
+carries_itself plan s = unmoved plan s s.pc s.hold s.counters
 
 pub carries_joined : (plan : Plan) (s t u : State) → Carries plan s t → Carries plan t u → Carries plan s u
 carries_joined plan s t u h g = record {
@@ -55,25 +60,15 @@ carries_joined plan s t u h g = record {
   count = g.count ∙ h.count;
   eid = g.eid ∙ h.eid;
   page_index = g.page_index ∙ h.page_index;
-  left = left_joined plan s.count s.left t.left u.left s.next t.next u.next h.left (subst (λ (k : ℕ). LeftBy plan k t.left t.next u.left u.next) h.count g.left);
+  left = left_joined plan s.count s.left t.left u.left s.next t.next u.next h.left
+      (subst (λ (k : ℕ). LeftBy plan k t.left t.next u.left u.next) h.count g.left);
   next = λ c. g.next (h.next c);
 }
 
 -- ---- each instruction
 
-edit_in_range : (e : Edit) → IsEdit e → IsInRange e
-edit_in_range (AddSub s) h = (h.named, h.from_one, h.to_four)
-edit_in_range (DropSub id) h = tt
-edit_in_range (MoveSub id start) h = tt
-edit_in_range (RateSub id kbits) h = tt
-edit_in_range (AddService sid) h = h
-edit_in_range (DropService sid) h = tt
-edit_in_range (AddComponent sid m) h = h.1
-edit_in_range (DropComponent sid carrier) h = tt
-edit_in_range (AddPacket p) h = (h.named, h.typed, h.carried)
-edit_in_range (DropPacket scid) h = tt
-
-left_new : (plan : Plan) (count : ℕ) (left after : Option ℕ) (n m : Configuration) → left ≡ None → IsNewly plan count after → LeftBy plan count left n after m
+left_new : (plan : Plan) (count : ℕ) (left after : Option ℕ) (n m : Configuration) → left ≡ None
+    → IsNewly plan count after → LeftBy plan count left n after m
 left_new plan count left after n m none new = subst (λ (o : Option ℕ). LeftBy plan count o n after m) (sym none) new
 
 still_none : (plan : Plan) (count : ℕ) (left : Option ℕ) → left ≡ None → IsNewly plan count left
@@ -81,40 +76,44 @@ still_none plan count left none = subst (λ (o : Option ℕ). IsNewly plan count
 
 in_step : (m : Mode) (count k : ℕ) → (count + left_in (count_step m) count k) % count_step m ≡ 0
 in_step I count k = omega arith
-in_step II count k = omega arith
-in_step III count k = omega arith
-in_step IV count k = omega arith
+in_step _ count k = omega arith
 
 in_notice : (m : Mode) (count k notice : ℕ) → notice ≤ k → notice ≤ left_in (count_step m) count k
 in_notice m count k notice below = omega (arith, below)
 
-at_step : (m : Mode) (count notice n : ℕ) → n < 5000 → n % count_step m ≡ 0 → (count + left_at count notice n) % count_step m ≡ 0
+at_step : (m : Mode) (count notice n : ℕ) → n < 5000 → n % count_step m ≡ 0
+    → (count + left_at count notice n) % count_step m ≡ 0
 at_step I count notice n below whole = omega (arith, below, whole)
-at_step II count notice n below whole = omega (arith, below, whole)
-at_step III count notice n below whole = omega (arith, below, whole)
-at_step IV count notice n below whole = omega (arith, below, whole)
+at_step _ count notice n below whole = omega (arith, below, whole)
 
 at_notice : (count notice n : ℕ) → notice ≤ left_at count notice n
 at_notice count notice n = omega arith
 
-settle_carries : (plan : Plan) (left : Option ℕ) (s : State) → Carries plan s (settle left s)
-settle_carries plan None s = record { current = refl; count = refl; eid = refl; page_index = refl; left = left_same plan s.count s.left s.next; next = λ c. c }
-settle_carries plan (Some l) s = record { current = refl; count = refl; eid = refl; page_index = refl; left = left_same plan s.count s.left s.next; next = λ c. c }
+committed : (plan : Plan) (s : State) (l : ℕ) → s.left ≡ None → IsNewly plan s.count (Some l)
+    → Carries plan s (commit l s)
+committed plan s l idle new =
+    record {
+      current = refl;
+      count = refl;
+      eid = refl;
+      page_index = refl;
+      left = left_new plan s.count s.left (Some l) s.next s.next idle new;
+      next = λ c. c;
+    }
 
-effect_carries : (plan : Plan) (i : Instr) (s : State) → IsInstr i → IsAllowed plan i s → Carries plan s (effect plan i s)
-effect_carries plan (Wait n) s f a = record { current = refl; count = refl; eid = refl; page_index = refl; left = left_same plan s.count s.left s.next; next = λ c. c }
-effect_carries plan (Until d) s f a = record { current = refl; count = refl; eid = refl; page_index = refl; left = left_same plan s.count s.left s.next; next = λ c. c }
-effect_carries plan (WaitContact d closed) s f a = record { current = refl; count = refl; eid = refl; page_index = refl; left = left_same plan s.count s.left s.next; next = λ c. c }
-effect_carries plan (WaitAny closed opened until frames) s f a = record { current = refl; count = refl; eid = refl; page_index = refl; left = left_same plan s.count s.left s.next; next = λ c. c }
+settle_carries : (plan : Plan) (left : Option ℕ) (s : State) → Carries plan s (settle left s)
+settle_carries plan None s = unmoved plan s _ _ _
+settle_carries plan (Some l) s = unmoved plan s _ _ _
+
+effect_carries : (plan : Plan) (i : Instr) (s : State) → IsInstr i → IsAllowed plan i s
+    → Carries plan s (effect plan i s)
 effect_carries plan (CommitIn k) s f a =
-    let new : IsNewly plan s.count (Some (left_in (count_step (layout_mode plan.layout)) s.count k)) = (in_notice (layout_mode plan.layout) s.count k plan.notice a.1, in_step (layout_mode plan.layout) s.count k) in
-    record { current = refl; count = refl; eid = refl; page_index = refl; left = left_new plan s.count s.left (Some (left_in (count_step (layout_mode plan.layout)) s.count k)) s.next s.next a.0.idle new; next = λ c. c }
+    committed plan s (left_in (count_step (layout_mode plan.layout)) s.count k) a.0.idle
+    (in_notice (layout_mode plan.layout) s.count k plan.notice a.1, in_step (layout_mode plan.layout) s.count k)
 effect_carries plan (CommitAt n) s f a =
-    let new : IsNewly plan s.count (Some (left_at s.count plan.notice n)) = (at_notice s.count plan.notice n, at_step (layout_mode plan.layout) s.count plan.notice n a.1.1 a.1.0) in
-    record { current = refl; count = refl; eid = refl; page_index = refl; left = left_new plan s.count s.left (Some (left_at s.count plan.notice n)) s.next s.next a.0.idle new; next = λ c. c }
-effect_carries plan Join s f a = record { current = refl; count = refl; eid = refl; page_index = refl; left = left_same plan s.count s.left s.next; next = λ c. c }
+    committed plan s (left_at s.count plan.notice n) a.0.idle
+    (at_notice s.count plan.notice n, at_step (layout_mode plan.layout) s.count plan.notice n a.1.1 a.1.0)
 effect_carries plan Settle s f a = settle_carries plan s.left s
-effect_carries plan End s f a = record { current = refl; count = refl; eid = refl; page_index = refl; left = left_same plan s.count s.left s.next; next = λ c. c }
 effect_carries plan (Edits e) s f a =
     record {
       current = refl;
@@ -122,30 +121,31 @@ effect_carries plan (Edits e) s f a =
       eid = refl;
       page_index = refl;
       left = left_new plan s.count s.left s.left s.next (changed e s.next) a.0 (still_none plan s.count s.left a.0);
-      next = λ c. edits_keep e s.next (edit_in_range e f) c a.1;
+      next = λ c. edits_keep e s.next (in_range e f) c a.1;
     }
-effect_carries plan (Test d target) s f a = record { current = refl; count = refl; eid = refl; page_index = refl; left = left_same plan s.count s.left s.next; next = λ c. c }
-effect_carries plan (TestTime from to target) s f a = record { current = refl; count = refl; eid = refl; page_index = refl; left = left_same plan s.count s.left s.next; next = λ c. c }
-effect_carries plan (Jump target) s f a = record { current = refl; count = refl; eid = refl; page_index = refl; left = left_same plan s.count s.left s.next; next = λ c. c }
-effect_carries plan (Set r n) s f a = record { current = refl; count = refl; eid = refl; page_index = refl; left = left_same plan s.count s.left s.next; next = λ c. c }
-effect_carries plan (Loop r target) s f a = record { current = refl; count = refl; eid = refl; page_index = refl; left = left_same plan s.count s.left s.next; next = λ c. c }
+effect_carries plan _ s f a = unmoved plan s _ _ _
 
 -- ---- a burst
 
-pub burst_carries : (p : Program) → IsProgram p → (s : State) (n : ℕ) (t : State) → Executes p s n t → Carries p.plan s t
+pub burst_carries : (p : Program) → IsProgram p → (s : State) (n : ℕ) (t : State) → Executes p s n t
+    → Carries p.plan s t
 burst_carries p pr s zero t h = subst (λ (u : State). Carries p.plan s u) h.1 (carries_itself p.plan s)
 burst_carries p pr s (suc n) t h =
     let i = h.1.instr in
     let one = effect_carries p.plan i s (line_formed p.lines s.pc i pr.lines_formed h.1.within) h.1.allowed in
-    let first : Carries p.plan s (step p s) = subst (λ (u : State). Carries p.plan s u) (sym (step_is p s i h.1.within)) one in
+    let first : Carries p.plan s (step p s) =
+    subst (λ (u : State). Carries p.plan s u) (sym (step_is p s i h.1.within)) one in
     carries_joined p.plan s (step p s) t first (burst_carries p pr (step p s) n t h.2)
 
-held_carries : (plan : Plan) (s : State) (b : Bool) → Carries plan s (cond b (let r : State = record s { hold = Running } in r) s)
-held_carries plan s true = record { current = refl; count = refl; eid = refl; page_index = refl; left = left_same plan s.count s.left s.next; next = λ c. c }
+held_carries : (plan : Plan) (s : State) (b : Bool) → Carries plan s
+    (cond b (let r : State = record s { hold = Running } in r) s)
+held_carries plan s true = unmoved plan s _ _ _
 held_carries plan s false = carries_itself plan s
 
 ended_carries : (plan : Plan) (s : State) → Carries plan s (with_hold_ended s)
 ended_carries plan s = held_carries plan s (is_here s s.hold)
 
-pub frame_carries : (p : Program) → IsProgram p → (s : State) (n : ℕ) → Executes p (ready s) n (after_burst p s) → Carries p.plan (with_due_swap s) (after_burst p s)
-frame_carries p pr s n h = carries_joined p.plan (with_due_swap s) (ready s) (after_burst p s) (ended_carries p.plan (with_due_swap s)) (burst_carries p pr (ready s) n (after_burst p s) h)
+pub frame_carries : (p : Program) → IsProgram p → (s : State) (n : ℕ) → Executes p (ready s) n (after_burst p s)
+    → Carries p.plan (with_due_swap s) (after_burst p s)
+frame_carries p pr s n h = carries_joined p.plan (with_due_swap s) (ready s) (after_burst p s)
+    (ended_carries p.plan (with_due_swap s)) (burst_carries p pr (ready s) n (after_burst p s) h)

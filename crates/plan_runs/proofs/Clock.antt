@@ -1,27 +1,21 @@
--- What no instruction changes in any code: the current configuration, the CIF count and the frame of the day; and the
--- counts and the contacts along a run.
-use Rattle.std.proofs.Common.{◌≡◌, ◌≢◌, ℕ, zero, suc, ◌+◌, ◌%◌, ◌<◌, Bool, true, false, cond, eqb, List, [], ◌∷◌, length, Option, Some, None, refl, sym, ap, subst, ◌∙◌, arith}
-use Rattle.std.proofs.lemmas.Bool.{eqb-true, eqb-false}
-use Rattle.mux_config.specs.Configuration.{Configuration}
-use Rattle.plan_code.specs.declared.plan.Plan.{Plan}
-use Rattle.plan_code.specs.declared.instr.Instr.{Instr}
-use Rattle.plan_code.specs.declared.instr.Instr.TheVariants.{Wait, Until, WaitContact, WaitAny, CommitIn, CommitAt, Join, Settle, End, Edit as Edits, Test, TestTime, Jump, Set, Loop}
-use Rattle.plan_code.specs.declared.flags.Contacts.{Contacts}
-use Rattle.plan_code.specs.Flags.{is_closed, with_contact}
+-- What no instruction changes in any code: the current configuration, the CIF count, the frame of the day and the
+-- contacts; and the counts and the contacts along a run.
+use Rattle.std.proofs.Common.{◌≡◌, ◌≢◌, ℕ, zero, suc, ◌+◌, ◌%◌, ◌<◌, Bool, true, false, cond, eqb, List, [], ◌∷◌}
+use Rattle.std.proofs.Common.{length, Option, Some, None, refl, sym, ap, subst, ◌∙◌, arith}
+use Rattle.plan_runs.proofs.Names.{eqb-true, eqb-false, Configuration, Plan, Instr, Settle, Contacts, is_closed}
+use Rattle.plan_runs.proofs.Names.{with_contact, Program, instr_at, State, step, settle, effect, effect_of, is_due}
+use Rattle.plan_runs.proofs.Names.{with_swap, with_due_swap, is_running, is_here, burst, ready, after_burst}
+use Rattle.plan_runs.proofs.Names.{is_first_noticed, shown, after_frame, Event, Contact, Frame, happens, run}
+use Rattle.plan_runs.proofs.Names.{run_frames, level_after, FramesAreCounted, ContactsAreAsSet}
 use Rattle.plan_code.proofs.Bits.{contacts_change_alone}
-use Rattle.plan_code.specs.Program.{Program, instr_at}
-use Rattle.plan_code.specs.Machine.{State, step, settle, effect, effect_of}
-use Rattle.plan_runs.specs.Frames.{is_due, with_swap, with_due_swap, is_running, is_here, burst, ready, after_burst, is_first_noticed, shown, after_frame}
-use Rattle.plan_runs.specs.declared.event.Event.{Event}
-use Rattle.plan_runs.specs.declared.event.Event.TheVariants.{Contact, Frame}
-use Rattle.plan_runs.specs.Runs.{happens, run, run_frames}
-use Rattle.plan_runs.specs.Clock.{level_after, FramesAreCounted, ContactsAreAsSet}
-use Rattle.plan_runs.proofs.Unmoved.{frame_contacts}
 
-abbrev pub clock : State → Configuration × ℕ × ℕ
-clock s = (s.current, s.count, s.day)
+abbrev Unchanged : Type 0
+Unchanged = Configuration × ℕ × ℕ × Contacts
 
-either_clock : (test : Bool) (s t : State) (x : Configuration × ℕ × ℕ) → clock s ≡ x → clock t ≡ x → clock (cond test s t) ≡ x
+abbrev clock : State → Unchanged
+clock s = (s.current, s.count, s.day, s.contacts)
+
+either_clock : (test : Bool) (s t : State) (x : Unchanged) → clock s ≡ x → clock t ≡ x → clock (cond test s t) ≡ x
 either_clock true s t x here there = here
 either_clock false s t x here there = there
 
@@ -30,21 +24,8 @@ settle_clock None s = refl
 settle_clock (Some left) s = refl
 
 effect_clock : (plan : Plan) (i : Instr) (s : State) → clock (effect plan i s) ≡ clock s
-effect_clock plan (Wait n) s = refl
-effect_clock plan (Until t) s = refl
-effect_clock plan (WaitContact c closed) s = refl
-effect_clock plan (WaitAny closed opened until frames) s = refl
-effect_clock plan (CommitIn k) s = refl
-effect_clock plan (CommitAt n) s = refl
-effect_clock plan Join s = refl
 effect_clock plan Settle s = settle_clock s.left s
-effect_clock plan End s = refl
-effect_clock plan (Edits e) s = refl
-effect_clock plan (Test c target) s = refl
-effect_clock plan (TestTime from to target) s = refl
-effect_clock plan (Jump target) s = refl
-effect_clock plan (Set r n) s = refl
-effect_clock plan (Loop r target) s = refl
+effect_clock plan _ s = refl
 
 step_clock : (plan : Plan) (i : Option Instr) (s : State) → clock (effect_of plan i s) ≡ clock s
 step_clock plan None s = refl
@@ -69,8 +50,10 @@ shown_clock p s =
     either_clock (is_first_noticed p.plan.notice t.left) _ t (clock (with_due_swap s)) same same
 
 -- the current configuration that the frame sends
-pub shown_current : (p : Program) (s : State) (due : Bool) → is_due s.left ≡ due → (shown p s).current ≡ (cond due (with_swap s) s).current
-shown_current p s due e = ap (λ (x : Configuration × ℕ × ℕ). x.0) (shown_clock p s) ∙ ap (λ (b : Bool). (cond b (with_swap s) s).current) e
+pub shown_current : (p : Program) (s : State) (due : Bool) → is_due s.left ≡ due
+    → (shown p s).current ≡ (cond due (with_swap s) s).current
+shown_current p s due e = ap (λ (x : Unchanged). x.0) (shown_clock p s)
+    ∙ ap (λ (b : Bool). (cond b (with_swap s) s).current) e
 
 due_count : (s : State) (due : Bool) → (cond due (with_swap s) s).count ≡ s.count
 due_count s true = refl
@@ -82,17 +65,25 @@ due_day s false = refl
 
 -- the counts that it sends
 pub shown_count : (p : Program) (s : State) → (shown p s).count ≡ s.count
-shown_count p s = ap (λ (x : Configuration × ℕ × ℕ). x.1) (shown_clock p s) ∙ due_count s (is_due s.left)
+shown_count p s = ap (λ (x : Unchanged). x.1) (shown_clock p s) ∙ due_count s (is_due s.left)
 
 pub shown_day : (p : Program) (s : State) → (shown p s).day ≡ s.day
-shown_day p s = ap (λ (x : Configuration × ℕ × ℕ). x.2) (shown_clock p s) ∙ due_day s (is_due s.left)
+shown_day p s = ap (λ (x : Unchanged). x.2) (shown_clock p s) ∙ due_day s (is_due s.left)
+
+due_contacts : (s : State) (due : Bool) → (cond due (with_swap s) s).contacts ≡ s.contacts
+due_contacts s true = refl
+due_contacts s false = refl
+
+pub frame_contacts : (p : Program) (s : State) → (after_frame p s).contacts ≡ s.contacts
+frame_contacts p s = ap (λ (x : Unchanged). x.3) (shown_clock p s) ∙ due_contacts s (is_due s.left)
 
 -- ---- the counts along a run
 
 abbrev IsLater : ℕ → ℕ → ℕ → State → Type 0
 IsLater count day frames s = (s.count ≡ (count + frames) % 5000) × (s.day ≡ (day + frames) % 3600000)
 
-later : (p : Program) (s : State) (count day frames : ℕ) → IsLater count day frames s → IsLater count day (frames + 1) (after_frame p s)
+later : (p : Program) (s : State) (count day frames : ℕ) → IsLater count day frames s
+    → IsLater count day (frames + 1) (after_frame p s)
 later p s count day frames h =
     let at : (shown p s).count ≡ (count + frames) % 5000 = shown_count p s ∙ h.0 in
     let on : (shown p s).day ≡ (day + frames) % 3600000 = shown_day p s ∙ h.1 in
@@ -100,9 +91,12 @@ later p s count day frames h =
     let dated : ((shown p s).day + 1) % 3600000 ≡ (day + (frames + 1)) % 3600000 = omega (arith, on) in
     (counted, dated)
 
-counted_from : (p : Program) (s : State) (count day frames : ℕ) (events : List Event) → IsLater count day frames s → IsLater count day (frames + length (run_frames p s events)) (run p s events)
-counted_from p s count day frames [] h = let none : frames ≡ frames + 0 = omega arith in subst (λ (n : ℕ). IsLater count day n s) none h
-counted_from p s count day frames (Contact c closed ∷ es) h = counted_from p (happens p s (Contact c closed)) count day frames es h
+counted_from : (p : Program) (s : State) (count day frames : ℕ) (events : List Event) → IsLater count day frames s
+    → IsLater count day (frames + length (run_frames p s events)) (run p s events)
+counted_from p s count day frames [] h = let none : frames ≡ frames + 0 = omega arith in
+    subst (λ (n : ℕ). IsLater count day n s) none h
+counted_from p s count day frames (Contact c closed ∷ es) h =
+    counted_from p (happens p s (Contact c closed)) count day frames es h
 counted_from p s count day frames (Frame ∷ es) h =
     let rest = counted_from p (after_frame p s) count day (frames + 1) es (later p s count day frames h) in
     let n : ℕ = length (run_frames p (after_frame p s) es) in
@@ -116,16 +110,19 @@ frames_are_counted p start first events in_range started =
     let frames : ℕ = length (run_frames p first events) in
     let all : 0 + frames ≡ frames = omega arith in
     let end : IsLater start.count start.day frames (run p first events) =
-    subst (λ (n : ℕ). IsLater start.count start.day n (run p first events)) all (counted_from p first start.count start.day 0 events (count, day)) in
+    subst (λ (n : ℕ). IsLater start.count start.day n (run p first events)) all
+    (counted_from p first start.count start.day 0 events (count, day)) in
     record { count = end.0; day = end.1 }
 
 -- ---- contacts
 
-set_by : (contacts : Contacts) (contact c : ℕ) (closed : Bool) → contact < 16 → c < 16 → (same : Bool) → eqb c contact ≡ same
+set_by : (contacts : Contacts) (contact c : ℕ) (closed : Bool) → contact < 16 → c < 16 → (same : Bool)
+    → eqb c contact ≡ same
     → is_closed (with_contact c closed contacts) contact ≡ cond same closed (is_closed contacts contact)
 set_by contacts contact c closed low within true is =
     let e : c ≡ contact = eqb-true c contact is in
-    subst (λ (d : ℕ). is_closed (with_contact c closed contacts) d ≡ closed) e (contacts_change_alone contacts c closed within).0
+    subst (λ (d : ℕ). is_closed (with_contact c closed contacts) d ≡ closed) e
+    (contacts_change_alone contacts c closed within).0
 set_by contacts contact c closed low within false is =
     let apart : c ≢ contact = eqb-false c contact is in
     (contacts_change_alone contacts c closed within).1 contact low (λ e. apart (sym e))

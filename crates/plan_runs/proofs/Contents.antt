@@ -1,27 +1,12 @@
 -- The entries that the FIBs of a frame carry.
-use Rattle.std.specs.Prelude.{Contains, flat_map, map, drop, ◌*◌}
-use Rattle.std.proofs.Common.{◌≡◌, ℕ, zero, suc, replicate, ◌+◌, ◌==◌, Bool, true, false, cond, List, [], ◌∷◌, ◌++◌, length, Option, Some, None, inl, inr, ◌⊎◌, refl, ap, sym, ◌∙◌, subst, arith}
-use Rattle.std.proofs.lemmas.List.{drop-drop}
-use Rattle.fib_codec.specs.Layouts.{frame_fibs, reserved_fibs}
-use Rattle.fib_codec.specs.declared.frame_layout.FrameLayout.{FrameLayout}
-use Rattle.fib_codec.specs.declared.frame_layout.FrameLayout.TheVariants.{Whole, ReserveOne, ReserveTwo}
-use Rattle.mux_config.specs.Configuration.{Configuration}
-use Rattle.std.specs.List.{AllByRecursion}
-use Rattle.mux_types.specs.Entries.{EnsembleInformation}
-use Rattle.mux_types.specs.Facts.{Marked, facts_of}
-use Rattle.fib_codec.specs.declared.modes.Mode.TheVariants.{I, II, III, IV}
-use Rattle.fib_codec.specs.Heard.{fib_at, IsHeardInRow}
-use Rattle.fib_codec.specs.Grammar.{fig_of}
-use Rattle.fib_carousel.specs.Packing.{entries_where}
-use Rattle.fib_carousel.specs.Greedy.{packing}
-use Rattle.fib_carousel.specs.Pages.{page_set, page_entries, fib_entries, first_fib, later_fibs, PageIsFibs}
-use Rattle.fib_carousel.specs.Bytes.{AreFibs, figs_of, ensemble_figs}
-use Rattle.fib_reader.specs.Raw.{Raw, raw_entry}
-use Rattle.fib_reader.specs.Laws.{EnsembleIsHeard}
-use Rattle.plan_code.specs.declared.plan.Plan.{Plan}
-use Rattle.plan_code.specs.Machine.{State}
-use Rattle.plan_runs.specs.Frames.{is_noticed, sent_entries, ensemble_sent, shown_bytes}
-use Rattle.plan_runs.specs.Listening.{fibs_from}
+use Rattle.std.proofs.Common.{◌≡◌, ℕ, zero, suc, replicate, ◌+◌, ◌==◌, Bool, true, false, cond, List, [], ◌∷◌, ◌++◌}
+use Rattle.std.proofs.Common.{length, Option, Some, None, inl, inr, ◌⊎◌, refl, ap, sym, ◌∙◌, subst, arith}
+use Rattle.plan_runs.proofs.Names.{Contains, flat_map, map, drop, ◌*◌, drop-drop, frame_fibs, reserved_fibs}
+use Rattle.plan_runs.proofs.Names.{FrameLayout, Whole, ReserveOne, ReserveTwo, Configuration, AllByRecursion}
+use Rattle.plan_runs.proofs.Names.{EnsembleInformation, Marked, facts_of, I, fib_at, IsHeardInRow, fig_of}
+use Rattle.plan_runs.proofs.Names.{entries_where, packing, page_set, page_entries, fib_entries, first_fib, later_fibs}
+use Rattle.plan_runs.proofs.Names.{PageIsFibs, AreFibs, figs_of, ensemble_figs, Raw, raw_entry, EnsembleIsHeard, Plan}
+use Rattle.plan_runs.proofs.Names.{State, is_noticed, sent_entries, ensemble_sent, shown_bytes, fibs_from}
 use Rattle.plan_runs.proofs.Tracked.{Airs}
 use Rattle.plan_runs.proofs.Right.{PageLaws, pageable, sent_within}
 use Rattle.plan_runs.proofs.Parts.{In}
@@ -41,11 +26,13 @@ each_from : {T : Type 0} (P : T → Type 0) (xs : List T) → ((x : T) → In x 
 each_from P [] f = tt
 each_from P (x ∷ xs) f = (f x (inl refl), each_from P xs (λ y h. f y (inr h)))
 
-chosen : (P : Marked → Type 0) (e : Marked) (xs : List Marked) → P e → AllByRecursion P xs → (b : Bool) → AllByRecursion P (cond b (e ∷ xs) xs)
+chosen : (P : Marked → Type 0) (e : Marked) (xs : List Marked) → P e → AllByRecursion P xs → (b : Bool)
+    → AllByRecursion P (cond b (e ∷ xs) xs)
 chosen P e xs h hs true = (h, hs)
 chosen P e xs h hs false = hs
 
-each_where : (P : Marked → Type 0) (test : ℕ → Bool) (es : List Marked) (ns : List ℕ) → AllByRecursion P es → AllByRecursion P (entries_where test es ns)
+each_where : (P : Marked → Type 0) (test : ℕ → Bool) (es : List Marked) (ns : List ℕ) → AllByRecursion P es
+    → AllByRecursion P (entries_where test es ns)
 each_where P test [] ns h = tt
 each_where P test (e ∷ es) [] h = tt
 each_where P test (e ∷ es) (n ∷ ns) h = chosen P e (entries_where test es ns) h.0 (each_where P test es ns h.1) (test n)
@@ -58,24 +45,32 @@ sent_by c n true m h =
       | inr there ↦ (let fact = fact_in true (entries_of n) m there in inr (refl, sym fact.0, fact.1))
     ]
 
-set_sent : (plan : Plan) (u : State) → AllByRecursion (IsSentOf (is_noticed plan.notice u.left) u.current u.next) (sent_entries plan u)
-set_sent plan u = each_from (IsSentOf (is_noticed plan.notice u.left) u.current u.next) (sent_entries plan u) (sent_by u.current u.next (is_noticed plan.notice u.left))
+set_sent : (plan : Plan) (u : State) → AllByRecursion (IsSentOf (is_noticed plan.notice u.left) u.current u.next)
+    (sent_entries plan u)
+set_sent plan u = each_from (IsSentOf (is_noticed plan.notice u.left) u.current u.next) (sent_entries plan u)
+    (sent_by u.current u.next (is_noticed plan.notice u.left))
 
-pub fib_sent : (plan : Plan) (u : State) (n : ℕ) → AllByRecursion (IsSentOf (is_noticed plan.notice u.left) u.current u.next) (fib_entries plan.layout n (sent_entries plan u))
-fib_sent plan u n = each_where (IsSentOf (is_noticed plan.notice u.left) u.current u.next) (λ m. m == n) (sent_entries plan u) (packing plan.layout (sent_entries plan u)) (set_sent plan u)
+pub fib_sent : (plan : Plan) (u : State) (n : ℕ) → AllByRecursion
+    (IsSentOf (is_noticed plan.notice u.left) u.current u.next) (fib_entries plan.layout n (sent_entries plan u))
+fib_sent plan u n = each_where (IsSentOf (is_noticed plan.notice u.left) u.current u.next) (λ m. m == n)
+    (sent_entries plan u) (packing plan.layout (sent_entries plan u)) (set_sent plan u)
 
-fibs_sent : (plan : Plan) (u : State) (ns : List ℕ) → AreSentOf (is_noticed plan.notice u.left) u.current u.next (map (λ n. fib_entries plan.layout n (sent_entries plan u)) ns)
+fibs_sent : (plan : Plan) (u : State) (ns : List ℕ) → AreSentOf (is_noticed plan.notice u.left) u.current u.next
+    (map (λ n. fib_entries plan.layout n (sent_entries plan u)) ns)
 fibs_sent plan u [] = tt
 fibs_sent plan u (n ∷ ns) = (fib_sent plan u n, fibs_sent plan u ns)
 
 -- ---- what the FIBs carry
 
 -- FIBs without FIGs, the reserved ones, have no entries
-none_say : (count place : ℕ) (frame : List ℕ) → AreFibs (replicate count []) (drop (32 * place) frame) → AllSay (fibs_from count place frame) (replicate count [])
+none_say : (count place : ℕ) (frame : List ℕ) → AreFibs (replicate count []) (drop (32 * place) frame)
+    → AllSay (fibs_from count place frame) (replicate count [])
 none_say zero place frame h = tt
 none_say (suc count) place frame h =
-    let next : drop 32 (drop (32 * place) frame) ≡ drop (32 * (place + 1)) frame = drop-drop 32 (32 * place) frame ∙ ap (λ k. drop k frame) (omega arith) in
-    let rest : AreFibs (replicate count []) (drop (32 * (place + 1)) frame) = subst (λ (b : List ℕ). AreFibs (replicate count []) b) next h.1 in
+    let next : drop 32 (drop (32 * place) frame) ≡ drop (32 * (place + 1)) frame =
+    drop-drop 32 (32 * place) frame ∙ ap (λ k. drop k frame) (omega arith) in
+    let rest : AreFibs (replicate count []) (drop (32 * (place + 1)) frame) =
+    subst (λ (b : List ℕ). AreFibs (replicate count []) b) next h.1 in
     (record { figs = []; is_fib = h.0.fib; hears = figs_heard [] }, none_say count (place + 1) frame rest)
 
 later_say : (layout : FrameLayout) (es : List Marked) (ns : List ℕ) (count place : ℕ) (frame : List ℕ)
@@ -85,11 +80,20 @@ later_say layout es [] count place frame h =
     let same : 0 + count ≡ count = omega arith in
     subst (λ (n : ℕ). AllSay (fibs_from n place frame) (replicate count [])) (sym same) (none_say count place frame h)
 later_say layout es (n ∷ ns) count place frame h =
-    let next : drop 32 (drop (32 * place) frame) ≡ drop (32 * (place + 1)) frame = drop-drop 32 (32 * place) frame ∙ ap (λ k. drop k frame) (omega arith) in
-    let rest : AreFibs (map (λ n. figs_of (fib_entries layout n es)) ns ++ replicate count []) (drop (32 * (place + 1)) frame) = subst (λ (b : List ℕ). AreFibs (map (λ n. figs_of (fib_entries layout n es)) ns ++ replicate count []) b) next h.1 in
+    let next : drop 32 (drop (32 * place) frame) ≡ drop (32 * (place + 1)) frame =
+    drop-drop 32 (32 * place) frame ∙ ap (λ k. drop k frame) (omega arith) in
+    let rest : AreFibs (map (λ n. figs_of (fib_entries layout n es)) ns ++ replicate count [])
+    (drop (32 * (place + 1)) frame) =
+    subst (λ (b : List ℕ). AreFibs (map (λ n. figs_of (fib_entries layout n es)) ns ++ replicate count []) b) next
+    h.1 in
     let one : suc (length ns) + count ≡ suc (length ns + count) = omega arith in
-    subst (λ (k : ℕ). AllSay (fibs_from k place frame) (map (λ n. fib_entries layout n es) (n ∷ ns) ++ replicate count [])) (sym one) (
-      record { figs = map fig_of (figs_of (fib_entries layout n es)); is_fib = h.0.fib; hears = figs_heard (fib_entries layout n es) },
+    subst (λ (k : ℕ). AllSay (fibs_from k place frame)
+    (map (λ n. fib_entries layout n es) (n ∷ ns) ++ replicate count [])) (sym one) (
+      record {
+        figs = map fig_of (figs_of (fib_entries layout n es));
+        is_fib = h.0.fib;
+        hears = figs_heard (fib_entries layout n es);
+      },
       later_say layout es ns count (place + 1) frame rest,
     )
 
@@ -103,14 +107,16 @@ pub record FrameSays (plan : Plan) (u : State) : Type 0 where
   pub later : AllSay later_are more
   pub entries_sent : AllByRecursion (IsSentOf (is_noticed plan.notice u.left) u.current u.next) entries
   pub more_sent : AreSentOf (is_noticed plan.notice u.left) u.current u.next more
-  pub heard : (m : Marked) → IsHeardInRow (shown_bytes plan u) m → SaidIn m.next entries (raw_entry m.entry) ⊎ SaidInSome m.next more (raw_entry m.entry)
+  pub heard : (m : Marked) → IsHeardInRow (shown_bytes plan u) m → SaidIn m.next entries (raw_entry m.entry)
+      ⊎ SaidInSome m.next more (raw_entry m.entry)
 
 said_in : (ms : List Marked) (m : Marked) → In m ms → SaidIn m.next ms (raw_entry m.entry)
 said_in [] m h = absurd h
 said_in (x ∷ xs) m (inl same) = inl (ap (λ (y : Marked). y.next) same, ap (λ (y : Marked). raw_entry y.entry) same)
 said_in (x ∷ xs) m (inr more) = inr (said_in xs m more)
 
-said_in_some : (f : ℕ → List Marked) (ns : List ℕ) (m : Marked) → In m (flat_map f ns) → SaidInSome m.next (map f ns) (raw_entry m.entry)
+said_in_some : (f : ℕ → List Marked) (ns : List ℕ) (m : Marked) → In m (flat_map f ns)
+    → SaidInSome m.next (map f ns) (raw_entry m.entry)
 said_in_some f [] m h = absurd h
 said_in_some f (n ∷ ns) m h =
     elim (in_append m (f n) (flat_map f ns) h) [
@@ -118,25 +124,24 @@ said_in_some f (n ∷ ns) m h =
       | inr there ↦ inr (said_in_some f ns m there)
     ]
 
-said_in_more : (next : Bool) (xs ys : List (List Marked)) (raw : Raw) → SaidInSome next xs raw → SaidInSome next (xs ++ ys) raw
+said_in_more : (next : Bool) (xs ys : List (List Marked)) (raw : Raw) → SaidInSome next xs raw
+    → SaidInSome next (xs ++ ys) raw
 said_in_more next [] ys raw h = absurd h
 said_in_more next (x ∷ xs) ys raw (inl here) = inl here
 said_in_more next (x ∷ xs) ys raw (inr there) = inr (said_in_more next xs ys raw there)
 
-sent_and_none : (on : Bool) (c n : Configuration) (xs : List (List Marked)) (count : ℕ) → AreSentOf on c n xs → AreSentOf on c n (xs ++ replicate count [])
+sent_and_none : (on : Bool) (c n : Configuration) (xs : List (List Marked)) (count : ℕ) → AreSentOf on c n xs
+    → AreSentOf on c n (xs ++ replicate count [])
 sent_and_none on c n [] zero h = tt
 sent_and_none on c n [] (suc count) h = (tt, sent_and_none on c n [] count tt)
 sent_and_none on c n (x ∷ xs) count h = (h.0, sent_and_none on c n xs count h.1)
 
-count_of : (layout : FrameLayout) (k : ℕ) → frame_fibs layout ≡ suc (length (later_fibs layout k) + reserved_fibs layout)
+count_of : (layout : FrameLayout) (k : ℕ) → frame_fibs layout
+    ≡ suc (length (later_fibs layout k) + reserved_fibs layout)
 count_of (Whole I) k = refl
-count_of (Whole II) k = refl
-count_of (Whole III) k = refl
-count_of (Whole IV) k = refl
+count_of (Whole _) k = refl
 count_of (ReserveOne I) k = refl
-count_of (ReserveOne II) k = refl
-count_of (ReserveOne III) k = refl
-count_of (ReserveOne IV) k = refl
+count_of (ReserveOne _) k = refl
 count_of ReserveTwo k = refl
 
 pub frame_says : Laws → (plan : Plan) (u : State) → Airs plan u → FrameSays plan u
@@ -161,13 +166,19 @@ frame_says laws plan u a =
       };
       later = later_say layout es ns (reserved_fibs layout) 1 frame are.1;
       entries_sent = fib_sent plan u (first_fib layout k);
-      more_sent = sent_and_none (is_noticed plan.notice u.left) u.current u.next (map (λ n. fib_entries layout n es) ns) (reserved_fibs layout) (fibs_sent plan u ns);
+      more_sent = sent_and_none (is_noticed plan.notice u.left) u.current u.next (map (λ n. fib_entries layout n es) ns)
+          (reserved_fibs layout) (fibs_sent plan u ns);
       heard = λ m h.
-          let inside : Contains (page_entries layout k es) m = (laws.pages.heard layout o k es (pageable laws.pages plan u a) m).0 h in
+          let inside : Contains (page_entries layout k es) m =
+          (laws.pages.heard layout o k es (pageable laws.pages plan u a) m).0 h in
           let among : In m (page_entries layout k es) = contains_in (page_entries layout k es) m inside in
-          let parts : In m (fib_entries layout (first_fib layout k) es ++ flat_map (λ n. fib_entries layout n es) ns) = subst (λ (xs : List Marked). In m xs) (laws.fibs layout es k) among in
-          elim (in_append m (fib_entries layout (first_fib layout k) es) (flat_map (λ n. fib_entries layout n es) ns) parts) [
+          let parts : In m (fib_entries layout (first_fib layout k) es ++ flat_map (λ n. fib_entries layout n es) ns) =
+          subst (λ (xs : List Marked). In m xs) (laws.fibs layout es k) among in
+          elim (in_append m (fib_entries layout (first_fib layout k) es) (flat_map (λ n. fib_entries layout n es) ns)
+          parts) [
             | inl here ↦ inl (said_in (fib_entries layout (first_fib layout k) es) m here)
-            | inr there ↦ inr (said_in_more m.next (map (λ n. fib_entries layout n es) ns) (replicate (reserved_fibs layout) []) (raw_entry m.entry) (said_in_some (λ n. fib_entries layout n es) ns m there))
+            | inr there ↦ inr (said_in_more m.next (map (λ n. fib_entries layout n es) ns)
+                (replicate (reserved_fibs layout) []) (raw_entry m.entry)
+                (said_in_some (λ n. fib_entries layout n es) ns m there))
           ];
     }

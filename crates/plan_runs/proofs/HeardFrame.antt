@@ -1,23 +1,11 @@
 -- A listener hearing one frame of a typed code.
-use Rattle.std.specs.Prelude.{take}
-use Rattle.std.proofs.Common.{◌≡◌, ◌≢◌, ℕ, zero, suc, ◌+◌, ◌%◌, ◌==◌, Bool, true, false, cond, List, ◌∷◌, Option, Some, None, inl, inr, ◌⊎◌, refl, ap, sym, ◌∙◌, subst, arith}
-use Rattle.std.proofs.lemmas.Bool.{eq-eqb, eqb-true}
-use Rattle.fib_codec.specs.Layouts.{layout_mode, frame_fibs}
-use Rattle.mux_config.specs.Configuration.{Configuration}
-use Rattle.mux_types.specs.Entries.{EnsembleInformation}
-use Rattle.mux_types.specs.Facts.{marked}
-use Rattle.mux_types.specs.declared.entry.Entry.{Entry}
-use Rattle.fib_codec.specs.Modes.{count_step}
-use Rattle.fib_codec.specs.Heard.{IsHeardInRow}
-use Rattle.fib_reader.specs.Raw.{Raw, raw_entry}
-use Rattle.fib_reader.specs.Listening.{Listening, untuned}
-use Rattle.plan_code.specs.declared.plan.Plan.{Plan}
-use Rattle.plan_code.specs.Program.{Program}
-use Rattle.plan_code.specs.Machine.{State}
-use Rattle.plan_verifier.specs.Typing.{Known}
-use Rattle.plan_runs.specs.Frames.{is_due, with_swap, with_due_swap, is_noticed, is_first_noticed, shown, after_burst, shown_bytes, ensemble_of, ensemble_sent}
-use Rattle.plan_runs.specs.Listening.{fibs_from, HearsFib, HearsAll}
-use Rattle.plan_runs.proofs.Passing.{ahead_from, due_is}
+use Rattle.std.proofs.Common.{◌≡◌, ◌≢◌, ℕ, zero, suc, ◌+◌, ◌%◌, Bool, true, false, cond, List, ◌∷◌, Option, Some, None}
+use Rattle.std.proofs.Common.{inl, inr, ◌⊎◌, refl, ap, sym, ◌∙◌, subst, arith}
+use Rattle.plan_runs.proofs.Names.{take, layout_mode, frame_fibs, Configuration, EnsembleInformation, marked, Entry}
+use Rattle.plan_runs.proofs.Names.{count_step, IsHeardInRow, Raw, raw_entry, Listening, untuned, Plan, Program, State}
+use Rattle.plan_runs.proofs.Names.{Known, is_due, with_swap, with_due_swap, is_noticed, is_first_noticed, shown}
+use Rattle.plan_runs.proofs.Names.{after_burst, shown_bytes, ensemble_of, ensemble_sent, fibs_from, HearsFib, HearsAll}
+use Rattle.plan_runs.proofs.Passing.{ahead_from}
 use Rattle.plan_runs.proofs.Tracked.{Airs, SwapsOn}
 use Rattle.plan_runs.proofs.Between.{frame_goes}
 use Rattle.plan_runs.proofs.Carries.{frame_carries}
@@ -25,21 +13,16 @@ use Rattle.plan_runs.proofs.Facts.{Holds, IsCode, airs}
 use Rattle.plan_runs.proofs.Notice.{links}
 use Rattle.plan_runs.proofs.Pictures.{whole_of, IsPartial, whole_is_set, weaker}
 use Rattle.plan_runs.proofs.Hearing.{hear_marked, headed}
-use Rattle.plan_runs.proofs.Tuned.{SaidIn, SaidInSome, Or, tuned_weaker, hears_entries, hears_fibs, passes_entries, passes_fibs, some_say, some_sent}
+use Rattle.plan_runs.proofs.Tuned.{SaidIn, SaidInSome, Or, tuned_weaker, hears_entries, hears_fibs, passes_entries}
+use Rattle.plan_runs.proofs.Tuned.{passes_fibs, some_say, some_sent}
 use Rattle.plan_runs.proofs.Contents.{Laws, FrameSays, frame_says}
-use Rattle.plan_runs.proofs.Knowing.{KnowsBy, KnowsPending, Ready, InFrame, Still, ready_by, headed_ready, unheaded_ready, headed_swap, headed_untuned}
+use Rattle.plan_runs.proofs.Knowing.{KnowsBy, KnowsPending, Ready, InFrame, Still, ready_by, headed_ready}
+use Rattle.plan_runs.proofs.Knowing.{unheaded_ready, headed_swap, headed_untuned}
+use Rattle.plan_runs.proofs.Right.{is_sent, not_sent}
+use Rattle.plan_runs.proofs.Announcing.{due_left}
+use Rattle.plan_runs.proofs.Periods.{current_kept}
 
 -- ---- FIG 0/0 is sent or not
-
-is_sent : (plan : Plan) (s : State) → s.count % count_step (layout_mode plan.layout) ≡ 0 → ensemble_sent plan s ≡ Some (ensemble_of plan s)
-is_sent plan s e = ap (λ (b : Bool). cond b (Some (ensemble_of plan s)) None) (eq-eqb (s.count % count_step (layout_mode plan.layout)) 0 e)
-
-not_sent_by : (plan : Plan) (s : State) (b : Bool) → (s.count % count_step (layout_mode plan.layout) == 0) ≡ b → s.count % count_step (layout_mode plan.layout) ≢ 0 → cond b (Some (ensemble_of plan s)) None ≡ None
-not_sent_by plan s true e apart = absurd (apart (eqb-true (s.count % count_step (layout_mode plan.layout)) 0 e))
-not_sent_by plan s false e apart = refl
-
-not_sent : (plan : Plan) (s : State) → s.count % count_step (layout_mode plan.layout) ≢ 0 → ensemble_sent plan s ≡ None
-not_sent plan s apart = not_sent_by plan s (s.count % count_step (layout_mode plan.layout) == 0) refl apart
 
 pub zero_or_not : (n : ℕ) → (n ≡ 0) ⊎ (n ≢ 0)
 zero_or_not zero = inl refl
@@ -57,9 +40,11 @@ fibs_in plan u = fibs_from (frame_fibs plan.layout) 0 (shown_bytes plan u)
 pub record HearsFrame (plan : Plan) (u : State) (C N : Raw → Type 0) (l : Listening) : Type 0 where
   pub after : Listening
   pub hears : HearsAll (fibs_in plan u) l after
-  pub knows : InFrame plan u (Or C (RowSaid (shown_bytes plan u) false)) (Or N (RowSaid (shown_bytes plan u) true)) after
+  pub knows : InFrame plan u (Or C (RowSaid (shown_bytes plan u) false)) (Or N (RowSaid (shown_bytes plan u) true))
+      after
 
-row_heard : (plan : Plan) (u : State) → (says : FrameSays plan u) → (flag : Bool) (C : Raw → Type 0) (x : Raw) → Or C (RowSaid (shown_bytes plan u) flag) x
+row_heard : (plan : Plan) (u : State) → (says : FrameSays plan u) → (flag : Bool) (C : Raw → Type 0) (x : Raw)
+    → Or C (RowSaid (shown_bytes plan u) flag) x
     → Or (Or C (SaidIn flag says.entries)) (SaidInSome flag says.more) x
 row_heard plan u says flag C x (inl old) = inl (inl old)
 row_heard plan u says flag C x (inr (e, is, row)) =
@@ -71,22 +56,29 @@ row_heard plan u says flag C x (inr (e, is, row)) =
 pub as_fibs : (xs ys : List (List ℕ)) (l after : Listening) → xs ≡ ys → HearsAll ys l after → HearsAll xs l after
 as_fibs xs ys l after e h = subst (λ (fs : List (List ℕ)). HearsAll fs l after) (sym e) h
 
-pub frame_heard : Laws → (plan : Plan) (u : State) → Airs plan u → (C N : Raw → Type 0) (l : Listening) → InFrame plan u C N (headed (ensemble_sent plan u) l) → HearsFrame plan u C N l
+pub frame_heard : Laws → (plan : Plan) (u : State) → Airs plan u → (C N : Raw → Type 0) (l : Listening)
+    → InFrame plan u C N (headed (ensemble_sent plan u) l) → HearsFrame plan u C N l
 frame_heard laws plan u a C N l h =
     let says = frame_says laws plan u a in
     let on : Bool = is_noticed plan.notice u.left in
     let set_c = whole_is_set u.current a.current in
     let set_n = whole_is_set u.next a.next in
-    let one = hears_entries on u.current u.next C N h.awaited says.entries (headed (ensemble_sent plan u) l) set_c set_n says.entries_sent h.knows in
-    let rest = hears_fibs on u.current u.next (Or C (SaidIn false says.entries)) (Or N (SaidIn true says.entries)) h.awaited says.later_are says.more one.after set_c set_n says.later says.more_sent one.knows in
-    let first : HearsFib says.first_fib_is l one.after = (says.first.figs, says.first.is_fib, says.first.hears l ∙ one.is) in
+    let one = hears_entries on u.current u.next C N h.awaited says.entries (headed (ensemble_sent plan u) l) set_c set_n
+    says.entries_sent h.knows in
+    let rest = hears_fibs on u.current u.next (Or C (SaidIn false says.entries)) (Or N (SaidIn true says.entries))
+    h.awaited says.later_are says.more one.after set_c set_n says.later says.more_sent one.knows in
+    let first : HearsFib says.first_fib_is l one.after =
+    (says.first.figs, says.first.is_fib, says.first.hears l ∙ one.is) in
     let all : HearsAll (says.first_fib_is ∷ says.later_are) l rest.after = (one.after, first, rest.hears) in
     record {
       after = rest.after;
       hears = as_fibs (fibs_in plan u) (says.first_fib_is ∷ says.later_are) l rest.after says.fibs all;
       knows = record {
         awaited = h.awaited;
-        knows = tuned_weaker on u.current u.next (Or (Or C (SaidIn false says.entries)) (SaidInSome false says.more)) (Or C (RowSaid (shown_bytes plan u) false)) (Or (Or N (SaidIn true says.entries)) (SaidInSome true says.more)) (Or N (RowSaid (shown_bytes plan u) true)) h.awaited rest.after
+        knows = tuned_weaker on u.current u.next (Or (Or C (SaidIn false says.entries)) (SaidInSome false says.more))
+            (Or C (RowSaid (shown_bytes plan u) false))
+            (Or (Or N (SaidIn true says.entries)) (SaidInSome true says.more))
+            (Or N (RowSaid (shown_bytes plan u) true)) h.awaited rest.after
             (row_heard plan u says false C) (row_heard plan u says true N) rest.knows;
         waits = h.waits;
         headless = h.headless;
@@ -99,52 +91,65 @@ pub record HearsSome (plan : Plan) (u : State) (C : Raw → Type 0) (k : ℕ) (l
   pub hears : HearsAll (take (suc k) (fibs_in plan u)) l after
   pub current : IsPartial (whole_of u.current) C after.current
 
-pub some_heard : Laws → (plan : Plan) (u : State) → Airs plan u → (C N : Raw → Type 0) (k : ℕ) (l : Listening) → InFrame plan u C N (headed (ensemble_sent plan u) l) → HearsSome plan u C k l
+pub some_heard : Laws → (plan : Plan) (u : State) → Airs plan u → (C N : Raw → Type 0) (k : ℕ) (l : Listening)
+    → InFrame plan u C N (headed (ensemble_sent plan u) l) → HearsSome plan u C k l
 some_heard laws plan u a C N k l h =
     let says = frame_says laws plan u a in
     let on : Bool = is_noticed plan.notice u.left in
     let set_c = whole_is_set u.current a.current in
     let set_n = whole_is_set u.next a.next in
-    let one = hears_entries on u.current u.next C N h.awaited says.entries (headed (ensemble_sent plan u) l) set_c set_n says.entries_sent h.knows in
-    let rest = hears_fibs on u.current u.next (Or C (SaidIn false says.entries)) (Or N (SaidIn true says.entries)) h.awaited (take k says.later_are) (take k says.more) one.after set_c set_n
-    (some_say k says.later_are says.more says.later) (some_sent on u.current u.next k says.more says.more_sent) one.knows in
-    let first : HearsFib says.first_fib_is l one.after = (says.first.figs, says.first.is_fib, says.first.hears l ∙ one.is) in
-    let all : HearsAll (take (suc k) (says.first_fib_is ∷ says.later_are)) l rest.after = (one.after, first, rest.hears) in
+    let one = hears_entries on u.current u.next C N h.awaited says.entries (headed (ensemble_sent plan u) l) set_c set_n
+    says.entries_sent h.knows in
+    let rest = hears_fibs on u.current u.next (Or C (SaidIn false says.entries)) (Or N (SaidIn true says.entries))
+    h.awaited (take k says.later_are) (take k says.more) one.after set_c set_n
+    (some_say k says.later_are says.more says.later) (some_sent on u.current u.next k says.more says.more_sent)
+    one.knows in
+    let first : HearsFib says.first_fib_is l one.after =
+    (says.first.figs, says.first.is_fib, says.first.hears l ∙ one.is) in
+    let all : HearsAll (take (suc k) (says.first_fib_is ∷ says.later_are)) l rest.after =
+    (one.after, first, rest.hears) in
     record {
       after = rest.after;
-      hears = as_fibs (take (suc k) (fibs_in plan u)) (take (suc k) (says.first_fib_is ∷ says.later_are)) l rest.after (ap (take (suc k)) says.fibs) all;
-      current = weaker (whole_of u.current) (Or (Or C (SaidIn false says.entries)) (SaidInSome false (take k says.more))) C rest.after.current (λ x c. inl (inl c)) rest.knows.current;
+      hears = as_fibs (take (suc k) (fibs_in plan u)) (take (suc k) (says.first_fib_is ∷ says.later_are)) l rest.after
+          (ap (take (suc k)) says.fibs) all;
+      current = weaker (whole_of u.current)
+          (Or (Or C (SaidIn false says.entries)) (SaidInSome false (take k says.more))) C rest.after.current
+          (λ x c. inl (inl c)) rest.knows.current;
     }
 
 -- an untuned listener ignores a frame without FIG 0/0
-pub frame_passed : Laws → (plan : Plan) (u : State) → Airs plan u → u.count % count_step (layout_mode plan.layout) ≢ 0 → HearsAll (fibs_in plan u) untuned untuned
+pub frame_passed : Laws → (plan : Plan) (u : State) → Airs plan u → u.count % count_step (layout_mode plan.layout) ≢ 0
+    → HearsAll (fibs_in plan u) untuned untuned
 frame_passed laws plan u a apart =
     let says = frame_says laws plan u a in
     let on : Bool = is_noticed plan.notice u.left in
     let none : hear_marked says.entries (headed (ensemble_sent plan u) untuned) ≡ Some untuned =
-    ap (λ (o : Option EnsembleInformation). hear_marked says.entries (headed o untuned)) (not_sent plan u apart) ∙ passes_entries on u.current u.next says.entries says.entries_sent in
-    let first : HearsFib says.first_fib_is untuned untuned = (says.first.figs, says.first.is_fib, says.first.hears untuned ∙ none) in
-    let all : HearsAll (says.first_fib_is ∷ says.later_are) untuned untuned = (untuned, first, passes_fibs on u.current u.next says.later_are says.more says.later says.more_sent) in
+    ap (λ (o : Option EnsembleInformation). hear_marked says.entries (headed o untuned)) (not_sent plan u apart)
+    ∙ passes_entries on u.current u.next says.entries says.entries_sent in
+    let first : HearsFib says.first_fib_is untuned untuned =
+    (says.first.figs, says.first.is_fib, says.first.hears untuned ∙ none) in
+    let all : HearsAll (says.first_fib_is ∷ says.later_are) untuned untuned =
+    (untuned, first, passes_fibs on u.current u.next says.later_are says.more says.later says.more_sent) in
     as_fibs (fibs_in plan u) (says.first_fib_is ∷ says.later_are) untuned untuned says.fibs all
 
 -- ---- FIG 0/0 of the frame, given the state before it
 
-as_headed : (plan : Plan) (u : State) (C N : Raw → Type 0) (l : Listening) (o : Option EnsembleInformation) → ensemble_sent plan u ≡ o → InFrame plan u C N (headed o l) → InFrame plan u C N (headed (ensemble_sent plan u) l)
+as_headed : (plan : Plan) (u : State) (C N : Raw → Type 0) (l : Listening) (o : Option EnsembleInformation)
+    → ensemble_sent plan u ≡ o → InFrame plan u C N (headed o l) → InFrame plan u C N (headed (ensemble_sent plan u) l)
 as_headed plan u C N l o e h = subst (λ (x : Option EnsembleInformation). InFrame plan u C N (headed x l)) (sym e) h
 
-turned : (u : State) (b : Bool) → (cond b (let r : State = record u { page_index = 0 } in r) u).current ≡ u.current
-turned u true = refl
-turned u false = refl
-
-pub current_shown : (p : Program) (ts : List Known) → IsCode p ts → (s : State) → Holds p ts s → (shown p s).current ≡ (with_due_swap s).current
+pub current_shown : (p : Program) (ts : List Known) → IsCode p ts → (s : State) → Holds p ts s
+    → (shown p s).current ≡ (with_due_swap s).current
 current_shown p ts c s h =
     let v : State = after_burst p s in
     let goes = frame_goes p ts c.program c.typing s h.between in
     let carried = frame_carries p c.program s goes.allowed.steps goes.allowed.executes in
-    turned v (is_first_noticed p.plan.notice v.left) ∙ carried.current
+    current_kept v (is_first_noticed p.plan.notice v.left) ∙ carried.current
 
 -- no swap is due
-pub enters : (p : Program) (ts : List Known) → IsCode p ts → (s : State) → Holds p ts s → (C N : Raw → Type 0) (l : Listening) → is_due s.left ≡ false → KnowsBy p.plan s.left s.current s.next s.count C N l
+pub enters : (p : Program) (ts : List Known) → IsCode p ts → (s : State) → Holds p ts s
+    → (C N : Raw → Type 0) (l : Listening) → is_due s.left ≡ false
+    → KnowsBy p.plan s.left s.current s.next s.count C N l
     → InFrame p.plan (shown p s) C (Still p.plan (shown p s).left N) (headed (ensemble_sent p.plan (shown p s)) l)
 enters p ts c s h C N l due knows =
     let u : State = shown p s in
@@ -152,23 +157,24 @@ enters p ts c s h C N l due knows =
     let M : Raw → Type 0 = Still plan u.left N in
     let a = airs p ts c s h in
     let link = links p ts c s h in
-    let there : Ready plan u.left s.current u.next s.count C M l = ready_by plan s.left u.left s.current s.next u.next s.count C N l (ahead_from s.left due) a.ahead (link.left due) knows in
+    let there : Ready plan u.left s.current u.next s.count C M l =
+    ready_by plan s.left u.left s.current s.next u.next s.count C N l (ahead_from s.left due) a.ahead
+    (link.left due) knows in
     let here : Ready plan u.left u.current u.next u.count C M l =
-    subst (λ (x : Configuration). Ready plan u.left x u.next u.count C M l) (sym (link.current due)) (subst (λ (k : ℕ). Ready plan u.left s.current u.next k C M l) (sym link.count) there) in
+    subst (λ (x : Configuration). Ready plan u.left x u.next u.count C M l) (sym (link.current due))
+    (subst (λ (k : ℕ). Ready plan u.left s.current u.next k C M l) (sym link.count) there) in
     elim (zero_or_not (u.count % count_step (layout_mode plan.layout))) [
-      | inl whole ↦ as_headed plan u C M l (Some (ensemble_of plan u)) (is_sent plan u whole) (headed_ready plan u C M l a (omega (arith, c.program.planned.notice_to)) here)
+      | inl whole ↦ as_headed plan u C M l (Some (ensemble_of plan u)) (is_sent plan u whole)
+          (headed_ready plan u C M l a (omega (arith, c.program.planned.notice_to)) here)
       | inr apart ↦ as_headed plan u C M l None (not_sent plan u apart) (unheaded_ready plan u C M l apart here)
     ]
-
-due_left : (left : Option ℕ) → is_due left ≡ true → left ≡ Some 0
-due_left None e = absurd cc
-due_left (Some l) e = ap (λ (x : ℕ). Some x) (due_is l e)
 
 pub due_current : (s : State) → is_due s.left ≡ true → (with_due_swap s).current ≡ s.next
 due_current s e = ap (λ (b : Bool). (cond b (with_swap s) s).current) e
 
 -- the swap is due
-pub enters_swap : (p : Program) (ts : List Known) → IsCode p ts → (s : State) → Holds p ts s → (C N : Raw → Type 0) (l : Listening) → is_due s.left ≡ true → KnowsBy p.plan s.left s.current s.next s.count C N l
+pub enters_swap : (p : Program) (ts : List Known) → IsCode p ts → (s : State) → Holds p ts s
+    → (C N : Raw → Type 0) (l : Listening) → is_due s.left ≡ true → KnowsBy p.plan s.left s.current s.next s.count C N l
     → InFrame p.plan (shown p s) N (λ x. ⊥) (headed (ensemble_sent p.plan (shown p s)) l)
 enters_swap p ts c s h C N l due knows =
     let u : State = shown p s in
@@ -176,20 +182,27 @@ enters_swap p ts c s h C N l due knows =
     let a = airs p ts c s h in
     let link = links p ts c s h in
     let is = due_left s.left due in
-    let pending : KnowsPending plan 0 s.current s.next s.count C N l = subst (λ (o : Option ℕ). KnowsBy plan o s.current s.next s.count C N l) is knows in
-    let step : (s.count + 0) % count_step (layout_mode plan.layout) ≡ 0 = subst (λ (o : Option ℕ). SwapsOn plan s.count o) is h.tracked.swaps in
+    let pending : KnowsPending plan 0 s.current s.next s.count C N l =
+    subst (λ (o : Option ℕ). KnowsBy plan o s.current s.next s.count C N l) is knows in
+    let step : (s.count + 0) % count_step (layout_mode plan.layout) ≡ 0 =
+    subst (λ (o : Option ℕ). SwapsOn plan s.count o) is h.tracked.swaps in
     let none : u.count ≡ s.count + 0 = link.count ∙ (let same : s.count ≡ s.count + 0 = omega arith in same) in
-    let whole : u.count % count_step (layout_mode plan.layout) ≡ 0 = ap (λ (k : ℕ). k % count_step (layout_mode plan.layout)) none ∙ step in
+    let whole : u.count % count_step (layout_mode plan.layout) ≡ 0 =
+    ap (λ (k : ℕ). k % count_step (layout_mode plan.layout)) none ∙ step in
     let current : u.current ≡ s.next = current_shown p ts c s h ∙ due_current s due in
     as_headed plan u N (λ x. ⊥) l (Some (ensemble_of plan u)) (is_sent plan u whole)
-    (headed_swap plan u s.current s.next s.count C N l a (omega (arith, c.program.planned.notice_from)) h.tracked.count link.count current pending)
+    (headed_swap plan u s.current s.next s.count C N l a (omega (arith, c.program.planned.notice_from)) h.tracked.count
+    link.count current pending)
 
 -- the first FIG 0/0 that is heard
-pub enters_untuned : (p : Program) (ts : List Known) → IsCode p ts → (s : State) → Holds p ts s → s.count % count_step (layout_mode p.plan.layout) ≡ 0
+pub enters_untuned : (p : Program) (ts : List Known) → IsCode p ts → (s : State) → Holds p ts s
+    → s.count % count_step (layout_mode p.plan.layout) ≡ 0
     → InFrame p.plan (shown p s) (λ x. ⊥) (λ x. ⊥) (headed (ensemble_sent p.plan (shown p s)) untuned)
 enters_untuned p ts c s h whole =
     let u : State = shown p s in
     let plan : Plan = p.plan in
     let link = links p ts c s h in
-    let here : u.count % count_step (layout_mode plan.layout) ≡ 0 = ap (λ (k : ℕ). k % count_step (layout_mode plan.layout)) link.count ∙ whole in
-    as_headed plan u (λ x. ⊥) (λ x. ⊥) untuned (Some (ensemble_of plan u)) (is_sent plan u here) (headed_untuned plan u (airs p ts c s h))
+    let here : u.count % count_step (layout_mode plan.layout) ≡ 0 =
+    ap (λ (k : ℕ). k % count_step (layout_mode plan.layout)) link.count ∙ whole in
+    as_headed plan u (λ x. ⊥) (λ x. ⊥) untuned (Some (ensemble_of plan u)) (is_sent plan u here)
+    (headed_untuned plan u (airs p ts c s h))

@@ -1,18 +1,15 @@
 -- A run over some events and then over more is the run over all of them.
 use Rattle.std.proofs.Common.{◌≡◌, ◌↔◌, ℕ, List, [], ◌∷◌, ◌++◌, refl, ap}
-use Rattle.plan_code.specs.Program.{Program}
-use Rattle.plan_code.specs.Machine.{State}
-use Rattle.plan_runs.specs.declared.event.Event.{Event}
-use Rattle.plan_runs.specs.declared.event.Event.TheVariants.{Contact, Frame}
-use Rattle.plan_runs.specs.Frames.{after_frame, frame_bytes}
-use Rattle.plan_runs.specs.Runs.{happens, run, run_frames, RunIsAllowed}
-use Rattle.plan_runs.specs.Announced.{heard_by, heard_along, Runs, RunsJoin}
+use Rattle.plan_runs.proofs.Names.{Program, State, Event, Contact, Frame, after_frame, frame_bytes, happens, run}
+use Rattle.plan_runs.proofs.Names.{run_frames, RunIsAllowed, heard_by, heard_along, Runs, RunsJoin}
 
-pub state_joins : (p : Program) (s : State) (events more : List Event) → run p s (events ++ more) ≡ run p (run p s events) more
+pub state_joins : (p : Program) (s : State) (events more : List Event)
+    → run p s (events ++ more) ≡ run p (run p s events) more
 state_joins p s [] more = refl
 state_joins p s (e ∷ es) more = state_joins p (happens p s e) es more
 
-frames_join : (p : Program) (s : State) (events more : List Event) → run_frames p s (events ++ more) ≡ run_frames p s events ++ run_frames p (run p s events) more
+pub frames_join : (p : Program) (s : State) (events more : List Event)
+    → run_frames p s (events ++ more) ≡ run_frames p s events ++ run_frames p (run p s events) more
 frames_join p s [] more = refl
 frames_join p s (Contact c closed ∷ es) more = frames_join p (happens p s (Contact c closed)) es more
 frames_join p s (Frame ∷ es) more = ap (λ fs. frame_bytes p s ∷ fs) (frames_join p (after_frame p s) es more)
@@ -30,7 +27,8 @@ plain_joins p s (e ∷ es) more =
     (λ h. ((h.0, (rest.0 h.1).0), (rest.0 h.1).1), λ h. (h.0.0, rest.1 (h.0.1, h.1)))
 
 announced_joins : (p : Program) (s : State) (heard : List (List ℕ)) (events more : List Event)
-    → Runs p s heard (events ++ more) ↔ (Runs p s heard events × Runs p (run p s events) (heard_along p s heard events) more)
+    → Runs p s heard (events ++ more)
+    ↔ (Runs p s heard events × Runs p (run p s events) (heard_along p s heard events) more)
 announced_joins p s heard [] more = (λ h. (_, h), λ h. h.1)
 announced_joins p s heard (e ∷ es) more =
     let rest = announced_joins p (happens p s e) (heard_by p s heard e) es more in

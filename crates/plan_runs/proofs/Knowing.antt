@@ -1,19 +1,10 @@
 -- What a listener knows between two frames, before and after FIG 0/0.
-use Rattle.std.specs.Prelude.{◌||◌, ◌-◌}
-use Rattle.std.proofs.Common.{◌≡◌, ◌≢◌, ℕ, ◌+◌, ◌%◌, ◌<◌, ◌≤◌, ◌==◌, Bool, true, false, cond, Option, Some, None, is_some, inl, inr, refl, ap, sym, ◌∙◌, subst, arith}
-use Rattle.std.proofs.lemmas.Bool.{eq-eqb, ne_eqb}
-use Rattle.fib_codec.specs.Layouts.{layout_mode}
-use Rattle.mux_config.specs.Configuration.{Configuration}
-use Rattle.mux_types.specs.Entries.{EnsembleInformation}
-use Rattle.fib_codec.specs.declared.modes.Mode.{Mode}
-use Rattle.fib_codec.specs.declared.modes.Mode.TheVariants.{I, II, III, IV}
-use Rattle.fib_codec.specs.Modes.{count_step}
-use Rattle.fib_codec.specs.Ranges.{IsEnsembleInformation}
-use Rattle.fib_reader.specs.Raw.{Raw}
-use Rattle.fib_reader.specs.Listening.{Pictured, blank, Listening, untuned, is_made, swapped, awaiting, at_ensemble}
-use Rattle.plan_code.specs.declared.plan.Plan.{Plan}
-use Rattle.plan_code.specs.Machine.{State}
-use Rattle.plan_runs.specs.Frames.{is_noticed, is_first_noticed, ensemble_of, low_of_swap, left_after_frame}
+use Rattle.std.proofs.Common.{◌≡◌, ◌≢◌, ℕ, ◌+◌, ◌%◌, ◌<◌, ◌≤◌, ◌==◌, Bool, true, false, cond, Option, Some, None}
+use Rattle.std.proofs.Common.{is_some, inl, inr, refl, ap, sym, ◌∙◌, subst, arith}
+use Rattle.plan_runs.proofs.Names.{◌||◌, ◌-◌, eq-eqb, ne_eqb, or_right, layout_mode, Configuration, EnsembleInformation}
+use Rattle.plan_runs.proofs.Names.{Mode, I, count_step, IsEnsembleInformation, Raw, Pictured, blank, Listening, untuned}
+use Rattle.plan_runs.proofs.Names.{is_made, swapped, awaiting, at_ensemble, Plan, State, is_noticed, is_first_noticed}
+use Rattle.plan_runs.proofs.Names.{ensemble_of, low_of_swap, left_after_frame}
 use Rattle.plan_runs.proofs.Knowledge.{IsAhead}
 use Rattle.plan_runs.proofs.Tracked.{Airs, noticed, not_noticed, noticed_from, split_le}
 use Rattle.plan_runs.proofs.Carries.{IsNewly, LeftBy}
@@ -21,23 +12,29 @@ use Rattle.plan_runs.proofs.Right.{ensemble_right, ensemble_within}
 use Rattle.plan_runs.proofs.Announcing.{noticed_information}
 use Rattle.plan_runs.proofs.Pictures.{whole_of, IsPartial, weaker, empty_is_partial}
 use Rattle.plan_runs.proofs.Tuned.{NextBy, Tuned, tuned_weaker}
+use Rattle.plan_runs.proofs.Counted.{swap_not_now, swap_now, next_low}
+use Rattle.plan_runs.proofs.Parts.{clash}
 
 -- with k frames left until the swap: the low part of its count is awaited, or the notice has sent no FIG 0/0 so far
 abbrev pub Waits : Plan → ℕ → ℕ → Option ℕ → Type 0
-Waits plan k count None = plan.notice - k ≤ (count + (count_step (layout_mode plan.layout) - 1)) % count_step (layout_mode plan.layout)
+Waits plan k count None = plan.notice - k ≤ (count + (count_step (layout_mode plan.layout) - 1))
+    % count_step (layout_mode plan.layout)
 Waits plan k count (Some low) = low ≡ (count + k) % 5000 % 250
 
 -- before a frame
-pub record KnowsNotice (plan : Plan) (k : ℕ) (c n : Configuration) (count : ℕ) (C N : Raw → Type 0) (l : Listening) : Type 0 where
+pub record KnowsNotice (plan : Plan) (k : ℕ) (c n : Configuration) (count : ℕ) (C N : Raw → Type 0)
+    (l : Listening) : Type 0 where
   pub awaited : Option ℕ
   pub knows : Tuned true c n C N awaited l
   pub waits : Waits plan k count awaited
 
-pub record KnowsPending (plan : Plan) (k : ℕ) (c n : Configuration) (count : ℕ) (C N : Raw → Type 0) (l : Listening) : Type 0 where
+pub record KnowsPending (plan : Plan) (k : ℕ) (c n : Configuration) (count : ℕ) (C N : Raw → Type 0)
+    (l : Listening) : Type 0 where
   pub outside : plan.notice ≤ k → Tuned false c n C N None l
   pub inside : k < plan.notice → KnowsNotice plan k c n count C N l
 
-abbrev pub KnowsBy : Plan → Option ℕ → Configuration → Configuration → ℕ → (Raw → Type 0) → (Raw → Type 0) → Listening → Type 0
+abbrev pub KnowsBy : Plan → Option ℕ → Configuration → Configuration → ℕ → (Raw → Type 0) → (Raw → Type 0) → Listening
+    → Type 0
 KnowsBy plan None c n count C N l = Tuned false c n C N None l
 KnowsBy plan (Some k) c n count C N l = KnowsPending plan k c n count C N l
 
@@ -51,7 +48,8 @@ abbrev pub WaitsBy : Plan → Option ℕ → ℕ → Option ℕ → Type 0
 WaitsBy plan None count awaited = awaited ≡ None
 WaitsBy plan (Some k) count awaited = WaitsPending plan k count awaited
 
-pub record Ready (plan : Plan) (left : Option ℕ) (c n : Configuration) (count : ℕ) (C N : Raw → Type 0) (l : Listening) : Type 0 where
+pub record Ready (plan : Plan) (left : Option ℕ) (c n : Configuration) (count : ℕ) (C N : Raw → Type 0)
+    (l : Listening) : Type 0 where
   pub awaited : Option ℕ
   pub knows : Tuned (is_noticed plan.notice left) c n C N awaited l
   pub waits : WaitsBy plan left count awaited
@@ -61,18 +59,28 @@ pub record InFrame (plan : Plan) (u : State) (C N : Raw → Type 0) (l : Listeni
   pub awaited : Option ℕ
   pub knows : Tuned (is_noticed plan.notice u.left) u.current u.next C N awaited l
   pub waits : WaitsBy plan u.left u.count awaited
-  pub headless : is_noticed plan.notice u.left ≡ true → awaited ≡ None → u.count % count_step (layout_mode plan.layout) ≢ 0
+  pub headless : is_noticed plan.notice u.left ≡ true → awaited ≡ None
+      → u.count % count_step (layout_mode plan.layout) ≢ 0
 
 -- ---- from before the frame to the state that its bytes are made from
 
-retuned : (c n m : Configuration) (C N M : Raw → Type 0) (awaited : Option ℕ) (l : Listening) → Tuned false c n C N awaited l → Tuned false c m C M awaited l
-retuned c n m C N M awaited l h = record { is_tuned = h.is_tuned; current = h.current; next = h.next; awaits = h.awaits }
+retuned : (c n m : Configuration) (C N M : Raw → Type 0) (awaited : Option ℕ) (l : Listening)
+    → Tuned false c n C N awaited l → Tuned false c m C M awaited l
+retuned c n m C N M awaited l h =
+    record { is_tuned = h.is_tuned; current = h.current; next = h.next; awaits = h.awaits }
 
 -- a notice begins
-begun : (c n m : Configuration) (C N M : Raw → Type 0) (awaited : Option ℕ) (l : Listening) → ((x : Raw) → M x → ⊥) → Tuned false c n C N awaited l → Tuned true c m C M awaited l
+begun : (c n m : Configuration) (C N M : Raw → Type 0) (awaited : Option ℕ) (l : Listening) → ((x : Raw) → M x → ⊥)
+    → Tuned false c n C N awaited l → Tuned true c m C M awaited l
 begun c n m C N M awaited l none h =
-    let empty : IsPartial (whole_of m) M blank = weaker (whole_of m) (λ x. ⊥) M blank none (empty_is_partial (whole_of m)) in
-    record { is_tuned = h.is_tuned; current = h.current; next = subst (λ (p : Pictured). IsPartial (whole_of m) M p) (sym h.next) empty; awaits = h.awaits }
+    let empty : IsPartial (whole_of m) M blank =
+    weaker (whole_of m) (λ x. ⊥) M blank none (empty_is_partial (whole_of m)) in
+    record {
+      is_tuned = h.is_tuned;
+      current = h.current;
+      next = subst (λ (p : Pictured). IsPartial (whole_of m) M p) (sym h.next) empty;
+      awaits = h.awaits;
+    }
 
 -- what is known of the next picture if a notice continues
 abbrev pub Still : Plan → Option ℕ → (Raw → Type 0) → Raw → Type 0
@@ -84,10 +92,12 @@ none_still plan k N x same h =
     let clash : true ≡ false = sym yes ∙ h.0 in
     absurd cc
 
-as_noticed : (a b : Bool) (c n : Configuration) (C N : Raw → Type 0) (awaited : Option ℕ) (l : Listening) → a ≡ b → Tuned b c n C N awaited l → Tuned a c n C N awaited l
+as_noticed : (a b : Bool) (c n : Configuration) (C N : Raw → Type 0) (awaited : Option ℕ) (l : Listening) → a ≡ b
+    → Tuned b c n C N awaited l → Tuned a c n C N awaited l
 as_noticed a b c n C N awaited l e h = subst (λ (x : Bool). Tuned x c n C N awaited l) (sym e) h
 
-ready_early : (plan : Plan) (k : ℕ) (c n m : Configuration) (count : ℕ) (C N : Raw → Type 0) (l : Listening) → plan.notice ≤ k → 1 ≤ k → Tuned false c n C N None l
+ready_early : (plan : Plan) (k : ℕ) (c n m : Configuration) (count : ℕ) (C N : Raw → Type 0) (l : Listening)
+    → plan.notice ≤ k → 1 ≤ k → Tuned false c n C N None l
     → Ready plan (Some k) c m count C (Still plan (Some k) N) l
 ready_early plan k c n m count C N l late some h =
     elim (split_le k plan.notice) [
@@ -95,25 +105,30 @@ ready_early plan k c n m count C N l late some h =
           let same : k ≡ plan.notice = omega (arith, within, late) in
           record {
             awaited = None;
-            knows = as_noticed (is_noticed plan.notice (Some k)) true c m C (Still plan (Some k) N) None l (noticed plan.notice k some within)
+            knows = as_noticed (is_noticed plan.notice (Some k)) true c m C (Still plan (Some k) N) None l
+                (noticed plan.notice k some within)
                 (begun c n m C N (Still plan (Some k) N) None l (λ x. none_still plan k N x same) h);
             waits = record { outside = λ past. refl; inside = λ inside. omega (arith, same) };
           }
       | inr past ↦
           record {
             awaited = None;
-            knows = as_noticed (is_noticed plan.notice (Some k)) false c m C (Still plan (Some k) N) None l (not_noticed plan.notice k past)
+            knows = as_noticed (is_noticed plan.notice (Some k)) false c m C (Still plan (Some k) N) None l
+                (not_noticed plan.notice k past)
                 (retuned c n m C N (Still plan (Some k) N) None l h);
             waits = record { outside = λ past. refl; inside = λ inside. absurd (omega (arith, past, inside)) };
           }
     ]
 
-ready_newly : (plan : Plan) (left : Option ℕ) (c n m : Configuration) (count : ℕ) (C N : Raw → Type 0) (l : Listening) → IsAhead left → IsNewly plan count left → Tuned false c n C N None l
+ready_newly : (plan : Plan) (left : Option ℕ) (c n m : Configuration) (count : ℕ) (C N : Raw → Type 0) (l : Listening)
+    → IsAhead left → IsNewly plan count left → Tuned false c n C N None l
     → Ready plan left c m count C (Still plan left N) l
-ready_newly plan None c n m count C N l ahead new h = record { awaited = None; knows = retuned c n m C N (Still plan None N) None l h; waits = refl }
+ready_newly plan None c n m count C N l ahead new h =
+    record { awaited = None; knows = retuned c n m C N (Still plan None N) None l h; waits = refl }
 ready_newly plan (Some k) c n m count C N l ahead new h = ready_early plan k c n m count C N l new.0 ahead h
 
-ready_pending : (plan : Plan) (k : ℕ) (c n : Configuration) (count : ℕ) (C N : Raw → Type 0) (l : Listening) → 1 ≤ k → KnowsPending plan k c n count C N l
+ready_pending : (plan : Plan) (k : ℕ) (c n : Configuration) (count : ℕ) (C N : Raw → Type 0) (l : Listening) → 1 ≤ k
+    → KnowsPending plan k c n count C N l
     → Ready plan (Some k) c n count C (Still plan (Some k) N) l
 ready_pending plan k c n count C N l some h =
     elim (split_le plan.notice k) [
@@ -122,14 +137,16 @@ ready_pending plan k c n count C N l some h =
           let at = h.inside below in
           record {
             awaited = at.awaited;
-            knows = as_noticed (is_noticed plan.notice (Some k)) true c n C (Still plan (Some k) N) at.awaited l (noticed plan.notice k some (omega (arith, below)))
+            knows = as_noticed (is_noticed plan.notice (Some k)) true c n C (Still plan (Some k) N) at.awaited l
+                (noticed plan.notice k some (omega (arith, below)))
                 (tuned_weaker true c n C C N (Still plan (Some k) N) at.awaited l (λ x y. y) (λ x y. y.1) at.knows);
             waits = record { outside = λ past. absurd (omega (arith, past, below)); inside = λ inside. at.waits };
           }
     ]
 
 -- no swap is due
-pub ready_by : (plan : Plan) (before left : Option ℕ) (c n m : Configuration) (count : ℕ) (C N : Raw → Type 0) (l : Listening) → IsAhead before → IsAhead left → LeftBy plan count before n left m
+pub ready_by : (plan : Plan) (before left : Option ℕ) (c n m : Configuration) (count : ℕ) (C N : Raw → Type 0)
+    (l : Listening) → IsAhead before → IsAhead left → LeftBy plan count before n left m
     → KnowsBy plan before c n count C N l → Ready plan left c m count C (Still plan left N) l
 ready_by plan None left c n m count C N l ahead later g h = ready_newly plan left c n m count C N l later g h
 ready_by plan (Some k) left c n m count C N l ahead later g h =
@@ -141,19 +158,25 @@ ready_by plan (Some k) left c n m count C N l ahead later g h =
 
 heard_plain : (e : EnsembleInformation) (l : Listening) → is_made l.awaited e ≡ false
     → at_ensemble e l ≡ awaiting e (record { tuned = true; current = l.current; next = l.next; awaited = l.awaited })
-heard_plain e l made = ap (λ (b : Bool). let r : Listening = cond b (swapped l) l in awaiting e (record { tuned = true; current = r.current; next = r.next; awaited = r.awaited })) made
+heard_plain e l made = ap (λ (b : Bool). let r : Listening = cond b (swapped l) l in
+    awaiting e (record { tuned = true; current = r.current; next = r.next; awaited = r.awaited })) made
 
 heard_swap : (e : EnsembleInformation) (l : Listening) → is_made l.awaited e ≡ true
     → at_ensemble e l ≡ awaiting e (record { tuned = true; current = l.next; next = blank; awaited = None })
-heard_swap e l made = ap (λ (b : Bool). let r : Listening = cond b (swapped l) l in awaiting e (record { tuned = true; current = r.current; next = r.next; awaited = r.awaited })) made
+heard_swap e l made = ap (λ (b : Bool). let r : Listening = cond b (swapped l) l in
+    awaiting e (record { tuned = true; current = r.current; next = r.next; awaited = r.awaited })) made
 
-awaits_new : (e : EnsembleInformation) (l : Listening) → (e.change == 0) ≡ false → awaiting e l ≡ record { tuned = l.tuned; current = l.current; next = l.next; awaited = e.occurrence }
-awaits_new e l some = ap (λ (b : Bool). cond b l (let r : Listening = record { tuned = l.tuned; current = l.current; next = l.next; awaited = e.occurrence } in r)) some
+awaits_new : (e : EnsembleInformation) (l : Listening) → (e.change == 0) ≡ false
+    → awaiting e l ≡ record { tuned = l.tuned; current = l.current; next = l.next; awaited = e.occurrence }
+awaits_new e l some = ap (λ (b : Bool). cond b l (let r : Listening =
+    record { tuned = l.tuned; current = l.current; next = l.next; awaited = e.occurrence } in r)) some
 
 awaits_same : (e : EnsembleInformation) (l : Listening) → (e.change == 0) ≡ true → awaiting e l ≡ l
-awaits_same e l none = ap (λ (b : Bool). cond b l (let r : Listening = record { tuned = l.tuned; current = l.current; next = l.next; awaited = e.occurrence } in r)) none
+awaits_same e l none = ap (λ (b : Bool). cond b l (let r : Listening =
+    record { tuned = l.tuned; current = l.current; next = l.next; awaited = e.occurrence } in r)) none
 
-some_change : (e : EnsembleInformation) (low : ℕ) → IsEnsembleInformation e → e.occurrence ≡ Some low → (e.change == 0) ≡ false
+some_change : (e : EnsembleInformation) (low : ℕ) → IsEnsembleInformation e → e.occurrence ≡ Some low
+    → (e.change == 0) ≡ false
 some_change e low h is =
     let more : 0 < e.change = h.flagged.0 (ap is_some is) in
     ne_eqb e.change 0 (λ none. omega (arith, more, none))
@@ -161,25 +184,25 @@ some_change e low h is =
 no_change : (e : EnsembleInformation) → e.change ≡ 0 → (e.change == 0) ≡ true
 no_change e none = eq-eqb e.change 0 none
 
-clash : {X : Type 0} (b : Bool) → b ≡ true → b ≡ false → X
-clash b e f = absurd cc
-
 -- the low part of the swap's count is awaited
-waits_low : (plan : Plan) (left : Option ℕ) (count : ℕ) → is_noticed plan.notice left ≡ true → WaitsBy plan left count (Some (low_of_swap count left))
+waits_low : (plan : Plan) (left : Option ℕ) (count : ℕ) → is_noticed plan.notice left ≡ true
+    → WaitsBy plan left count (Some (low_of_swap count left))
 waits_low plan None count e = absurd cc
 waits_low plan (Some k) count e =
     let both = noticed_from plan.notice k e in
     record { outside = λ past. absurd (omega (arith, past, both.1)); inside = λ inside. refl }
 
 -- nothing is awaited outside a notice
-waits_none : (plan : Plan) (left : Option ℕ) (count : ℕ) → IsAhead left → is_noticed plan.notice left ≡ false → WaitsBy plan left count None
+waits_none : (plan : Plan) (left : Option ℕ) (count : ℕ) → IsAhead left → is_noticed plan.notice left ≡ false
+    → WaitsBy plan left count None
 waits_none plan None count ahead e = refl
 waits_none plan (Some k) count ahead e = record {
   outside = λ past. refl;
   inside = λ inside. clash (is_noticed plan.notice (Some k)) (noticed plan.notice k ahead inside) e;
 }
 
-none_awaited : (plan : Plan) (left : Option ℕ) (count : ℕ) (awaited : Option ℕ) → IsAhead left → is_noticed plan.notice left ≡ false → WaitsBy plan left count awaited → awaited ≡ None
+none_awaited : (plan : Plan) (left : Option ℕ) (count : ℕ) (awaited : Option ℕ) → IsAhead left
+    → is_noticed plan.notice left ≡ false → WaitsBy plan left count awaited → awaited ≡ None
 none_awaited plan None count awaited ahead e w = w
 none_awaited plan (Some k) count awaited ahead e w =
     elim (split_le k plan.notice) [
@@ -188,7 +211,8 @@ none_awaited plan (Some k) count awaited ahead e w =
     ]
 
 -- a tuned listener with these pictures, after the change flags of FIG 0/0
-settled_by : (plan : Plan) (u : State) → Airs plan u → (C N : Raw → Type 0) (pc pn : Pictured) (a : Option ℕ) → IsPartial (whole_of u.current) C pc → NextBy (is_noticed plan.notice u.left) u.next N pn
+settled_by : (plan : Plan) (u : State) → Airs plan u → (C N : Raw → Type 0) (pc pn : Pictured) (a : Option ℕ)
+    → IsPartial (whole_of u.current) C pc → NextBy (is_noticed plan.notice u.left) u.next N pn
     → (is_noticed plan.notice u.left ≡ false → a ≡ None) → (b : Bool) → is_noticed plan.notice u.left ≡ b
     → InFrame plan u C N (awaiting (ensemble_of plan u) (record { tuned = true; current = pc; next = pn; awaited = a }))
 settled_by plan u airs C N pc pn a is_part next none true e =
@@ -197,7 +221,9 @@ settled_by plan u airs C N pc pn a is_part next none true e =
     let base : Listening = record { tuned = true; current = pc; next = pn; awaited = a } in
     let with_low : Option ℕ → Listening = λ o. record { tuned = true; current = pc; next = pn; awaited = o } in
     let heard : awaiting (ensemble_of plan u) base ≡ with_low (Some low) =
-    awaits_new (ensemble_of plan u) base (some_change (ensemble_of plan u) low (ensemble_within plan u airs) info.occurrence) ∙ ap with_low info.occurrence in
+    awaits_new (ensemble_of plan u) base
+    (some_change (ensemble_of plan u) low (ensemble_within plan u airs) info.occurrence)
+    ∙ ap with_low info.occurrence in
     let after : InFrame plan u C N (with_low (Some low)) =
     record {
       awaited = Some low;
@@ -209,7 +235,9 @@ settled_by plan u airs C N pc pn a is_part next none true e =
 settled_by plan u airs C N pc pn a is_part next none false e =
     let base : Listening = record { tuned = true; current = pc; next = pn; awaited = a } in
     let with_low : Option ℕ → Listening = λ o. record { tuned = true; current = pc; next = pn; awaited = o } in
-    let heard : awaiting (ensemble_of plan u) base ≡ with_low None = awaits_same (ensemble_of plan u) base (no_change (ensemble_of plan u) ((ensemble_right plan u).unflagged e).0) ∙ ap with_low (none e) in
+    let heard : awaiting (ensemble_of plan u) base ≡ with_low None =
+    awaits_same (ensemble_of plan u) base (no_change (ensemble_of plan u) ((ensemble_right plan u).unflagged e).0)
+    ∙ ap with_low (none e) in
     let after : InFrame plan u C N (with_low None) =
     record {
       awaited = None;
@@ -219,28 +247,30 @@ settled_by plan u airs C N pc pn a is_part next none false e =
     } in
     subst (λ (l : Listening). InFrame plan u C N l) (sym heard) after
 
-settled : (plan : Plan) (u : State) → Airs plan u → (C N : Raw → Type 0) (pc pn : Pictured) (a : Option ℕ) → IsPartial (whole_of u.current) C pc → NextBy (is_noticed plan.notice u.left) u.next N pn
+settled : (plan : Plan) (u : State) → Airs plan u → (C N : Raw → Type 0) (pc pn : Pictured) (a : Option ℕ)
+    → IsPartial (whole_of u.current) C pc → NextBy (is_noticed plan.notice u.left) u.next N pn
     → (is_noticed plan.notice u.left ≡ false → a ≡ None)
     → InFrame plan u C N (awaiting (ensemble_of plan u) (record { tuned = true; current = pc; next = pn; awaited = a }))
-settled plan u airs C N pc pn a is_part next none = settled_by plan u airs C N pc pn a is_part next none (is_noticed plan.notice u.left) refl
+settled plan u airs C N pc pn a is_part next none =
+    settled_by plan u airs C N pc pn a is_part next none (is_noticed plan.notice u.left) refl
 
 -- ---- no swap is assumed in a frame that makes none
 
-swap_not_now : (count low k : ℕ) → count < 5000 → 1 ≤ k → k < 250 → low ≡ (count + k) % 5000 % 250 → count % 250 ≢ low
-swap_not_now count low k below some short is e = omega (arith, below, some, short, is, e)
-
-not_made_by : (plan : Plan) (u : State) → Airs plan u → plan.notice ≤ 248 → (a left : Option ℕ) → u.left ≡ left → IsAhead left → WaitsBy plan left u.count a → is_made a (ensemble_of plan u) ≡ false
+not_made_by : (plan : Plan) (u : State) → Airs plan u → plan.notice ≤ 248 → (a left : Option ℕ) → u.left ≡ left
+    → IsAhead left → WaitsBy plan left u.count a → is_made a (ensemble_of plan u) ≡ false
 not_made_by plan u airs short None left is ahead w = refl
 not_made_by plan u airs short (Some low) None is ahead w = absurd cc
 not_made_by plan u airs short (Some low) (Some k) is ahead w =
     let e : EnsembleInformation = ensemble_of plan u in
     elim (split_le k plan.notice) [
       | inl within ↦
-          let on : is_noticed plan.notice u.left ≡ true = ap (is_noticed plan.notice) is ∙ noticed plan.notice k ahead within in
+          let on : is_noticed plan.notice u.left ≡ true =
+          ap (is_noticed plan.notice) is ∙ noticed plan.notice k ahead within in
           let info = noticed_information plan u on in
           let change = some_change e (low_of_swap u.count u.left) (ensemble_within plan u airs) info.occurrence in
           let now : low ≡ (u.count + k) % 5000 % 250 = w.inside within in
-          let apart : u.count % 250 ≢ low = swap_not_now u.count low k airs.count ahead (omega (arith, within, short)) now in
+          let apart : u.count % 250 ≢ low =
+          swap_not_now u.count low k airs.count ahead (omega (arith, within, short)) now in
           let count : e.count ≡ u.count = (ensemble_right plan u).count in
           ap (λ (b : Bool). b || (e.count % 250 == low)) change
           ∙ ap (λ (n : ℕ). n % 250 == low) count
@@ -250,84 +280,92 @@ not_made_by plan u airs short (Some low) (Some k) is ahead w =
           absurd cc
     ]
 
-pub headed_ready : (plan : Plan) (u : State) (C N : Raw → Type 0) (l : Listening) → Airs plan u → plan.notice ≤ 248 → Ready plan u.left u.current u.next u.count C N l → InFrame plan u C N (at_ensemble (ensemble_of plan u) l)
+pub headed_ready : (plan : Plan) (u : State) (C N : Raw → Type 0) (l : Listening) → Airs plan u → plan.notice ≤ 248
+    → Ready plan u.left u.current u.next u.count C N l → InFrame plan u C N (at_ensemble (ensemble_of plan u) l)
 headed_ready plan u C N l airs short h =
     let e : EnsembleInformation = ensemble_of plan u in
-    let made : is_made l.awaited e ≡ false = ap (λ (o : Option ℕ). is_made o e) h.knows.awaits ∙ not_made_by plan u airs short h.awaited u.left refl airs.ahead h.waits in
+    let made : is_made l.awaited e ≡ false = ap (λ (o : Option ℕ). is_made o e) h.knows.awaits
+    ∙ not_made_by plan u airs short h.awaited u.left refl airs.ahead h.waits in
     subst (λ (x : Listening). InFrame plan u C N x) (sym (heard_plain e l made))
-    (settled plan u airs C N l.current l.next l.awaited h.knows.current h.knows.next (λ off. h.knows.awaits ∙ none_awaited plan u.left u.count h.awaited airs.ahead off h.waits))
+    (settled plan u airs C N l.current l.next l.awaited h.knows.current h.knows.next
+    (λ off. h.knows.awaits ∙ none_awaited plan u.left u.count h.awaited airs.ahead off h.waits))
 
-pub unheaded_ready : (plan : Plan) (u : State) (C N : Raw → Type 0) (l : Listening) → u.count % count_step (layout_mode plan.layout) ≢ 0 → Ready plan u.left u.current u.next u.count C N l → InFrame plan u C N l
-unheaded_ready plan u C N l apart h = record { awaited = h.awaited; knows = h.knows; waits = h.waits; headless = λ on none. apart }
+pub unheaded_ready : (plan : Plan) (u : State) (C N : Raw → Type 0) (l : Listening)
+    → u.count % count_step (layout_mode plan.layout) ≢ 0 → Ready plan u.left u.current u.next u.count C N l
+    → InFrame plan u C N l
+unheaded_ready plan u C N l apart h =
+    record { awaited = h.awaited; knows = h.knows; waits = h.waits; headless = λ on none. apart }
 
 -- ---- the swap
 
-swap_now : (count low : ℕ) → count < 5000 → low ≡ (count + 0) % 5000 % 250 → count % 250 ≡ low
-swap_now count low below is = omega (arith, below, is)
-
 long_notice : (m : Mode) (notice count : ℕ) → 12 ≤ notice → notice - 0 ≤ (count + (count_step m - 1)) % count_step m → ⊥
 long_notice I notice count long h = omega (arith, long, h)
-long_notice II notice count long h = omega (arith, long, h)
-long_notice III notice count long h = omega (arith, long, h)
-long_notice IV notice count long h = omega (arith, long, h)
+long_notice _ notice count long h = omega (arith, long, h)
 
-or_last : (a b : Bool) → b ≡ true → (a || b) ≡ true
-or_last true b e = refl
-or_last false b e = e
-
-made_by : (plan : Plan) (u : State) (count : ℕ) (a : Option ℕ) → 12 ≤ plan.notice → count < 5000 → u.count ≡ count → Waits plan 0 count a → is_made a (ensemble_of plan u) ≡ true
+made_by : (plan : Plan) (u : State) (count : ℕ) (a : Option ℕ) → 12 ≤ plan.notice → count < 5000 → u.count ≡ count
+    → Waits plan 0 count a → is_made a (ensemble_of plan u) ≡ true
 made_by plan u count None long below same w = absurd (long_notice (layout_mode plan.layout) plan.notice count long w)
 made_by plan u count (Some low) long below same w =
     let e : EnsembleInformation = ensemble_of plan u in
     let count_is : e.count ≡ count = (ensemble_right plan u).count ∙ same in
-    or_last (e.change == 0) (e.count % 250 == low) (ap (λ (n : ℕ). n % 250 == low) count_is ∙ eq-eqb (count % 250) low (swap_now count low below w))
+    or_right (e.change == 0) (e.count % 250 == low) (ap (λ (n : ℕ). n % 250 == low) count_is
+    ∙ eq-eqb (count % 250) low (swap_now count low below w))
 
 next_blank : (noticed : Bool) (n : Configuration) → NextBy noticed n (λ x. ⊥) blank
 next_blank true n = empty_is_partial (whole_of n)
 next_blank false n = refl
 
-pub headed_swap : (plan : Plan) (u : State) (c n : Configuration) (count : ℕ) (C N : Raw → Type 0) (l : Listening) → Airs plan u → 12 ≤ plan.notice → count < 5000 → u.count ≡ count → u.current ≡ n
+pub headed_swap : (plan : Plan) (u : State) (c n : Configuration) (count : ℕ) (C N : Raw → Type 0) (l : Listening)
+    → Airs plan u → 12 ≤ plan.notice → count < 5000 → u.count ≡ count → u.current ≡ n
     → KnowsPending plan 0 c n count C N l → InFrame plan u N (λ x. ⊥) (at_ensemble (ensemble_of plan u) l)
 headed_swap plan u c n count C N l airs long below same current h =
     let e : EnsembleInformation = ensemble_of plan u in
     let at = h.inside (omega (arith, long)) in
-    let made : is_made l.awaited e ≡ true = ap (λ (o : Option ℕ). is_made o e) at.knows.awaits ∙ made_by plan u count at.awaited long below same at.waits in
-    let is_part : IsPartial (whole_of u.current) N l.next = subst (λ (x : Configuration). IsPartial (whole_of x) N l.next) (sym current) at.knows.next in
+    let made : is_made l.awaited e ≡ true = ap (λ (o : Option ℕ). is_made o e) at.knows.awaits
+    ∙ made_by plan u count at.awaited long below same at.waits in
+    let is_part : IsPartial (whole_of u.current) N l.next =
+    subst (λ (x : Configuration). IsPartial (whole_of x) N l.next) (sym current) at.knows.next in
     subst (λ (x : Listening). InFrame plan u N (λ x. ⊥) x) (sym (heard_swap e l made))
-    (settled plan u airs N (λ x. ⊥) l.next blank None is_part (next_blank (is_noticed plan.notice u.left) u.next) (λ off. refl))
+    (settled plan u airs N (λ x. ⊥) l.next blank None is_part (next_blank (is_noticed plan.notice u.left) u.next)
+    (λ off. refl))
 
 -- the first FIG 0/0 that is heard
-pub headed_untuned : (plan : Plan) (u : State) → Airs plan u → InFrame plan u (λ x. ⊥) (λ x. ⊥) (at_ensemble (ensemble_of plan u) untuned)
+pub headed_untuned : (plan : Plan) (u : State) → Airs plan u
+    → InFrame plan u (λ x. ⊥) (λ x. ⊥) (at_ensemble (ensemble_of plan u) untuned)
 headed_untuned plan u airs =
     subst (λ (x : Listening). InFrame plan u (λ x. ⊥) (λ x. ⊥) x) (sym (heard_plain (ensemble_of plan u) untuned refl))
-    (settled plan u airs (λ x. ⊥) (λ x. ⊥) blank blank None (empty_is_partial (whole_of u.current)) (next_blank (is_noticed plan.notice u.left) u.next) (λ off. refl))
+    (settled plan u airs (λ x. ⊥) (λ x. ⊥) blank blank None (empty_is_partial (whole_of u.current))
+    (next_blank (is_noticed plan.notice u.left) u.next) (λ off. refl))
 
 -- ---- after the frame
 
-waits_on : (m : Mode) (notice k count : ℕ) → 1 ≤ k → k ≤ notice → count % count_step m ≢ 0 → notice - k ≤ (count + (count_step m - 1)) % count_step m
+waits_on : (m : Mode) (notice k count : ℕ) → 1 ≤ k → k ≤ notice → count % count_step m ≢ 0
+    → notice - k ≤ (count + (count_step m - 1)) % count_step m
     → notice - (k - 1) ≤ ((count + 1) % 5000 + (count_step m - 1)) % count_step m
 waits_on I notice k count some within apart h = omega (arith, some, within, apart, h)
-waits_on II notice k count some within apart h = omega (arith, some, within, apart, h)
-waits_on III notice k count some within apart h = omega (arith, some, within, apart, h)
-waits_on IV notice k count some within apart h = omega (arith, some, within, apart, h)
+waits_on _ notice k count some within apart h = omega (arith, some, within, apart, h)
 
-waits_low_on : (count low k : ℕ) → 1 ≤ k → low ≡ (count + k) % 5000 % 250 → low ≡ ((count + 1) % 5000 + (k - 1)) % 5000 % 250
-waits_low_on count low k some is = omega (arith, some, is)
+waits_later : (plan : Plan) (k count : ℕ) (a : Option ℕ) → 1 ≤ k → k ≤ plan.notice
+    → (a ≡ None → count % count_step (layout_mode plan.layout) ≢ 0) → Waits plan k count a
+    → Waits plan (k - 1) ((count + 1) % 5000) a
+waits_later plan k count None some within headless w =
+    waits_on (layout_mode plan.layout) plan.notice k count some within (headless refl) w
+waits_later plan k count (Some low) some within headless w = next_low count low k some w
 
-waits_later : (plan : Plan) (k count : ℕ) (a : Option ℕ) → 1 ≤ k → k ≤ plan.notice → (a ≡ None → count % count_step (layout_mode plan.layout) ≢ 0) → Waits plan k count a → Waits plan (k - 1) ((count + 1) % 5000) a
-waits_later plan k count None some within headless w = waits_on (layout_mode plan.layout) plan.notice k count some within (headless refl) w
-waits_later plan k count (Some low) some within headless w = waits_low_on count low k some w
-
-as_awaited : (noticed : Bool) (c n : Configuration) (C N : Raw → Type 0) (a b : Option ℕ) (l : Listening) → a ≡ b → Tuned noticed c n C N a l → Tuned noticed c n C N b l
+as_awaited : (noticed : Bool) (c n : Configuration) (C N : Raw → Type 0) (a b : Option ℕ) (l : Listening) → a ≡ b
+    → Tuned noticed c n C N a l → Tuned noticed c n C N b l
 as_awaited noticed c n C N a b l e h = subst (λ (o : Option ℕ). Tuned noticed c n C N o l) e h
 
-after_by : (plan : Plan) (left : Option ℕ) (c n : Configuration) (count : ℕ) (C N : Raw → Type 0) (a : Option ℕ) (l : Listening) → IsAhead left → Tuned (is_noticed plan.notice left) c n C N a l → WaitsBy plan left count a
-    → (is_noticed plan.notice left ≡ true → a ≡ None → count % count_step (layout_mode plan.layout) ≢ 0) → KnowsBy plan (left_after_frame left) c n ((count + 1) % 5000) C N l
+after_by : (plan : Plan) (left : Option ℕ) (c n : Configuration) (count : ℕ) (C N : Raw → Type 0) (a : Option ℕ)
+    (l : Listening) → IsAhead left → Tuned (is_noticed plan.notice left) c n C N a l → WaitsBy plan left count a
+    → (is_noticed plan.notice left ≡ true → a ≡ None → count % count_step (layout_mode plan.layout) ≢ 0)
+    → KnowsBy plan (left_after_frame left) c n ((count + 1) % 5000) C N l
 after_by plan None c n count C N a l ahead h w headless = as_awaited false c n C N a None l w h
 after_by plan (Some k) c n count C N a l ahead h w headless = record {
   outside = λ late.
       let past : plan.notice < k = omega (arith, late, ahead) in
-      as_awaited false c n C N a None l (w.outside past) (as_noticed false (is_noticed plan.notice (Some k)) c n C N a l (sym (not_noticed plan.notice k past)) h);
+      as_awaited false c n C N a None l (w.outside past)
+      (as_noticed false (is_noticed plan.notice (Some k)) c n C N a l (sym (not_noticed plan.notice k past)) h);
   inside = λ below.
       let within : k ≤ plan.notice = omega (arith, below, ahead) in
       let on = noticed plan.notice k ahead within in
@@ -338,5 +376,7 @@ after_by plan (Some k) c n count C N a l ahead h w headless = record {
       };
 }
 
-pub knows_after : (plan : Plan) (u : State) (C N : Raw → Type 0) (l : Listening) → Airs plan u → InFrame plan u C N l → KnowsBy plan (left_after_frame u.left) u.current u.next ((u.count + 1) % 5000) C N l
-knows_after plan u C N l airs h = after_by plan u.left u.current u.next u.count C N h.awaited l airs.ahead h.knows h.waits h.headless
+pub knows_after : (plan : Plan) (u : State) (C N : Raw → Type 0) (l : Listening) → Airs plan u → InFrame plan u C N l
+    → KnowsBy plan (left_after_frame u.left) u.current u.next ((u.count + 1) % 5000) C N l
+knows_after plan u C N l airs h =
+    after_by plan u.left u.current u.next u.count C N h.awaited l airs.ahead h.knows h.waits h.headless

@@ -1,15 +1,7 @@
 -- What a typing says about a state, now and some frames later.
-use Rattle.std.specs.Prelude.{slice_index}
 use Rattle.std.proofs.Common.{◌≡◌, ◌≢◌, ℕ, ◌+◌, ◌*◌, ◌<◌, ◌≤◌, true, List, length, Option, Some, None, ◌⊎◌}
-use Rattle.mux_config.specs.Configuration.{Configuration}
-use Rattle.mux_config.specs.Sound.{IsSound}
-use Rattle.fib_carousel.specs.Pages.{page_set, rounds}
-use Rattle.plan_code.specs.declared.plan.Plan.{Plan}
-use Rattle.plan_code.specs.declared.flags.Counters.{Counters}
-use Rattle.plan_code.specs.declared.label.Swap.{Swap}
-use Rattle.plan_code.specs.declared.label.Swap.TheVariants.{Idle, Within, Perhaps}
-use Rattle.plan_code.specs.Flags.{is_set}
-use Rattle.plan_verifier.specs.Typing.{Known}
+use Rattle.plan_runs.proofs.Names.{slice_index, Configuration, IsSound, page_set, rounds, Plan, Counters, Swap, Idle}
+use Rattle.plan_runs.proofs.Names.{Within, Perhaps, is_set, Known}
 
 -- no swap is pending, and these are the configurations
 pub record IsIdleAs (a b : Configuration) (left : Option ℕ) (c n : Configuration) : Type 0 where
@@ -18,7 +10,8 @@ pub record IsIdleAs (a b : Configuration) (left : Option ℕ) (c n : Configurati
   pub next : n ≡ b
 
 -- a swap is pending within these bounds, and these are the configurations
-pub record IsPendingAs (a b : Configuration) (first least greatest : ℕ) (left : Option ℕ) (c n : Configuration) : Type 0 where
+pub record IsPendingAs (a b : Configuration) (first least greatest : ℕ) (left : Option ℕ) (c n : Configuration) : Type
+    0 where
   pub frames : ℕ
   pub is : left ≡ Some frames
   pub ahead : first ≤ frames

@@ -1,16 +1,10 @@
 -- The frames heard of a notice are the last ones that a run sent.
-use Rattle.std.proofs.Common.{◌≡◌, ℕ, zero, suc, ◌-◌, ◌≤◌, Bool, true, false, cond, List, [], ◌∷◌, ◌++◌, length, Option, Some, None, refl, sym, ap, append_assoc, ◌∙◌, arith, inl, inr}
-use Rattle.std.proofs.lemmas.List.{append-nil}
-use Rattle.plan_code.specs.declared.plan.Plan.{Plan}
-use Rattle.plan_code.specs.Program.{Program}
-use Rattle.plan_code.specs.Machine.{State}
-use Rattle.plan_verifier.specs.Typing.{Known}
-use Rattle.plan_runs.specs.declared.event.Event.{Event}
-use Rattle.plan_runs.specs.declared.event.Event.TheVariants.{Contact, Frame}
-use Rattle.plan_runs.specs.Frames.{is_due, is_noticed, shown, frame_bytes, left_after_frame, with_next_counts, after_frame}
-use Rattle.plan_runs.specs.Runs.{happens, run, run_frames}
-use Rattle.plan_runs.specs.Announced.{heard_before, notice_frames, notice_begin, heard_left, heard_of, heard_along}
-use Rattle.plan_runs.specs.LastSent.{HeardWasSent}
+use Rattle.std.proofs.Common.{◌≡◌, ℕ, zero, suc, ◌-◌, ◌≤◌, Bool, true, false, cond, List, [], ◌∷◌, ◌++◌, length, Option}
+use Rattle.std.proofs.Common.{Some, None, refl, sym, ap, append_assoc, ◌∙◌, arith, inl, inr}
+use Rattle.plan_runs.proofs.Names.{append-nil, Plan, Program, State, Known, Event, Contact, Frame, is_due, is_noticed}
+use Rattle.plan_runs.proofs.Names.{shown, frame_bytes, left_after_frame, with_next_counts, after_frame, happens, run}
+use Rattle.plan_runs.proofs.Names.{run_frames, heard_before, notice_frames, notice_begin, heard_left, heard_of}
+use Rattle.plan_runs.proofs.Names.{heard_along, HeardWasSent}
 use Rattle.plan_runs.proofs.Knowledge.{IsAhead}
 use Rattle.plan_runs.proofs.Passing.{due_is}
 use Rattle.plan_runs.proofs.Tracked.{noticed, split_le}
@@ -25,12 +19,15 @@ heard_before_notice plan s l is past =
     let none : plan.notice - l ≡ 0 = omega (arith, past) in
     ap (heard_left plan s) is ∙ ap (λ (n : ℕ). notice_frames plan n (notice_begin plan l s)) none
 
-unnoticed_left : (plan : Plan) (u : State) (left : Option ℕ) → u.left ≡ left → IsAhead left → is_noticed plan.notice left ≡ false → heard_of plan (with_next_counts plan u) ≡ []
-unnoticed_left plan u None is ahead off = ap (λ (o : Option ℕ). heard_left plan (with_next_counts plan u) (left_after_frame o)) is
+unnoticed_left : (plan : Plan) (u : State) (left : Option ℕ) → u.left ≡ left → IsAhead left
+    → is_noticed plan.notice left ≡ false → heard_of plan (with_next_counts plan u) ≡ []
+unnoticed_left plan u None is ahead off =
+    ap (λ (o : Option ℕ). heard_left plan (with_next_counts plan u) (left_after_frame o)) is
 unnoticed_left plan u (Some l) is ahead off =
     elim (split_le l plan.notice) [
       | inl within ↦ let clash : true ≡ false = sym (noticed plan.notice l ahead within) ∙ off in absurd cc
-      | inr past ↦ heard_before_notice plan (with_next_counts plan u) (l - 1) (ap left_after_frame is) (omega (arith, past))
+      | inr past ↦ heard_before_notice plan (with_next_counts plan u) (l - 1) (ap left_after_frame is)
+          (omega (arith, past))
     ]
 
 -- ---- frame by frame
@@ -40,36 +37,49 @@ abbrev IsEndOf : List (List ℕ) → List (List ℕ) → Type 0
 IsEndOf heard sent = (earlier : List (List ℕ)) × (sent ≡ earlier ++ heard)
 
 -- before a frame, what was heard is dropped if a swap is due
-begun : (s : State) (heard sent : List (List ℕ)) (due : Bool) → is_due s.left ≡ due → IsEndOf heard sent → IsEndOf (heard_before s heard) sent
-begun s heard sent true e h = (sent, sym (append-nil sent) ∙ ap (λ xs. sent ++ xs) (sym (ap (λ (b : Bool). cond b [] heard) e)))
+begun : (s : State) (heard sent : List (List ℕ)) (due : Bool) → is_due s.left ≡ due → IsEndOf heard sent
+    → IsEndOf (heard_before s heard) sent
+begun s heard sent true e h = (
+  sent,
+  sym (append-nil sent)
+      ∙ ap (λ xs. sent ++ xs) (sym (ap (λ (b : Bool). cond b [] heard) e)),
+)
 begun s heard sent false e h = (h.0, h.1 ∙ ap (λ xs. h.0 ++ xs) (sym (ap (λ (b : Bool). cond b [] heard) e)))
 
 -- whether or not the frame is in the notice
-frame_sent : (p : Program) (ts : List Known) → IsCode p ts → (s : State) → Holds p ts s → (sent : List (List ℕ)) → IsEndOf (heard_of p.plan s) sent
-    → (on : Bool) → is_noticed p.plan.notice (shown p s).left ≡ on → IsEndOf (heard_of p.plan (after_frame p s)) (sent ++ frame_bytes p s ∷ [])
+frame_sent : (p : Program) (ts : List Known) → IsCode p ts → (s : State) → Holds p ts s → (sent : List (List ℕ))
+    → IsEndOf (heard_of p.plan s) sent
+    → (on : Bool) → is_noticed p.plan.notice (shown p s).left ≡ on
+    → IsEndOf (heard_of p.plan (after_frame p s)) (sent ++ frame_bytes p s ∷ [])
 frame_sent p ts c s h sent end true e =
     let heard : List (List ℕ) = heard_before s (heard_of p.plan s) in
     let bytes : List ℕ = frame_bytes p s in
     let before = begun s (heard_of p.plan s) sent (is_due s.left) refl end in
     let more : heard ++ bytes ∷ [] ≡ heard_of p.plan (after_frame p s) =
-    sym (ap (λ (b : Bool). cond b (heard ++ bytes ∷ []) heard) e) ∙ heard_frame p ts c s h in
-    (before.0, ap (λ xs. xs ++ bytes ∷ []) before.1 ∙ append_assoc before.0 heard (bytes ∷ []) ∙ ap (λ xs. before.0 ++ xs) more)
+    sym (ap (λ (b : Bool). cond b (heard ++ bytes ∷ []) heard) e) ∙ heard_frame p ts c s h in (
+      before.0,
+      ap (λ xs. xs ++ bytes ∷ []) before.1 ∙ append_assoc before.0 heard (bytes ∷ [])
+          ∙ ap (λ xs. before.0 ++ xs) more,
+    )
 frame_sent p ts c s h sent end false e =
     let all : List (List ℕ) = sent ++ frame_bytes p s ∷ [] in
     let none = unnoticed_left p.plan (shown p s) (shown p s).left refl (airs p ts c s h).ahead e in
     (all, sym (append-nil all) ∙ ap (λ xs. all ++ xs) (sym none))
 
-run_sent : (p : Program) (ts : List Known) → IsCode p ts → (s : State) (sent : List (List ℕ)) (events : List Event) → Holds p ts s → IsEndOf (heard_of p.plan s) sent
+run_sent : (p : Program) (ts : List Known) → IsCode p ts → (s : State) (sent : List (List ℕ)) (events : List Event)
+    → Holds p ts s → IsEndOf (heard_of p.plan s) sent
     → IsEndOf (heard_of p.plan (run p s events)) (sent ++ run_frames p s events)
 run_sent p ts c s sent [] h end = (end.0, append-nil sent ∙ end.1)
 run_sent p ts c s sent (Contact d closed ∷ es) h end =
     let t : State = happens p s (Contact d closed) in
     let same : heard_of p.plan t ≡ heard_of p.plan s = heard_contacts p.plan s d closed s.left refl in
-    run_sent p ts c t sent es (happens_holds p ts c s (Contact d closed) h) (end.0, end.1 ∙ ap (λ xs. end.0 ++ xs) (sym same))
+    run_sent p ts c t sent es (happens_holds p ts c s (Contact d closed) h)
+    (end.0, end.1 ∙ ap (λ xs. end.0 ++ xs) (sym same))
 run_sent p ts c s sent (Frame ∷ es) h end =
     let t : State = after_frame p s in
     let bytes : List ℕ = frame_bytes p s in
-    let rest = run_sent p ts c t (sent ++ bytes ∷ []) es (frame_holds p ts c s h) (frame_sent p ts c s h sent end (is_noticed p.plan.notice (shown p s).left) refl) in
+    let rest = run_sent p ts c t (sent ++ bytes ∷ []) es (frame_holds p ts c s h)
+    (frame_sent p ts c s h sent end (is_noticed p.plan.notice (shown p s).left) refl) in
     (rest.0, sym (append_assoc sent (bytes ∷ []) (run_frames p t es)) ∙ rest.1)
 
 -- ---- the number of frames
@@ -78,12 +88,14 @@ frames_length : (plan : Plan) (n : ℕ) (s : State) → length (notice_frames pl
 frames_length plan zero s = refl
 frames_length plan (suc n) s = let rest = frames_length plan n (with_next_counts plan s) in omega (arith, rest)
 
-heard_at_swap : (plan : Plan) (s : State) (left : Option ℕ) → s.left ≡ left → is_due left ≡ true → length (heard_of plan s) ≡ plan.notice
+heard_at_swap : (plan : Plan) (s : State) (left : Option ℕ) → s.left ≡ left → is_due left ≡ true
+    → length (heard_of plan s) ≡ plan.notice
 heard_at_swap plan s None is due = absurd cc
 heard_at_swap plan s (Some l) is due =
     let none : l ≡ 0 = due_is l due in
     let all : plan.notice - l ≡ plan.notice = omega (arith, none) in
-    ap (λ (o : Option ℕ). length (heard_left plan s o)) is ∙ frames_length plan (plan.notice - l) (notice_begin plan l s) ∙ all
+    ap (λ (o : Option ℕ). length (heard_left plan s o)) is
+    ∙ frames_length plan (plan.notice - l) (notice_begin plan l s) ∙ all
 
 -- ---- from a start
 

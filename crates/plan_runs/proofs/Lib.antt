@@ -1,5 +1,5 @@
+pub mod Names
 pub mod Bursts
-pub mod Unmoved
 mod LastLevels
 pub mod Joined
 pub mod Reached
@@ -22,13 +22,11 @@ pub mod Announcing
 pub mod Counted
 pub mod Periods
 pub mod Headline
-pub mod Reserved
 pub mod Clock
 pub mod Swaps
 pub mod Uncommitted
 pub mod Waits
 pub mod LastSent
-pub mod SentHeaders
 pub mod Parts
 pub mod Pictures
 pub mod Hearing
@@ -39,7 +37,7 @@ pub mod HeardFrame
 pub mod HeardFrames
 pub mod CurrentKnown
 pub mod NewKnown
-mod VectorsOfRuns
+pub mod VectorsOfRuns
 mod VectorsOfBytes
 mod VectorsOfPromises
 mod VectorsOfLaws

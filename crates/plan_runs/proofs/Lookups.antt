@@ -1,20 +1,19 @@
 -- Lookup in lists: what is found is in the list.
-use Rattle.std.specs.Prelude.{Contains, find, slice_get}
-use Rattle.std.proofs.Common.{◌≡◌, ℕ, zero, suc, ◌<◌, Bool, true, false, cond, List, [], ◌∷◌, length, Some, refl, subst, arith}
-use Rattle.std.proofs.lemmas.Option.{slice_get_within}
+use Rattle.std.proofs.Common.{◌≡◌, ℕ, zero, suc, ◌<◌, Bool, true, false, cond, List, [], ◌∷◌, length, Some, refl, subst}
+use Rattle.std.proofs.Common.{arith}
+use Rattle.plan_runs.proofs.Names.{Contains, find, slice_get, slice_get_within}
+use Rattle.mux_types.proofs.Elements.{contains_first}
 
 -- an element that is found is in the list and passes the test
 pub record IsFound {X : Type 0} (test : X → Bool) (xs : List X) (x : X) : Type 0 where
   pub inside : Contains xs x
   pub passes : test x ≡ true
 
-contains_first : {X : Type 0} (x : X) (xs : List X) → Contains (x ∷ xs) x
-contains_first x xs = (0, omega arith, refl)
-
 contains_later : {X : Type 0} (x y : X) (xs : List X) → Contains xs y → Contains (x ∷ xs) y
 contains_later x y xs (k, lt, is) = (suc k, omega arith, is)
 
-found_by : {X : Type 0} (test : X → Bool) (y : X) (ys : List X) (x : X) → (find test ys ≡ Some x → IsFound test ys x) → (b : Bool) → test y ≡ b
+found_by : {X : Type 0} (test : X → Bool) (y : X) (ys : List X) (x : X) → (find test ys ≡ Some x → IsFound test ys x)
+    → (b : Bool) → test y ≡ b
     → cond b (Some y) (find test ys) ≡ Some x → IsFound test (y ∷ ys) x
 found_by test y ys x rest true e h =
     let same : y ≡ x = cc h in

@@ -1,29 +1,14 @@
 -- A listener that heard a notice knows the new configuration from the first FIB of the swap's frame on.
-use Rattle.std.specs.Prelude.{take, ◌-◌}
-use Rattle.std.proofs.Common.{◌≡◌, ℕ, zero, suc, ◌+◌, ◌<◌, ◌≤◌, Bool, true, false, cond, List, [], ◌∷◌, ◌++◌, length, Option, Some, None, inl, inr, ◌⊎◌, refl, ap, sym, ◌∙◌, subst, arith}
-use Rattle.std.proofs.lemmas.Bool.{eqb-true}
-use Rattle.std.proofs.lemmas.List.{take-append-le}
+use Rattle.std.proofs.Common.{◌≡◌, ℕ, zero, suc, ◌+◌, ◌<◌, ◌≤◌, Bool, true, false, cond, List, [], ◌∷◌, ◌++◌, length}
+use Rattle.std.proofs.Common.{Option, Some, None, inl, inr, ◌⊎◌, refl, ap, sym, ◌∙◌, subst, arith}
+use Rattle.plan_runs.proofs.Names.{take, ◌-◌, eqb-true, or_parts, take-append-le, Contains-append_cases}
+use Rattle.plan_runs.proofs.Names.{Contains-append_left, Configuration, marked, IsHeardInRow, OneList, Raw, raw_entry}
+use Rattle.plan_runs.proofs.Names.{Listening, untuned, Shows, Plan, Program, State, Known, Event, Contact, Frame}
+use Rattle.plan_runs.proofs.Names.{is_due, is_noticed, is_first_noticed, shown, shown_bytes, frame_bytes, ensemble_sent}
+use Rattle.plan_runs.proofs.Names.{left_after_frame, after_frame, happens, run, run_frames, heard_before, heard_after}
+use Rattle.plan_runs.proofs.Names.{notice_frames, notice_begin, heard_left, heard_of, IsAnnounced, BeginsNoPhase}
+use Rattle.plan_runs.proofs.Names.{IsPlayed, fibs_of, HearsAll, IsNotice, MakesNoSwap, IsUntilNextSwap, KnowsTheNew}
 use Rattle.std.proofs.Math.Seq.{take-append-add}
-use Rattle.std.proofs.lemmas.List.Elements.{Contains-append_cases, Contains-append_left}
-use Rattle.mux_config.specs.Configuration.{Configuration}
-use Rattle.mux_types.specs.Facts.{marked}
-use Rattle.fib_codec.specs.Heard.{IsHeardInRow}
-use Rattle.fib_codec.specs.Grammar.{OneList}
-use Rattle.fib_reader.specs.Raw.{Raw, raw_entry}
-use Rattle.fib_reader.specs.Listening.{Listening, untuned}
-use Rattle.fib_reader.specs.Picture.{Shows}
-use Rattle.plan_code.specs.declared.plan.Plan.{Plan}
-use Rattle.plan_code.specs.Program.{Program}
-use Rattle.plan_code.specs.Machine.{State}
-use Rattle.plan_verifier.specs.Typing.{Known}
-use Rattle.plan_runs.specs.declared.event.Event.{Event}
-use Rattle.plan_runs.specs.declared.event.Event.TheVariants.{Contact, Frame}
-use Rattle.plan_runs.specs.Frames.{is_due, is_noticed, is_first_noticed, shown, shown_bytes, frame_bytes, ensemble_sent, left_after_frame, after_frame}
-use Rattle.plan_runs.specs.Runs.{happens, run, run_frames}
-use Rattle.plan_runs.specs.Announced.{heard_before, heard_after, notice_frames, notice_begin, heard_left, heard_of, IsAnnounced}
-use Rattle.plan_runs.specs.RightBytes.{BeginsNoPhase}
-use Rattle.plan_runs.specs.TypedRuns.{IsPlayed}
-use Rattle.plan_runs.specs.Listening.{fibs_of, HearsAll, IsNotice, MakesNoSwap, IsUntilNextSwap, KnowsTheNew}
 use Rattle.plan_runs.proofs.Passing.{not_due}
 use Rattle.plan_runs.proofs.Tracked.{noticed, split_le}
 use Rattle.plan_runs.proofs.Carries.{LeftBy}
@@ -36,13 +21,16 @@ use Rattle.plan_runs.proofs.Hearing.{headed}
 use Rattle.plan_runs.proofs.Tuned.{Or, hears_same}
 use Rattle.plan_runs.proofs.Contents.{Laws}
 use Rattle.plan_runs.proofs.Knowing.{InFrame, Still, knows_after}
-use Rattle.plan_runs.proofs.HeardFrame.{RowSaid, fibs_in, frame_heard, some_heard, enters, enters_swap, current_shown, due_current, as_fibs}
-use Rattle.plan_runs.proofs.HeardFrames.{KnowsAt, Nothing, knows_weaker, current_part, hears_join, fibs_more, frame_then, waits_run, IsTuning, enters_tuning}
-use Rattle.plan_runs.proofs.CurrentKnown.{SomeSaid, or_parts, fibs_join, tuning, whole_had}
+use Rattle.plan_runs.proofs.HeardFrame.{RowSaid, fibs_in, frame_heard, some_heard, enters, enters_swap, current_shown}
+use Rattle.plan_runs.proofs.HeardFrame.{due_current, as_fibs}
+use Rattle.plan_runs.proofs.HeardFrames.{KnowsAt, Nothing, knows_weaker, current_part, hears_join, fibs_more}
+use Rattle.plan_runs.proofs.HeardFrames.{frame_then, waits_run, IsTuning, enters_tuning}
+use Rattle.plan_runs.proofs.CurrentKnown.{SomeSaid, fibs_join, tuning, whole_had}
 
 -- ---- what was heard of the notice
 
-said_append : (xs ys : List (List ℕ)) (flag : Bool) (x : Raw) → SomeSaid (xs ++ ys) flag x → SomeSaid xs flag x ⊎ SomeSaid ys flag x
+said_append : (xs ys : List (List ℕ)) (flag : Bool) (x : Raw) → SomeSaid (xs ++ ys) flag x → SomeSaid xs flag x
+    ⊎ SomeSaid ys flag x
 said_append xs ys flag x (e, is, (f, inside, heard)) =
     elim (Contains-append_cases xs ys f inside) [
       | inl here ↦ inl (e, is, (f, here, heard))
@@ -53,7 +41,8 @@ said_front : (xs ys : List (List ℕ)) (flag : Bool) (x : Raw) → SomeSaid xs f
 said_front xs ys flag x (e, is, (f, inside, heard)) = (e, is, (f, Contains-append_left xs ys f inside, heard))
 
 said_one : (frame : List ℕ) (flag : Bool) (x : Raw) → SomeSaid (frame ∷ []) flag x → RowSaid frame flag x
-said_one frame flag x (e, is, (f, (zero, lt, same), heard)) = (e, is, subst (λ (b : List ℕ). IsHeardInRow b (marked flag e)) (sym same) heard)
+said_one frame flag x (e, is, (f, (zero, lt, same), heard)) =
+    (e, is, subst (λ (b : List ℕ). IsHeardInRow b (marked flag e)) (sym same) heard)
 said_one frame flag x (e, is, (f, (suc k, lt, same), heard)) = absurd (omega (arith, lt))
 
 -- nothing was heard before the first frame of the notice
@@ -61,10 +50,13 @@ begun_left : (notice : ℕ) (left : Option ℕ) → is_first_noticed notice left
 begun_left notice None e = absurd cc
 begun_left notice (Some l) e = ap (λ (k : ℕ). Some k) (eqb-true l notice e)
 
-noticed_first : (notice : ℕ) (left : Option ℕ) → 1 ≤ notice → is_first_noticed notice left ≡ true → is_noticed notice left ≡ true
-noticed_first notice left some e = ap (is_noticed notice) (begun_left notice left e) ∙ noticed notice notice some (omega arith)
+noticed_first : (notice : ℕ) (left : Option ℕ) → 1 ≤ notice → is_first_noticed notice left ≡ true
+    → is_noticed notice left ≡ true
+noticed_first notice left some e = ap (is_noticed notice) (begun_left notice left e)
+    ∙ noticed notice notice some (omega arith)
 
-none_heard : (plan : Plan) (s : State) (before left : Option ℕ) (n m : Configuration) → s.left ≡ before → LeftBy plan s.count before n left m → left ≡ Some plan.notice → heard_of plan s ≡ []
+none_heard : (plan : Plan) (s : State) (before left : Option ℕ) (n m : Configuration) → s.left ≡ before
+    → LeftBy plan s.count before n left m → left ≡ Some plan.notice → heard_of plan s ≡ []
 none_heard plan s None left n m e g is = ap (heard_left plan s) e
 none_heard plan s (Some k) left n m e g is =
     let both : Some k ≡ Some plan.notice = sym g.0 ∙ is in
@@ -72,22 +64,29 @@ none_heard plan s (Some k) left n m e g is =
     let none : plan.notice - k ≡ 0 = omega (arith, same) in
     ap (heard_left plan s) e ∙ ap (λ (n : ℕ). notice_frames plan n (notice_begin plan k s)) none
 
-before_first : (plan : Plan) (s u : State) → Links plan s u → u.left ≡ Some plan.notice → (b : Bool) → is_due s.left ≡ b → heard_before s (heard_of plan s) ≡ []
+before_first : (plan : Plan) (s u : State) → Links plan s u → u.left ≡ Some plan.notice → (b : Bool) → is_due s.left ≡ b
+    → heard_before s (heard_of plan s) ≡ []
 before_first plan s u link is true e = ap (λ (b : Bool). cond b [] (heard_of plan s)) e
-before_first plan s u link is false e = ap (λ (b : Bool). cond b [] (heard_of plan s)) e ∙ none_heard plan s s.left u.left s.next u.next refl (link.left e) is
+before_first plan s u link is false e = ap (λ (b : Bool). cond b [] (heard_of plan s)) e
+    ∙ none_heard plan s s.left u.left s.next u.next refl (link.left e) is
 
-after_noticed : (p : Program) (s : State) (heard : List (List ℕ)) → is_noticed p.plan.notice (shown p s).left ≡ true → heard_after p s heard ≡ heard_before s heard ++ frame_bytes p s ∷ []
-after_noticed p s heard e = ap (λ (b : Bool). cond b (heard_before s heard ++ frame_bytes p s ∷ []) (heard_before s heard)) e
+after_noticed : (p : Program) (s : State) (heard : List (List ℕ)) → is_noticed p.plan.notice (shown p s).left ≡ true
+    → heard_after p s heard ≡ heard_before s heard ++ frame_bytes p s ∷ []
+after_noticed p s heard e = ap (λ (b : Bool). cond b (heard_before s heard ++ frame_bytes p s ∷ [])
+    (heard_before s heard)) e
 
-heard_first : (p : Program) (ts : List Known) → IsCode p ts → (s : State) → Holds p ts s → is_first_noticed p.plan.notice (shown p s).left ≡ true → heard_of p.plan (after_frame p s) ≡ frame_bytes p s ∷ []
+heard_first : (p : Program) (ts : List Known) → IsCode p ts → (s : State) → Holds p ts s
+    → is_first_noticed p.plan.notice (shown p s).left ≡ true → heard_of p.plan (after_frame p s) ≡ frame_bytes p s ∷ []
 heard_first p ts code s h first =
     let u : State = shown p s in
     let some : 1 ≤ p.plan.notice = omega (arith, code.program.planned.notice_from) in
     sym (heard_frame p ts code s h)
     ∙ after_noticed p s (heard_of p.plan s) (noticed_first p.plan.notice u.left some first)
-    ∙ ap (λ xs. xs ++ frame_bytes p s ∷ []) (before_first p.plan s u (links p ts code s h) (begun_left p.plan.notice u.left first) (is_due s.left) refl)
+    ∙ ap (λ xs. xs ++ frame_bytes p s ∷ [])
+    (before_first p.plan s u (links p ts code s h) (begun_left p.plan.notice u.left first) (is_due s.left) refl)
 
-heard_later : (p : Program) (ts : List Known) → IsCode p ts → (s : State) → Holds p ts s → is_due s.left ≡ false → is_noticed p.plan.notice (shown p s).left ≡ true
+heard_later : (p : Program) (ts : List Known) → IsCode p ts → (s : State) → Holds p ts s → is_due s.left ≡ false
+    → is_noticed p.plan.notice (shown p s).left ≡ true
     → heard_of p.plan (after_frame p s) ≡ heard_of p.plan s ++ frame_bytes p s ∷ []
 heard_later p ts code s h due on =
     sym (heard_frame p ts code s h)
@@ -104,20 +103,23 @@ pub record HearsNotice (p : Program) (s : State) (events : List Event) (l : List
   pub hears : HearsAll (fibs_of p.plan.layout (run_frames p s events)) l after
   pub knows : KnowsAt p.plan (run p s events) Nothing (SomeSaid (heard_of p.plan (run p s events)) true) after
 
-left_on : (plan : Plan) (count k : ℕ) (before left : Option ℕ) (n m : Configuration) → before ≡ Some k → LeftBy plan count before n left m → left ≡ Some k
+left_on : (plan : Plan) (count k : ℕ) (before left : Option ℕ) (n m : Configuration) → before ≡ Some k
+    → LeftBy plan count before n left m → left ≡ Some k
 left_on plan count k None left n m e g = absurd cc
 left_on plan count k (Some j) left n m e g = g.0 ∙ e
 
 some_left : (left : Option ℕ) (k : ℕ) → left ≡ Some k → is_due left ≡ false → 1 ≤ k
 some_left left k is due = not_due k (sym (ap is_due is) ∙ due)
 
-notice_on : Laws → (p : Program) (ts : List Known) → IsCode p ts → (s : State) (es : List Event) → Holds p ts s → (k : ℕ) → s.left ≡ Some k → k < p.plan.notice → BeginsNoPhase p s es → (l : Listening)
+notice_on : Laws → (p : Program) (ts : List Known) → IsCode p ts → (s : State) (es : List Event) → Holds p ts s
+    → (k : ℕ) → s.left ≡ Some k → k < p.plan.notice → BeginsNoPhase p s es → (l : Listening)
     → KnowsAt p.plan s Nothing (OfNotice p.plan s) l → HearsNotice p s es l
 notice_on laws p ts code s [] h k is below phase l knows = record { after = l; hears = refl; knows = knows }
 notice_on laws p ts code s (Contact d closed ∷ es) h k is below phase l knows =
     let t : State = happens p s (Contact d closed) in
     let same : heard_of p.plan s ≡ heard_of p.plan t = heard_run p ts code s (Contact d closed ∷ []) h in
-    let here : KnowsAt p.plan t Nothing (OfNotice p.plan t) l = subst (λ (xs : List (List ℕ)). KnowsAt p.plan s Nothing (λ x. SomeSaid xs true x) l) same knows in
+    let here : KnowsAt p.plan t Nothing (OfNotice p.plan t) l =
+    subst (λ (xs : List (List ℕ)). KnowsAt p.plan s Nothing (λ x. SomeSaid xs true x) l) same knows in
     let rest = notice_on laws p ts code t es (happens_holds p ts code s (Contact d closed) h) k is below phase l here in
     record { after = rest.after; hears = rest.hears; knows = rest.knows }
 notice_on laws p ts code s (Frame ∷ es) h k is below phase l knows =
@@ -129,7 +131,8 @@ notice_on laws p ts code s (Frame ∷ es) h k is below phase l knows =
     let link = links p ts code s h in
     let some : 1 ≤ k = some_left s.left k is parts.0 in
     let left : u.left ≡ Some k = left_on plan s.count k s.left u.left s.next u.next is (link.left parts.0) in
-    let on : is_noticed plan.notice u.left ≡ true = ap (is_noticed plan.notice) left ∙ noticed plan.notice k some (omega (arith, below)) in
+    let on : is_noticed plan.notice u.left ≡ true = ap (is_noticed plan.notice) left
+    ∙ noticed plan.notice k some (omega (arith, below)) in
     let N : Raw → Type 0 = OfNotice plan s in
     let M : Raw → Type 0 = Still plan u.left N in
     let heard = frame_heard laws plan u a Nothing M l (enters p ts code s h Nothing N l parts.0 knows) in
@@ -138,18 +141,29 @@ notice_on laws p ts code s (Frame ∷ es) h k is below phase l knows =
     let next : KnowsAt plan t D O heard.after = knows_after plan u D O heard.after a heard.knows in
     let more : heard_of plan t ≡ heard_of plan s ++ frame_bytes p s ∷ [] = heard_later p ts code s h parts.0 on in
     let had : (x : Raw) → OfNotice plan t x → O x =
-    λ x said. elim (said_append (heard_of plan s) (frame_bytes p s ∷ []) true x (subst (λ (xs : List (List ℕ)). SomeSaid xs true x) more said)) [
+    λ x said. elim (said_append (heard_of plan s) (frame_bytes p s ∷ []) true x
+    (subst (λ (xs : List (List ℕ)). SomeSaid xs true x) more said)) [
       | inl old ↦ inl (parts.1, old)
       | inr now ↦ inr (said_one (frame_bytes p s) true x now)
     ] in
-    let here : KnowsAt plan t Nothing (OfNotice plan t) heard.after = knows_weaker plan t.left t.current t.next t.count D Nothing O (OfNotice plan t) heard.after (λ x none. absurd none) had next in
-    let rest = notice_on laws p ts code t es (frame_holds p ts code s h) (k - 1) (ap left_after_frame left) (omega (arith, below)) phase.1 heard.after here in
-    record { after = rest.after; hears = frame_then p s (run_frames p t es) l heard.after rest.after heard.hears rest.hears; knows = rest.knows }
+    let here : KnowsAt plan t Nothing (OfNotice plan t) heard.after =
+    knows_weaker plan t.left t.current t.next t.count D Nothing O (OfNotice plan t) heard.after
+    (λ x none. absurd none) had next in
+    let rest = notice_on laws p ts code t es (frame_holds p ts code s h) (k - 1) (ap left_after_frame left)
+    (omega (arith, below)) phase.1 heard.after here in
+    record {
+      after = rest.after;
+      hears = frame_then p s (run_frames p t es) l heard.after rest.after heard.hears
+          rest.hears;
+      knows = rest.knows;
+    }
 
-notice_from : Laws → (p : Program) (ts : List Known) → IsCode p ts → (s : State) (es : List Event) → Holds p ts s → IsNotice p s es → (l : Listening) → IsTuning p.plan s l → HearsNotice p s es l
+notice_from : Laws → (p : Program) (ts : List Known) → IsCode p ts → (s : State) (es : List Event) → Holds p ts s
+    → IsNotice p s es → (l : Listening) → IsTuning p.plan s l → HearsNotice p s es l
 notice_from laws p ts code s [] h is l tunes = absurd is
 notice_from laws p ts code s (Contact d closed ∷ es) h is l tunes =
-    let rest = notice_from laws p ts code (happens p s (Contact d closed)) es (happens_holds p ts code s (Contact d closed) h) is l tunes in
+    let rest = notice_from laws p ts code (happens p s (Contact d closed)) es
+    (happens_holds p ts code s (Contact d closed) h) is l tunes in
     record { after = rest.after; hears = rest.hears; knows = rest.knows }
 notice_from laws p ts code s (Frame ∷ es) h is l tunes =
     let u : State = shown p s in
@@ -161,11 +175,20 @@ notice_from laws p ts code s (Frame ∷ es) h is l tunes =
     let O : Raw → Type 0 = Or Nothing (RowSaid (shown_bytes plan u) true) in
     let next : KnowsAt plan t D O heard.after = knows_after plan u D O heard.after a heard.knows in
     let one : heard_of plan t ≡ frame_bytes p s ∷ [] = heard_first p ts code s h is.0 in
-    let had : (x : Raw) → OfNotice plan t x → O x = λ x said. inr (said_one (frame_bytes p s) true x (subst (λ (xs : List (List ℕ)). SomeSaid xs true x) one said)) in
-    let here : KnowsAt plan t Nothing (OfNotice plan t) heard.after = knows_weaker plan t.left t.current t.next t.count D Nothing O (OfNotice plan t) heard.after (λ x none. absurd none) had next in
+    let had : (x : Raw) → OfNotice plan t x → O x = λ x said.
+    inr (said_one (frame_bytes p s) true x (subst (λ (xs : List (List ℕ)). SomeSaid xs true x) one said)) in
+    let here : KnowsAt plan t Nothing (OfNotice plan t) heard.after =
+    knows_weaker plan t.left t.current t.next t.count D Nothing O (OfNotice plan t) heard.after
+    (λ x none. absurd none) had next in
     let left : t.left ≡ Some (plan.notice - 1) = ap left_after_frame (begun_left plan.notice u.left is.0) in
-    let rest = notice_on laws p ts code t es (frame_holds p ts code s h) (plan.notice - 1) left (omega (arith, code.program.planned.notice_from)) is.1 heard.after here in
-    record { after = rest.after; hears = frame_then p s (run_frames p t es) l heard.after rest.after heard.hears rest.hears; knows = rest.knows }
+    let rest = notice_on laws p ts code t es (frame_holds p ts code s h) (plan.notice - 1) left
+    (omega (arith, code.program.planned.notice_from)) is.1 heard.after here in
+    record {
+      after = rest.after;
+      hears = frame_then p s (run_frames p t es) l heard.after rest.after heard.hears
+          rest.hears;
+      knows = rest.knows;
+    }
 
 due_after : (p : Program) (s : State) (es : List Event) → IsNotice p s es → is_due (run p s es).left ≡ true
 due_after p s [] is = absurd is
@@ -173,18 +196,23 @@ due_after p s (Contact d closed ∷ es) is = due_after p (happens p s (Contact d
 due_after p s (Frame ∷ es) is = is.2
 
 -- the notice carried the whole next configuration
-notice_whole : Laws → (p : Program) (ts : List Known) → IsCode p ts → (s : State) → Holds p ts s → is_due s.left ≡ true → HasAll s.next (SomeSaid (heard_of p.plan s) true)
+notice_whole : Laws → (p : Program) (ts : List Known) → IsCode p ts → (s : State) → Holds p ts s → is_due s.left ≡ true
+    → HasAll s.next (SomeSaid (heard_of p.plan s) true)
 notice_whole laws p ts code s h due e inside =
     let runs = swaps_run laws.pages p ts code s (Frame ∷ []) h in
     let told : IsAnnounced s.current s.next s.count (heard_of p.plan s) = runs.0.announced due in
-    let first : SomeSaid told.first true (raw_entry e) = whole_had s.next true told.first told.whole_in_first e inside in
-    let both : SomeSaid (told.first ++ told.second) true (raw_entry e) = said_front told.first told.second true (raw_entry e) first in
-    let all : SomeSaid ((told.first ++ told.second) ++ told.third) true (raw_entry e) = said_front (told.first ++ told.second) told.third true (raw_entry e) both in
+    let first : SomeSaid told.first true (raw_entry e) =
+    whole_had s.next true told.first told.whole_in_first e inside in
+    let both : SomeSaid (told.first ++ told.second) true (raw_entry e) =
+    said_front told.first told.second true (raw_entry e) first in
+    let all : SomeSaid ((told.first ++ told.second) ++ told.third) true (raw_entry e) =
+    said_front (told.first ++ told.second) told.third true (raw_entry e) both in
     subst (λ (xs : List (List ℕ)). SomeSaid xs true (raw_entry e)) (sym told.cut) all
 
 -- ---- from the swap on
 
-pub record HearsAfter (p : Program) (s : State) (c : Configuration) (k : ℕ) (events : List Event) (C : Raw → Type 0) (l : Listening) : Type 0 where
+pub record HearsAfter (p : Program) (s : State) (c : Configuration) (k : ℕ) (events : List Event) (C : Raw → Type 0)
+    (l : Listening) : Type 0 where
   pub after : Listening
   pub hears : HearsAll (take k (fibs_of p.plan.layout (run_frames p s events))) l after
   pub current : IsPartial (whole_of c) C after.current
@@ -194,9 +222,11 @@ take_none zero fibs e = refl
 take_none (suc k) fibs e = ap (take (suc k)) e
 
 -- hearing some FIBs of this frame, or also later ones
-frame_take : Laws → (p : Program) (ts : List Known) → IsCode p ts → (s : State) (es : List Event) → Holds p ts s → (c : Configuration) → (shown p s).current ≡ c → (C N : Raw → Type 0) (j : ℕ) (l : Listening)
+frame_take : Laws → (p : Program) (ts : List Known) → IsCode p ts → (s : State) (es : List Event) → Holds p ts s
+    → (c : Configuration) → (shown p s).current ≡ c → (C N : Raw → Type 0) (j : ℕ) (l : Listening)
     → InFrame p.plan (shown p s) C N (headed (ensemble_sent p.plan (shown p s)) l)
-    → ((d : ℕ) (m : Listening) → KnowsAt p.plan (after_frame p s) (Or C (RowSaid (frame_bytes p s) false)) (Or N (RowSaid (frame_bytes p s) true)) m
+    → ((d : ℕ) (m : Listening) → KnowsAt p.plan (after_frame p s) (Or C (RowSaid (frame_bytes p s) false))
+    (Or N (RowSaid (frame_bytes p s) true)) m
     → HearsAfter p (after_frame p s) c d es (Or C (RowSaid (frame_bytes p s) false)) m)
     → HearsAfter p s c (suc j) (Frame ∷ es) C l
 frame_take laws p ts code s es h c same C N j l entered later =
@@ -205,13 +235,15 @@ frame_take laws p ts code s es h c same C N j l entered later =
     let a = airs p ts code s h in
     let here : List (List ℕ) = fibs_in plan u in
     let more : List (List ℕ) = fibs_of plan.layout (run_frames p (after_frame p s) es) in
-    let cut : fibs_of plan.layout (frame_bytes p s ∷ run_frames p (after_frame p s) es) ≡ here ++ more = fibs_more plan.layout (frame_bytes p s) (run_frames p (after_frame p s) es) in
+    let cut : fibs_of plan.layout (frame_bytes p s ∷ run_frames p (after_frame p s) es) ≡ here ++ more =
+    fibs_more plan.layout (frame_bytes p s) (run_frames p (after_frame p s) es) in
     elim (split_le (suc j) (length here)) [
       | inl within ↦
           let some = some_heard laws plan u a C N j l entered in
           record {
             after = some.after;
-            hears = as_fibs (take (suc j) (fibs_of plan.layout (frame_bytes p s ∷ run_frames p (after_frame p s) es))) (take (suc j) here) l some.after
+            hears = as_fibs (take (suc j) (fibs_of plan.layout (frame_bytes p s ∷ run_frames p (after_frame p s) es)))
+                (take (suc j) here) l some.after
                 (ap (take (suc j)) cut ∙ take-append-le (suc j) here more within) some.hears;
             current = subst (λ (x : Configuration). IsPartial (whole_of x) C some.after.current) same some.current;
           }
@@ -219,51 +251,67 @@ frame_take laws p ts code s es h c same C N j l entered later =
           let D : Raw → Type 0 = Or C (RowSaid (frame_bytes p s) false) in
           let O : Raw → Type 0 = Or N (RowSaid (frame_bytes p s) true) in
           let heard = frame_heard laws plan u a C N l entered in
-          let next : KnowsAt plan (after_frame p s) D O heard.after = knows_after plan u D O heard.after a heard.knows in
+          let next : KnowsAt plan (after_frame p s) D O heard.after =
+          knows_after plan u D O heard.after a heard.knows in
           let d : ℕ = suc j - length here in
           let count : suc j ≡ length here + d = omega (arith, past) in
           let rest = later d heard.after next in
           record {
             after = rest.after;
-            hears = as_fibs (take (suc j) (fibs_of plan.layout (frame_bytes p s ∷ run_frames p (after_frame p s) es))) (here ++ take d more) l rest.after
+            hears = as_fibs (take (suc j) (fibs_of plan.layout (frame_bytes p s ∷ run_frames p (after_frame p s) es)))
+                (here ++ take d more) l rest.after
                 (ap (take (suc j)) cut ∙ ap (λ (n : ℕ). take n (here ++ more)) count ∙ take-append-add here more d)
                 (hears_join here (take d more) l heard.after rest.after heard.hears rest.hears);
             current = weaker (whole_of c) D C rest.after.current (λ x y. inl y) rest.current;
           }
     ]
 
-after_on : Laws → (p : Program) (ts : List Known) → IsCode p ts → (s : State) (es : List Event) → Holds p ts s → MakesNoSwap p s es → (c : Configuration) → s.current ≡ c → (C N : Raw → Type 0) (k : ℕ) (l : Listening)
+after_on : Laws → (p : Program) (ts : List Known) → IsCode p ts → (s : State) (es : List Event) → Holds p ts s
+    → MakesNoSwap p s es → (c : Configuration) → s.current ≡ c → (C N : Raw → Type 0) (k : ℕ) (l : Listening)
     → KnowsAt p.plan s C N l → HearsAfter p s c k es C l
 after_on laws p ts code s [] h none c same C N k l knows =
-    let here : IsPartial (whole_of s.current) C l.current = current_part p.plan s.left s.current s.next s.count C N l knows in
+    let here : IsPartial (whole_of s.current) C l.current =
+    current_part p.plan s.left s.current s.next s.count C N l knows in
     record {
       after = l;
       hears = as_fibs (take k []) [] l l (take_none k [] refl) refl;
       current = subst (λ (x : Configuration). IsPartial (whole_of x) C l.current) same here;
     }
 after_on laws p ts code s (Contact d closed ∷ es) h none c same C N k l knows =
-    let rest = after_on laws p ts code (happens p s (Contact d closed)) es (happens_holds p ts code s (Contact d closed) h) none c same C N k l knows in
+    let rest = after_on laws p ts code (happens p s (Contact d closed)) es
+    (happens_holds p ts code s (Contact d closed) h) none c same C N k l knows in
     record { after = rest.after; hears = rest.hears; current = rest.current }
 after_on laws p ts code s (Frame ∷ es) h none c same C N zero l knows =
-    let here : IsPartial (whole_of s.current) C l.current = current_part p.plan s.left s.current s.next s.count C N l knows in
-    record { after = l; hears = refl; current = subst (λ (x : Configuration). IsPartial (whole_of x) C l.current) same here }
+    let here : IsPartial (whole_of s.current) C l.current =
+    current_part p.plan s.left s.current s.next s.count C N l knows in
+    record {
+      after = l;
+      hears = refl;
+      current = subst (λ (x : Configuration). IsPartial (whole_of x) C l.current) same
+          here;
+    }
 after_on laws p ts code s (Frame ∷ es) h none c same C N (suc j) l knows =
     let u : State = shown p s in
     let link = links p ts code s h in
     let M : Raw → Type 0 = Still p.plan u.left N in
     frame_take laws p ts code s es h c (link.current none.0 ∙ same) C M j l (enters p ts code s h C N l none.0 knows)
-    (λ d m here. after_on laws p ts code (after_frame p s) es (frame_holds p ts code s h) none.1 c (link.current none.0 ∙ same) (Or C (RowSaid (frame_bytes p s) false)) (Or M (RowSaid (frame_bytes p s) true)) d m here)
+    (λ d m here. after_on laws p ts code (after_frame p s) es (frame_holds p ts code s h) none.1 c
+    (link.current none.0 ∙ same) (Or C (RowSaid (frame_bytes p s) false)) (Or M (RowSaid (frame_bytes p s) true)) d
+    m here)
 
-after_swap : Laws → (p : Program) (ts : List Known) → IsCode p ts → (s : State) (es : List Event) → Holds p ts s → IsUntilNextSwap p s es → (C N : Raw → Type 0) (j : ℕ) (l : Listening) → KnowsAt p.plan s C N l
+after_swap : Laws → (p : Program) (ts : List Known) → IsCode p ts → (s : State) (es : List Event) → Holds p ts s
+    → IsUntilNextSwap p s es → (C N : Raw → Type 0) (j : ℕ) (l : Listening) → KnowsAt p.plan s C N l
     → HearsAfter p s s.next (suc j) es N l
 after_swap laws p ts code s [] h is C N j l knows = absurd is
 after_swap laws p ts code s (Contact d closed ∷ es) h is C N j l knows =
-    let rest = after_swap laws p ts code (happens p s (Contact d closed)) es (happens_holds p ts code s (Contact d closed) h) is C N j l knows in
+    let rest = after_swap laws p ts code (happens p s (Contact d closed)) es
+    (happens_holds p ts code s (Contact d closed) h) is C N j l knows in
     record { after = rest.after; hears = rest.hears; current = rest.current }
 after_swap laws p ts code s (Frame ∷ es) h is C N j l knows =
     let current : (shown p s).current ≡ s.next = current_shown p ts code s h ∙ due_current s is.0 in
     frame_take laws p ts code s es h s.next current N Nothing j l (enters_swap p ts code s h C N l is.0 knows)
-    (λ d m here. after_on laws p ts code (after_frame p s) es (frame_holds p ts code s h) is.1 s.next current (Or N (RowSaid (frame_bytes p s) false)) (Or Nothing (RowSaid (frame_bytes p s) true)) d m here)
+    (λ d m here. after_on laws p ts code (after_frame p s) es (frame_holds p ts code s h) is.1 s.next current
+    (Or N (RowSaid (frame_bytes p s) false)) (Or Nothing (RowSaid (frame_bytes p s) true)) d m here)
 
 -- ---- the law
 
@@ -272,13 +320,18 @@ record IsFollowed (p : Program) (s : State) (after : List Event) (fibs : ℕ) (l
   hears : HearsAll (take fibs (fibs_of p.plan.layout (run_frames p s after))) l heard
   shows : Shows heard.current s.next
 
-followed : Laws → (p : Program) (ts : List Known) → IsCode p ts → (s : State) → Holds p ts s → is_due s.left ≡ true → (after : List Event) → IsUntilNextSwap p s after → (fibs : ℕ) → 1 ≤ fibs → (l : Listening)
+followed : Laws → (p : Program) (ts : List Known) → IsCode p ts → (s : State) → Holds p ts s → is_due s.left ≡ true
+    → (after : List Event) → IsUntilNextSwap p s after → (fibs : ℕ) → 1 ≤ fibs → (l : Listening)
     → KnowsAt p.plan s Nothing (SomeSaid (heard_of p.plan s) true) l → IsFollowed p s after fibs l
 followed laws p ts code s h due after until zero some l knows = absurd (omega (arith, some))
 followed laws p ts code s h due after until (suc j) some l knows =
     let C : Raw → Type 0 = SomeSaid (heard_of p.plan s) true in
     let last = after_swap laws p ts code s after h until Nothing C j l knows in
-    record { heard = last.after; hears = last.hears; shows = all_shown s.next C last.after.current last.current (notice_whole laws p ts code s h due) }
+    record {
+      heard = last.after;
+      hears = last.hears;
+      shows = all_shown s.next C last.after.current last.current (notice_whole laws p ts code s h due);
+    }
 
 pub knows_the_new : OneList → Laws → (p : Program) (s : State) → IsPlayed p s → KnowsTheNew p s
 knows_the_new one_list laws p s h waiting notice after fibs heard tuned is until some all =
@@ -289,15 +342,22 @@ knows_the_new one_list laws p s h waiting notice after fibs heard tuned is until
     let s2 : State = run p s (waiting ++ notice) in
     let joins : run p s (waiting ++ notice) ≡ run p t notice = state_joins p s waiting notice in
     let w = waits_run laws p ts code s waiting here in
-    let v = notice_from laws p ts code t notice (run_holds p ts code s waiting here) is w.after (tuning p s waiting w tuned) in
-    let knows : KnowsAt p.plan s2 Nothing (SomeSaid (heard_of p.plan s2) true) v.after = subst (λ (x : State). KnowsAt p.plan x Nothing (SomeSaid (heard_of p.plan x) true) v.after) (sym joins) v.knows in
+    let v = notice_from laws p ts code t notice (run_holds p ts code s waiting here) is w.after
+    (tuning p s waiting w tuned) in
+    let knows : KnowsAt p.plan s2 Nothing (SomeSaid (heard_of p.plan s2) true) v.after =
+    subst (λ (x : State). KnowsAt p.plan x Nothing (SomeSaid (heard_of p.plan x) true) v.after) (sym joins)
+    v.knows in
     let due : is_due s2.left ≡ true = ap (λ (x : State). is_due x.left) joins ∙ due_after p t notice is in
-    let last = followed laws p ts code s2 (run_holds p ts code s (waiting ++ notice) here) due after until fibs some v.after knows in
+    let last = followed laws p ts code s2 (run_holds p ts code s (waiting ++ notice) here) due after until fibs some
+    v.after knows in
     let before : List (List ℕ) = fibs_of p.plan.layout (run_frames p s (waiting ++ notice)) in
     let rest : List (List ℕ) = take fibs (fibs_of p.plan.layout (run_frames p s2 after)) in
     let first : HearsAll before untuned v.after =
-    as_fibs before (fibs_of p.plan.layout (run_frames p s waiting) ++ fibs_of p.plan.layout (run_frames p t notice)) untuned v.after (fibs_join p s waiting notice)
-    (hears_join (fibs_of p.plan.layout (run_frames p s waiting)) (fibs_of p.plan.layout (run_frames p t notice)) untuned w.after v.after w.hears v.hears) in
-    let mine : HearsAll (before ++ rest) untuned last.heard = hears_join before rest untuned v.after last.heard first last.hears in
+    as_fibs before (fibs_of p.plan.layout (run_frames p s waiting) ++ fibs_of p.plan.layout (run_frames p t notice))
+    untuned v.after (fibs_join p s waiting notice)
+    (hears_join (fibs_of p.plan.layout (run_frames p s waiting)) (fibs_of p.plan.layout (run_frames p t notice)) untuned
+    w.after v.after w.hears v.hears) in
+    let mine : HearsAll (before ++ rest) untuned last.heard =
+    hears_join before rest untuned v.after last.heard first last.hears in
     let same : last.heard ≡ heard = hears_same one_list (before ++ rest) untuned last.heard heard mine all in
     subst (λ (l : Listening). Shows l.current s2.next) same last.shows

@@ -1,12 +1,9 @@
 -- What is known remains valid as a swap is made and as frames pass.
-use Rattle.std.specs.Prelude.{nat_lt}
-use Rattle.std.proofs.Common.{◌≡◌, ℕ, ◌+◌, ◌-◌, ◌<◌, ◌≤◌, Bool, true, false, cond, Option, Some, None, refl, sym, ap, subst, ◌∙◌, arith, inl, inr, ◌⊎◌}
-use Rattle.std.proofs.lemmas.Bool.{eqb-true, eqb-false, ltb-true, ltb-false}
-use Rattle.mux_config.specs.Configuration.{Configuration}
-use Rattle.plan_code.specs.declared.label.Swap.{Swap}
-use Rattle.plan_code.specs.declared.label.Swap.TheVariants.{Idle, Within, Perhaps}
-use Rattle.plan_verifier.specs.Typing.{Known, IsCertain, after_wait, after_pause, known_after_swap, FitsSwap}
-use Rattle.plan_runs.specs.Frames.{is_due, left_after_frame}
+use Rattle.std.proofs.Common.{◌≡◌, ℕ, ◌+◌, ◌-◌, ◌<◌, ◌≤◌, Bool, true, false, cond, Option, Some, None, refl, sym, ap}
+use Rattle.std.proofs.Common.{subst, ◌∙◌, arith, inl, inr, ◌⊎◌}
+use Rattle.plan_runs.proofs.Names.{nat_lt, eqb-true, eqb-false, ltb-true, ltb-false, Configuration, Swap, Idle, Within}
+use Rattle.plan_runs.proofs.Names.{Perhaps, Known, IsCertain, after_wait, after_pause, known_after_swap, FitsSwap}
+use Rattle.plan_runs.proofs.Names.{is_due, left_after_frame}
 use Rattle.plan_runs.proofs.Knowledge.{IsIdleAs, IsPendingAs, AgreesBy, ComesBy, PausesBy, JoinsBy, IsAhead}
 
 -- ---- how many frames are left
@@ -37,7 +34,8 @@ not_due_from (Some l) a = by (is_due (Some l)) refl
 
 -- ---- the swap
 
-pub swap_comes : (k : ℕ) (pending : Swap) (t : Known) (left : Option ℕ) (c n : Configuration) → is_due left ≡ true → ComesBy k pending t.current t.next left c n → ComesBy k pending t.current t.next None n n
+pub swap_comes : (k : ℕ) (pending : Swap) (t : Known) (left : Option ℕ) (c n : Configuration) → is_due left ≡ true
+    → ComesBy k pending t.current t.next left c n → ComesBy k pending t.current t.next None n n
 swap_comes k pending t None c n due h = absurd cc
 swap_comes k Idle t (Some l) c n due (inl h) = none_some l _ h.none refl
 swap_comes k Idle t (Some l) c n due (inr h) = inl (record { none = refl; current = h.current; next = h.next })
@@ -48,7 +46,8 @@ swap_comes k (Within lo hi) t (Some l) c n due h =
 swap_comes k (Perhaps hi) t (Some l) c n due (inl h) = inr (record { none = refl; current = h.next; next = h.next })
 swap_comes k (Perhaps hi) t (Some l) c n due (inr h) = none_some l _ h.none refl
 
-pub swap_pauses : (pending : Swap) (t : Known) (left : Option ℕ) (c n : Configuration) → is_due left ≡ true → PausesBy pending t.current t.next left c n → PausesBy pending t.current t.next None n n
+pub swap_pauses : (pending : Swap) (t : Known) (left : Option ℕ) (c n : Configuration) → is_due left ≡ true
+    → PausesBy pending t.current t.next left c n → PausesBy pending t.current t.next None n n
 swap_pauses pending t None c n due h = absurd cc
 swap_pauses Idle t (Some l) c n due (inl h) = none_some l _ h.none refl
 swap_pauses Idle t (Some l) c n due (inr h) = inl (record { none = refl; current = h.current; next = h.next })
@@ -56,33 +55,61 @@ swap_pauses (Within lo hi) t (Some l) c n due h = h
 swap_pauses (Perhaps hi) t (Some l) c n due (inl h) = inr (record { none = refl; current = h.next; next = h.next })
 swap_pauses (Perhaps hi) t (Some l) c n due (inr h) = none_some l _ h.none refl
 
-joins_idle : (pending : Swap) (t : Known) (n : Configuration) → pending ≡ Idle → n ≡ t.current → n ≡ t.next → ComesBy 0 pending t.current t.next None n n
+joins_idle : (pending : Swap) (t : Known) (n : Configuration) → pending ≡ Idle → n ≡ t.current → n ≡ t.next
+    → ComesBy 0 pending t.current t.next None n n
 joins_idle Idle t n e a b = inl (record { none = refl; current = a; next = b })
 joins_idle (Within lo hi) t n e a b = absurd cc
 joins_idle (Perhaps hi) t n e a b = absurd cc
 
-pub swap_joins : (t : Known) (left : Option ℕ) (n : Configuration) → JoinsBy t left n → ComesBy 0 t.pending t.current t.next None n n
+pub swap_joins : (t : Known) (left : Option ℕ) (n : Configuration) → JoinsBy t left n
+    → ComesBy 0 t.pending t.current t.next None n n
 swap_joins t left n h = joins_idle t.pending t n h.idle h.current h.next
 
 -- ---- an instruction is executed
 
-pub now : (pending : Swap) (t : Known) (left : Option ℕ) (c n : Configuration) → IsAhead left → ComesBy 0 pending t.current t.next left c n → AgreesBy pending t.current t.next left c n
+pub now : (pending : Swap) (t : Known) (left : Option ℕ) (c n : Configuration) → IsAhead left
+    → ComesBy 0 pending t.current t.next left c n → AgreesBy pending t.current t.next left c n
 now Idle t left c n a (inl h) = h
 now Idle t left c n a (inr h) =
     let later : IsAhead (Some h.frames) = subst IsAhead h.is a in
     absurd (omega (arith, later, h.most))
 now (Within lo hi) t left c n a h =
-    record { frames = h.frames; is = h.is; ahead = omega arith; low = omega arith; high = omega arith; current = h.current; next = h.next }
+    record {
+      frames = h.frames;
+      is = h.is;
+      ahead = omega arith;
+      low = omega arith;
+      high = omega arith;
+      current = h.current;
+      next = h.next;
+    }
 now (Perhaps hi) t left c n a (inl h) =
     let later : IsAhead (Some h.frames) = subst IsAhead h.is a in
-    inl (record { frames = h.frames; is = h.is; ahead = later; low = later; high = omega arith; current = h.current; next = h.next })
+    inl (record {
+      frames = h.frames;
+      is = h.is;
+      ahead = later;
+      low = later;
+      high = omega arith;
+      current = h.current;
+      next = h.next;
+    })
 now (Perhaps hi) t left c n a (inr h) = inr h
 
-pub pauses_come : (pending : Swap) (t : Known) (left : Option ℕ) (c n : Configuration) → PausesBy pending t.current t.next left c n → ComesBy 0 pending t.current t.next left c n
+pub pauses_come : (pending : Swap) (t : Known) (left : Option ℕ) (c n : Configuration)
+    → PausesBy pending t.current t.next left c n → ComesBy 0 pending t.current t.next left c n
 pauses_come Idle t left c n h = h
 pauses_come (Within lo hi) t left c n h = absurd h
 pauses_come (Perhaps hi) t left c n (inl h) =
-    inl (record { frames = h.frames; is = h.is; ahead = h.ahead; low = h.low; high = omega arith; current = h.current; next = h.next })
+    inl (record {
+      frames = h.frames;
+      is = h.is;
+      ahead = h.ahead;
+      low = h.low;
+      high = omega arith;
+      current = h.current;
+      next = h.next;
+    })
 pauses_come (Perhaps hi) t left c n (inr h) = inr h
 
 -- ---- one frame passes
@@ -93,53 +120,131 @@ after_some left l e = ap left_after_frame e
 pub after_none : (left : Option ℕ) → left ≡ None → left_after_frame left ≡ None
 after_none left e = ap left_after_frame e
 
-pub comes_later : (k : ℕ) (pending : Swap) (t : Known) (left : Option ℕ) (c n : Configuration) → IsAhead left → ComesBy (k + 1) pending t.current t.next left c n → ComesBy k pending t.current t.next (left_after_frame left) c n
-comes_later k Idle t left c n a (inl h) = inl (record { none = after_none left h.none; current = h.current; next = h.next })
+pub comes_later : (k : ℕ) (pending : Swap) (t : Known) (left : Option ℕ) (c n : Configuration) → IsAhead left
+    → ComesBy (k + 1) pending t.current t.next left c n → ComesBy k pending t.current t.next (left_after_frame left) c n
+comes_later k Idle t left c n a (inl h) =
+    inl (record { none = after_none left h.none; current = h.current; next = h.next })
 comes_later k Idle t left c n a (inr h) =
-    inr (record { frames = h.frames - 1; is = after_some left h.frames h.is; most = omega arith; current = h.current; next = h.next })
+    inr (record {
+      frames = h.frames - 1;
+      is = after_some left h.frames h.is;
+      most = omega arith;
+      current = h.current;
+      next = h.next;
+    })
 comes_later k (Within lo hi) t left c n a h =
-    record { frames = h.frames - 1; is = after_some left h.frames h.is; ahead = omega arith; low = omega arith; high = omega arith; current = h.current; next = h.next }
+    record {
+      frames = h.frames - 1;
+      is = after_some left h.frames h.is;
+      ahead = omega arith;
+      low = omega arith;
+      high = omega arith;
+      current = h.current;
+      next = h.next;
+    }
 comes_later k (Perhaps hi) t left c n a (inl h) =
-    inl (record { frames = h.frames - 1; is = after_some left h.frames h.is; ahead = omega arith; low = omega arith; high = omega arith; current = h.current; next = h.next })
-comes_later k (Perhaps hi) t left c n a (inr h) = inr (record { none = after_none left h.none; current = h.current; next = h.next })
+    inl (record {
+      frames = h.frames - 1;
+      is = after_some left h.frames h.is;
+      ahead = omega arith;
+      low = omega arith;
+      high = omega arith;
+      current = h.current;
+      next = h.next;
+    })
+comes_later k (Perhaps hi) t left c n a (inr h) =
+    inr (record { none = after_none left h.none; current = h.current; next = h.next })
 
-pub pauses_later : (pending : Swap) (t : Known) (left : Option ℕ) (c n : Configuration) → IsAhead left → PausesBy pending t.current t.next left c n → PausesBy pending t.current t.next (left_after_frame left) c n
-pauses_later Idle t left c n a (inl h) = inl (record { none = after_none left h.none; current = h.current; next = h.next })
+pub pauses_later : (pending : Swap) (t : Known) (left : Option ℕ) (c n : Configuration) → IsAhead left
+    → PausesBy pending t.current t.next left c n → PausesBy pending t.current t.next (left_after_frame left) c n
+pauses_later Idle t left c n a (inl h) =
+    inl (record { none = after_none left h.none; current = h.current; next = h.next })
 pauses_later Idle t left c n a (inr h) =
     let later : IsAhead (Some h.frames) = subst IsAhead h.is a in
     absurd (omega (arith, later, h.most))
 pauses_later (Within lo hi) t left c n a h = h
 pauses_later (Perhaps hi) t left c n a (inl h) =
-    inl (record { frames = h.frames - 1; is = after_some left h.frames h.is; ahead = omega arith; low = omega arith; high = omega arith; current = h.current; next = h.next })
-pauses_later (Perhaps hi) t left c n a (inr h) = inr (record { none = after_none left h.none; current = h.current; next = h.next })
+    inl (record {
+      frames = h.frames - 1;
+      is = after_some left h.frames h.is;
+      ahead = omega arith;
+      low = omega arith;
+      high = omega arith;
+      current = h.current;
+      next = h.next;
+    })
+pauses_later (Perhaps hi) t left c n a (inr h) =
+    inr (record { none = after_none left h.none; current = h.current; next = h.next })
 
-pub joins_later : (t : Known) (left : Option ℕ) (n : Configuration) → JoinsBy t left n → JoinsBy t (left_after_frame left) n
-joins_later t left n h = record { frames = h.frames - 1; is = after_some left h.frames h.is; idle = h.idle; current = h.current; next = h.next }
+pub joins_later : (t : Known) (left : Option ℕ) (n : Configuration) → JoinsBy t left n
+    → JoinsBy t (left_after_frame left) n
+joins_later t left n h = record {
+  frames = h.frames - 1;
+  is = after_some left h.frames h.is;
+  idle = h.idle;
+  current = h.current;
+  next = h.next;
+}
 
 -- ---- a wait
 
-wait_within : (n lo hi : ℕ) (t : Known) (left : Option ℕ) (c x : Configuration) → 1 ≤ n → (n < lo) ⊎ (hi ≤ n) → IsPendingAs t.current t.next 1 lo hi left c x → (test : Bool) → nat_lt n lo ≡ test
-    → (let u : Known = cond test (record t { pending = Within (lo - n) (hi - n) }) (known_after_swap t) in ComesBy (n - 1) u.pending u.current u.next (left_after_frame left) c x)
+wait_within : (n lo hi : ℕ) (t : Known) (left : Option ℕ) (c x : Configuration) → 1 ≤ n → (n < lo) ⊎ (hi ≤ n)
+    → IsPendingAs t.current t.next 1 lo hi left c x → (test : Bool) → nat_lt n lo ≡ test
+    → (let u : Known = cond test (record t { pending = Within (lo - n) (hi - n) }) (known_after_swap t) in
+    ComesBy (n - 1) u.pending u.current u.next (left_after_frame left) c x)
 wait_within n lo hi t left c x some certain h true e =
     let below : n < lo = ltb-true n lo e in
-    record { frames = h.frames - 1; is = after_some left h.frames h.is; ahead = omega arith; low = omega arith; high = omega arith; current = h.current; next = h.next }
+    record {
+      frames = h.frames - 1;
+      is = after_some left h.frames h.is;
+      ahead = omega arith;
+      low = omega arith;
+      high = omega arith;
+      current = h.current;
+      next = h.next;
+    }
 wait_within n lo hi t left c x some certain h false e =
     let above : lo ≤ n = ltb-false n lo e in
     let past : hi ≤ n = elim certain [ inl early ↦ absurd (omega arith) | inr late ↦ late ] in
-    inr (record { frames = h.frames - 1; is = after_some left h.frames h.is; most = omega arith; current = h.next; next = h.next })
+    inr (record {
+      frames = h.frames - 1;
+      is = after_some left h.frames h.is;
+      most = omega arith;
+      current = h.next;
+      next = h.next;
+    })
 
-wait_perhaps : (n hi : ℕ) (t : Known) (left : Option ℕ) (c x : Configuration) → 1 ≤ n → AgreesBy (Perhaps hi) t.current t.next left c x → (test : Bool) → nat_lt n hi ≡ test
-    → (let u : Known = cond test (record t { pending = Perhaps (hi - n) }) (known_after_swap t) in ComesBy (n - 1) u.pending u.current u.next (left_after_frame left) c x)
+wait_perhaps : (n hi : ℕ) (t : Known) (left : Option ℕ) (c x : Configuration) → 1 ≤ n
+    → AgreesBy (Perhaps hi) t.current t.next left c x → (test : Bool) → nat_lt n hi ≡ test
+    → (let u : Known = cond test (record t { pending = Perhaps (hi - n) }) (known_after_swap t) in
+    ComesBy (n - 1) u.pending u.current u.next (left_after_frame left) c x)
 wait_perhaps n hi t left c x some (inl h) true e =
     let below : n < hi = ltb-true n hi e in
-    inl (record { frames = h.frames - 1; is = after_some left h.frames h.is; ahead = omega arith; low = omega arith; high = omega arith; current = h.current; next = h.next })
+    inl (record {
+      frames = h.frames - 1;
+      is = after_some left h.frames h.is;
+      ahead = omega arith;
+      low = omega arith;
+      high = omega arith;
+      current = h.current;
+      next = h.next;
+    })
 wait_perhaps n hi t left c x some (inl h) false e =
     let above : hi ≤ n = ltb-false n hi e in
-    inr (record { frames = h.frames - 1; is = after_some left h.frames h.is; most = omega arith; current = h.next; next = h.next })
-wait_perhaps n hi t left c x some (inr h) true e = inr (record { none = after_none left h.none; current = h.current; next = h.next })
-wait_perhaps n hi t left c x some (inr h) false e = inl (record { none = after_none left h.none; current = h.current; next = h.next })
+    inr (record {
+      frames = h.frames - 1;
+      is = after_some left h.frames h.is;
+      most = omega arith;
+      current = h.next;
+      next = h.next;
+    })
+wait_perhaps n hi t left c x some (inr h) true e =
+    inr (record { none = after_none left h.none; current = h.current; next = h.next })
+wait_perhaps n hi t left c x some (inr h) false e =
+    inl (record { none = after_none left h.none; current = h.current; next = h.next })
 
-pub wait_by : (n : ℕ) (pending : Swap) (t : Known) (left : Option ℕ) (c x : Configuration) → t.pending ≡ pending → 1 ≤ n → IsCertain n pending → AgreesBy pending t.current t.next left c x
+pub wait_by : (n : ℕ) (pending : Swap) (t : Known) (left : Option ℕ) (c x : Configuration) → t.pending ≡ pending → 1 ≤ n
+    → IsCertain n pending → AgreesBy pending t.current t.next left c x
     → (let u = after_wait n pending t in ComesBy (n - 1) u.pending u.current u.next (left_after_frame left) c x)
 wait_by n Idle t left c x is some certain h =
     subst (λ (p : Swap). ComesBy (n - 1) p t.current t.next (left_after_frame left) c x) (sym is)
@@ -149,21 +254,40 @@ wait_by n (Perhaps hi) t left c x is some certain h = wait_perhaps n hi t left c
 
 -- ---- a pause
 
-pause_within : (hi : ℕ) (t : Known) (left : Option ℕ) (c x : Configuration) (low : ℕ) → IsPendingAs t.current t.next 1 low hi left c x → (test : Bool) → nat_lt 1 hi ≡ test
-    → (let u : Known = cond test (record t { pending = Perhaps (hi - 1) }) (known_after_swap t) in PausesBy u.pending u.current u.next (left_after_frame left) c x)
+pause_within : (hi : ℕ) (t : Known) (left : Option ℕ) (c x : Configuration) (low : ℕ)
+    → IsPendingAs t.current t.next 1 low hi left c x → (test : Bool) → nat_lt 1 hi ≡ test
+    → (let u : Known = cond test (record t { pending = Perhaps (hi - 1) }) (known_after_swap t) in
+    PausesBy u.pending u.current u.next (left_after_frame left) c x)
 pause_within hi t left c x low h true e =
     let below : 1 < hi = ltb-true 1 hi e in
-    inl (record { frames = h.frames - 1; is = after_some left h.frames h.is; ahead = omega arith; low = omega arith; high = omega arith; current = h.current; next = h.next })
+    inl (record {
+      frames = h.frames - 1;
+      is = after_some left h.frames h.is;
+      ahead = omega arith;
+      low = omega arith;
+      high = omega arith;
+      current = h.current;
+      next = h.next;
+    })
 pause_within hi t left c x low h false e =
     let above : hi ≤ 1 = ltb-false 1 hi e in
-    inr (record { frames = h.frames - 1; is = after_some left h.frames h.is; most = omega arith; current = h.next; next = h.next })
+    inr (record {
+      frames = h.frames - 1;
+      is = after_some left h.frames h.is;
+      most = omega arith;
+      current = h.next;
+      next = h.next;
+    })
 
-pause_idle : (hi : ℕ) (t : Known) (left : Option ℕ) (c x : Configuration) → IsIdleAs t.next t.next left c x → (test : Bool)
-    → (let u : Known = cond test (record t { pending = Perhaps (hi - 1) }) (known_after_swap t) in PausesBy u.pending u.current u.next (left_after_frame left) c x)
+pause_idle : (hi : ℕ) (t : Known) (left : Option ℕ) (c x : Configuration) → IsIdleAs t.next t.next left c x
+    → (test : Bool)
+    → (let u : Known = cond test (record t { pending = Perhaps (hi - 1) }) (known_after_swap t) in
+    PausesBy u.pending u.current u.next (left_after_frame left) c x)
 pause_idle hi t left c x h true = inr (record { none = after_none left h.none; current = h.current; next = h.next })
 pause_idle hi t left c x h false = inl (record { none = after_none left h.none; current = h.current; next = h.next })
 
-pub pause_by : (pending : Swap) (t : Known) (left : Option ℕ) (c x : Configuration) → t.pending ≡ pending → AgreesBy pending t.current t.next left c x
+pub pause_by : (pending : Swap) (t : Known) (left : Option ℕ) (c x : Configuration) → t.pending ≡ pending
+    → AgreesBy pending t.current t.next left c x
     → (let u = after_pause pending t in PausesBy u.pending u.current u.next (left_after_frame left) c x)
 pause_by Idle t left c x is h =
     subst (λ (p : Swap). PausesBy p t.current t.next (left_after_frame left) c x) (sym is)
@@ -174,11 +298,14 @@ pause_by (Perhaps hi) t left c x is (inr h) = pause_idle hi t left c x h (nat_lt
 
 -- ---- a state fits a label
 
-idle_as : {a b : Configuration} (d e : Configuration) {left : Option ℕ} {c n : Configuration} → a ≡ d → b ≡ e → IsIdleAs a b left c n → IsIdleAs d e left c n
+idle_as : {a b : Configuration} (d e : Configuration) {left : Option ℕ} {c n : Configuration} → a ≡ d → b ≡ e
+    → IsIdleAs a b left c n → IsIdleAs d e left c n
 idle_as d e p q h = record { none = h.none; current = h.current ∙ p; next = h.next ∙ q }
 
-pending_as : {a b : Configuration} (d e : Configuration) {ahead low high : ℕ} (lower greater : ℕ) {left : Option ℕ} {c n : Configuration}
-    → a ≡ d → b ≡ e → lower ≤ low → high ≤ greater → IsPendingAs a b ahead low high left c n → IsPendingAs d e ahead lower greater left c n
+pending_as : {a b : Configuration} (d e : Configuration) {ahead low high : ℕ} (lower greater : ℕ) {left : Option ℕ}
+    {c n : Configuration}
+    → a ≡ d → b ≡ e → lower ≤ low → high ≤ greater → IsPendingAs a b ahead low high left c n
+    → IsPendingAs d e ahead lower greater left c n
 pending_as d e lower greater p q under over h =
     record {
       frames = h.frames;
@@ -190,15 +317,25 @@ pending_as d e lower greater p q under over h =
       next = h.next ∙ q;
     }
 
-pub fits_by : (a b : Swap) (t d : Known) (left : Option ℕ) (c n : Configuration) → FitsSwap a b t d → AgreesBy a t.current t.next left c n → AgreesBy b d.current d.next left c n
+pub fits_by : (a b : Swap) (t d : Known) (left : Option ℕ) (c n : Configuration) → FitsSwap a b t d
+    → AgreesBy a t.current t.next left c n → AgreesBy b d.current d.next left c n
 fits_by Idle Idle t d left c n f h = idle_as d.current d.next f.0 f.1 h
 fits_by Idle (Within low high) t d left c n f h = absurd f
 fits_by Idle (Perhaps high) t d left c n f h = inr (idle_as d.next d.next f.0 f.1 h)
 fits_by (Within lo hi) Idle t d left c n f h = absurd f
 fits_by (Within lo hi) (Within low high) t d left c n f h = pending_as d.current d.next low high f.0.0 f.0.1 f.1 f.2 h
 fits_by (Within lo hi) (Perhaps high) t d left c n f h =
-    inl (record { frames = h.frames; is = h.is; ahead = h.ahead; low = h.ahead; high = omega (arith, h.high, f.1); current = h.current ∙ f.0.0; next = h.next ∙ f.0.1 })
+    inl (record {
+      frames = h.frames;
+      is = h.is;
+      ahead = h.ahead;
+      low = h.ahead;
+      high = omega (arith, h.high, f.1);
+      current = h.current ∙ f.0.0;
+      next = h.next ∙ f.0.1;
+    })
 fits_by (Perhaps hi) Idle t d left c n f h = absurd f
 fits_by (Perhaps hi) (Within low high) t d left c n f h = absurd f
-fits_by (Perhaps hi) (Perhaps high) t d left c n f (inl h) = inl (pending_as d.current d.next 1 high f.0.0 f.0.1 (omega arith) f.1 h)
+fits_by (Perhaps hi) (Perhaps high) t d left c n f (inl h) =
+    inl (pending_as d.current d.next 1 high f.0.0 f.0.1 (omega arith) f.1 h)
 fits_by (Perhaps hi) (Perhaps high) t d left c n f (inr h) = inr (idle_as d.next d.next f.0.1 f.0.1 h)

@@ -1,9 +1,6 @@
 -- A start is reached, and so is every state that follows a reached one.
 use Rattle.std.proofs.Common.{List, [], ◌∷◌, ◌++◌, refl, ap, ◌∙◌}
-use Rattle.std.specs.List.{AllByRecursion}
-use Rattle.plan_runs.specs.declared.event.Event.{Event}
-use Rattle.plan_runs.specs.Runs.{IsEvent, run}
-use Rattle.plan_runs.specs.TypedRuns.{StartsAreReached, ReachedIsKept}
+use Rattle.plan_runs.proofs.Names.{AllByRecursion, Event, IsEvent, run, StartsAreReached, ReachedIsKept}
 use Rattle.plan_runs.proofs.Joined.{state_joins}
 
 pub starts_are_reached : StartsAreReached
@@ -17,7 +14,8 @@ starts_are_reached p start s in_range started = record {
   leads = refl;
 }
 
-each_joined : (es fs : List Event) → AllByRecursion IsEvent es → AllByRecursion IsEvent fs → AllByRecursion IsEvent (es ++ fs)
+each_joined : (es fs : List Event) → AllByRecursion IsEvent es → AllByRecursion IsEvent fs
+    → AllByRecursion IsEvent (es ++ fs)
 each_joined [] fs h g = g
 each_joined (e ∷ es) fs h g = (h.0, each_joined es fs h.1 g)
 

@@ -1,40 +1,27 @@
 -- The bytes of every frame are correct.
-use Rattle.std.specs.Prelude.{Contains, slice_get, map, take, drop, IfSome, ◌==◌, ◌&&◌, not}
-use Rattle.std.proofs.Common.{◌≡◌, ◌≢◌, ℕ, zero, suc, ◌+◌, ◌*◌, ◌/◌, ◌%◌, ◌<◌, ◌≤◌, Bool, true, false, cond, List, [], ◌∷◌, ◌++◌, length, Option, Some, None, refl, sym, ap, subst, ◌∙◌, arith, inl, inr, ◌⊎◌, replicate}
-use Rattle.std.proofs.lemmas.List.{drop-drop}
-use Rattle.std.proofs.lemmas.List.Elements.{Contains-append_cases}
-use Rattle.std.proofs.lemmas.Bool.{eqb-true, eq-eqb}
-use Rattle.fib_codec.specs.Layouts.{layout_mode, frame_fibs, used_fibs, reserved_fibs}
-use Rattle.fib_codec.specs.declared.frame_layout.FrameLayout.{FrameLayout}
-use Rattle.fib_codec.specs.declared.frame_layout.FrameLayout.TheVariants.{Whole, ReserveOne, ReserveTwo}
-use Rattle.mux_config.specs.Configuration.{Configuration, IsConfiguration}
-use Rattle.std.specs.List.{AllByRecursion}
-use Rattle.mux_types.specs.Entries.{EnsembleInformation}
-use Rattle.mux_types.specs.Facts.{Marked, marked, facts_of}
-use Rattle.mux_config.specs.Change.{change_of, bits_of, has_same_subs, has_same_services}
-use Rattle.mux_config.specs.Sameness.{is_same_sub, is_same_service, is_same_packet, is_same_list}
-use Rattle.mux_types.specs.declared.entry.Entry.TheVariants.{Ensemble as EnsembleOf, Sub as SubOf, Short as ShortOf, Service as ServiceOf, Packet as PacketOf}
-use Rattle.mux_types.specs.declared.entry.Entry.{Entry}
+use Rattle.std.proofs.Common.{◌≡◌, ◌≢◌, ℕ, zero, suc, ◌+◌, ◌*◌, ◌/◌, ◌%◌, ◌<◌, ◌≤◌, Bool, true, false, cond, List, []}
+use Rattle.std.proofs.Common.{◌∷◌, ◌++◌, length, Option, Some, None, refl, sym, ap, subst, ◌∙◌, arith, inl, inr, ◌⊎◌}
+use Rattle.std.proofs.Common.{replicate}
+use Rattle.plan_runs.proofs.Names.{Contains, slice_get, map, take, drop, IfSome, ◌==◌, not, drop-drop}
+use Rattle.plan_runs.proofs.Names.{Contains-append_cases, eqb-true, eq-eqb, and_parts, layout_mode, frame_fibs}
+use Rattle.plan_runs.proofs.Names.{used_fibs, reserved_fibs, FrameLayout, Whole, ReserveOne, ReserveTwo, Configuration}
+use Rattle.plan_runs.proofs.Names.{IsConfiguration, AllByRecursion, EnsembleInformation, Marked, marked, facts_of}
+use Rattle.plan_runs.proofs.Names.{change_of, bits_of, has_same_subs, has_same_services, is_same_sub, is_same_service}
+use Rattle.plan_runs.proofs.Names.{is_same_packet, is_same_list, EnsembleOf, Entry, Mode, I, fib_count, count_step}
+use Rattle.plan_runs.proofs.Names.{IsEnsembleInformation, Written, head_of, head_byte, ext_of, bit_of, fig_bytes}
+use Rattle.plan_runs.proofs.Names.{entry_bytes, Open, Other, IsValid, fig_of, fib_at, IsHeardInRow, IsInFig, Head}
+use Rattle.plan_runs.proofs.Names.{same_head, entries_in_fib, entries_where, page_set, page_entries, EachInAPage}
+use Rattle.plan_runs.proofs.Names.{first_fib, later_fibs, packing, reserved_figs, page_figs, AreFibs, ensemble_figs}
+use Rattle.plan_runs.proofs.Names.{figs_of, with_entry_first, IsPageable, IsSendable, AreSendable, PageSetsArePageable}
+use Rattle.plan_runs.proofs.Names.{PagesAreValid, PagesAreHeard, EnsembleIsCarried, Plan, State, is_noticed}
+use Rattle.plan_runs.proofs.Names.{announced_next, sent_entries, ensemble_of, ensemble_sent, low_of_swap, shown_bytes}
+use Rattle.plan_runs.proofs.Names.{IsNoHeader, IsFlaggedBy, IsEnsembleOf, IsHeadedBy, IsUnheaded, IsRight}
 use Rattle.mux_config.proofs.Same.{list_same, sub_same, service_same, packet_same}
-use Rattle.fib_codec.specs.declared.modes.Mode.{Mode}
-use Rattle.fib_codec.specs.declared.modes.Mode.TheVariants.{I, II, III, IV}
-use Rattle.fib_codec.specs.Modes.{fib_count, count_step}
-use Rattle.fib_codec.specs.Ranges.{IsEnsembleInformation}
-use Rattle.fib_codec.specs.Spelling.{Written, head_of, head_byte, ext_of, bit_of, fig_bytes, entry_bytes}
-use Rattle.fib_codec.specs.Grammar.{Open, Other, IsValid, fig_of}
-use Rattle.fib_codec.specs.Heard.{fib_at, IsHeardInRow, IsInFig}
-use Rattle.fib_codec.specs.declared.head.Head.{Head}
-use Rattle.fib_carousel.specs.Packing.{same_head, entries_in_fib, entries_where}
-use Rattle.fib_carousel.specs.Pages.{page_set, page_entries, EachInAPage, first_fib, later_fibs}
-use Rattle.fib_carousel.specs.Greedy.{packing}
-use Rattle.fib_carousel.specs.Bytes.{reserved_figs, page_figs, AreFibs, ensemble_figs, figs_of, with_entry_first}
-use Rattle.fib_carousel.specs.Carried.{IsPageable, IsSendable, AreSendable, PageSetsArePageable, PagesAreValid, PagesAreHeard, EnsembleIsCarried}
-use Rattle.plan_code.specs.declared.plan.Plan.{Plan}
-use Rattle.plan_code.specs.Machine.{State}
-use Rattle.plan_runs.specs.Frames.{is_noticed, announced_next, sent_entries, ensemble_of, ensemble_sent, low_of_swap, shown_bytes}
-use Rattle.plan_runs.specs.RightBytes.{IsNoHeader, IsFlaggedBy, IsEnsembleOf, IsHeadedBy, IsUnheaded, IsRight}
 use Rattle.plan_runs.proofs.Knowledge.{CommittedBy}
 use Rattle.plan_runs.proofs.Tracked.{Airs}
+use Rattle.fib_carousel.proofs.Hearing.{pages_are_valid, pages_are_heard, ensemble_is_heard, page_sets_are_pageable}
+use Rattle.fib_carousel.proofs.Hearing.{sendable_where}
+use Rattle.fib_carousel.proofs.Pieces.{each_in_a_page}
 
 -- ---- the laws of pages that are used
 
@@ -45,6 +32,15 @@ pub record PageLaws : Type 0 where
   pub heard : PagesAreHeard
   pub ensemble : EnsembleIsCarried
 
+pub page_laws : PageLaws
+page_laws = record {
+  each = each_in_a_page;
+  pageable = page_sets_are_pageable;
+  valid = pages_are_valid;
+  heard = pages_are_heard;
+  ensemble = ensemble_is_heard;
+}
+
 -- ---- every change sets a change flag
 
 not_both : (a b : Bool) → (cond (not a) 1 0) + (cond (not b) 2 0) ≡ 0 → (a ≡ true) × (b ≡ true)
@@ -53,14 +49,11 @@ not_both true false e = absurd (omega (arith, e))
 not_both false true e = absurd (omega (arith, e))
 not_both false false e = absurd (omega (arith, e))
 
-both_of : (a b : Bool) → (a && b) ≡ true → (a ≡ true) × (b ≡ true)
-both_of true b e = (refl, e)
-both_of false b e = absurd cc
-
 unchanged : (c n : Configuration) → bits_of (change_of c n) ≡ 0 → n ≡ c
 unchanged c n e =
     let both = not_both (has_same_subs c n) (has_same_services c n) e in
-    let parts = both_of (is_same_list is_same_service c.services n.services) (is_same_list is_same_packet c.packets n.packets) both.1 in
+    let parts = and_parts (is_same_list is_same_service c.services n.services)
+    (is_same_list is_same_packet c.packets n.packets) both.1 in
     let subs : c.subs ≡ n.subs = list_same is_same_sub sub_same c.subs n.subs both.0 in
     let services : c.services ≡ n.services = list_same is_same_service service_same c.services n.services parts.0 in
     let packets : c.packets ≡ n.packets = list_same is_same_packet packet_same c.packets n.packets parts.1 in
@@ -85,14 +78,23 @@ change_some c n apart = by (bits_of (change_of c n)) refl
 
 -- ---- FIG 0/0 of a state
 
-plain_within : (eid count : ℕ) → eid < 65536 → count < 5000 → IsEnsembleInformation (record { eid = eid; change = 0; al = false; count = count; occurrence = None })
-plain_within eid count e c = record { eid = e; change = omega arith; count = c; flagged = (λ none. absurd cc, λ some. absurd (omega (arith, some))); occurrence = tt }
+pub plain_within : (eid count : ℕ) → eid < 65536 → count < 5000
+    → IsEnsembleInformation (record { eid = eid; change = 0; al = false; count = count; occurrence = None })
+plain_within eid count e c = record {
+  eid = e;
+  change = omega arith;
+  count = c;
+  flagged = (λ none. absurd cc, λ some. absurd (omega (arith, some)));
+  occurrence = tt;
+}
 
-flagged_within : (eid count change low : ℕ) → eid < 65536 → count < 5000 → change < 4 → 0 < change → low < 256
+pub flagged_within : (eid count change low : ℕ) → eid < 65536 → count < 5000 → change < 4 → 0 < change → low < 256
     → IsEnsembleInformation (record { eid = eid; change = change; al = false; count = count; occurrence = Some low })
-flagged_within eid count change low e c b some l = record { eid = e; change = b; count = c; flagged = (λ there. some, λ more. refl); occurrence = l }
+flagged_within eid count change low e c b some l =
+    record { eid = e; change = b; count = c; flagged = (λ there. some, λ more. refl); occurrence = l }
 
-committed_changes : (plan : Plan) (left : Option ℕ) (c n : Configuration) → is_noticed plan.notice left ≡ true → CommittedBy plan left c n → n ≢ c
+committed_changes : (plan : Plan) (left : Option ℕ) (c n : Configuration) → is_noticed plan.notice left ≡ true
+    → CommittedBy plan left c n → n ≢ c
 committed_changes plan None c n e h = absurd cc
 committed_changes plan (Some l) c n e h = h.changes
 
@@ -102,17 +104,26 @@ low_below count (Some l) = omega arith
 
 ensemble_by : (plan : Plan) (s : State) → Airs plan s → (b : Bool) → is_noticed plan.notice s.left ≡ b
     → IsEnsembleInformation
-    (cond b (let r : EnsembleInformation = record { eid = s.eid; change = bits_of (change_of s.current s.next); al = false; count = s.count; occurrence = Some (low_of_swap s.count s.left) } in r)
+    (cond b (let r : EnsembleInformation = record {
+      eid = s.eid;
+      change = bits_of (change_of s.current s.next);
+      al = false;
+      count = s.count;
+      occurrence = Some (low_of_swap s.count s.left);
+    } in r)
     (record { eid = s.eid; change = 0; al = false; count = s.count; occurrence = None }))
 ensemble_by plan s h true e =
-    flagged_within s.eid s.count (bits_of (change_of s.current s.next)) (low_of_swap s.count s.left) h.eid h.count (change_below s.current s.next)
-    (change_some s.current s.next (committed_changes plan s.left s.current s.next e h.committed)) (low_below s.count s.left)
+    flagged_within s.eid s.count (bits_of (change_of s.current s.next)) (low_of_swap s.count s.left) h.eid h.count
+    (change_below s.current s.next)
+    (change_some s.current s.next (committed_changes plan s.left s.current s.next e h.committed))
+    (low_below s.count s.left)
 ensemble_by plan s h false e = plain_within s.eid s.count h.eid h.count
 
 pub ensemble_within : (plan : Plan) (s : State) → Airs plan s → IsEnsembleInformation (ensemble_of plan s)
 ensemble_within plan s h = ensemble_by plan s h (is_noticed plan.notice s.left) refl
 
-sent_within_by : (plan : Plan) (s : State) → Airs plan s → (b : Bool) → IfSome (cond b (Some (ensemble_of plan s)) None) IsEnsembleInformation
+sent_within_by : (plan : Plan) (s : State) → Airs plan s → (b : Bool)
+    → IfSome (cond b (Some (ensemble_of plan s)) None) IsEnsembleInformation
 sent_within_by plan s h true = ensemble_within plan s h
 sent_within_by plan s h false = tt
 
@@ -121,40 +132,53 @@ next_is plan s h true = h.next
 next_is plan s h false = tt
 
 -- what a state sends can be packed
-pub pageable : PageLaws → (plan : Plan) (s : State) → Airs plan s → IsPageable (ensemble_sent plan s) (sent_entries plan s)
+pub pageable : PageLaws → (plan : Plan) (s : State) → Airs plan s
+    → IsPageable (ensemble_sent plan s) (sent_entries plan s)
 pageable laws plan s h =
-    laws.pageable s.current (announced_next plan s) (ensemble_sent plan s) h.current (next_is plan s h (is_noticed plan.notice s.left)) (sent_within_by plan s h (s.count % count_step (layout_mode plan.layout) == 0))
+    laws.pageable s.current (announced_next plan s) (ensemble_sent plan s) h.current
+    (next_is plan s h (is_noticed plan.notice s.left))
+    (sent_within_by plan s h (s.count % count_step (layout_mode plan.layout) == 0))
 
 -- ---- the entries of a page
 
 later_inside : (e : Marked) (es : List Marked) (m : Marked) → Contains es m → Contains (e ∷ es) m
 later_inside e es m h = (suc h.0, omega (arith, h.1), h.2)
 
-first_inside : (e m : Marked) (es xs : List Marked) → (Contains xs m → Contains es m) → Contains (e ∷ xs) m → Contains (e ∷ es) m
+first_inside : (e m : Marked) (es xs : List Marked) → (Contains xs m → Contains es m) → Contains (e ∷ xs) m
+    → Contains (e ∷ es) m
 first_inside e m es xs f (zero, lt, is) = (0, omega arith, is)
 first_inside e m es xs f (suc k, lt, is) = later_inside e es m (f (k, omega (arith, lt), is))
 
-where_by : (e : Marked) (es xs : List Marked) (m : Marked) → (Contains xs m → Contains es m) → (b : Bool) → Contains (cond b (e ∷ xs) xs) m → Contains (e ∷ es) m
+where_by : (e : Marked) (es xs : List Marked) (m : Marked) → (Contains xs m → Contains es m) → (b : Bool)
+    → Contains (cond b (e ∷ xs) xs) m → Contains (e ∷ es) m
 where_by e es xs m f true h = first_inside e m es xs f h
 where_by e es xs m f false h = later_inside e es m (f h)
 
-where_inside : (test : ℕ → Bool) (es : List Marked) (ns : List ℕ) (m : Marked) → Contains (entries_where test es ns) m → Contains es m
+where_inside : (test : ℕ → Bool) (es : List Marked) (ns : List ℕ) (m : Marked) → Contains (entries_where test es ns) m
+    → Contains es m
 where_inside test [] ns m h = h
 where_inside test (e ∷ es) [] m h = absurd (omega (arith, h.1))
-where_inside test (e ∷ es) (n ∷ ns) m h = where_by e es (entries_where test es ns) m (where_inside test es ns m) (test n) h
+where_inside test (e ∷ es) (n ∷ ns) m h =
+    where_by e es (entries_where test es ns) m (where_inside test es ns m) (test n) h
 
-pub page_inside : (layout : FrameLayout) (k : ℕ) (es : List Marked) (m : Marked) → Contains (page_entries layout k es) m → Contains es m
+pub page_inside : (layout : FrameLayout) (k : ℕ) (es : List Marked) (m : Marked) → Contains (page_entries layout k es) m
+    → Contains es m
 page_inside layout k es m h = where_inside (λ n. n / used_fibs layout == k) es (packing layout es) m h
 
-set_by : (c n : Configuration) (b : Bool) (m : Marked) → Contains (page_set c (cond b (Some n) None)) m → Contains (facts_of c false) m ⊎ ((b ≡ true) × Contains (facts_of n true) m)
+set_by : (c n : Configuration) (b : Bool) (m : Marked) → Contains (page_set c (cond b (Some n) None)) m
+    → Contains (facts_of c false) m ⊎ ((b ≡ true) × Contains (facts_of n true) m)
 set_by c n false m h = inl h
-set_by c n true m h = elim (Contains-append_cases (facts_of c false) (facts_of n true) m h) [ inl here ↦ inl here | inr there ↦ inr (refl, there) ]
+set_by c n true m h = elim (Contains-append_cases (facts_of c false) (facts_of n true) m h)
+    [ inl here ↦ inl here | inr there ↦ inr (refl, there) ]
 
 entries_right : PageLaws → (plan : Plan) (s : State) → Airs plan s → (m : Marked) → IsHeardInRow (shown_bytes plan s) m
-    → Contains (facts_of s.current false) m ⊎ ((is_noticed plan.notice s.left ≡ true) × Contains (facts_of s.next true) m)
+    → Contains (facts_of s.current false) m
+    ⊎ ((is_noticed plan.notice s.left ≡ true) × Contains (facts_of s.next true) m)
 entries_right laws plan s h m heard =
-    let inside = (laws.heard plan.layout (ensemble_sent plan s) s.page_index (sent_entries plan s) (pageable laws plan s h) m).0 heard in
-    set_by s.current s.next (is_noticed plan.notice s.left) m (page_inside plan.layout s.page_index (sent_entries plan s) m inside)
+    let inside = (laws.heard plan.layout (ensemble_sent plan s) s.page_index (sent_entries plan s)
+    (pageable laws plan s h) m).0 heard in
+    set_by s.current s.next (is_noticed plan.notice s.left) m
+    (page_inside plan.layout s.page_index (sent_entries plan s) m inside)
 
 -- ---- FIGs that are not FIG 0/0
 
@@ -162,22 +186,24 @@ entries_right laws plan s h m heard =
 abbrev IsOrganized : Written → Type 0
 IsOrganized w = (1 ≤ w.head.ext) × (w.head.ext ≤ 3) × (w.head.oe ≡ false)
 
-ext_low : (e : Entry) → ext_of e ≤ 3
+pub ext_low : (e : Entry) → ext_of e ≤ 3
 ext_low (EnsembleOf e) = omega arith
-ext_low (SubOf s) = omega arith
-ext_low (ShortOf s) = omega arith
-ext_low (ServiceOf s) = omega arith
-ext_low (PacketOf p) = omega arith
+ext_low _ = omega arith
 
-head_organized : (m : Marked) (es : List Entry) → 1 ≤ ext_of m.entry → IsOrganized (record { head = head_of m; entries = es })
+head_organized : (m : Marked) (es : List Entry) → 1 ≤ ext_of m.entry
+    → IsOrganized (record { head = head_of m; entries = es })
 head_organized m es some = (some, ext_low m.entry, refl)
 
-join_by : (m : Marked) (f : Written) (fs : List Written) → 1 ≤ ext_of m.entry → IsOrganized f → AllByRecursion IsOrganized fs → (b : Bool)
-    → AllByRecursion IsOrganized (cond b ((let w : Written = record { head = f.head; entries = m.entry ∷ f.entries } in w) ∷ fs) ((let w : Written = record { head = head_of m; entries = m.entry ∷ [] } in w) ∷ f ∷ fs))
+join_by : (m : Marked) (f : Written) (fs : List Written) → 1 ≤ ext_of m.entry → IsOrganized f
+    → AllByRecursion IsOrganized fs → (b : Bool)
+    → AllByRecursion IsOrganized
+    (cond b ((let w : Written = record { head = f.head; entries = m.entry ∷ f.entries } in w) ∷ fs)
+    ((let w : Written = record { head = head_of m; entries = m.entry ∷ [] } in w) ∷ f ∷ fs))
 join_by m f fs some h hs true = (h, hs)
 join_by m f fs some h hs false = (head_organized m (m.entry ∷ []) some, (h, hs))
 
-join_organized : (m : Marked) (fs : List Written) → 1 ≤ ext_of m.entry → AllByRecursion IsOrganized fs → AllByRecursion IsOrganized (with_entry_first m fs)
+join_organized : (m : Marked) (fs : List Written) → 1 ≤ ext_of m.entry → AllByRecursion IsOrganized fs
+    → AllByRecursion IsOrganized (with_entry_first m fs)
 join_organized m [] some h = (head_organized m (m.entry ∷ []) some, tt)
 join_organized m (f ∷ fs) some h = join_by m f fs some h.0 h.1 (same_head (head_of m) f.head)
 
@@ -185,14 +211,15 @@ figs_organized : (ms : List Marked) → AreSendable ms → AllByRecursion IsOrga
 figs_organized [] h = tt
 figs_organized (m ∷ ms) h = join_organized m (figs_of ms) h.0.organization (figs_organized ms h.1)
 
-flag_le : (b : Bool) → bit_of b ≤ 1
+pub flag_le : (b : Bool) → bit_of b ≤ 1
 flag_le true = omega arith
 flag_le false = omega arith
 
 byte_ext : (h : Head) → h.ext ≤ 3 → head_byte h % 32 ≡ h.ext
 byte_ext h low = omega (arith, low, flag_le h.next, flag_le h.oe, flag_le h.long)
 
-not_ours : (oe : Bool) (second : ℕ) (bytes : List ℕ) (es : List (List ℕ)) → 1 ≤ second % 32 → IsNoHeader (cond oe (Other bytes) (Open second es))
+not_ours : (oe : Bool) (second : ℕ) (bytes : List ℕ) (es : List (List ℕ)) → 1 ≤ second % 32
+    → IsNoHeader (cond oe (Other bytes) (Open second es))
 not_ours true second bytes es some h = h
 not_ours false second bytes es some h = omega (arith, some, h)
 
@@ -208,14 +235,10 @@ no_headers (w ∷ ws) h = (no_header w h.0, no_headers ws h.1)
 
 -- ---- the FIBs of a page
 
-sendable_by : (e : Marked) (xs : List Marked) → IsSendable e → AreSendable xs → (b : Bool) → AreSendable (cond b (e ∷ xs) xs)
+sendable_by : (e : Marked) (xs : List Marked) → IsSendable e → AreSendable xs → (b : Bool)
+    → AreSendable (cond b (e ∷ xs) xs)
 sendable_by e xs h hs true = (h, hs)
 sendable_by e xs h hs false = hs
-
-sendable_where : (test : ℕ → Bool) (es : List Marked) (ns : List ℕ) → AreSendable es → AreSendable (entries_where test es ns)
-sendable_where test [] ns h = tt
-sendable_where test (e ∷ es) [] h = tt
-sendable_where test (e ∷ es) (n ∷ ns) h = sendable_by e (entries_where test es ns) h.0 (sendable_where test es ns h.1) (test n)
 
 -- FIB n of these FIBs
 pub record IsFibAt (all : List (List Written)) (bytes : List ℕ) (n : ℕ) : Type 0 where
@@ -223,68 +246,83 @@ pub record IsFibAt (all : List (List Written)) (bytes : List ℕ) (n : ℕ) : Ty
   pub there : slice_get all n ≡ Some figs
   pub valid : IsValid (fib_at bytes n) (map fig_of figs)
 
-fib_is : (all : List (List Written)) (bytes : List ℕ) → AreFibs all bytes → (n : ℕ) → n < length all → IsFibAt all bytes n
+fib_is : (all : List (List Written)) (bytes : List ℕ) → AreFibs all bytes → (n : ℕ) → n < length all
+    → IsFibAt all bytes n
 fib_is [] bytes h n below = absurd (omega (arith, below))
 fib_is (figs ∷ rest) bytes h zero below = record { figs = figs; there = refl; valid = h.0 }
 fib_is (figs ∷ rest) bytes h (suc n) below =
     let later = fib_is rest (drop 32 bytes) h.1 n (omega (arith, below)) in
-    let places : drop (32 * n) (drop 32 bytes) ≡ drop (32 * suc n) bytes = drop-drop (32 * n) 32 bytes ∙ ap (λ k. drop k bytes) (omega arith) in
-    record { figs = later.figs; there = later.there; valid = subst (λ (b : List ℕ). IsValid (take 32 b) (map fig_of later.figs)) places later.valid }
+    let places : drop (32 * n) (drop 32 bytes) ≡ drop (32 * suc n) bytes =
+    drop-drop (32 * n) 32 bytes ∙ ap (λ k. drop k bytes) (omega arith) in
+    record {
+      figs = later.figs;
+      there = later.there;
+      valid = subst (λ (b : List ℕ). IsValid (take 32 b) (map fig_of later.figs)) places later.valid;
+    }
 
-page_length : (layout : FrameLayout) (o : Option EnsembleInformation) (k : ℕ) (ms : List Marked) → length (page_figs layout o k ms) ≡ frame_fibs layout
+page_length : (layout : FrameLayout) (o : Option EnsembleInformation) (k : ℕ) (ms : List Marked)
+    → length (page_figs layout o k ms) ≡ frame_fibs layout
 page_length (Whole I) o k ms = refl
-page_length (Whole II) o k ms = refl
-page_length (Whole III) o k ms = refl
-page_length (Whole IV) o k ms = refl
+page_length (Whole _) o k ms = refl
 page_length (ReserveOne I) o k ms = refl
-page_length (ReserveOne II) o k ms = refl
-page_length (ReserveOne III) o k ms = refl
-page_length (ReserveOne IV) o k ms = refl
+page_length (ReserveOne _) o k ms = refl
 page_length ReserveTwo o k ms = refl
 
 -- the reserved FIBs have no FIGs
-reserved_organized : (count n : ℕ) (figs : List Written) → (let none : List (List Written) = replicate count [] in slice_get none n) ≡ Some figs → AllByRecursion IsOrganized figs
+reserved_organized : (count n : ℕ) (figs : List Written)
+    → (let none : List (List Written) = replicate count [] in slice_get none n) ≡ Some figs
+    → AllByRecursion IsOrganized figs
 reserved_organized zero n figs e = absurd cc
 reserved_organized (suc count) zero figs e =
     let same : [] ≡ figs = cc e in
     subst (λ (f : List Written). AllByRecursion IsOrganized f) same tt
 reserved_organized (suc count) (suc n) figs e = reserved_organized count n figs e
 
-mapped_organized : (layout : FrameLayout) (ms : List Marked) → AreSendable ms → (ns : List ℕ) (n : ℕ) (figs : List Written)
-    → slice_get (map (λ m. figs_of (entries_in_fib m ms (packing layout ms))) ns ++ reserved_figs layout) n ≡ Some figs → AllByRecursion IsOrganized figs
+mapped_organized : (layout : FrameLayout) (ms : List Marked) → AreSendable ms
+    → (ns : List ℕ) (n : ℕ) (figs : List Written)
+    → slice_get (map (λ m. figs_of (entries_in_fib m ms (packing layout ms))) ns ++ reserved_figs layout) n ≡ Some figs
+    → AllByRecursion IsOrganized figs
 mapped_organized layout ms h [] n figs e = reserved_organized (reserved_fibs layout) n figs e
 mapped_organized layout ms h (m ∷ ns) zero figs e =
     let same : figs_of (entries_in_fib m ms (packing layout ms)) ≡ figs = cc e in
-    subst (λ (f : List Written). AllByRecursion IsOrganized f) same (figs_organized (entries_in_fib m ms (packing layout ms)) (sendable_where (λ x. x == m) ms (packing layout ms) h))
+    subst (λ (f : List Written). AllByRecursion IsOrganized f) same
+    (figs_organized (entries_in_fib m ms (packing layout ms))
+    (sendable_where (λ x. x == m) ms (packing layout ms) h))
 mapped_organized layout ms h (m ∷ ns) (suc n) figs e = mapped_organized layout ms h ns n figs e
 
-later_figs : (layout : FrameLayout) (o : Option EnsembleInformation) (k : ℕ) (ms : List Marked) → AreSendable ms → (n : ℕ) (figs : List Written) → 1 ≤ n → slice_get (page_figs layout o k ms) n ≡ Some figs → AllByRecursion IsOrganized figs
+later_figs : (layout : FrameLayout) (o : Option EnsembleInformation) (k : ℕ) (ms : List Marked) → AreSendable ms
+    → (n : ℕ) (figs : List Written) → 1 ≤ n → slice_get (page_figs layout o k ms) n ≡ Some figs
+    → AllByRecursion IsOrganized figs
 later_figs layout o k ms h zero figs some e = absurd (omega (arith, some))
 later_figs layout o k ms h (suc n) figs some e = mapped_organized layout ms h (later_fibs layout k) n figs e
 
 -- ---- the frame
 
-valid_at : PageLaws → (plan : Plan) (s : State) → Airs plan s → (n : ℕ) → n < frame_fibs plan.layout → IsFibAt (page_figs plan.layout (ensemble_sent plan s) s.page_index (sent_entries plan s)) (shown_bytes plan s) n
+valid_at : PageLaws → (plan : Plan) (s : State) → Airs plan s → (n : ℕ) → n < frame_fibs plan.layout
+    → IsFibAt (page_figs plan.layout (ensemble_sent plan s) s.page_index (sent_entries plan s)) (shown_bytes plan s) n
 valid_at laws plan s h n below =
     let figs : List (List Written) = page_figs plan.layout (ensemble_sent plan s) s.page_index (sent_entries plan s) in
-    let long : length figs ≡ frame_fibs plan.layout = page_length plan.layout (ensemble_sent plan s) s.page_index (sent_entries plan s) in
-    let are = (laws.valid plan.layout (ensemble_sent plan s) s.page_index (sent_entries plan s) (pageable laws plan s h)).0 in
+    let long : length figs ≡ frame_fibs plan.layout =
+    page_length plan.layout (ensemble_sent plan s) s.page_index (sent_entries plan s) in
+    let are = (laws.valid plan.layout (ensemble_sent plan s) s.page_index (sent_entries plan s)
+    (pageable laws plan s h)).0 in
     fib_is figs (shown_bytes plan s) are n (omega (arith, below, long))
 
 some_fibs : (mode : Mode) → 0 < fib_count mode
 some_fibs I = omega arith
-some_fibs II = omega arith
-some_fibs III = omega arith
-some_fibs IV = omega arith
+some_fibs _ = omega arith
 
 first_sendable : PageLaws → (plan : Plan) (s : State) → Airs plan s → AreSendable (sent_entries plan s)
 first_sendable laws plan s h = (pageable laws plan s h).entries
 
 -- the first FIB, with or without FIG 0/0
 abbrev FirstFigs : Plan → State → Option EnsembleInformation → List Written
-FirstFigs plan s o = ensemble_figs o ++ figs_of (entries_in_fib (first_fib plan.layout s.page_index) (sent_entries plan s) (packing plan.layout (sent_entries plan s)))
+FirstFigs plan s o = ensemble_figs o
+    ++ figs_of (entries_in_fib (first_fib plan.layout s.page_index) (sent_entries plan s)
+    (packing plan.layout (sent_entries plan s)))
 
-first_valid : PageLaws → (plan : Plan) (s : State) → Airs plan s → (o : Option EnsembleInformation) → ensemble_sent plan s ≡ o → IsValid (fib_at (shown_bytes plan s) 0) (map fig_of (FirstFigs plan s o))
+first_valid : PageLaws → (plan : Plan) (s : State) → Airs plan s → (o : Option EnsembleInformation)
+    → ensemble_sent plan s ≡ o → IsValid (fib_at (shown_bytes plan s) 0) (map fig_of (FirstFigs plan s o))
 first_valid laws plan s h o e =
     let at = valid_at laws plan s h 0 (some_fibs (layout_mode plan.layout)) in
     let there : Some (FirstFigs plan s (ensemble_sent plan s)) ≡ Some at.figs = at.there in
@@ -293,23 +331,42 @@ first_valid laws plan s h o e =
     subst (λ (f : List Written). IsValid (fib_at (shown_bytes plan s) 0) (map fig_of f)) (sym now) at.valid
 
 others_organized : PageLaws → (plan : Plan) (s : State) → Airs plan s
-    → AllByRecursion IsOrganized (figs_of (entries_in_fib (first_fib plan.layout s.page_index) (sent_entries plan s) (packing plan.layout (sent_entries plan s))))
+    → AllByRecursion IsOrganized
+    (figs_of (entries_in_fib (first_fib plan.layout s.page_index) (sent_entries plan s)
+    (packing plan.layout (sent_entries plan s))))
 others_organized laws plan s h =
     let es : List Marked = sent_entries plan s in
-    figs_organized (entries_in_fib (first_fib plan.layout s.page_index) es (packing plan.layout es)) (sendable_where (λ x. x == first_fib plan.layout s.page_index) es (packing plan.layout es) (first_sendable laws plan s h))
+    figs_organized (entries_in_fib (first_fib plan.layout s.page_index) es (packing plan.layout es))
+    (sendable_where (λ x. x == first_fib plan.layout s.page_index) es (packing plan.layout es)
+    (first_sendable laws plan s h))
 
 -- the content of FIG 0/0
-flagged_right : (plan : Plan) (s : State) (left : Option ℕ) → (e : EnsembleInformation) → is_noticed plan.notice left ≡ true
-    → e.change ≡ bits_of (change_of s.current s.next) → e.occurrence ≡ Some (low_of_swap s.count left) → IsFlaggedBy s left e
+flagged_right : (plan : Plan) (s : State) (left : Option ℕ) → (e : EnsembleInformation)
+    → is_noticed plan.notice left ≡ true
+    → e.change ≡ bits_of (change_of s.current s.next) → e.occurrence ≡ Some (low_of_swap s.count left)
+    → IsFlaggedBy s left e
 flagged_right plan s None e noticed change occurrence = absurd cc
 flagged_right plan s (Some l) e noticed change occurrence = (change, occurrence)
 
 ensemble_right_by : (plan : Plan) (s : State) (b : Bool) → is_noticed plan.notice s.left ≡ b
     → IsEnsembleOf plan s
-    (cond b (let r : EnsembleInformation = record { eid = s.eid; change = bits_of (change_of s.current s.next); al = false; count = s.count; occurrence = Some (low_of_swap s.count s.left) } in r)
+    (cond b (let r : EnsembleInformation = record {
+      eid = s.eid;
+      change = bits_of (change_of s.current s.next);
+      al = false;
+      count = s.count;
+      occurrence = Some (low_of_swap s.count s.left);
+    } in r)
     (record { eid = s.eid; change = 0; al = false; count = s.count; occurrence = None }))
 ensemble_right_by plan s true e =
-    let info : EnsembleInformation = record { eid = s.eid; change = bits_of (change_of s.current s.next); al = false; count = s.count; occurrence = Some (low_of_swap s.count s.left) } in
+    let info : EnsembleInformation =
+    record {
+      eid = s.eid;
+      change = bits_of (change_of s.current s.next);
+      al = false;
+      count = s.count;
+      occurrence = Some (low_of_swap s.count s.left);
+    } in
     record {
       eid = refl;
       alarm = refl;
@@ -329,28 +386,36 @@ ensemble_right_by plan s false e =
 pub ensemble_right : (plan : Plan) (s : State) → IsEnsembleOf plan s (ensemble_of plan s)
 ensemble_right plan s = ensemble_right_by plan s (is_noticed plan.notice s.left) refl
 
-is_sent : (plan : Plan) (s : State) → s.count % count_step (layout_mode plan.layout) ≡ 0 → ensemble_sent plan s ≡ Some (ensemble_of plan s)
-is_sent plan s e = ap (λ (b : Bool). cond b (Some (ensemble_of plan s)) None) (eq-eqb (s.count % count_step (layout_mode plan.layout)) 0 e)
+pub is_sent : (plan : Plan) (s : State) → s.count % count_step (layout_mode plan.layout) ≡ 0
+    → ensemble_sent plan s ≡ Some (ensemble_of plan s)
+is_sent plan s e = ap (λ (b : Bool). cond b (Some (ensemble_of plan s)) None)
+    (eq-eqb (s.count % count_step (layout_mode plan.layout)) 0 e)
 
-not_sent_by : (plan : Plan) (s : State) (b : Bool) → (s.count % count_step (layout_mode plan.layout) == 0) ≡ b → s.count % count_step (layout_mode plan.layout) ≢ 0 → cond b (Some (ensemble_of plan s)) None ≡ None
+not_sent_by : (plan : Plan) (s : State) (b : Bool) → (s.count % count_step (layout_mode plan.layout) == 0) ≡ b
+    → s.count % count_step (layout_mode plan.layout) ≢ 0 → cond b (Some (ensemble_of plan s)) None ≡ None
 not_sent_by plan s true e apart = absurd (apart (eqb-true (s.count % count_step (layout_mode plan.layout)) 0 e))
 not_sent_by plan s false e apart = refl
 
-not_sent : (plan : Plan) (s : State) → s.count % count_step (layout_mode plan.layout) ≢ 0 → ensemble_sent plan s ≡ None
+pub not_sent : (plan : Plan) (s : State) → s.count % count_step (layout_mode plan.layout) ≢ 0
+    → ensemble_sent plan s ≡ None
 not_sent plan s apart = not_sent_by plan s (s.count % count_step (layout_mode plan.layout) == 0) refl apart
 
-says_it : (e : EnsembleInformation) → IsEnsembleInformation e → IsInFig (fig_of (record { head = head_of (marked false (EnsembleOf e)); entries = EnsembleOf e ∷ [] })) (marked false (EnsembleOf e))
+says_it : (e : EnsembleInformation) → IsEnsembleInformation e
+    → IsInFig (fig_of (record { head = head_of (marked false (EnsembleOf e)); entries = EnsembleOf e ∷ [] }))
+    (marked false (EnsembleOf e))
 says_it e within = (
   entry_bytes (EnsembleOf e),
   (0, omega arith, refl),
   record { ext = refl; next = refl; long = λ two. absurd (omega (arith, two)); spelled = refl; within = within },
 )
 
-headed : PageLaws → (plan : Plan) (s : State) → Airs plan s → s.count % count_step (layout_mode plan.layout) ≡ 0 → IsHeadedBy plan s (fib_at (shown_bytes plan s) 0)
+headed : PageLaws → (plan : Plan) (s : State) → Airs plan s → s.count % count_step (layout_mode plan.layout) ≡ 0
+    → IsHeadedBy plan s (fib_at (shown_bytes plan s) 0)
 headed laws plan s h whole =
     let e : EnsembleInformation = ensemble_of plan s in
     let valid = first_valid laws plan s h (Some e) (is_sent plan s whole) in
-    let rest : List Written = figs_of (entries_in_fib (first_fib plan.layout s.page_index) (sent_entries plan s) (packing plan.layout (sent_entries plan s))) in
+    let rest : List Written = figs_of (entries_in_fib (first_fib plan.layout s.page_index) (sent_entries plan s)
+    (packing plan.layout (sent_entries plan s))) in
     record {
       header = fig_of (record { head = head_of (marked false (EnsembleOf e)); entries = EnsembleOf e ∷ [] });
       others = map fig_of rest;
@@ -361,21 +426,26 @@ headed laws plan s h whole =
       alone = no_headers rest (others_organized laws plan s h);
     }
 
-unheaded : PageLaws → (plan : Plan) (s : State) → Airs plan s → s.count % count_step (layout_mode plan.layout) ≢ 0 → IsUnheaded (fib_at (shown_bytes plan s) 0)
+unheaded : PageLaws → (plan : Plan) (s : State) → Airs plan s → s.count % count_step (layout_mode plan.layout) ≢ 0
+    → IsUnheaded (fib_at (shown_bytes plan s) 0)
 unheaded laws plan s h apart =
     let valid = first_valid laws plan s h None (not_sent plan s apart) in
-    let rest : List Written = figs_of (entries_in_fib (first_fib plan.layout s.page_index) (sent_entries plan s) (packing plan.layout (sent_entries plan s))) in
+    let rest : List Written = figs_of (entries_in_fib (first_fib plan.layout s.page_index) (sent_entries plan s)
+    (packing plan.layout (sent_entries plan s))) in
     (map fig_of rest, valid.fib, no_headers rest (others_organized laws plan s h))
 
-others_unheaded : PageLaws → (plan : Plan) (s : State) → Airs plan s → (n : ℕ) → 1 ≤ n → n < frame_fibs plan.layout → IsUnheaded (fib_at (shown_bytes plan s) n)
+others_unheaded : PageLaws → (plan : Plan) (s : State) → Airs plan s → (n : ℕ) → 1 ≤ n → n < frame_fibs plan.layout
+    → IsUnheaded (fib_at (shown_bytes plan s) n)
 others_unheaded laws plan s h n some below =
     let at = valid_at laws plan s h n below in
-    let organized = later_figs plan.layout (ensemble_sent plan s) s.page_index (sent_entries plan s) (first_sendable laws plan s h) n at.figs some at.there in
+    let organized = later_figs plan.layout (ensemble_sent plan s) s.page_index (sent_entries plan s)
+    (first_sendable laws plan s h) n at.figs some at.there in
     (map fig_of at.figs, at.valid.fib, no_headers at.figs organized)
 
 pub frame_right : PageLaws → (plan : Plan) (s : State) → Airs plan s → IsRight plan s (shown_bytes plan s)
 frame_right laws plan s h = record {
-  length_of_fibs = (laws.valid plan.layout (ensemble_sent plan s) s.page_index (sent_entries plan s) (pageable laws plan s h)).1;
+  length_of_fibs = (laws.valid plan.layout (ensemble_sent plan s) s.page_index (sent_entries plan s)
+      (pageable laws plan s h)).1;
   valid = λ n below. let at = valid_at laws plan s h n below in (map fig_of at.figs, at.valid);
   headed = headed laws plan s h;
   unheaded = unheaded laws plan s h;

@@ -1,18 +1,11 @@
 -- One instruction of a typed code is allowed, and leaves what is known wherever the machine continues.
-use Rattle.std.specs.Prelude.{IfSome, slice_get, option_map}
-use Rattle.std.proofs.Common.{◌≡◌, ℕ, ◌<◌, ◌≤◌, true, false, eqb, List, length, Option, Some, None, refl, sym, ap, subst, ◌∙◌, arith, ◌⊎◌}
-use Rattle.std.proofs.lemmas.Bool.{eqb-true}
-use Rattle.mux_config.specs.Configuration.{Configuration}
-use Rattle.plan_code.specs.declared.hold.Hold.{Hold}
-use Rattle.plan_code.specs.declared.hold.Hold.TheVariants.{Running, Waits, WaitsDay, WaitsContact, WaitsAny, WaitsSwap, Ended}
-use Rattle.plan_code.specs.declared.flags.Counters.{Counters}
-use Rattle.plan_code.specs.declared.label.Label.{Label}
-use Rattle.plan_code.specs.declared.label.Swap.{Swap}
-use Rattle.plan_code.specs.declared.instr.Instr.{Instr}
-use Rattle.plan_code.specs.Program.{Program, instr_at, label_at}
-use Rattle.plan_code.specs.Machine.{State}
-use Rattle.plan_verifier.specs.Typing.{Known, IsTyping, Arrives, Declares}
-use Rattle.plan_runs.specs.Frames.{is_running, hold_after_frame, left_after_frame}
+use Rattle.std.proofs.Common.{◌≡◌, ℕ, ◌<◌, ◌≤◌, true, false, eqb, List, length, Option, Some, None, refl, sym, ap}
+use Rattle.std.proofs.Common.{subst, ◌∙◌, arith, ◌⊎◌}
+use Rattle.plan_runs.proofs.Names.{IfSome, slice_get, option_map, eqb-true, Configuration, Hold, Running, Waits}
+use Rattle.plan_runs.proofs.Names.{WaitsDay, WaitsContact, WaitsAny, WaitsSwap, Ended, Counters, Label, Swap, Instr}
+use Rattle.plan_runs.proofs.Names.{Program, instr_at, label_at, State, Known, IsTyping, Arrives, is_running}
+use Rattle.plan_runs.proofs.Names.{hold_after_frame, left_after_frame}
+use Rattle.plan_verifier.proofs.Tabled.{declared_once}
 use Rattle.plan_runs.proofs.Lookups.{found, get_some, get_below}
 use Rattle.plan_runs.proofs.Knowledge.{AgreesBy, ComesBy, PausesBy, JoinsBy, IsAhead, AreSet, IsKept}
 use Rattle.plan_runs.proofs.Passing.{fits_by}
@@ -27,11 +20,16 @@ pub record Expects (p : Program) (ts : List Known) (pc : ℕ) (counters : List �
   pub comes : R known
 
 abbrev pub ResumesBy : Program → List Known → ℕ → Hold → Option ℕ → Configuration → Configuration → List ℕ → Type 0
-ResumesBy p ts pc Running left c n counters = Expects p ts pc counters (λ t. ComesBy 0 t.pending t.current t.next left c n)
-ResumesBy p ts pc (Waits k) left c n counters = Expects p ts pc counters (λ t. ComesBy k t.pending t.current t.next left c n)
-ResumesBy p ts pc (WaitsDay d) left c n counters = Expects p ts pc counters (λ t. PausesBy t.pending t.current t.next left c n)
-ResumesBy p ts pc (WaitsContact d closed) left c n counters = Expects p ts pc counters (λ t. PausesBy t.pending t.current t.next left c n)
-ResumesBy p ts pc (WaitsAny closed opened until frames) left c n counters = Expects p ts pc counters (λ t. PausesBy t.pending t.current t.next left c n)
+ResumesBy p ts pc Running left c n counters =
+    Expects p ts pc counters (λ t. ComesBy 0 t.pending t.current t.next left c n)
+ResumesBy p ts pc (Waits k) left c n counters =
+    Expects p ts pc counters (λ t. ComesBy k t.pending t.current t.next left c n)
+ResumesBy p ts pc (WaitsDay d) left c n counters =
+    Expects p ts pc counters (λ t. PausesBy t.pending t.current t.next left c n)
+ResumesBy p ts pc (WaitsContact d closed) left c n counters =
+    Expects p ts pc counters (λ t. PausesBy t.pending t.current t.next left c n)
+ResumesBy p ts pc (WaitsAny closed opened until frames) left c n counters =
+    Expects p ts pc counters (λ t. PausesBy t.pending t.current t.next left c n)
 ResumesBy p ts pc WaitsSwap left c n counters = Expects p ts pc counters (λ t. JoinsBy t left n)
 ResumesBy p ts pc Ended left c n counters = Unit {0}
 
@@ -47,12 +45,7 @@ IsSuspended Ended = Unit {0}
 
 pub not_running : (hold : Hold) → IsSuspended hold → is_running hold ≡ false
 not_running Running h = absurd h
-not_running (Waits k) h = refl
-not_running (WaitsDay d) h = refl
-not_running (WaitsContact d closed) h = refl
-not_running (WaitsAny closed opened until left) h = refl
-not_running WaitsSwap h = refl
-not_running Ended h = refl
+not_running _ h = refl
 
 -- so it is after the instructions of a frame
 pub record Suspends (p : Program) (ts : List Known) (s : State) : Type 0 where
@@ -78,25 +71,49 @@ Outcome p ts b s = Suspends p ts s ⊎ RunsAt p ts b s
 
 -- ---- the machine arrives at an instruction
 
-same_known : (a b : Known) → a.current ≡ b.current → a.next ≡ b.next → a.pending ≡ b.pending → a.counters ≡ b.counters → a.allowance ≡ b.allowance → a ≡ b
+same_known : (a b : Known) → a.current ≡ b.current → a.next ≡ b.next → a.pending ≡ b.pending → a.counters ≡ b.counters
+    → a.allowance ≡ b.allowance → a ≡ b
 same_known a b c n p s w =
-    ap (λ (x : Configuration). let k : Known = record { current = x; next = a.next; pending = a.pending; counters = a.counters; allowance = a.allowance } in k) c
-    ∙ ap (λ (x : Configuration). let k : Known = record { current = b.current; next = x; pending = a.pending; counters = a.counters; allowance = a.allowance } in k) n
-    ∙ ap (λ (x : Swap). let k : Known = record { current = b.current; next = b.next; pending = x; counters = a.counters; allowance = a.allowance } in k) p
-    ∙ ap (λ (x : Counters). let k : Known = record { current = b.current; next = b.next; pending = b.pending; counters = x; allowance = a.allowance } in k) s
-    ∙ ap (λ (x : ℕ). let k : Known = record { current = b.current; next = b.next; pending = b.pending; counters = b.counters; allowance = x } in k) w
+    ap (λ (x : Configuration).
+    let k : Known = record {
+      current = x;
+      next = a.next;
+      pending = a.pending;
+      counters = a.counters;
+      allowance = a.allowance;
+    } in k) c
+    ∙ ap (λ (x : Configuration).
+    let k : Known = record {
+      current = b.current;
+      next = x;
+      pending = a.pending;
+      counters = a.counters;
+      allowance = a.allowance;
+    } in k) n
+    ∙ ap (λ (x : Swap). let k : Known = record {
+      current = b.current;
+      next = b.next;
+      pending = x;
+      counters = a.counters;
+      allowance = a.allowance;
+    } in k) p
+    ∙ ap (λ (x : Counters). let k : Known = record {
+      current = b.current;
+      next = b.next;
+      pending = b.pending;
+      counters = x;
+      allowance = a.allowance;
+    } in k) s
+    ∙ ap (λ (x : ℕ). let k : Known = record {
+      current = b.current;
+      next = b.next;
+      pending = b.pending;
+      counters = b.counters;
+      allowance = x;
+    } in k) w
 
-same_some : {A : Type 0} (a b : A) (o : Option A) → o ≡ Some a → o ≡ Some b → a ≡ b
+pub same_some : {A : Type 0} (a b : A) (o : Option A) → o ≡ Some a → o ≡ Some b → a ≡ b
 same_some a b o e f = cc (sym e ∙ f)
-
-declares_one : (p : Program) (label : Label) (a b : Known) → Declares p label a → Declares p label b → a ≡ b
-declares_one p label a b d e =
-    same_known a b
-    (same_some a.current b.current (slice_get p.configurations label.cur) d.current e.current)
-    (same_some a.next b.next (slice_get p.configurations label.next) d.next e.next)
-    (sym d.pending ∙ e.pending)
-    (sym d.counters ∙ e.counters)
-    (sym d.cost ∙ e.cost)
 
 -- what is known there, for a state that arrives
 pub record IsThere (p : Program) (ts : List Known) (pc b : ℕ) (s : State) : Type 0 where
@@ -106,26 +123,32 @@ pub record IsThere (p : Program) (ts : List Known) (pc b : ℕ) (s : State) : Ty
   pub agrees : AgreesBy known.pending known.current known.next s.left s.current s.next
   pub set : AreSet known.counters s.counters
 
-is_there : (p : Program) (ts : List Known) (ty : IsTyping p ts) (pc b : ℕ) (s : State) (t : Known) (o : Option Label) → label_at p pc ≡ o → Arrives p ts pc o t → t.allowance ≤ b
+is_there : (p : Program) (ts : List Known) (ty : IsTyping p ts) (pc b : ℕ) (s : State) (t : Known) (o : Option Label)
+    → label_at p pc ≡ o → Arrives p ts pc o t → t.allowance ≤ b
     → AgreesBy t.pending t.current t.next s.left s.current s.next → AreSet t.counters s.counters → IsThere p ts pc b s
-is_there p ts ty pc b s t None e arrives affords agrees set = record { known = t; there = arrives; affords = affords; agrees = agrees; set = set }
+is_there p ts ty pc b s t None e arrives affords agrees set =
+    record { known = t; there = arrives; affords = affords; agrees = agrees; set = set }
 is_there p ts ty pc b s t (Some label) e arrives affords agrees set =
     let one = found (λ (l : Label). eqb l.pc pc) p.labels label e in
     let place = ty.labels label one.inside in
     let here : label.pc ≡ pc = eqb-true label.pc pc one.passes in
-    let same : arrives.declared ≡ place.known = declares_one p label arrives.declared place.known arrives.declares place.declares in
+    let same : arrives.declared ≡ place.known =
+    declared_once p label arrives.declared place.known arrives.declares place.declares in
     let fits = arrives.fits in
     let cost : label.cost ≡ place.known.allowance = place.declares.cost in
     record {
       known = place.known;
       there = subst (λ (k : ℕ). slice_get ts k ≡ Some place.known) here place.there;
       affords = omega (arith, cost, arrives.affords, affords);
-      agrees = subst (λ (d : Known). AgreesBy d.pending d.current d.next s.left s.current s.next) same (fits_by t.pending arrives.declared.pending t arrives.declared s.left s.current s.next fits.swap agrees);
+      agrees = subst (λ (d : Known). AgreesBy d.pending d.current d.next s.left s.current s.next) same
+          (fits_by t.pending arrives.declared.pending t arrives.declared s.left s.current s.next fits.swap agrees);
       set = subst (λ (d : Known). AreSet d.counters s.counters) same (λ r low on. set r low (fits.counters r on));
     }
 
-pub arrive : (p : Program) (ts : List Known) (ty : IsTyping p ts) (b : ℕ) (s : State) (t : Known) → is_running s.hold ≡ true → Arrives p ts s.pc (label_at p s.pc) t → t.allowance ≤ b
-    → AgreesBy t.pending t.current t.next s.left s.current s.next → AreSet t.counters s.counters → IsKept p.plan s.left s.current s.next s.counters → RunsAt p ts b s
+pub arrive : (p : Program) (ts : List Known) (ty : IsTyping p ts) (b : ℕ) (s : State) (t : Known)
+    → is_running s.hold ≡ true → Arrives p ts s.pc (label_at p s.pc) t → t.allowance ≤ b
+    → AgreesBy t.pending t.current t.next s.left s.current s.next → AreSet t.counters s.counters
+    → IsKept p.plan s.left s.current s.next s.counters → RunsAt p ts b s
 arrive p ts ty b s t runs arrives affords agrees set kept =
     let x = is_there p ts ty s.pc b s t (label_at p s.pc) refl arrives affords agrees set in
     let inside : s.pc < length p.lines = omega (arith, get_below ts s.pc x.known x.there, ty.each) in

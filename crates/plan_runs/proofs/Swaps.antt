@@ -1,21 +1,12 @@
 -- A swap is made in the frame that its commit requested, and changes the current configuration in that frame alone.
-use Rattle.std.proofs.Common.{◌≡◌, ℕ, zero, suc, ◌+◌, ◌-◌, ◌%◌, ◌<◌, ◌≤◌, Bool, true, false, cond, List, [], ◌∷◌, Option, Some, None, refl, sym, ap, subst, ◌∙◌, arith, inl, inr, ◌⊎◌}
-use Rattle.fib_codec.specs.Layouts.{layout_mode}
-use Rattle.fib_codec.specs.declared.modes.Mode.{Mode}
-use Rattle.fib_codec.specs.declared.modes.Mode.TheVariants.{I, II, III, IV}
-use Rattle.fib_codec.specs.Modes.{count_step}
-use Rattle.plan_code.specs.declared.plan.Plan.{Plan}
-use Rattle.plan_code.specs.declared.instr.Instr.{Instr}
-use Rattle.plan_code.specs.declared.instr.Instr.TheVariants.{CommitIn, CommitAt}
-use Rattle.plan_code.specs.Program.{Program}
-use Rattle.plan_code.specs.Machine.{State, SwapsInTime, SwapsAtCount, IsAllowed, StepIsAllowed, step, effect, commit, left_in, left_at}
-use Rattle.plan_verifier.specs.Typing.{Known}
-use Rattle.plan_runs.specs.declared.event.Event.{Event}
-use Rattle.plan_runs.specs.declared.event.Event.TheVariants.{Contact, Frame}
-use Rattle.plan_runs.specs.Frames.{is_due, ready, Executes, burst, after_burst, is_first_noticed, shown, left_after_frame, after_frame}
-use Rattle.plan_runs.specs.Runs.{happens}
-use Rattle.plan_runs.specs.Firsts.{CarriesOut, IsFirstWhere}
-use Rattle.plan_runs.specs.Swaps.{IsSwapAtCount, IsSwapAfterDelay, SwapsAreOnSteps, SwapsChangeTheCurrent, CommitsAreKept}
+use Rattle.std.proofs.Common.{◌≡◌, ℕ, zero, suc, ◌+◌, ◌-◌, ◌%◌, ◌<◌, ◌≤◌, Bool, true, false, cond, List, [], ◌∷◌}
+use Rattle.std.proofs.Common.{Option, Some, None, refl, sym, ap, subst, ◌∙◌, arith, inl, inr, ◌⊎◌}
+use Rattle.plan_runs.proofs.Names.{layout_mode, Mode, I, count_step, Plan, Instr, CommitIn, CommitAt, Program, State}
+use Rattle.plan_runs.proofs.Names.{SwapsInTime, SwapsAtCount, IsAllowed, StepIsAllowed, step, effect, commit, left_in}
+use Rattle.plan_runs.proofs.Names.{left_at, Known, Event, Contact, Frame, is_due, ready, Executes, burst, after_burst}
+use Rattle.plan_runs.proofs.Names.{is_first_noticed, shown, left_after_frame, after_frame, happens, CarriesOut}
+use Rattle.plan_runs.proofs.Names.{IsFirstWhere, IsSwapAtCount, IsSwapAfterDelay, SwapsAreOnSteps}
+use Rattle.plan_runs.proofs.Names.{SwapsChangeTheCurrent, CommitsAreKept}
 use Rattle.plan_runs.proofs.Passing.{some_is, due_is, not_due_from}
 use Rattle.plan_runs.proofs.Between.{step_is, frame_goes}
 use Rattle.plan_runs.proofs.Carries.{LeftBy, Carries, burst_carries}
@@ -26,7 +17,8 @@ use Rattle.plan_runs.proofs.Clock.{shown_current, shown_count}
 
 -- ---- on a step
 
-on_step_by : (plan : Plan) (count : ℕ) (left : Option ℕ) → is_due left ≡ true → SwapsOn plan count left → count % count_step (layout_mode plan.layout) ≡ 0
+on_step_by : (plan : Plan) (count : ℕ) (left : Option ℕ) → is_due left ≡ true → SwapsOn plan count left
+    → count % count_step (layout_mode plan.layout) ≡ 0
 on_step_by plan count None due h = absurd cc
 on_step_by plan count (Some l) due h =
     let none : l ≡ 0 = due_is l due in
@@ -67,7 +59,7 @@ pub record IsCommitted (p : Program) (s : State) (i : Instr) (left : ℕ → ℕ
   pub remains : (shown p s).left ≡ Some (left at.count)
   pub count : at.count ≡ s.count
 
-left_turned : (s : State) (b : Bool) → (cond b (let r : State = record s { page_index = 0 } in r) s).left ≡ s.left
+pub left_turned : (s : State) (b : Bool) → (cond b (let r : State = record s { page_index = 0 } in r) s).left ≡ s.left
 left_turned s true = refl
 left_turned s false = refl
 
@@ -81,7 +73,8 @@ committed p ts c s h i left commits (k, below, instr) =
     let goes = frame_goes p ts c.program c.typing s h.between in
     let end : State = after_burst p s in
     let at : State = burst k p (ready s) in
-    let m = midway p (ready s) end goes.allowed.steps k goes.allowed.executes (omega (arith, below, goes.allowed.counted)) in
+    let m = midway p (ready s) end goes.allowed.steps k goes.allowed.executes
+    (omega (arith, below, goes.allowed.counted)) in
     let same : m.allowed.instr ≡ i = some_is m.allowed.instr i (sym m.allowed.within ∙ instr) in
     let stepped : step p at ≡ commit (left at.count) at = step_is p at i instr ∙ commits at in
     let carried : Carries p.plan (commit (left at.count) at) end =
@@ -97,7 +90,8 @@ committed p ts c s h i left commits (k, below, instr) =
 
 -- ---- the frames from a commit to its swap
 
-shown_left : (plan : Plan) (s u : State) (l : ℕ) (before : Option ℕ) → before ≡ Some l → LeftBy plan s.count before s.next u.left u.next → u.left ≡ Some l
+pub shown_left : (plan : Plan) (s u : State) (l : ℕ) (before : Option ℕ) → before ≡ Some l
+    → LeftBy plan s.count before s.next u.left u.next → u.left ≡ Some l
 shown_left plan s u l None e h = absurd cc
 shown_left plan s u l (Some k) e h = h.0 ∙ e
 
@@ -106,27 +100,33 @@ pub record IsAwaited (Q : ℕ → ℕ → Type 0) (number count left : ℕ) : Ty
   pub here : Q (number + left) ((count + left) % 5000)
   pub none_before : (i : ℕ) → i < left → Q (number + i) ((count + i) % 5000) → ⊥
 
-awaited_later : (Q : ℕ → ℕ → Type 0) (number count left : ℕ) → 1 ≤ left → IsAwaited Q number count left → IsAwaited Q (number + 1) ((count + 1) % 5000) (left - 1)
+awaited_later : (Q : ℕ → ℕ → Type 0) (number count left : ℕ) → 1 ≤ left → IsAwaited Q number count left
+    → IsAwaited Q (number + 1) ((count + 1) % 5000) (left - 1)
 awaited_later Q number count left some h =
     let there : number + left ≡ number + 1 + (left - 1) = omega (arith, some) in
     let then : (count + left) % 5000 ≡ ((count + 1) % 5000 + (left - 1)) % 5000 = omega (arith, some) in
     record {
-      here = subst (λ (x : ℕ). Q (number + 1 + (left - 1)) x) then (subst (λ (x : ℕ). Q x ((count + left) % 5000)) there h.here);
+      here = subst (λ (x : ℕ). Q (number + 1 + (left - 1)) x) then
+          (subst (λ (x : ℕ). Q x ((count + left) % 5000)) there h.here);
       none_before = λ i below q.
           let place : number + 1 + i ≡ number + (i + 1) = omega arith in
           let when : ((count + 1) % 5000 + i) % 5000 ≡ (count + (i + 1)) % 5000 = omega arith in
-          h.none_before (i + 1) (omega (arith, below)) (subst (λ (x : ℕ). Q (number + (i + 1)) x) when (subst (λ (x : ℕ). Q x (((count + 1) % 5000 + i) % 5000)) place q));
+          h.none_before (i + 1) (omega (arith, below))
+          (subst (λ (x : ℕ). Q (number + (i + 1)) x) when
+          (subst (λ (x : ℕ). Q x (((count + 1) % 5000 + i) % 5000)) place q));
     }
 
-zero_or_more : (n : ℕ) → (n ≡ 0) ⊎ (1 ≤ n)
+pub zero_or_more : (n : ℕ) → (n ≡ 0) ⊎ (1 ≤ n)
 zero_or_more zero = inl refl
 zero_or_more (suc n) = inr (omega arith)
 
-first_due : (p : Program) (ts : List Known) → IsCode p ts → (Q : ℕ → ℕ → Type 0) (number left : ℕ) (s : State) (events : List Event) → Holds p ts s → s.left ≡ Some left
+first_due : (p : Program) (ts : List Known) → IsCode p ts
+    → (Q : ℕ → ℕ → Type 0) (number left : ℕ) (s : State) (events : List Event) → Holds p ts s → s.left ≡ Some left
     → IsAwaited Q number s.count left → IsFirstWhere (λ t. is_due t.left) (λ later t. Q later t.count) number p s events
 first_due p ts c Q number left s [] h is w = tt
 first_due p ts c Q number left s (Contact d closed ∷ es) h is w =
-    first_due p ts c Q number left (happens p s (Contact d closed)) es (happens_holds p ts c s (Contact d closed) h) is w
+    first_due p ts c Q number left (happens p s (Contact d closed)) es (happens_holds p ts c s (Contact d closed) h) is
+    w
 first_due p ts c Q number left s (Frame ∷ es) h is w =
     let low : s.count < 5000 = h.tracked.count in
     elim (zero_or_more left) [
@@ -139,31 +139,40 @@ first_due p ts c Q number left s (Frame ∷ es) h is w =
           let waits : is_due s.left ≡ false = ap is_due is ∙ not_due_from (Some left) some in
           let link = links p ts c s h in
           let u : State = shown p s in
-          let remains : (after_frame p s).left ≡ Some (left - 1) = ap left_after_frame (shown_left p.plan s u left s.left is (link.left waits)) in
+          let remains : (after_frame p s).left ≡ Some (left - 1) =
+          ap left_after_frame (shown_left p.plan s u left s.left is (link.left waits)) in
           let place : number ≡ number + 0 = omega arith in
           let when : s.count ≡ (s.count + 0) % 5000 = omega (arith, low) in
-          let counted : (s.count + 1) % 5000 ≡ (after_frame p s).count = ap (λ (x : ℕ). (x + 1) % 5000) (sym link.count) in
+          let counted : (s.count + 1) % 5000 ≡ (after_frame p s).count =
+          ap (λ (x : ℕ). (x + 1) % 5000) (sym link.count) in
           let later : IsAwaited Q (number + 1) (after_frame p s).count (left - 1) =
-          subst (λ (x : ℕ). IsAwaited Q (number + 1) x (left - 1)) counted (awaited_later Q number s.count left some w) in
+          subst (λ (x : ℕ). IsAwaited Q (number + 1) x (left - 1)) counted
+          (awaited_later Q number s.count left some w) in
           inr (
             waits,
-            (λ q. w.none_before 0 (omega (arith, some)) (subst (λ (x : ℕ). Q (number + 0) x) when (subst (λ (x : ℕ). Q x s.count) place q))),
+            (λ q. w.none_before 0 (omega (arith, some))
+                (subst (λ (x : ℕ). Q (number + 0) x) when (subst (λ (x : ℕ). Q x s.count) place q))),
             first_due p ts c Q (number + 1) (left - 1) (after_frame p s) es (frame_holds p ts c s h) remains later,
           )
     ]
 
 -- after the frame of a commit
-first_after : (p : Program) (ts : List Known) → IsCode p ts → (Q : ℕ → ℕ → Type 0) (left : ℕ) (s : State) (events : List Event) → Holds p ts s → 1 ≤ left → (shown p s).left ≡ Some left
-    → IsAwaited Q 0 s.count left → IsFirstWhere (λ t. is_due t.left) (λ later t. Q later t.count) 1 p (after_frame p s) events
+first_after : (p : Program) (ts : List Known) → IsCode p ts
+    → (Q : ℕ → ℕ → Type 0) (left : ℕ) (s : State) (events : List Event) → Holds p ts s → 1 ≤ left
+    → (shown p s).left ≡ Some left
+    → IsAwaited Q 0 s.count left → IsFirstWhere (λ t. is_due t.left) (λ later t. Q later t.count) 1 p (after_frame p s)
+    events
 first_after p ts c Q left s events h some is w =
-    let counted : (s.count + 1) % 5000 ≡ (after_frame p s).count = ap (λ (x : ℕ). (x + 1) % 5000) (sym (shown_count p s)) in
+    let counted : (s.count + 1) % 5000 ≡ (after_frame p s).count =
+    ap (λ (x : ℕ). (x + 1) % 5000) (sym (shown_count p s)) in
     let later : IsAwaited Q 1 (after_frame p s).count (left - 1) =
     subst (λ (x : ℕ). IsAwaited Q 1 x (left - 1)) counted (awaited_later Q 0 s.count left some w) in
     first_due p ts c Q 1 (left - 1) (after_frame p s) events (frame_holds p ts c s h) (ap left_after_frame is) later
 
 -- ---- the commits
 
-comes_at_count : SwapsAtCount → (p : Program) (ts : List Known) → IsCode p ts → (s : State) (n : ℕ) (events : List Event) → Holds p ts s → IsSwapAtCount n p s events
+comes_at_count : SwapsAtCount → (p : Program) (ts : List Known) → IsCode p ts
+    → (s : State) (n : ℕ) (events : List Event) → Holds p ts s → IsSwapAtCount n p s events
 comes_at_count least p ts c s n events h carries =
     let m = committed p ts c s h (CommitAt n) (λ count. left_at count p.plan.notice n) (λ t. refl) carries in
     let r : ℕ = left_at m.at.count p.plan.notice n in
@@ -179,11 +188,10 @@ comes_at_count least p ts c s n events h carries =
 
 whole_turns : (m : Mode) (a : ℕ) → a % 5000 % count_step m ≡ a % count_step m
 whole_turns I a = omega arith
-whole_turns II a = omega arith
-whole_turns III a = omega arith
-whole_turns IV a = omega arith
+whole_turns _ a = omega arith
 
-comes_in_time : SwapsInTime → (p : Program) (ts : List Known) → IsCode p ts → (s : State) (k : ℕ) (events : List Event) → Holds p ts s → IsSwapAfterDelay k p s events
+comes_in_time : SwapsInTime → (p : Program) (ts : List Known) → IsCode p ts → (s : State) (k : ℕ) (events : List Event)
+    → Holds p ts s → IsSwapAfterDelay k p s events
 comes_in_time least p ts c s k events h carries =
     let mode : Mode = layout_mode p.plan.layout in
     let m = committed p ts c s h (CommitIn k) (λ count. left_in (count_step mode) count k) (λ t. refl) carries in

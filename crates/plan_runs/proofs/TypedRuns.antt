@@ -1,34 +1,21 @@
 -- A typed code never traps.
-use Rattle.std.specs.Prelude.{slice_get}
-use Rattle.std.proofs.Common.{◌≡◌, ℕ, true, false, eqb, List, [], ◌∷◌, length, replicate, Option, Some, None, refl, sym, ap, subst, ◌∙◌, arith, inl}
-use Rattle.std.specs.Int.{bit_at}
-use Rattle.std.proofs.lemmas.Nat.Bits.{bit_at-zero}
-use Rattle.mux_config.specs.Configuration.{Configuration}
-use Rattle.plan_code.specs.declared.hold.Hold.{Hold}
-use Rattle.plan_code.specs.declared.hold.Hold.TheVariants.{Running}
-use Rattle.plan_code.specs.declared.flags.Counters.{Counters}
-use Rattle.plan_code.specs.declared.label.Label.{Label}
-use Rattle.plan_code.specs.declared.label.Swap.{Swap}
-use Rattle.plan_code.specs.declared.label.Swap.TheVariants.{Idle, Within, Perhaps}
-use Rattle.plan_code.specs.Program.{Program, IsProgram, label_at}
-use Rattle.plan_code.specs.Machine.{State}
-use Rattle.plan_verifier.specs.Typing.{Known, IsTyping, Arrives, CanEnter, FitsSwap}
-use Rattle.plan_runs.specs.declared.event.Event.{Event}
-use Rattle.plan_runs.specs.declared.event.Event.TheVariants.{Contact, Frame}
-use Rattle.plan_runs.specs.declared.event.Start.{Start}
-use Rattle.plan_runs.specs.Frames.{after_frame}
-use Rattle.plan_runs.specs.Runs.{IsStart, IsReached, RunIsAllowed, happens, run}
-use Rattle.plan_runs.specs.TypedRuns.{TypedCodeRuns}
+use Rattle.std.proofs.Common.{◌≡◌, ℕ, true, false, eqb, List, [], ◌∷◌, length, replicate, Option, Some, None, refl, sym}
+use Rattle.std.proofs.Common.{ap, subst, ◌∙◌, arith, inl}
+use Rattle.plan_runs.proofs.Names.{slice_get, bit_at, bit_at-zero, Configuration, Hold, Running, Counters, Label, Swap}
+use Rattle.plan_runs.proofs.Names.{Idle, Within, Perhaps, Program, IsProgram, label_at, State, Known, IsTyping, Arrives}
+use Rattle.plan_runs.proofs.Names.{CanEnter, FitsSwap, Event, Contact, Frame, Start, after_frame, IsStart, IsReached}
+use Rattle.plan_runs.proofs.Names.{RunIsAllowed, happens, run, TypedCodeRuns}
 use Rattle.plan_runs.proofs.Lookups.{found}
 use Rattle.plan_runs.proofs.Knowledge.{IsIdleAs, ComesBy, AreSet, IsOnAir, CommittedBy}
-use Rattle.plan_runs.proofs.Steps.{Expects, ResumesBy}
+use Rattle.plan_runs.proofs.Steps.{Expects, ResumesBy, same_some}
 use Rattle.plan_runs.proofs.Between.{Between, frame_goes, frame_between}
 
 -- ---- the start
 
 unset : (counters : Counters) (levels : List ℕ) → counters.0 ≡ 0 → AreSet counters levels
 unset counters levels none r low on =
-    let off : eqb (bit_at counters.0 r) 1 ≡ false = ap (λ (n : ℕ). eqb (bit_at n r) 1) none ∙ ap (λ (n : ℕ). eqb n 1) (bit_at-zero r) in
+    let off : eqb (bit_at counters.0 r) 1 ≡ false = ap (λ (n : ℕ). eqb (bit_at n r) 1) none
+    ∙ ap (λ (n : ℕ). eqb n 1) (bit_at-zero r) in
     let clash : true ≡ false = sym on ∙ off in
     absurd cc
 
@@ -37,30 +24,33 @@ fits_itself Idle t e = (refl, refl)
 fits_itself (Within lo hi) t e = absurd cc
 fits_itself (Perhaps hi) t e = absurd cc
 
-comes_idle : (q : Swap) (a b : Configuration) (left : Option ℕ) (c n : Configuration) → q ≡ Idle → IsIdleAs a b left c n → ComesBy 0 q a b left c n
+comes_idle : (q : Swap) (a b : Configuration) (left : Option ℕ) (c n : Configuration) → q ≡ Idle → IsIdleAs a b left c n
+    → ComesBy 0 q a b left c n
 comes_idle Idle a b left c n e h = inl h
 comes_idle (Within lo hi) a b left c n e h = absurd cc
 comes_idle (Perhaps hi) a b left c n e h = absurd cc
 
-same_some : {A : Type 0} (a b : A) (o : Option A) → o ≡ Some a → o ≡ Some b → a ≡ b
-same_some a b o e f = cc (sym e ∙ f)
-
-resumes_at : (p : Program) (ts : List Known) (s : State) (pc : ℕ) (hold : Hold) (left : Option ℕ) (counters : List ℕ) → pc ≡ s.pc → hold ≡ s.hold → left ≡ s.left → counters ≡ s.counters
-    → ResumesBy p ts pc hold left s.current s.next counters → ResumesBy p ts s.pc s.hold s.left s.current s.next s.counters
+resumes_at : (p : Program) (ts : List Known) (s : State) (pc : ℕ) (hold : Hold) (left : Option ℕ) (counters : List ℕ)
+    → pc ≡ s.pc → hold ≡ s.hold → left ≡ s.left → counters ≡ s.counters
+    → ResumesBy p ts pc hold left s.current s.next counters
+    → ResumesBy p ts s.pc s.hold s.left s.current s.next s.counters
 resumes_at p ts s pc hold left counters a b c d h =
     subst (λ (x : ℕ). ResumesBy p ts x s.hold s.left s.current s.next s.counters) a
     (subst (λ (x : Hold). ResumesBy p ts pc x s.left s.current s.next s.counters) b
     (subst (λ (x : Option ℕ). ResumesBy p ts pc hold x s.current s.next s.counters) c
     (subst (λ (x : List ℕ). ResumesBy p ts pc hold left s.current s.next x) d h)))
 
-pub started_between : (p : Program) (ts : List Known) (start : Start) (s : State) → IsTyping p ts → IsStart p start s → Between p ts s
+pub started_between : (p : Program) (ts : List Known) (start : Start) (s : State) → IsTyping p ts → IsStart p start s
+    → Between p ts s
 started_between p ts start s ty st =
     let o = ty.opening in
     let label : Label = o.label in
     let known : Known = o.known in
     let one : label ≡ st.label = same_some label st.label (label_at p 0) o.first st.first in
-    let at : slice_get p.configurations label.cur ≡ Some s.current = subst (λ (l : Label). slice_get p.configurations l.cur ≡ Some s.current) (sym one) st.current in
-    let current : known.current ≡ s.current = same_some known.current s.current (slice_get p.configurations label.cur) o.declares.current at in
+    let at : slice_get p.configurations label.cur ≡ Some s.current =
+    subst (λ (l : Label). slice_get p.configurations l.cur ≡ Some s.current) (sym one) st.current in
+    let current : known.current ≡ s.current =
+    same_some known.current s.current (slice_get p.configurations label.cur) o.declares.current at in
     let next : s.next ≡ known.next = st.next ∙ sym current ∙ o.opening.initial.same in
     let place = ty.labels label (found (λ (l : Label). eqb l.pc 0) p.labels label o.first).inside in
     let cost : label.cost ≡ known.allowance = o.declares.cost in
@@ -77,11 +67,15 @@ started_between p ts start s ty st =
       arrives = subst (λ (x : Option Label). Arrives p ts 0 x known) (sym o.first) comes_to;
       affords = omega (arith, cost, place.within);
       set = unset known.counters (replicate 8 0) o.opening.initial.unset;
-      comes = comes_idle known.pending known.current known.next None s.current s.next o.opening.initial.idle (record { none = refl; current = sym current; next = next });
+      comes = comes_idle known.pending known.current known.next None s.current s.next o.opening.initial.idle
+          (record { none = refl; current = sym current; next = next });
     } in
-    let on_air : IsOnAir p.plan s.current = subst (λ (c : Configuration). IsOnAir p.plan c) current (record { sound = o.opening.sound; within_period = o.opening.within_period }) in
+    let on_air : IsOnAir p.plan s.current =
+    subst (λ (c : Configuration). IsOnAir p.plan c) current
+    (record { sound = o.opening.sound; within_period = o.opening.within_period }) in
     record {
-      resumes = resumes_at p ts s 0 Running None (replicate 8 0) (sym st.pc) (sym st.hold) (sym st.left) (sym st.counters) expects;
+      resumes = resumes_at p ts s 0 Running None (replicate 8 0) (sym st.pc) (sym st.hold) (sym st.left)
+          (sym st.counters) expects;
       kept = record {
         on_air = on_air;
         committed = subst (λ (l : Option ℕ). CommittedBy p.plan l s.current s.next) (sym st.left) tt;
@@ -91,21 +85,29 @@ started_between p ts start s ty st =
 
 -- ---- runs
 
-happens_between : (p : Program) (ts : List Known) → IsProgram p → IsTyping p ts → (s : State) (e : Event) → Between p ts s → Between p ts (happens p s e)
+happens_between : (p : Program) (ts : List Known) → IsProgram p → IsTyping p ts → (s : State) (e : Event)
+    → Between p ts s → Between p ts (happens p s e)
 happens_between p ts pr ty s (Contact c closed) h = record { resumes = h.resumes; kept = h.kept }
 happens_between p ts pr ty s Frame h = frame_between p ts pr ty s h
 
-pub run_between : (p : Program) (ts : List Known) → IsProgram p → IsTyping p ts → (s : State) (events : List Event) → Between p ts s → Between p ts (run p s events)
+pub run_between : (p : Program) (ts : List Known) → IsProgram p → IsTyping p ts → (s : State) (events : List Event)
+    → Between p ts s → Between p ts (run p s events)
 run_between p ts pr ty s [] h = h
 run_between p ts pr ty s (e ∷ es) h = run_between p ts pr ty (happens p s e) es (happens_between p ts pr ty s e h)
 
-run_allowed : (p : Program) (ts : List Known) → IsProgram p → IsTyping p ts → (s : State) (events : List Event) → Between p ts s → RunIsAllowed p s events
+run_allowed : (p : Program) (ts : List Known) → IsProgram p → IsTyping p ts → (s : State) (events : List Event)
+    → Between p ts s → RunIsAllowed p s events
 run_allowed p ts pr ty s [] h = tt
-run_allowed p ts pr ty s (Contact c closed ∷ es) h = (tt, run_allowed p ts pr ty (happens p s (Contact c closed)) es (happens_between p ts pr ty s (Contact c closed) h))
-run_allowed p ts pr ty s (Frame ∷ es) h = ((frame_goes p ts pr ty s h).allowed, run_allowed p ts pr ty (after_frame p s) es (frame_between p ts pr ty s h))
+run_allowed p ts pr ty s (Contact c closed ∷ es) h =
+    (tt, run_allowed p ts pr ty (happens p s (Contact c closed)) es (happens_between p ts pr ty s (Contact c closed) h))
+run_allowed p ts pr ty s (Frame ∷ es) h =
+    ((frame_goes p ts pr ty s h).allowed, run_allowed p ts pr ty (after_frame p s) es (frame_between p ts pr ty s h))
 
-pub reached_between : (p : Program) (ts : List Known) → IsProgram p → IsTyping p ts → (s : State) → IsReached p s → Between p ts s
-reached_between p ts pr ty s r = subst (λ (t : State). Between p ts t) r.leads (run_between p ts pr ty r.first r.events (started_between p ts r.start r.first ty r.started))
+pub reached_between : (p : Program) (ts : List Known) → IsProgram p → IsTyping p ts → (s : State) → IsReached p s
+    → Between p ts s
+reached_between p ts pr ty s r =
+    subst (λ (t : State). Between p ts t) r.leads
+    (run_between p ts pr ty r.first r.events (started_between p ts r.start r.first ty r.started))
 
 pub typed_code_runs : TypedCodeRuns
 typed_code_runs p s events h =

@@ -1,42 +1,30 @@
 -- Without a commit no swap becomes pending.
-use Rattle.std.proofs.Common.{◌≡◌, ℕ, zero, suc, ◌+◌, ◌<◌, Bool, true, false, cond, Option, Some, None, refl, sym, ap, ◌∙◌, arith, inl, inr, ◌⊎◌}
-use Rattle.plan_code.specs.declared.plan.Plan.{Plan}
-use Rattle.plan_code.specs.declared.hold.Hold.TheVariants.{Running}
-use Rattle.plan_code.specs.declared.instr.Instr.{Instr}
-use Rattle.plan_code.specs.declared.instr.Instr.TheVariants.{Wait, Until, WaitContact, WaitAny, CommitIn, CommitAt, Join, Settle, End, Edit as Edits, Test, TestTime, Jump, Set, Loop}
-use Rattle.plan_code.specs.Program.{Program, instr_at}
-use Rattle.plan_code.specs.Machine.{State, step, settle, effect, effect_of}
-use Rattle.plan_runs.specs.Frames.{is_due, with_swap, with_due_swap, is_running, is_here, ready, burst, burst_steps, after_burst, is_first_noticed, left_after_frame}
-use Rattle.plan_runs.specs.Swaps.{IsCommit, SwapsAreCommitted}
+use Rattle.std.proofs.Common.{◌≡◌, ℕ, zero, suc, ◌+◌, ◌<◌, Bool, true, false, cond, Option, Some, None, refl, sym, ap}
+use Rattle.std.proofs.Common.{◌∙◌, arith, inl, inr, ◌⊎◌}
+use Rattle.plan_runs.proofs.Names.{Plan, Running, Instr, CommitIn, CommitAt, Settle, Program, instr_at, State, step}
+use Rattle.plan_runs.proofs.Names.{settle, effect, effect_of, is_due, with_swap, with_due_swap, is_running, is_here}
+use Rattle.plan_runs.proofs.Names.{ready, burst, burst_steps, after_burst, is_first_noticed, left_after_frame, IsCommit}
+use Rattle.plan_runs.proofs.Names.{SwapsAreCommitted}
 
 settle_left : (left : Option ℕ) (s : State) → (settle left s).left ≡ s.left
 settle_left None s = refl
 settle_left (Some left) s = refl
 
 effect_left : (plan : Plan) (i : Instr) (s : State) → (IsCommit i → ⊥) → (effect plan i s).left ≡ s.left
-effect_left plan (Wait n) s other = refl
-effect_left plan (Until t) s other = refl
-effect_left plan (WaitContact c closed) s other = refl
-effect_left plan (WaitAny closed opened until frames) s other = refl
 effect_left plan (CommitIn k) s other = absurd (other tt)
 effect_left plan (CommitAt n) s other = absurd (other tt)
-effect_left plan Join s other = refl
 effect_left plan Settle s other = settle_left s.left s
-effect_left plan End s other = refl
-effect_left plan (Edits e) s other = refl
-effect_left plan (Test c target) s other = refl
-effect_left plan (TestTime from to target) s other = refl
-effect_left plan (Jump target) s other = refl
-effect_left plan (Set r n) s other = refl
-effect_left plan (Loop r target) s other = refl
+effect_left plan _ s other = refl
 
-step_left : (plan : Plan) (o : Option Instr) (s : State) → ((i : Instr) → o ≡ Some i → IsCommit i → ⊥) → (effect_of plan o s).left ≡ s.left
+step_left : (plan : Plan) (o : Option Instr) (s : State) → ((i : Instr) → o ≡ Some i → IsCommit i → ⊥)
+    → (effect_of plan o s).left ≡ s.left
 step_left plan None s other = refl
 step_left plan (Some i) s other = effect_left plan i s (other i refl)
 
 -- the machine executes no commit from this state on
 abbrev IsWithoutCommit : ℕ → Program → State → Type 0
-IsWithoutCommit most p s = (k : ℕ) (i : Instr) → k < burst_steps most p s → instr_at p (burst k p s).pc ≡ Some i → IsCommit i → ⊥
+IsWithoutCommit most p s = (k : ℕ) (i : Instr) → k < burst_steps most p s → instr_at p (burst k p s).pc ≡ Some i
+    → IsCommit i → ⊥
 
 burst_left : (most : ℕ) (p : Program) (s : State) → IsWithoutCommit most p s → (burst most p s).left ≡ s.left
 burst_left zero p s other = refl
@@ -50,12 +38,15 @@ burst_left (suc most) p s other =
     more runs = ap (λ (b : Bool). cond b (1 + burst_steps most p (step p s)) 0) runs
 
     later : is_running s.hold ≡ true → IsWithoutCommit most p (step p s)
-    later runs k i below at = other (suc k) i (omega (arith, below, more runs)) (ap (λ (t : State). instr_at p t.pc) (after k runs) ∙ at)
+    later runs k i below at = other (suc k) i (omega (arith, below, more runs))
+        (ap (λ (t : State). instr_at p t.pc) (after k runs) ∙ at)
 
     first : is_running s.hold ≡ true → (step p s).left ≡ s.left
     first runs = step_left p.plan (instr_at p s.pc) s (λ i at. other 0 i (omega (arith, more runs)) at)
 
-    by : (b : Bool) → is_running s.hold ≡ b → (is_running s.hold ≡ true → (burst most p (step p s)).left ≡ (step p s).left) → (burst (suc most) p s).left ≡ s.left
+    by : (b : Bool) → is_running s.hold ≡ b
+        → (is_running s.hold ≡ true → (burst most p (step p s)).left ≡ (step p s).left)
+        → (burst (suc most) p s).left ≡ s.left
     by true runs rest = ap (λ (t : State). t.left) (after most runs) ∙ rest runs ∙ first runs
     by false stops rest = ap (λ (b : Bool). (cond b (burst most p (step p s)) s).left) stops
 
@@ -70,8 +61,11 @@ begun s (inr due) = ap (λ (b : Bool). (cond b (with_swap s) s).left) due
 pub swaps_are_committed : SwapsAreCommitted
 swaps_are_committed p s idle other =
     let t : State = with_due_swap s in
-    let before : (ready s).left ≡ None = either_left (is_here t t.hold) (record t { hold = Running }) t refl ∙ begun s idle in
+    let before : (ready s).left ≡ None = either_left (is_here t t.hold) (record t { hold = Running }) t refl
+    ∙ begun s idle in
     let end : State = after_burst p s in
-    let after : end.left ≡ None = burst_left p.plan.budget p (ready s) (λ k i below at. other i (k, below, at)) ∙ before in
-    let shows = either_left (is_first_noticed p.plan.notice end.left) (record end { page_index = 0 }) end refl ∙ after in
+    let after : end.left ≡ None = burst_left p.plan.budget p (ready s) (λ k i below at. other i (k, below, at))
+    ∙ before in
+    let shows = either_left (is_first_noticed p.plan.notice end.left) (record end { page_index = 0 }) end refl
+    ∙ after in
     ap left_after_frame shows

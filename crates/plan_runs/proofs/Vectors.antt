@@ -1,21 +1,11 @@
 -- Small runs, computed by the checker: the bytes and counts are those of worked examples from practice.
 use Rattle.std.proofs.Common.{◌≡◌, ℕ, zero, suc, true, List, [], ◌∷◌, Some, take, refl}
+use Rattle.plan_runs.proofs.Names.{AddSub, AddService, AddComponent, nothing, Label, Idle, Instr, CommitIn, Join, End}
+use Rattle.plan_runs.proofs.Names.{Edits, Line, Program, Event, Frame, is_due, frame_bytes, frame_steps, run}
 use Rattle.mux_types.specs.declared.parts.Component.TheVariants.{Sound}
 use Rattle.mux_types.specs.declared.numbers.Sid.TheVariants.{Short}
-use Rattle.mux_config.specs.declared.edit.Edit.TheVariants.{AddSub, AddService, AddComponent}
-use Rattle.mux_config.specs.Configuration.{nothing}
-use Rattle.plan_code.specs.declared.label.Label.{Label}
-use Rattle.plan_code.specs.declared.label.Swap.TheVariants.{Idle}
-use Rattle.plan_code.specs.declared.instr.Instr.{Instr}
-use Rattle.plan_code.specs.declared.instr.Instr.TheVariants.{CommitIn, Join, End, Edit as Edits}
-use Rattle.plan_code.specs.declared.instr.Line.{Line}
-use Rattle.plan_code.specs.Program.{Program}
-use Rattle.plan_verifier.proofs.Samples.{plan, sub_at_rate, counters}
 use Rattle.plan_runs.proofs.Samples.{first_state}
-use Rattle.plan_runs.specs.declared.event.Event.{Event}
-use Rattle.plan_runs.specs.declared.event.Event.TheVariants.{Frame}
-use Rattle.plan_runs.specs.Frames.{is_due, frame_bytes, frame_steps}
-use Rattle.plan_runs.specs.Runs.{run}
+use Rattle.plan_verifier.proofs.Samples.{plan, sub_at_rate, counters}
 
 abbrev line : ℕ → Instr → Line
 line number instr = record { number = number; instr = instr }
@@ -46,14 +36,17 @@ begins =
     }
 
 -- the first frame executes five instructions, and then 25 frames are left
-first_frame : (frame_steps begins (first_state nothing 4990) ≡ 5) × ((run begins (first_state nothing 4990) (frames 1)).left ≡ Some 25)
+first_frame : (frame_steps begins (first_state nothing 4990) ≡ 5)
+    × ((run begins (first_state nothing 4990) (frames 1)).left ≡ Some 25)
 first_frame = (refl, refl)
 
 -- the first flagged frame has count 4992: change flags 11, occurrence change 16, the next configuration
 first_flagged : take 20 (frame_bytes begins (run begins (first_state nothing 4990) (frames 2)))
-    ≡ 0x06 ∷ 0x00 ∷ 0xe1 ∷ 0xc5 ∷ 0xd3 ∷ 0xf2 ∷ 0x10 ∷ 0x05 ∷ 0x81 ∷ 0x04 ∷ 0x00 ∷ 0x88 ∷ 0x60 ∷ 0x06 ∷ 0x82 ∷ 0xc2 ∷ 0x21 ∷ 0x01 ∷ 0x3f ∷ 0x06 ∷ []
+    ≡ 0x06 ∷ 0x00 ∷ 0xe1 ∷ 0xc5 ∷ 0xd3 ∷ 0xf2 ∷ 0x10 ∷ 0x05 ∷ 0x81 ∷ 0x04 ∷ 0x00 ∷ 0x88 ∷ 0x60 ∷ 0x06 ∷ 0x82 ∷ 0xc2
+    ∷ 0x21 ∷ 0x01 ∷ 0x3f ∷ 0x06 ∷ []
 first_flagged = refl
 
 -- the swap is in the frame of count 16, which is not flagged
-swap_count : ((run begins (first_state nothing 4990) (frames 26)).count ≡ 16) × (is_due (run begins (first_state nothing 4990) (frames 26)).left ≡ true)
+swap_count : ((run begins (first_state nothing 4990) (frames 26)).count ≡ 16)
+    × (is_due (run begins (first_state nothing 4990) (frames 26)).left ≡ true)
 swap_count = (refl, refl)

@@ -1,16 +1,8 @@
 -- Waits with alternatives: for each definition, an example that holds and one that fails.
-use Rattle.std.proofs.Common.{◌≡◌, ℕ, true, false, [], Option, Some, None, refl, inl, inr, arith}
-use Rattle.std.proofs.lemmas.Bool.{eqb-true}
-use Rattle.std.proofs.lemmas.Nat.Bits.{bit_at-zero}
-use Rattle.std.specs.Int.{bit_at}
-use Rattle.mux_config.specs.Configuration.{nothing}
-use Rattle.plan_code.specs.declared.flags.Contacts.{Contacts}
-use Rattle.plan_code.specs.declared.hold.Hold.{Hold}
-use Rattle.plan_code.specs.declared.hold.Hold.TheVariants.{WaitsAny}
+use Rattle.std.proofs.Common.{◌≡◌, ℕ, true, false, Option, Some, None, refl, inl, inr, arith}
+use Rattle.plan_runs.proofs.Names.{eqb-true, bit_at-zero, bit_at, nothing, Contacts, Hold, WaitsAny, State, is_day}
+use Rattle.plan_runs.proofs.Names.{is_any_here, is_here, HasClosed, HasOpen, HasCome}
 use Rattle.plan_code.specs.Flags.{any_closed, any_open}
-use Rattle.plan_code.specs.Machine.{State}
-use Rattle.plan_runs.specs.Frames.{is_day, is_any_here, is_here}
-use Rattle.plan_runs.specs.Waits.{HasClosed, HasOpen, HasCome}
 use Rattle.plan_runs.proofs.Samples.{all_open, first_state}
 
 abbrev contacts : ℕ → Contacts

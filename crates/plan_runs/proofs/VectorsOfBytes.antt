@@ -1,59 +1,27 @@
 -- Frames of one sub-channel, and of a notice that lowers its rate: what is heard in them, and what is not.
-use Rattle.std.proofs.Common.{◌≡◌, ℕ, zero, suc, ◌<◌, Bool, true, false, List, [], ◌∷◌, Contains, Option, Some, None, replicate, refl, sym, ap, subst, ◌∙◌, arith}
-use Rattle.std.proofs.lemmas.Option.{slice_get_within}
-use Rattle.std.specs.List.{AllByRecursion}
-use Rattle.fib_codec.specs.declared.frame_layout.FrameLayout.TheVariants.{Whole}
-use Rattle.mux_types.specs.Entries.{EnsembleInformation}
-use Rattle.mux_types.specs.Facts.{Marked, marked, sub_entry}
-use Rattle.mux_types.specs.declared.entry.Entry.TheVariants.{Ensemble as EnsembleOf}
+use Rattle.std.proofs.Common.{◌≡◌, ℕ, zero, suc, ◌<◌, Bool, true, false, List, [], ◌∷◌, Contains, Some, None, refl, sym}
+use Rattle.std.proofs.Common.{ap, subst, ◌∙◌, arith}
+use Rattle.plan_runs.proofs.Names.{slice_get_within, AllByRecursion, Whole, EnsembleInformation, Marked, marked}
+use Rattle.plan_runs.proofs.Names.{sub_entry, EnsembleOf, Mode, I, II, Fig, Open, Other, IsInFig, IsEnsembleHeardInRow}
+use Rattle.plan_runs.proofs.Names.{fib_at, page_entries, page_set, IsPageable, Plan, Program, State, Frame}
+use Rattle.plan_runs.proofs.Names.{FrameIsAllowed, sent_entries, ensemble_sent, shown_bytes, after_frame, frame_bytes}
+use Rattle.plan_runs.proofs.Names.{IsHeardInSome, IsHeardWhole, HasHeader, IsFlagged, IsAnnounced, FrameRuns, Runs}
+use Rattle.plan_runs.proofs.Names.{IsEnsembleFig, IsNoHeader, IsEnsembleOf, IsHeadedBy, IsUnheaded, IsRight}
+use Rattle.plan_runs.proofs.Names.{BeginsNoPhase, IsOnePhase, IsAnnouncedIn, AnnouncesOnly, SwapsAt, KeepsCount}
 use Rattle.mux_config.proofs.Sounding.{sound_told}
-use Rattle.fib_codec.specs.declared.modes.Mode.{Mode}
-use Rattle.fib_codec.specs.declared.modes.Mode.TheVariants.{I, II}
-use Rattle.fib_codec.specs.Ranges.{IsEnsembleInformation}
-use Rattle.fib_codec.specs.Grammar.{Fig, Open, Other}
-use Rattle.fib_codec.specs.Heard.{IsInFig, IsEnsembleHeardInRow, fib_at}
-use Rattle.fib_codec.proofs.Uniqueness.{one_fib}
-use Rattle.fib_carousel.specs.Pages.{page_entries}
-use Rattle.fib_carousel.specs.Carried.{IsPageable}
-use Rattle.fib_carousel.proofs.Hearing.{pages_are_valid, pages_are_heard, ensemble_is_heard, page_sets_are_pageable}
-use Rattle.fib_carousel.proofs.Pieces.{each_in_a_page}
-use Rattle.plan_code.specs.declared.plan.Plan.{Plan}
-use Rattle.plan_code.specs.declared.hold.Hold.TheVariants.{Ended}
-use Rattle.plan_code.specs.Program.{Program}
-use Rattle.plan_code.specs.Machine.{State}
-use Rattle.plan_verifier.proofs.Samples.{sub_at_rate, with_sub, one_sub_is, lower_is}
-use Rattle.plan_runs.specs.declared.event.Event.TheVariants.{Frame}
-use Rattle.plan_runs.specs.Frames.{FrameIsAllowed, sent_entries, ensemble_sent, shown_bytes, after_frame, frame_bytes}
-use Rattle.plan_runs.specs.Announced.{IsHeardInSome, IsHeardWhole, HasHeader, IsFlagged, IsAnnounced, FrameRuns, Runs}
-use Rattle.plan_runs.specs.RightBytes.{IsEnsembleFig, IsNoHeader, IsEnsembleOf, IsHeadedBy, IsUnheaded, IsRight, BeginsNoPhase, IsOnePhase}
-use Rattle.plan_runs.specs.Headline.{IsAnnouncedIn, AnnouncesOnly, SwapsAt, KeepsCount}
-use Rattle.plan_runs.proofs.Samples.{all_open}
+use Rattle.plan_runs.proofs.Samples.{short_plan, ended, lowering, unflagged, flagged, flagged_is}
+use Rattle.plan_runs.proofs.Passing.{some_is}
 use Rattle.plan_runs.proofs.Tracked.{Airs}
-use Rattle.plan_runs.proofs.Right.{PageLaws, frame_right, ensemble_right}
+use Rattle.plan_runs.proofs.Right.{page_laws, frame_right, ensemble_right}
+use Rattle.fib_codec.proofs.Uniqueness.{one_fib}
+use Rattle.fib_carousel.proofs.Hearing.{pages_are_heard, ensemble_is_heard, page_sets_are_pageable}
+use Rattle.plan_verifier.proofs.Samples.{sub_at_rate, with_sub, one_sub_is, lower_is}
 
--- FIG 0/0 is in every fourth frame of mode I, and in every frame of mode II
 abbrev plan : Mode → Plan
-plan mode = record { eid = 0xe1c5; layout = Whole mode; period = 1; notice = 12; budget = 20 }
+plan mode = short_plan mode 12 20
 
--- a code that has ended, on the air with 128 kbit/s; a pending swap changes it to 96 kbit/s
 abbrev code : Mode → Program
-code mode = record { plan = plan mode; configurations = []; labels = []; lines = [] }
-
-abbrev on_air : Option ℕ → ℕ → State
-on_air left count =
-    record {
-      current = with_sub 128;
-      next = with_sub 96;
-      left = left;
-      pc = 0;
-      hold = Ended;
-      counters = replicate 8 0;
-      contacts = all_open;
-      count = count;
-      day = 0;
-      eid = 0xe1c5;
-      page_index = 0;
-    }
+code mode = ended (plan mode)
 
 -- ---- FIGs
 
@@ -72,54 +40,40 @@ is_one h = h a_header
 
 -- ---- the information of FIG 0/0, with a swap 12 frames later
 
-abbrev unflagged : ℕ → EnsembleInformation
-unflagged count = record { eid = 0xe1c5; change = 0; al = false; count = count; occurrence = None }
+in_the_notice : IsEnsembleOf (plan I) (lowering (Some 12) 988) (flagged 988 0)
+in_the_notice = ensemble_right (plan I) (lowering (Some 12) 988)
 
--- with the change flag of the sub-channel organization
-abbrev flagged : ℕ → ℕ → EnsembleInformation
-flagged count low = record { eid = 0xe1c5; change = 1; al = false; count = count; occurrence = Some low }
-
-some_count : (a b : ℕ) → Some a ≡ Some b → a ≡ b
-some_count a b e = cc
-
-in_the_notice : IsEnsembleOf (plan I) (on_air (Some 12) 988) (flagged 988 0)
-in_the_notice = ensemble_right (plan I) (on_air (Some 12) 988)
-
-unflagged_in_the_notice : IsEnsembleOf (plan I) (on_air (Some 12) 988) (unflagged 988) → ⊥
+unflagged_in_the_notice : IsEnsembleOf (plan I) (lowering (Some 12) 988) (unflagged 988) → ⊥
 unflagged_in_the_notice h = let e : 0 ≡ 1 = (h.flagged refl).0 in omega (arith, e)
 
 -- ---- phases
 
-swap_first : IsOnePhase (code II) (on_air (Some 0) 7) (Frame ∷ Frame ∷ [])
+swap_first : IsOnePhase (code II) (lowering (Some 0) 7) (Frame ∷ Frame ∷ [])
 swap_first = (refl, tt)
 
-swap_second : IsOnePhase (code II) (on_air (Some 1) 7) (Frame ∷ Frame ∷ []) → ⊥
+swap_second : IsOnePhase (code II) (lowering (Some 1) 7) (Frame ∷ Frame ∷ []) → ⊥
 swap_second h = let e : true ≡ false = h.0 in absurd cc
 
-neither_notice_nor_swap : BeginsNoPhase (code II) (on_air (Some 14) 7) (Frame ∷ [])
+neither_notice_nor_swap : BeginsNoPhase (code II) (lowering (Some 14) 7) (Frame ∷ [])
 neither_notice_nor_swap = (refl, tt)
 
-notice_begins : BeginsNoPhase (code II) (on_air (Some 13) 7) (Frame ∷ Frame ∷ []) → ⊥
+notice_begins : BeginsNoPhase (code II) (lowering (Some 13) 7) (Frame ∷ Frame ∷ []) → ⊥
 notice_begins h = let e : true ≡ false = h.1.0 in absurd cc
 
 -- ---- what is heard in the bytes of a frame: page 0 of the current configuration, with FIG 0/0 on a count of 8
 
-flagged_is : (count low : ℕ) → count < 5000 → low < 256 → IsEnsembleInformation (flagged count low)
-flagged_is count low below last =
-    record { eid = omega arith; change = omega arith; count = below; flagged = (λ there. omega arith, λ some. refl); occurrence = last }
-
 abbrev IsSendableBy : Plan → State → Type 0
 IsSendableBy plan s = IsPageable (ensemble_sent plan s) (sent_entries plan s)
 
-without_header : IsSendableBy (plan I) (on_air None 9)
+without_header : IsSendableBy (plan I) (lowering None 9)
 without_header = page_sets_are_pageable (with_sub 128) None None one_sub_is tt tt
 
 -- the bytes of page 0
 abbrev headed : List ℕ
-headed = shown_bytes (plan I) (on_air None 8)
+headed = shown_bytes (plan I) (lowering None 8)
 
 abbrev bare : List ℕ
-bare = shown_bytes (plan I) (on_air None 9)
+bare = shown_bytes (plan I) (lowering None 9)
 
 abbrev next_sub : Marked
 next_sub = marked true (sub_entry (sub_at_rate 96))
@@ -128,16 +82,14 @@ next_sub = marked true (sub_entry (sub_at_rate 96))
 
 has_no_header : HasHeader bare → ⊥
 has_no_header h =
-    let said = (ensemble_is_heard (Whole I) (ensemble_sent (plan I) (on_air None 9)) 0 (sent_entries (plan I) (on_air None 9)) without_header h.0 h.1).0 h.2 in
+    let said = (ensemble_is_heard (Whole I) (ensemble_sent (plan I) (lowering None 9)) 0
+    (sent_entries (plan I) (lowering None 9)) without_header h.0 h.1).0 h.2 in
     let e : None ≡ Some h.1 = said.1 in
     absurd cc
 
 -- ---- correct frames
 
-pub laws : PageLaws
-laws = record { each = each_in_a_page; pageable = page_sets_are_pageable; valid = pages_are_valid; heard = pages_are_heard; ensemble = ensemble_is_heard }
-
-airs : (count : ℕ) → count < 5000 → Airs (plan I) (on_air None count)
+airs : (count : ℕ) → count < 5000 → Airs (plan I) (lowering None count)
 airs count below = record {
   count = below;
   eid = omega arith;
@@ -150,10 +102,10 @@ airs count below = record {
   page_index = omega arith;
 }
 
-frame_of_8 : IsRight (plan I) (on_air None 8) headed
-frame_of_8 = frame_right laws (plan I) (on_air None 8) (airs 8 (omega arith))
+frame_of_8 : IsRight (plan I) (lowering None 8) headed
+frame_of_8 = frame_right page_laws (plan I) (lowering None 8) (airs 8 (omega arith))
 
-begins_with_its_header : IsHeadedBy (plan I) (on_air None 8) (fib_at headed 0)
+begins_with_its_header : IsHeadedBy (plan I) (lowering None 8) (fib_at headed 0)
 begins_with_its_header = frame_of_8.headed refl
 
 no_header_in_its_second : IsUnheaded (fib_at headed 1)
@@ -168,16 +120,17 @@ says_header (Other bytes) e h = h
 not_both : (plan : Plan) (s : State) (fib : List ℕ) → IsHeadedBy plan s fib → IsUnheaded fib → ⊥
 not_both plan s fib h u =
     let same : u.0 ≡ h.header ∷ h.others = one_fib fib u.0 (h.header ∷ h.others) u.1 h.first in
-    let each : AllByRecursion IsNoHeader (h.header ∷ h.others) = subst (λ (figs : List Fig). AllByRecursion IsNoHeader figs) same u.2 in
+    let each : AllByRecursion IsNoHeader (h.header ∷ h.others) =
+    subst (λ (figs : List Fig). AllByRecursion IsNoHeader figs) same u.2 in
     each.0 (says_header h.header h.information h.says)
 
 unheaded_with_one : IsUnheaded (fib_at headed 0) → ⊥
-unheaded_with_one h = not_both (plan I) (on_air None 8) (fib_at headed 0) begins_with_its_header h
+unheaded_with_one h = not_both (plan I) (lowering None 8) (fib_at headed 0) begins_with_its_header h
 
 -- ---- a notice in mode II: the swap falls on count 10
 
 abbrev noticed : ℕ → ℕ → State
-noticed count left = on_air (Some left) count
+noticed count left = lowering (Some left) count
 
 abbrev notice_frame : ℕ → ℕ → List ℕ
 notice_frame count left = shown_bytes (plan II) (noticed count left)
@@ -188,39 +141,46 @@ record IsNoticeFrame (count left : ℕ) : Type 0 where
   header : ensemble_sent (plan II) (noticed count left) ≡ Some (flagged count 10)
   next : Contains (page_entries (Whole II) 0 (sent_entries (plan II) (noticed count left))) next_sub
 
+sendable_to_96 : (count low : ℕ) → count < 5000 → low < 256
+    → IsPageable (Some (flagged count low)) (page_set (with_sub 128) (Some (with_sub 96)))
+sendable_to_96 count low below last =
+    page_sets_are_pageable (with_sub 128) (Some (with_sub 96)) (Some (flagged count low)) one_sub_is lower_is
+    (flagged_is count low below last)
+
 three_before : IsNoticeFrame 7 3
 three_before = record {
-  sendable = page_sets_are_pageable (with_sub 128) (Some (with_sub 96)) (Some (flagged 7 10)) one_sub_is lower_is (flagged_is 7 10 (omega arith) (omega arith));
+  sendable = sendable_to_96 7 10 (omega arith) (omega arith);
   header = refl;
   next = (1, omega arith, refl);
 }
 
 two_before : IsNoticeFrame 8 2
 two_before = record {
-  sendable = page_sets_are_pageable (with_sub 128) (Some (with_sub 96)) (Some (flagged 8 10)) one_sub_is lower_is (flagged_is 8 10 (omega arith) (omega arith));
+  sendable = sendable_to_96 8 10 (omega arith) (omega arith);
   header = refl;
   next = (1, omega arith, refl);
 }
 
 one_before : IsNoticeFrame 9 1
 one_before = record {
-  sendable = page_sets_are_pageable (with_sub 128) (Some (with_sub 96)) (Some (flagged 9 10)) one_sub_is lower_is (flagged_is 9 10 (omega arith) (omega arith));
+  sendable = sendable_to_96 9 10 (omega arith) (omega arith);
   header = refl;
   next = (1, omega arith, refl);
 }
 
-some_same : {T : Type 0} (o : Option T) (x y : T) → o ≡ Some x → o ≡ Some y → x ≡ y
-some_same o x y e f = let both : Some x ≡ Some y = sym e ∙ f in cc
-
-header_of : (count left : ℕ) → IsNoticeFrame count left → IsEnsembleHeardInRow (notice_frame count left) false (flagged count 10)
+header_of : (count left : ℕ) → IsNoticeFrame count left
+    → IsEnsembleHeardInRow (notice_frame count left) false (flagged count 10)
 header_of count left h =
-    (ensemble_is_heard (Whole II) (ensemble_sent (plan II) (noticed count left)) 0 (sent_entries (plan II) (noticed count left)) h.sendable false (flagged count 10)).1
+    (ensemble_is_heard (Whole II) (ensemble_sent (plan II) (noticed count left)) 0
+    (sent_entries (plan II) (noticed count left)) h.sendable false (flagged count 10)).1
     (refl, h.header)
 
-only_header : (count left : ℕ) → IsNoticeFrame count left → (next : Bool) (e : EnsembleInformation) → IsEnsembleHeardInRow (notice_frame count left) next e → flagged count 10 ≡ e
+only_header : (count left : ℕ) → IsNoticeFrame count left → (next : Bool) (e : EnsembleInformation)
+    → IsEnsembleHeardInRow (notice_frame count left) next e → flagged count 10 ≡ e
 only_header count left h next e heard =
-    let said = (ensemble_is_heard (Whole II) (ensemble_sent (plan II) (noticed count left)) 0 (sent_entries (plan II) (noticed count left)) h.sendable next e).0 heard in
-    some_same _ _ _ h.header said.1
+    let said = (ensemble_is_heard (Whole II) (ensemble_sent (plan II) (noticed count left)) 0
+    (sent_entries (plan II) (noticed count left)) h.sendable next e).0 heard in
+    cc (h.header, said.1)
 
 has_its_header : (count left : ℕ) → IsNoticeFrame count left → HasHeader (notice_frame count left)
 has_its_header count left h = (false, flagged count 10, header_of count left h)
@@ -229,23 +189,30 @@ next_in : (count left : ℕ) → IsNoticeFrame count left → IsHeardInSome (not
 next_in count left h = (
   notice_frame count left,
   (0, omega arith, refl),
-  (pages_are_heard (Whole II) (ensemble_sent (plan II) (noticed count left)) 0 (sent_entries (plan II) (noticed count left)) h.sendable next_sub).1 h.next,
+  (pages_are_heard (Whole II) (ensemble_sent (plan II) (noticed count left)) 0
+      (sent_entries (plan II) (noticed count left)) h.sendable next_sub).1 h.next,
 )
 
-whole_next : (count left : ℕ) → IsNoticeFrame count left → IsHeardWhole (with_sub 96) true (notice_frame count left ∷ [])
-whole_next count left h m (zero, lt, same) = subst (λ (x : Marked). IsHeardInSome (notice_frame count left ∷ []) x) same (next_in count left h)
+whole_next : (count left : ℕ) → IsNoticeFrame count left
+    → IsHeardWhole (with_sub 96) true (notice_frame count left ∷ [])
+whole_next count left h m (zero, lt, same) =
+    subst (λ (x : Marked). IsHeardInSome (notice_frame count left ∷ []) x) same (next_in count left h)
 whole_next count left h m (suc n, lt, same) = absurd (omega (arith, lt))
 
 abbrev notice : List (List ℕ)
 notice = notice_frame 7 3 ∷ notice_frame 8 2 ∷ notice_frame 9 1 ∷ []
 
-flagged_by : (count left : ℕ) → IsNoticeFrame count left → (next : Bool) (e : EnsembleInformation) (frame : List ℕ) → notice_frame count left ≡ frame
+flagged_by : (count left : ℕ) → IsNoticeFrame count left → (next : Bool) (e : EnsembleInformation) (frame : List ℕ)
+    → notice_frame count left ≡ frame
     → IsEnsembleHeardInRow frame next e → IsFlagged (with_sub 128) (with_sub 96) 10 e
 flagged_by count left h next e frame here heard =
-    let there : IsEnsembleHeardInRow (notice_frame count left) next e = subst (λ (bytes : List ℕ). IsEnsembleHeardInRow bytes next e) (sym here) heard in
-    subst (λ (x : EnsembleInformation). IsFlagged (with_sub 128) (with_sub 96) 10 x) (only_header count left h next e there) (refl, refl)
+    let there : IsEnsembleHeardInRow (notice_frame count left) next e =
+    subst (λ (bytes : List ℕ). IsEnsembleHeardInRow bytes next e) (sym here) heard in
+    subst (λ (x : EnsembleInformation). IsFlagged (with_sub 128) (with_sub 96) 10 x)
+    (only_header count left h next e there) (refl, refl)
 
-all_flagged : (frame : List ℕ) (next : Bool) (e : EnsembleInformation) → Contains notice frame → IsEnsembleHeardInRow frame next e → IsFlagged (with_sub 128) (with_sub 96) 10 e
+all_flagged : (frame : List ℕ) (next : Bool) (e : EnsembleInformation) → Contains notice frame
+    → IsEnsembleHeardInRow frame next e → IsFlagged (with_sub 128) (with_sub 96) 10 e
 all_flagged frame next e (zero, lt, same) heard = flagged_by 7 3 three_before next e frame same heard
 all_flagged frame next e (suc zero, lt, same) heard = flagged_by 8 2 two_before next e frame same heard
 all_flagged frame next e (suc (suc zero), lt, same) heard = flagged_by 9 1 one_before next e frame same heard
@@ -276,7 +243,9 @@ announced = record {
 -- and two frames alone announce no swap
 announced_by_two : IsAnnounced (with_sub 128) (with_sub 96) 10 (notice_frame 8 2 ∷ notice_frame 9 1 ∷ []) → ⊥
 announced_by_two h =
-    let within : h.headers.third < 2 = slice_get_within (notice_frame 8 2 ∷ notice_frame 9 1 ∷ []) h.headers.third h.headers.in_third.0 h.headers.in_third.1 in
+    let within : h.headers.third < 2 =
+    slice_get_within (notice_frame 8 2 ∷ notice_frame 9 1 ∷ []) h.headers.third h.headers.in_third.0
+    h.headers.in_third.1 in
     omega (arith, within, h.headers.before_second, h.headers.before_third)
 
 -- ---- the count that a frame announces
@@ -284,36 +253,34 @@ announced_by_two h =
 announces_10 : IsAnnouncedIn (notice_frame 9 1) 10
 announces_10 = (false, flagged 9 10, header_of 9 1 one_before, refl)
 
-only_10 : (low : ℕ) → IsAnnouncedIn (notice_frame 9 1) low → low ≡ 10
-only_10 low h =
-    some_count low 10 (sym (ap (λ (e : EnsembleInformation). e.occurrence) (only_header 9 1 one_before h.0 h.1 h.2) ∙ h.3))
-
 announces_only_10 : AnnouncesOnly 10 (notice_frame 9 1)
-announces_only_10 = only_10
+announces_only_10 low h =
+    some_is low 10 (sym (ap (λ (e : EnsembleInformation). e.occurrence) (only_header 9 1 one_before h.0 h.1 h.2) ∙ h.3))
 
 announces_only_11 : AnnouncesOnly 11 (notice_frame 9 1) → ⊥
 announces_only_11 h = let e : 10 ≡ 11 = h 10 announces_10 in omega (arith, e)
 
 -- a swap falls on the frame after the one that announces it
 keeps_its_count : KeepsCount (code II) (noticed 9 1) (Frame ∷ Frame ∷ [])
-keeps_its_count = ((λ low h. at_10 low (only_10 low h)), ((λ low h. tt), tt))
+keeps_its_count = ((λ low h. at_10 low (announces_only_10 low h)), ((λ low h. tt), tt))
   where
     at_10 : (low : ℕ) → low ≡ 10 → SwapsAt low (code II) (after_frame (code II) (noticed 9 1)) (Frame ∷ [])
-    at_10 low same = subst (λ (x : ℕ). SwapsAt x (code II) (after_frame (code II) (noticed 9 1)) (Frame ∷ [])) (sym same) refl
+    at_10 low same = subst (λ (x : ℕ). SwapsAt x (code II) (after_frame (code II) (noticed 9 1)) (Frame ∷ []))
+        (sym same) refl
 
 -- a notice of 251 frames, which no plan has: its first frame would name the count of the second, without a swap
 abbrev too_long : Program
-too_long = record (code II) { plan = record (plan II) { notice = 251 } }
+too_long = ended (short_plan II 251 20)
 
 first_of_251 : IsSendableBy too_long.plan (noticed 0 251)
-first_of_251 =
-    page_sets_are_pageable (with_sub 128) (Some (with_sub 96)) (Some (flagged 0 1)) one_sub_is lower_is (flagged_is 0 1 (omega arith) (omega arith))
+first_of_251 = sendable_to_96 0 1 (omega arith) (omega arith)
 
 names_the_second : IsAnnouncedIn (frame_bytes too_long (noticed 0 251)) 1
 names_the_second = (
   false,
   flagged 0 1,
-  (ensemble_is_heard (Whole II) (ensemble_sent too_long.plan (noticed 0 251)) 0 (sent_entries too_long.plan (noticed 0 251)) first_of_251 false (flagged 0 1)).1 (refl, refl),
+  (ensemble_is_heard (Whole II) (ensemble_sent too_long.plan (noticed 0 251)) 0
+      (sent_entries too_long.plan (noticed 0 251)) first_of_251 false (flagged 0 1)).1 (refl, refl),
   refl,
 )
 
@@ -323,7 +290,7 @@ not_its_swap h = let e : false ≡ true = h.0 1 names_the_second in absurd cc
 -- ---- the frame of an announced swap
 
 abbrev swapping : State
-swapping = on_air (Some 0) 10
+swapping = lowering (Some 0) 10
 
 swap_allowed : FrameIsAllowed (code II) swapping
 swap_allowed = record { steps = 0; within = omega arith; executes = (refl, refl); counted = refl }

@@ -1,44 +1,23 @@
 -- Swaps, waits, counts, contacts and what was heard: for each definition, examples that hold and examples that fail.
-use Rattle.std.specs.Prelude.{map, get_or}
-use Rattle.std.proofs.Common.{◌≡◌, ℕ, zero, suc, ◌<◌, ◌≤◌, ◌%◌, true, false, List, [], ◌∷◌, length, Some, None, refl, ap, arith, inl, inr}
-use Rattle.fib_codec.specs.declared.frame_layout.FrameLayout.TheVariants.{Whole}
+use Rattle.std.proofs.Common.{◌≡◌, ℕ, zero, suc, ◌<◌, ◌≤◌, ◌%◌, true, false, List, [], ◌∷◌, length, Some, None, refl}
+use Rattle.std.proofs.Common.{ap, arith, inl, inr}
+use Rattle.plan_runs.proofs.Names.{map, get_or, Configuration, EnsembleInformation, I, II, Running, Waits, WaitsSwap}
+use Rattle.plan_runs.proofs.Names.{Wait, CommitIn, CommitAt, End, Set, Line, Program, State, Contact, Frame, Start}
+use Rattle.plan_runs.proofs.Names.{is_due, hold_after_swap, is_running, is_here, with_hold_ended, ensemble_of, shown}
+use Rattle.plan_runs.proofs.Names.{frame_bytes, hold_after_frame, after_frame, CarriesOut, IsFirstWhere, IsOnStep}
+use Rattle.plan_runs.proofs.Names.{SwapsWhereDue, IsSwapAtCount, IsSwapAfterDelay, IsCommit, IsWaitOf, WaitsUntil}
+use Rattle.plan_runs.proofs.Names.{IsCounted, level_after, AreLastSent, HasHeaderOf}
 use Rattle.mux_types.specs.declared.parts.Sub.{Sub}
-use Rattle.mux_config.specs.Configuration.{Configuration}
-use Rattle.mux_types.specs.Entries.{EnsembleInformation}
-use Rattle.fib_codec.specs.declared.modes.Mode.{Mode}
-use Rattle.fib_codec.specs.declared.modes.Mode.TheVariants.{I, II}
-use Rattle.plan_code.specs.declared.plan.Plan.{Plan}
-use Rattle.plan_code.specs.declared.hold.Hold.TheVariants.{Running, Waits, WaitsSwap}
-use Rattle.plan_code.specs.declared.instr.Instr.{Instr}
-use Rattle.plan_code.specs.declared.instr.Instr.TheVariants.{Wait, CommitIn, CommitAt, End, Set}
-use Rattle.plan_code.specs.declared.instr.Line.{Line}
-use Rattle.plan_code.specs.Program.{Program}
-use Rattle.plan_code.specs.Machine.{State}
-use Rattle.plan_verifier.proofs.Samples.{with_sub}
-use Rattle.plan_runs.specs.declared.event.Event.TheVariants.{Contact, Frame}
-use Rattle.plan_runs.specs.declared.event.Start.{Start}
-use Rattle.plan_runs.specs.Frames.{is_due, hold_after_swap, is_running, is_here, with_hold_ended, ensemble_of, shown, frame_bytes, hold_after_frame, after_frame}
-use Rattle.plan_runs.specs.Firsts.{CarriesOut, IsFirstWhere}
-use Rattle.plan_runs.specs.Swaps.{IsOnStep, SwapsWhereDue, IsSwapAtCount, IsSwapAfterDelay, IsCommit}
-use Rattle.plan_runs.specs.Waits.{IsWaitOf, WaitsUntil}
-use Rattle.plan_runs.specs.Clock.{IsCounted, level_after}
-use Rattle.plan_runs.specs.LastSent.{AreLastSent}
-use Rattle.plan_runs.specs.SentHeaders.{HasHeaderOf}
-use Rattle.plan_runs.proofs.Samples.{all_open}
+use Rattle.plan_runs.proofs.Samples.{line, start_at, short_plan, ended}
 use Rattle.plan_runs.proofs.Waits.{waits_are_kept}
-use Rattle.plan_runs.proofs.SentHeaders.{headers_are_sent}
 use Rattle.plan_runs.proofs.VectorsOfRuns.{waits, first, second, played, played_first}
-use Rattle.plan_runs.proofs.VectorsOfBytes.{laws}
-
-abbrev plan : Mode → ℕ → ℕ → Plan
-plan mode notice budget = record { eid = 0xe1c5; layout = Whole mode; period = 1; notice = notice; budget = budget }
-
-abbrev line : Instr → Line
-line i = record { number = 1; instr = i }
+use Rattle.plan_runs.proofs.Right.{page_laws}
+use Rattle.plan_runs.proofs.Headline.{headers_are_sent}
+use Rattle.plan_verifier.proofs.Samples.{with_sub}
 
 -- with FIG 0/0 in every frame, and a notice of one frame
 abbrev code : ℕ → List Line → Program
-code budget lines = record { plan = plan II 1 budget; configurations = []; labels = []; lines = lines }
+code budget lines = record (ended (short_plan II 1 budget)) { lines = lines }
 
 -- ---- the instructions of a frame
 
@@ -54,14 +33,15 @@ not_the_end (suc k, below, at) = let e : suc k < 1 = below in omega (arith, e)
 abbrev due_at : ℕ → State
 due_at count = record first { next = with_sub 96; left = Some 0; count = count }
 
-on_a_step : IsOnStep (plan I 12 20) (due_at 8)
+on_a_step : IsOnStep (short_plan I 12 20) (due_at 8)
 on_a_step due = refl
 
-off_the_step : IsOnStep (plan I 12 20) (due_at 7) → ⊥
+off_the_step : IsOnStep (short_plan I 12 20) (due_at 7) → ⊥
 off_the_step h = let e : 3 ≡ 0 = h refl in omega (arith, e)
 
 other_rate : with_sub 128 ≡ with_sub 96 → ⊥
-other_rate e = let rate : 128 ≡ 96 = ap (λ (c : Configuration). get_or (map (λ (sub : Sub). sub.kbits) c.subs) 0 0) e in omega (arith, rate)
+other_rate e = let rate : 128 ≡ 96 = ap (λ (c : Configuration). get_or (map (λ (sub : Sub). sub.kbits) c.subs) 0 0) e in
+    omega (arith, rate)
 
 swapped : SwapsWhereDue (due_at 8) (record first { current = with_sub 96 })
 swapped = record { becomes_next = λ due. refl; stays = λ none. let clash : true ≡ false = none in absurd cc }
@@ -86,7 +66,8 @@ commits_twice = code 20 (line (CommitAt 1) ∷ line (CommitAt 2) ∷ line End �
 at_another_count : IsSwapAtCount 1 commits_twice first (Frame ∷ []) → ⊥
 at_another_count h = by (h (0, omega arith, refl))
   where
-    by : IsFirstWhere (λ t. is_due t.left) (λ later t. (1 ≤ later) × (t.count ≡ 1)) 1 commits_twice (after_frame commits_twice first) (Frame ∷ []) → ⊥
+    by : IsFirstWhere (λ t. is_due t.left) (λ later t. (1 ≤ later) × (t.count ≡ 1)) 1 commits_twice
+        (after_frame commits_twice first) (Frame ∷ []) → ⊥
     by (inl g) = let clash : false ≡ true = g.0 in absurd cc
     by (inr g) = g.1 (omega arith, refl)
 
@@ -99,7 +80,8 @@ commits_again = code 20 (line (CommitIn 1) ∷ line (CommitIn 2) ∷ line End �
 out_of_time : IsSwapAfterDelay 1 commits_again first (Frame ∷ []) → ⊥
 out_of_time h = by (h (0, omega arith, refl))
   where
-    by : IsFirstWhere (λ t. is_due t.left) (λ later t. (1 ≤ later) × (t.count % 1 ≡ 0)) 1 commits_again (after_frame commits_again first) (Frame ∷ []) → ⊥
+    by : IsFirstWhere (λ t. is_due t.left) (λ later t. (1 ≤ later) × (t.count % 1 ≡ 0)) 1 commits_again
+        (after_frame commits_again first) (Frame ∷ []) → ⊥
     by (inl g) = let clash : false ≡ true = g.0 in absurd cc
     by (inr g) = g.1 (omega arith, refl)
 
@@ -160,7 +142,7 @@ waits_for_nothing (inr h) = let clash : true ≡ false = h.0 in absurd cc
 -- ---- counts and contacts
 
 abbrev before_midnight : Start
-before_midnight = record { eid = 0xe1c5; count = 4999; day = 3599999; contacts = all_open }
+before_midnight = record (start_at 4999) { day = 3599999 }
 
 counted : IsCounted before_midnight 2 (record first { count = 1; day = 1 })
 counted = record { count = refl; day = refl }
@@ -177,14 +159,19 @@ earlier_setting e = let clash : false ≡ true = e in absurd cc
 -- ---- what was heard
 
 nothing_was_heard : AreLastSent waits first (Frame ∷ [])
-nothing_was_heard = record { along = refl; earlier = frame_bytes waits first ∷ []; sent = refl; whole = λ due. let clash : false ≡ true = due in absurd cc }
+nothing_was_heard = record {
+  along = refl;
+  earlier = frame_bytes waits first ∷ [];
+  sent = refl;
+  whole = λ due. let clash : false ≡ true = due in absurd cc;
+}
 
 -- one frame of a notice of 12 frames has passed, but none was sent
-heard_unsent : AreLastSent (record waits { plan = plan I 12 20 }) (record (due_at 1) { left = Some 11 }) [] → ⊥
+heard_unsent : AreLastSent (record waits { plan = short_plan I 12 20 }) (record (due_at 1) { left = Some 11 }) [] → ⊥
 heard_unsent h = let e : 0 ≡ 1 = ap (λ (frames : List (List ℕ)). length frames) h.along in omega (arith, e)
 
 its_own_header : HasHeaderOf waits.plan (shown waits first) (frame_bytes waits first)
-its_own_header = headers_are_sent laws waits first played_first
+its_own_header = headers_are_sent page_laws waits first played_first
 
 -- the frame after it has no FIG 0/0
 another_header : HasHeaderOf waits.plan (shown waits second) (frame_bytes waits first) → ⊥

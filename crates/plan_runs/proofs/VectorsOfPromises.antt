@@ -1,27 +1,17 @@
 -- The guarantees of typed codes: for a small code they hold; for an untyped code, or a state that no run reaches, they
 -- fail.
 use Rattle.std.proofs.Common.{◌≡◌, ◌<◌, true, false, List, [], ◌∷◌, refl, arith}
-use Rattle.mux_types.specs.Facts.{marked, sub_entry}
-use Rattle.mux_types.specs.Entries.{EnsembleInformation}
-use Rattle.mux_types.specs.declared.entry.Entry.TheVariants.{Ensemble as EnsembleOf}
-use Rattle.fib_codec.specs.Grammar.{Fig, Open, Other}
-use Rattle.fib_codec.specs.Heard.{IsInFig}
-use Rattle.plan_code.specs.Machine.{State}
-use Rattle.plan_verifier.proofs.Samples.{plan, sub_at_rate}
-use Rattle.plan_runs.specs.declared.event.Event.{Event}
-use Rattle.plan_runs.specs.declared.event.Event.TheVariants.{Contact, Frame}
-use Rattle.plan_runs.specs.Frames.{IsOneBurst, ready, after_burst}
-use Rattle.plan_runs.specs.TypedRuns.{RunsWell}
-use Rattle.plan_runs.specs.Announced.{AlwaysRuns, IsHeardInSome}
-use Rattle.plan_runs.specs.RightBytes.{FrameIsRight, FramesAreRight, IsHeardEachPeriod}
-use Rattle.plan_runs.specs.Headline.{MeetsGuarantees}
+use Rattle.plan_runs.proofs.Names.{marked, sub_entry, EnsembleInformation, EnsembleOf, Fig, Open, Other, IsInFig, State}
+use Rattle.plan_runs.proofs.Names.{Event, Contact, Frame, IsOneBurst, ready, after_burst, RunsWell, AlwaysRuns}
+use Rattle.plan_runs.proofs.Names.{IsHeardInSome, FrameIsRight, FramesAreRight, IsHeardEachPeriod, MeetsGuarantees}
 use Rattle.plan_runs.proofs.Bursts.{bursts_are_one}
 use Rattle.plan_runs.proofs.TypedRuns.{typed_code_runs}
 use Rattle.plan_runs.proofs.Announcing.{swaps_are_announced}
 use Rattle.plan_runs.proofs.Periods.{periods_are_whole}
 use Rattle.plan_runs.proofs.Headline.{frames_are_right, headline_holds}
 use Rattle.plan_runs.proofs.VectorsOfRuns.{waits, joins, first, second, played, frame_traps, one_instruction}
-use Rattle.plan_runs.proofs.VectorsOfBytes.{laws}
+use Rattle.plan_runs.proofs.Right.{page_laws}
+use Rattle.plan_verifier.proofs.Samples.{plan, sub_at_rate}
 
 -- a frame, a contact that closes, and a frame
 abbrev events : List Event
@@ -44,7 +34,7 @@ traps : RunsWell joins first events → ⊥
 traps h = frame_traps h.allowed.0
 
 always_runs : AlwaysRuns waits second
-always_runs more = swaps_are_announced laws waits second more played
+always_runs more = swaps_are_announced page_laws waits second more played
 
 not_always : AlwaysRuns joins first → ⊥
 not_always h = frame_traps (h events).0.allowed
@@ -52,7 +42,7 @@ not_always h = frame_traps (h events).0.allowed
 -- ---- correct bytes
 
 frame_right : FrameIsRight waits second
-frame_right = frames_are_right laws waits second played
+frame_right = frames_are_right page_laws waits second played
 
 -- an EId has 16 bits
 abbrev other_ensemble : State
@@ -70,7 +60,7 @@ wrong_frame h =
     omega (arith, low, same)
 
 frames_right : FramesAreRight waits second events
-frames_right = (headline_holds laws waits second events played).right
+frames_right = (headline_holds page_laws waits second events played).right
 
 wrong_frames : FramesAreRight waits other_ensemble events → ⊥
 wrong_frames h = wrong_frame h.0
@@ -78,18 +68,19 @@ wrong_frames h = wrong_frame h.0
 -- ---- each period
 
 heard_each_period : IsHeardEachPeriod waits second
-heard_each_period = periods_are_whole laws waits second played
+heard_each_period = periods_are_whole page_laws waits second played
 
 -- with a period of no frames nothing is heard
 no_period : IsHeardEachPeriod (record waits { plan = record plan { period = 0 } }) first → ⊥
 no_period h =
-    let heard : IsHeardInSome [] (marked false (sub_entry (sub_at_rate 128))) = h [] [] tt refl (marked false (sub_entry (sub_at_rate 128))) (0, omega arith, refl) in
+    let heard : IsHeardInSome [] (marked false (sub_entry (sub_at_rate 128))) =
+    h [] [] tt refl (marked false (sub_entry (sub_at_rate 128))) (0, omega arith, refl) in
     omega (arith, heard.1.1)
 
 -- ---- all of it
 
 meets_guarantees : MeetsGuarantees waits second events
-meets_guarantees = headline_holds laws waits second events played
+meets_guarantees = headline_holds page_laws waits second events played
 
 breaks_a_guarantee : MeetsGuarantees joins first events → ⊥
 breaks_a_guarantee h = frame_traps h.runs.0.allowed

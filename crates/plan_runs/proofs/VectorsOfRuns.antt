@@ -1,24 +1,14 @@
 -- Runs of a code that waits for a frame and ends: for each definition, an example that holds and one that fails.
-use Rattle.std.proofs.Common.{◌≡◌, ℕ, zero, suc, ◌<◌, ◌≤◌, Bool, true, false, cond, List, [], ◌∷◌, length, Some, None, ◌==◌, refl, sym, ap, subst, arith}
-use Rattle.mux_types.specs.Facts.{Marked}
-use Rattle.fib_carousel.specs.Pages.{page_set}
-use Rattle.plan_code.specs.declared.flags.Contacts.{Contacts}
-use Rattle.plan_code.specs.declared.instr.Instr.{Instr}
-use Rattle.plan_code.specs.declared.instr.Line.{Line}
-use Rattle.plan_code.specs.declared.instr.Instr.TheVariants.{Wait, Join, End}
-use Rattle.plan_code.specs.Program.{Program, IsProgram}
-use Rattle.plan_code.specs.Machine.{State, IsAllowed}
+use Rattle.std.proofs.Common.{◌≡◌, ℕ, zero, suc, ◌<◌, ◌≤◌, Bool, true, false, cond, List, [], ◌∷◌, length, Some, None}
+use Rattle.std.proofs.Common.{◌==◌, refl, sym, ap, subst, arith}
+use Rattle.plan_runs.proofs.Names.{Marked, page_set, Contacts, Instr, Line, Wait, Join, End, Program, IsProgram, State}
+use Rattle.plan_runs.proofs.Names.{IsAllowed, Contact, Frame, Start, ready, Executes, after_burst, after_frame}
+use Rattle.plan_runs.proofs.Names.{StartIsInRange, IsEvent, IsStart, EventIsAllowed, IsReached, Setting, IsSetting}
+use Rattle.plan_runs.proofs.Names.{AgreeOnContacts, AreAllAlike, last_of, SentBy, IsPlayed, CanBeSent, IsJoined}
 use Rattle.plan_verifier.specs.declared.cause.Cause.TheVariants.{JoinIdle}
-use Rattle.plan_verifier.proofs.Samples.{plan, with_sub, one_sub, one_sub_is, label, line, line_is, code_from, first_from_is}
+use Rattle.plan_verifier.proofs.Samples.{plan, with_sub, one_sub, one_sub_is, label, line, line_is, code_from}
+use Rattle.plan_verifier.proofs.Samples.{first_from_is}
 use Rattle.plan_verifier.proofs.OneVerdict.{typed_if, refused_if, codes_have_one_verdict}
-use Rattle.plan_runs.specs.declared.event.Event.TheVariants.{Contact, Frame}
-use Rattle.plan_runs.specs.declared.event.Start.{Start}
-use Rattle.plan_runs.specs.Frames.{ready, Executes, after_burst, after_frame}
-use Rattle.plan_runs.specs.Runs.{StartIsInRange, IsEvent, IsStart, EventIsAllowed, IsReached}
-use Rattle.plan_runs.specs.Settings.{Setting, IsSetting, AgreeOnContacts, AreAllAlike, last_of}
-use Rattle.plan_runs.specs.Phases.{SentBy}
-use Rattle.plan_runs.specs.TypedRuns.{IsPlayed, CanBeSent}
-use Rattle.plan_runs.specs.Announced.{IsJoined}
 use Rattle.plan_runs.proofs.Samples.{all_open, start_at, in_range, first_state, it_starts}
 use Rattle.plan_runs.proofs.Joined.{runs_join}
 use Rattle.plan_runs.proofs.Reached.{starts_are_reached, reached_is_kept}
@@ -73,11 +63,12 @@ one_instruction = (refl, record { instr = Wait 1; within = refl; allowed = tt },
 no_join : (c : Contacts) (i : Instr) → Some Join ≡ Some i → IsAllowed plan i (record first { contacts = c }) → ⊥
 no_join c i at allowed =
     let same : Join ≡ i = cc in
-    let pending : IsAllowed plan Join (record first { contacts = c }) = subst (λ (j : Instr). IsAllowed plan j (record first { contacts = c })) (sym same) allowed in
+    let pending : IsAllowed plan Join (record first { contacts = c }) =
+    subst (λ (j : Instr). IsAllowed plan j (record first { contacts = c })) (sym same) allowed in
     let some : false ≡ true = pending in
     absurd cc
 
-join_traps : (c : Contacts) (n : ℕ) (t : State) → Executes joins (record first { contacts = c }) n t → ⊥
+pub join_traps : (c : Contacts) (n : ℕ) (t : State) → Executes joins (record first { contacts = c }) n t → ⊥
 join_traps c zero t h = let e : true ≡ false = h.0 in absurd cc
 join_traps c (suc n) t h = no_join c h.1.instr h.1.within h.1.allowed
 
@@ -92,7 +83,8 @@ frame_by_frame = runs_join waits first [] (Frame ∷ []) (Contact 3 true ∷ Fra
 -- ---- states that a run reaches
 
 reached_by_a_frame : IsReached waits second
-reached_by_a_frame = reached_is_kept waits first (Frame ∷ []) (starts_are_reached waits start first (in_range 0 (omega arith)) waits_starts) (tt, tt)
+reached_by_a_frame = reached_is_kept waits first (Frame ∷ [])
+    (starts_are_reached waits start first (in_range 0 (omega arith)) waits_starts) (tt, tt)
 
 -- a code without a label at its first instruction has no start
 never_reached : IsReached (record waits { labels = [] }) first → ⊥
@@ -101,20 +93,27 @@ never_reached h = let e : None ≡ Some h.started.label = h.started.first in abs
 -- ---- typed codes in states that they reach
 
 waits_is : IsProgram waits
-waits_is = first_from_is one_sub 1 waits.lines one_sub_is (omega arith) (omega arith) (line_is (Wait 1) (omega arith, omega arith), (line_is End tt, tt)) (omega arith) (omega arith)
+waits_is = first_from_is one_sub 1 waits.lines one_sub_is (omega arith) (omega arith)
+    (line_is (Wait 1) (omega arith, omega arith), (line_is End tt, tt)) (omega arith) (omega arith)
 
 joins_is : IsProgram joins
-joins_is = first_from_is one_sub 1 joins.lines one_sub_is (omega arith) (omega arith) (line_is Join tt, tt) (omega arith) (omega arith)
+joins_is = first_from_is one_sub 1 joins.lines one_sub_is (omega arith) (omega arith) (line_is Join tt, tt)
+    (omega arith) (omega arith)
 
 pub played : IsPlayed waits second
 played = record { program = waits_is; typed = typed_if waits waits_is refl; reached = reached_by_a_frame }
 
 pub played_first : IsPlayed waits first
-played_first = record { program = waits_is; typed = typed_if waits waits_is refl; reached = starts_are_reached waits start first (in_range 0 (omega arith)) waits_starts }
+played_first = record {
+  program = waits_is;
+  typed = typed_if waits waits_is refl;
+  reached = starts_are_reached waits start first (in_range 0 (omega arith)) waits_starts;
+}
 
 -- the verifier refuses its join
 not_played : (s : State) → IsPlayed joins s → ⊥
-not_played s h = (codes_have_one_verdict joins joins_is).never_both 0 JoinIdle h.typed (refused_if joins 0 JoinIdle joins_is refl)
+not_played s h = (codes_have_one_verdict joins joins_is).never_both 0 JoinIdle h.typed
+    (refused_if joins 0 JoinIdle joins_is refl)
 
 can_be_sent : CanBeSent plan first
 can_be_sent = record {
@@ -122,7 +121,13 @@ can_be_sent = record {
   current = one_sub_is;
   next = one_sub_is;
   count = omega arith;
-  ensemble = record { eid = omega arith; change = omega arith; count = omega arith; flagged = (λ none. absurd cc, λ some. absurd (omega (arith, some))); occurrence = tt };
+  ensemble = record {
+    eid = omega arith;
+    change = omega arith;
+    count = omega arith;
+    flagged = (λ none. absurd cc, λ some. absurd (omega (arith, some)));
+    occurrence = tt;
+  };
 }
 
 -- all entries are on page 0
@@ -158,7 +163,8 @@ no_setting h = let e : 16 < 16 = h in omega (arith, e)
 last_counts : AgreeOnContacts (opens 3 ∷ closes 3 ∷ []) (closes 3 ∷ [])
 last_counts contact = by (3 == contact)
   where
-    by : (b : Bool) → last_of (cond b (Some false) None) (last_of (cond b (Some true) None) None) ≡ last_of (cond b (Some true) None) None
+    by : (b : Bool) → last_of (cond b (Some false) None) (last_of (cond b (Some true) None) None)
+        ≡ last_of (cond b (Some true) None) None
     by true = refl
     by false = refl
 

@@ -1,5 +1,6 @@
 -- What was heard of a notice, and when that announces the swap.
-use Rattle.std.specs.Prelude.{◌≡◌, ◌↔◌, ℕ, zero, suc, ◌+◌, ◌-◌, ◌%◌, ◌<◌, Bool, true, if◌then◌else◌, List, [], ◌∷◌, ◌++◌, Contains, slice_get, Option, Some, None}
+use Rattle.std.specs.Prelude.{◌≡◌, ◌↔◌, ℕ, zero, suc, ◌+◌, ◌-◌, ◌%◌, ◌<◌, Bool, true, if◌then◌else◌, List, [], ◌∷◌}
+use Rattle.std.specs.Prelude.{◌++◌, Contains, slice_get, Option, Some, None}
 use Rattle.mux_config.specs.Configuration.{Configuration}
 use Rattle.mux_types.specs.Entries.{EnsembleInformation}
 use Rattle.mux_types.specs.Facts.{Marked, facts_of}
@@ -11,7 +12,8 @@ use Rattle.plan_code.specs.Program.{Program}
 use Rattle.plan_code.specs.Machine.{State}
 use Rattle.plan_runs.specs.declared.event.Event.{Event}
 use Rattle.plan_runs.specs.declared.event.Event.TheVariants.{Contact, Frame}
-use Rattle.plan_runs.specs.Frames.{is_due, is_noticed, shown, shown_bytes, with_next_counts, frame_bytes, FrameIsAllowed}
+use Rattle.plan_runs.specs.Frames.{is_due, is_noticed, shown, shown_bytes, with_next_counts, frame_bytes}
+use Rattle.plan_runs.specs.Frames.{FrameIsAllowed}
 use Rattle.plan_runs.specs.Runs.{happens, run, run_frames, RunIsAllowed}
 
 -- ---- what is heard in frames, from their bytes alone
@@ -32,7 +34,8 @@ heard_before s heard = if is_due s.left then [] else heard
 -- adds the frame, if it is one of the notice
 abbrev pub heard_after : Program → State → List (List ℕ) → List (List ℕ)
 heard_after p s heard =
-    if is_noticed p.plan.notice (shown p s).left then heard_before s heard ++ frame_bytes p s ∷ [] else heard_before s heard
+    if is_noticed p.plan.notice (shown p s).left then heard_before s heard
+    ++ frame_bytes p s ∷ [] else heard_before s heard
 
 -- the same from the state alone: this many frames from this state on, each with its page in turn
 abbrev pub notice_frames : Plan → ℕ → State → List (List ℕ)
@@ -122,9 +125,11 @@ AlwaysRuns p s = (events : List Event) → Runs p s (heard_of p.plan s) events
 pub record IsJoined (p : Program) (s : State) (heard : List (List ℕ)) (events more : List Event) : Type 0 where
   pub state : run p s (events ++ more) ≡ run p (run p s events) more
   pub frames : run_frames p s (events ++ more) ≡ run_frames p s events ++ run_frames p (run p s events) more
-  pub hears : heard_along p s heard (events ++ more) ≡ heard_along p (run p s events) (heard_along p s heard events) more
+  pub hears : heard_along p s heard (events ++ more) ≡ heard_along p (run p s events) (heard_along p s heard events)
+      more
   pub plain : RunIsAllowed p s (events ++ more) ↔ (RunIsAllowed p s events × RunIsAllowed p (run p s events) more)
-  pub announced : Runs p s heard (events ++ more) ↔ (Runs p s heard events × Runs p (run p s events) (heard_along p s heard events) more)
+  pub announced : Runs p s heard (events ++ more)
+      ↔ (Runs p s heard events × Runs p (run p s events) (heard_along p s heard events) more)
 
 abbrev pub RunsJoin : Type 0
 RunsJoin = (p : Program) (s : State) (heard : List (List ℕ)) (events more : List Event) → IsJoined p s heard events more

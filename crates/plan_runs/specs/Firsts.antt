@@ -20,7 +20,8 @@ CarriesOut p s i = (k : ℕ) × (k < frame_steps p s) × (instr_at p (burst k p 
 -- where `Is` holds
 abbrev pub IsFirstWhere : (State → Bool) → (ℕ → State → Type 0) → ℕ → Program → State → List Event → Type 0
 IsFirstWhere does Is number p s [] = Unit {0}
-IsFirstWhere does Is number p s (Contact c closed ∷ es) = IsFirstWhere does Is number p (happens p s (Contact c closed)) es
+IsFirstWhere does Is number p s (Contact c closed ∷ es) =
+    IsFirstWhere does Is number p (happens p s (Contact c closed)) es
 IsFirstWhere does Is number p s (Frame ∷ es) =
     ((does s ≡ true) × Is number s)
     ⊎ ((does s ≡ false) × (Is number s → ⊥) × IsFirstWhere does Is (number + 1) p (after_frame p s) es)

@@ -1,5 +1,6 @@
 -- One frame of the player, in four steps: a due swap, the instructions, the bytes, and the counts.
-use Rattle.std.specs.Prelude.{◌≡◌, ℕ, zero, suc, ◌+◌, ◌-◌, ◌%◌, ◌≤◌, ◌==◌, ◌&&◌, ◌||◌, Bool, true, false, if◌then◌else◌, nat_le, List, Option, Some, None}
+use Rattle.std.specs.Prelude.{◌≡◌, ℕ, zero, suc, ◌+◌, ◌-◌, ◌%◌, ◌≤◌, ◌==◌, ◌&&◌, ◌||◌, Bool, true, false, if◌then◌else◌}
+use Rattle.std.specs.Prelude.{nat_le, List, Option, Some, None}
 use Rattle.fib_codec.specs.Layouts.{layout_mode}
 use Rattle.mux_config.specs.Configuration.{Configuration}
 use Rattle.mux_types.specs.Entries.{EnsembleInformation}
@@ -12,7 +13,8 @@ use Rattle.fib_carousel.specs.Bytes.{page_bytes}
 use Rattle.mux_types.specs.declared.limits.TheConstants.{COUNTS}
 use Rattle.plan_code.specs.declared.limits.TheConstants.{FRAMES_A_DAY}
 use Rattle.plan_code.specs.declared.hold.Hold.{Hold}
-use Rattle.plan_code.specs.declared.hold.Hold.TheVariants.{Running, Waits, WaitsDay, WaitsContact, WaitsAny, WaitsSwap, Ended}
+use Rattle.plan_code.specs.declared.hold.Hold.TheVariants.{Running, Waits, WaitsDay, WaitsContact, WaitsAny, WaitsSwap}
+use Rattle.plan_code.specs.declared.hold.Hold.TheVariants.{Ended}
 use Rattle.plan_code.specs.declared.plan.Plan.{Plan}
 use Rattle.plan_code.specs.declared.flags.Contacts.{Contacts}
 use Rattle.plan_code.specs.Flags.{is_closed, any_closed, any_open}
@@ -28,13 +30,8 @@ is_due (Some left) = left == 0
 
 -- a wait for the swap ends
 abbrev pub hold_after_swap : Hold → Hold
-hold_after_swap Running = Running
 hold_after_swap WaitsSwap = Running
-hold_after_swap (Waits n) = Waits n
-hold_after_swap (WaitsDay t) = WaitsDay t
-hold_after_swap (WaitsContact c closed) = WaitsContact c closed
-hold_after_swap (WaitsAny closed opened until left) = WaitsAny closed opened until left
-hold_after_swap Ended = Ended
+hold_after_swap hold = hold
 
 -- the next configuration becomes the current one, and page 0 is in turn
 abbrev pub with_swap : State → State
@@ -156,7 +153,13 @@ low_of_swap count (Some left) = (count + left) % COUNTS % 250
 abbrev pub ensemble_of : Plan → State → EnsembleInformation
 ensemble_of plan s =
     if is_noticed plan.notice s.left then
-    record { eid = s.eid; change = bits_of (change_of s.current s.next); al = false; count = s.count; occurrence = Some (low_of_swap s.count s.left) }
+    record {
+      eid = s.eid;
+      change = bits_of (change_of s.current s.next);
+      al = false;
+      count = s.count;
+      occurrence = Some (low_of_swap s.count s.left);
+    }
     else record { eid = s.eid; change = 0; al = false; count = s.count; occurrence = None }
 
 -- it is sent if the count is a multiple of the mode's step
@@ -176,13 +179,9 @@ left_after_frame None = None
 left_after_frame (Some left) = Some (left - 1)
 
 abbrev pub hold_after_frame : Hold → Hold
-hold_after_frame Running = Running
 hold_after_frame (Waits n) = Waits (n - 1)
-hold_after_frame (WaitsDay t) = WaitsDay t
-hold_after_frame (WaitsContact c closed) = WaitsContact c closed
 hold_after_frame (WaitsAny closed opened until left) = WaitsAny closed opened until (left_after_frame left)
-hold_after_frame WaitsSwap = WaitsSwap
-hold_after_frame Ended = Ended
+hold_after_frame hold = hold
 
 abbrev pub with_next_counts : Plan → State → State
 with_next_counts plan s =

@@ -16,7 +16,8 @@ use Rattle.plan_runs.specs.RightBytes.{FrameIsRight, FramesAreRight, IsHeardEach
 
 -- an announcement in the bytes of a frame: a FIG 0/0, with any C/N flag, with the low part of the swap's count
 abbrev pub IsAnnouncedIn : List ℕ → ℕ → Type 0
-IsAnnouncedIn frame low = (next : Bool) × (e : EnsembleInformation) × IsEnsembleHeardInRow frame next e × (e.occurrence ≡ Some low)
+IsAnnouncedIn frame low = (next : Bool) × (e : EnsembleInformation) × IsEnsembleHeardInRow frame next e
+    × (e.occurrence ≡ Some low)
 
 -- every announcement in this frame is of this count
 abbrev pub AnnouncesOnly : ℕ → List ℕ → Type 0
@@ -37,7 +38,8 @@ abbrev pub KeepsCount : Program → State → List Event → Type 0
 KeepsCount p s [] = Unit {0}
 KeepsCount p s (Contact c closed ∷ es) = KeepsCount p (happens p s (Contact c closed)) es
 KeepsCount p s (Frame ∷ es) =
-    ((low : ℕ) → IsAnnouncedIn (frame_bytes p s) low → SwapsAt low p (after_frame p s) es) × KeepsCount p (after_frame p s) es
+    ((low : ℕ) → IsAnnouncedIn (frame_bytes p s) low → SwapsAt low p (after_frame p s) es)
+    × KeepsCount p (after_frame p s) es
 
 -- ---- the headline
 

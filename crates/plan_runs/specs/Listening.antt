@@ -1,6 +1,7 @@
 -- What a listener knows after hearing the frames of a run, and when it knows the current configuration
 -- (EN 300 401 clause 6.5).
-use Rattle.std.specs.Prelude.{◌≡◌, ℕ, zero, suc, ◌+◌, ◌%◌, ◌≤◌, ◌⊎◌, true, false, List, [], ◌∷◌, ◌++◌, length, flat_map, take, Some}
+use Rattle.std.specs.Prelude.{◌≡◌, ℕ, zero, suc, ◌+◌, ◌%◌, ◌≤◌, ◌⊎◌, true, false, List, [], ◌∷◌, ◌++◌, length, flat_map}
+use Rattle.std.specs.Prelude.{take, Some}
 use Rattle.fib_codec.specs.Layouts.{layout_mode, frame_fibs}
 use Rattle.fib_codec.specs.declared.frame_layout.FrameLayout.{FrameLayout}
 use Rattle.fib_codec.specs.Grammar.{Fig, IsFib}
@@ -92,14 +93,16 @@ KnowsTheNew p s =
     → IsUntilNextSwap p (run p s (waiting ++ notice)) after
     → 1 ≤ fibs
     → HearsAll
-    (fibs_of p.plan.layout (run_frames p s (waiting ++ notice)) ++ take fibs (fibs_of p.plan.layout (run_frames p (run p s (waiting ++ notice)) after)))
+    (fibs_of p.plan.layout (run_frames p s (waiting ++ notice))
+    ++ take fibs (fibs_of p.plan.layout (run_frames p (run p s (waiting ++ notice)) after)))
     untuned
     heard
     → Shows heard.current (run p s (waiting ++ notice)).next
 
 -- a listener has room for whatever it hears of a typed code
 abbrev pub IsNeverFull : Program → State → Type 0
-IsNeverFull p s = (events : List Event) → (heard : Listening) × HearsAll (fibs_of p.plan.layout (run_frames p s events)) untuned heard
+IsNeverFull p s = (events : List Event) → (heard : Listening)
+    × HearsAll (fibs_of p.plan.layout (run_frames p s events)) untuned heard
 
 pub record ListenersKnow (p : Program) (s : State) : Type 0 where
   pub room : IsNeverFull p s

@@ -1,5 +1,6 @@
 -- When the bytes of a frame, and the frames of a phase, are correct (EN 300 401 clauses 5.2.1, 6.4 and 6.5).
-use Rattle.std.specs.Prelude.{◌≡◌, ◌≢◌, ℕ, ◌+◌, ◌*◌, ◌%◌, ◌<◌, ◌≤◌, ◌⊎◌, true, false, List, [], ◌∷◌, length, Contains, Option, Some, None}
+use Rattle.std.specs.Prelude.{◌≡◌, ◌≢◌, ℕ, ◌+◌, ◌*◌, ◌%◌, ◌<◌, ◌≤◌, ◌⊎◌, true, false, List, [], ◌∷◌, length, Contains}
+use Rattle.std.specs.Prelude.{Option, Some, None}
 use Rattle.std.specs.List.{AllByRecursion}
 use Rattle.fib_codec.specs.Layouts.{layout_mode, frame_fibs}
 use Rattle.mux_types.specs.Entries.{EnsembleInformation}
@@ -64,7 +65,8 @@ pub record IsRight (plan : Plan) (s : State) (bytes : List ℕ) : Type 0 where
   pub unheaded : s.count % count_step (layout_mode plan.layout) ≢ 0 → IsUnheaded (fib_at bytes 0)
   pub others_unheaded : (n : ℕ) → 1 ≤ n → n < frame_fibs plan.layout → IsUnheaded (fib_at bytes n)
   pub entries : (m : Marked) → IsHeardInRow bytes m
-      → Contains (facts_of s.current false) m ⊎ ((is_noticed plan.notice s.left ≡ true) × Contains (facts_of s.next true) m)
+      → Contains (facts_of s.current false) m
+      ⊎ ((is_noticed plan.notice s.left ≡ true) × Contains (facts_of s.next true) m)
 
 abbrev pub FrameIsRight : Program → State → Type 0
 FrameIsRight p s = IsRight p.plan (shown p s) (frame_bytes p s)

@@ -4,7 +4,7 @@ use Rattle.fib_codec.specs.Layouts.{layout_mode}
 use Rattle.fib_codec.specs.Modes.{count_step}
 use Rattle.plan_code.specs.declared.plan.Plan.{Plan}
 use Rattle.plan_code.specs.declared.instr.Instr.{Instr}
-use Rattle.plan_code.specs.declared.instr.Instr.TheVariants.{Wait, Until, WaitContact, WaitAny, CommitIn, CommitAt, Join, Settle, End, Edit as Edits, Test, TestTime, Jump, Set, Loop}
+use Rattle.plan_code.specs.declared.instr.Instr.TheVariants.{CommitIn, CommitAt}
 use Rattle.plan_code.specs.Program.{Program}
 use Rattle.plan_code.specs.Machine.{State}
 use Rattle.plan_runs.specs.declared.event.Event.{Event}
@@ -27,31 +27,21 @@ pub record SwapsWhereDue (before after : State) : Type 0 where
 abbrev pub IsSwapAtCount : ℕ → Program → State → List Event → Type 0
 IsSwapAtCount n p s events =
     CarriesOut p s (CommitAt n)
-    → IsFirstWhere (λ t. is_due t.left) (λ later t. (p.plan.notice ≤ later) × (t.count ≡ n)) 1 p (after_frame p s) events
+    → IsFirstWhere (λ t. is_due t.left) (λ later t. (p.plan.notice ≤ later) × (t.count ≡ n)) 1 p (after_frame p s)
+    events
 
 -- where it executes `CommitIn k`, the first swap after it is due in the first frame on a multiple of the step that is
 -- at least k frames later
 abbrev pub IsSwapAfterDelay : ℕ → Program → State → List Event → Type 0
 IsSwapAfterDelay k p s events =
     CarriesOut p s (CommitIn k)
-    → IsFirstWhere (λ t. is_due t.left) (λ later t. (k ≤ later) × (t.count % count_step (layout_mode p.plan.layout) ≡ 0)) 1 p (after_frame p s) events
+    → IsFirstWhere (λ t. is_due t.left) (λ later t. (k ≤ later)
+    × (t.count % count_step (layout_mode p.plan.layout) ≡ 0)) 1 p (after_frame p s) events
 
 abbrev pub IsCommit : Instr → Type 0
-IsCommit (Wait n) = ⊥
-IsCommit (Until t) = ⊥
-IsCommit (WaitContact c closed) = ⊥
-IsCommit (WaitAny closed opened until frames) = ⊥
 IsCommit (CommitIn k) = Unit {0}
 IsCommit (CommitAt n) = Unit {0}
-IsCommit Join = ⊥
-IsCommit Settle = ⊥
-IsCommit End = ⊥
-IsCommit (Edits e) = ⊥
-IsCommit (Test c target) = ⊥
-IsCommit (TestTime from to target) = ⊥
-IsCommit (Jump target) = ⊥
-IsCommit (Set r n) = ⊥
-IsCommit (Loop r target) = ⊥
+IsCommit _ = ⊥
 
 -- ---- the laws
 
@@ -65,8 +55,10 @@ SwapsChangeTheCurrent = (p : Program) (s : State) → SwapsWhereDue s (shown p s
 -- if no swap is pending, or one is due, and the frame executes no commit, none is pending after it
 abbrev pub SwapsAreCommitted : Type 0
 SwapsAreCommitted =
-    (p : Program) (s : State) → (s.left ≡ None) ⊎ (is_due s.left ≡ true) → ((i : Instr) → CarriesOut p s i → IsCommit i → ⊥)
+    (p : Program) (s : State) → (s.left ≡ None) ⊎ (is_due s.left ≡ true)
+    → ((i : Instr) → CarriesOut p s i → IsCommit i → ⊥)
     → (after_frame p s).left ≡ None
 
 abbrev pub CommitsAreKept : Type 0
-CommitsAreKept = (p : Program) (s : State) (n : ℕ) (events : List Event) → IsPlayed p s → IsSwapAtCount n p s events × IsSwapAfterDelay n p s events
+CommitsAreKept = (p : Program) (s : State) (n : ℕ) (events : List Event) → IsPlayed p s → IsSwapAtCount n p s events
+    × IsSwapAfterDelay n p s events

@@ -1,9 +1,10 @@
 -- How long a suspended code waits.
 use Rattle.std.specs.Prelude.{◌≡◌, ◌⊎◌, ℕ, ◌<◌, true, false, List, Some}
 use Rattle.plan_code.specs.declared.hold.Hold.{Hold}
-use Rattle.plan_code.specs.declared.hold.Hold.TheVariants.{Running, Waits, WaitsDay, WaitsContact, WaitsAny, WaitsSwap, Ended}
+use Rattle.plan_code.specs.declared.hold.Hold.TheVariants.{Running, Waits, WaitsDay, WaitsContact, WaitsAny, WaitsSwap}
+use Rattle.plan_code.specs.declared.hold.Hold.TheVariants.{Ended}
 use Rattle.plan_code.specs.declared.instr.Instr.{Instr}
-use Rattle.plan_code.specs.declared.instr.Instr.TheVariants.{Wait, Until, WaitContact, WaitAny, CommitIn, CommitAt, Join, Settle, End, Edit as Edits, Test, TestTime, Jump, Set, Loop}
+use Rattle.plan_code.specs.declared.instr.Instr.TheVariants.{Wait, Until, WaitContact, WaitAny, Join, End}
 use Rattle.plan_code.specs.declared.flags.Contacts.{Contacts}
 use Rattle.plan_code.specs.Flags.{is_in, is_closed}
 use Rattle.plan_code.specs.Program.{Program}
@@ -19,17 +20,9 @@ IsWaitOf (Wait frames) hold = hold ≡ Waits frames
 IsWaitOf (Until t) hold = hold ≡ WaitsDay t
 IsWaitOf (WaitContact c closed) hold = hold ≡ WaitsContact c closed
 IsWaitOf (WaitAny closed opened until frames) hold = hold ≡ WaitsAny closed opened until frames
-IsWaitOf (CommitIn k) hold = Unit {0}
-IsWaitOf (CommitAt n) hold = Unit {0}
 IsWaitOf Join hold = hold ≡ WaitsSwap
-IsWaitOf Settle hold = Unit {0}
 IsWaitOf End hold = hold ≡ Ended
-IsWaitOf (Edits e) hold = Unit {0}
-IsWaitOf (Test c target) hold = Unit {0}
-IsWaitOf (TestTime from to target) hold = Unit {0}
-IsWaitOf (Jump target) hold = Unit {0}
-IsWaitOf (Set r n) hold = Unit {0}
-IsWaitOf (Loop r target) hold = Unit {0}
+IsWaitOf _ hold = Unit {0}
 
 -- one of the contacts of the set is closed; below, one of them is open
 abbrev pub HasClosed : (set contacts : Contacts) → Type 0
@@ -57,7 +50,8 @@ WaitsUntil p s events = IsFirstWhere (is_active p) (HasCome (shown p s).hold) 1 
 
 -- an instruction that suspends is the last of its frame
 abbrev pub InstructionsSuspend : Type 0
-InstructionsSuspend = (p : Program) (s : State) (i : Instr) → IsPlayed p s → CarriesOut p s i → IsWaitOf i (shown p s).hold
+InstructionsSuspend = (p : Program) (s : State) (i : Instr) → IsPlayed p s → CarriesOut p s i
+    → IsWaitOf i (shown p s).hold
 
 abbrev pub WaitsAreKept : Type 0
 WaitsAreKept = (p : Program) (s : State) (events : List Event) → IsPlayed p s → WaitsUntil p s events

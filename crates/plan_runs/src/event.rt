@@ -7,8 +7,8 @@ use plan_code::{ContactId, Contacts};
 pub enum Event {
     /// The contact is closed, or opened where the flag is false.
     Contact(ContactId, bool),
-    /// One frame of 24 ms is made: a due swap, the instructions, the FIBs of the mode, and then the counts
-    /// advance.
+    /// One frame of 24 ms is made: a due swap, the instructions, the FIBs of the mode, and then the
+    /// counts advance.
     Frame,
 }
 

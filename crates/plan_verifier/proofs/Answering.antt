@@ -1,25 +1,25 @@
 -- The tests in the code have the results of the tests of the walk.
 
-use Rattle.std.proofs.Common.{◌≡◌, ℕ, ◌↔◌, Bool, true, false, IsTrue, refl, sym, ap, ◌∙◌, ◌&&◌, length, Option, Some, None, IfSome}
-use Rattle.plan_code.specs.declared.label.Label.{Label}
-use Rattle.plan_code.specs.Program.{Program, IsProgram, IsLabel, label_at}
-use Rattle.plan_verifier.specs.declared.indices.IndexedFlow.{IndexedFlow}
-use Rattle.plan_verifier.specs.Flows.{FitsFlow, flow_of, known_at}
-use Rattle.plan_verifier.specs.Indexed.{flow_at, IsWithin}
+use Rattle.std.proofs.Common.{◌≡◌, ℕ, ◌↔◌, Bool, true, false, IsTrue, refl, sym, ap, ◌∙◌, ◌&&◌, length, Option, Some}
+use Rattle.std.proofs.Common.{None, IfSome}
+use Rattle.plan_verifier.proofs.Names.{false_from_ne_true, Label, Program, IsProgram, IsLabel, label_at, Swap}
+use Rattle.plan_verifier.proofs.Names.{IndexedFlow, FitsFlow, flow_of, known_at, flow_at, IsWithin, flow_of_label}
+use Rattle.plan_verifier.proofs.Names.{Known, includes, is_fit, declared_by, FitsSwap, fits_swap, is_same, satisfies}
+use Rattle.plan_verifier.proofs.Names.{Configuration}
 use Rattle.plan_verifier.proofs.Finding.{swap_alone}
-use Rattle.plan_verifier.specs.Held.{flow_of_label}
-use Rattle.plan_verifier.specs.Typing.{Known}
-use Rattle.plan_verifier.specs.Walking.{includes, fits_swap, is_fit, declared_by}
-use Rattle.plan_verifier.proofs.DecidingWalks.{decides_fits}
-use Rattle.plan_verifier.proofs.DecidingFlows.{Decides, is_false, decides_fits_swap}
+use Rattle.plan_verifier.specs.Walking.{fits_swap}
+use Rattle.plan_verifier.proofs.DecidingFlows.{Decides, decides_fits_swap, decides_fits, decides_same}
 use Rattle.plan_verifier.proofs.Tabled.{tabled, label_of}
+use Rattle.plan_verifier.specs.declared.fitting.Condition.{Condition}
+use Rattle.plan_verifier.specs.Rules.{Known}
 
 pub same_answer : (r b : Bool) (P : Type 0) → (IsTrue r ↔ P) → Decides b P → r ≡ b
 same_answer true b P h d = sym (d.found (h.0 refl))
-same_answer false b P h d = sym (is_false b (λ e. let f : false ≡ true = h.1 (d.told e) in cc))
+same_answer false b P h d = sym (false_from_ne_true b (λ e. let f : false ≡ true = h.1 (d.told e) in cc))
 
 -- the label at an instruction is within its limits
-pub label_within : (code : Program) (pc : ℕ) (o : Option Label) → IsProgram code → o ≡ label_at code pc → IfSome o (IsLabel (length code.configurations))
+pub label_within : (code : Program) (pc : ℕ) (o : Option Label) → IsProgram code → o ≡ label_at code pc
+    → IfSome o (IsLabel (length code.configurations))
 label_within code pc None h e = tt
 label_within code pc (Some label) h e = label_of code h label ((tabled code h).found pc label (sym e)).0
 
@@ -27,16 +27,43 @@ label_within code pc (Some label) h e = label_of code h label ((tabled code h).f
 flow_fits : (t declared : Known) → is_fit t declared ≡ true → FitsFlow (flow_of t) (flow_of declared)
 flow_fits t declared e =
     (decides_fits_swap t.pending declared.pending (known_at (flow_of t)) (known_at (flow_of declared))).told
-    (swap_alone t.pending declared.pending t declared ∙ (decides_fits_swap t.pending declared.pending t declared).found ((decides_fits t declared).told e).swap)
+    (swap_alone t.pending declared.pending t declared ∙ (decides_fits_swap t.pending declared.pending t declared).found
+    ((decides_fits t declared).told e).swap)
 
-pub label_fits : (code : Program) (label : Label) (f : IndexedFlow) (t : Known) → f ≡ flow_of_label label → IsLabel (length code.configurations) label → is_fit t (declared_by code label) ≡ true
+pub label_fits : (code : Program) (label : Label) (f : IndexedFlow) (t : Known) → f ≡ flow_of_label label
+    → IsLabel (length code.configurations) label → is_fit t (declared_by code label) ≡ true
     → IsWithin (length code.configurations) f × FitsFlow (flow_of t) (flow_at code.configurations f)
-label_fits code label f t e within fit = rw e ((within.current, within.following), flow_fits t (declared_by code label) fit)
+label_fits code label f t e within fit =
+    rw e ((within.current, within.following), flow_fits t (declared_by code label) fit)
 
 -- fitting a label: the counters, then the configurations and the swap
-pub fit_counters : (a b : Bool) (t declared : Known) → a ≡ includes t.counters declared.counters → a ≡ true → b ≡ fits_swap t.pending declared.pending t declared → b ≡ is_fit t declared
-fit_counters a b t declared e true_here f = f ∙ sym (ap (λ (x : Bool). x && fits_swap t.pending declared.pending t declared) (sym e ∙ true_here))
+pub fit_counters : (a b : Bool) (t declared : Known) → a ≡ includes t.counters declared.counters → a ≡ true
+    → b ≡ fits_swap t.pending declared.pending t declared → b ≡ is_fit t declared
+fit_counters a b t declared e true_here f =
+    f ∙ sym (ap (λ (x : Bool). x && fits_swap t.pending declared.pending t declared) (sym e ∙ true_here))
 
-pub fit_no_counters : (a : Bool) (t declared : Known) → a ≡ includes t.counters declared.counters → a ≡ false → a ≡ is_fit t declared
+pub fit_no_counters : (a : Bool) (t declared : Known) → a ≡ includes t.counters declared.counters → a ≡ false
+    → a ≡ is_fit t declared
 fit_no_counters a t declared e false_here =
     false_here ∙ sym (ap (λ (x : Bool). x && fits_swap t.pending declared.pending t declared) (sym e ∙ false_here))
+
+-- ---- one path merged with another
+
+-- the result of a test that decides it
+pub answers : (r b : Bool) (P : Type 0) → r ≡ b → Decides b P → (IsTrue r ↔ P)
+answers r b P e d = (λ h. d.told (sym e ∙ h), λ p. e ∙ d.found p)
+
+pub fit_as : (r : Bool) (n m : Condition) (p q : Swap) (t u : Known) → fits_swap p q t u ≡ satisfies n t u → n ≡ m
+    → r ≡ satisfies m t u → (IsTrue r ↔ FitsSwap p q t u)
+fit_as r n m p q t u e is f = answers r (fits_swap p q t u) (FitsSwap p q t u)
+    (f ∙ sym (ap (λ (x : Condition). satisfies x t u) is) ∙ sym e) (decides_fits_swap p q t u)
+
+same_turned : (b : Bool) (c d : Configuration) → b ≡ is_same c d → b ≡ is_same d c
+same_turned true c d e = sym ((decides_same d c).found (sym ((decides_same c d).told (sym e))))
+same_turned false c d e = sym (false_from_ne_true (is_same d c)
+    (λ h. let f : false ≡ true = e ∙ (decides_same c d).found (sym ((decides_same d c).told h)) in cc))
+
+pub both_turned : (a b c d : Configuration) → (is_same a b && is_same c d) ≡ (is_same b a && is_same d c)
+both_turned a b c d =
+    ap (λ (x : Bool). x && is_same c d) (same_turned (is_same a b) a b refl)
+    ∙ ap (λ (x : Bool). is_same b a && x) (same_turned (is_same c d) c d refl)

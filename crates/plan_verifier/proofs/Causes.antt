@@ -1,24 +1,22 @@
 -- The causes that the walk finds at an instruction are those of the definition of refusals.
-use Rattle.std.proofs.Common.{◌≡◌, ℕ, ◌+◌, ◌<◌, ◌≤◌, true, not, length, Option, Some, None, refl, sym, ap, subst, ◌∙◌, arith}
-use Rattle.mux_config.specs.Configuration.{IsConfiguration}
-use Rattle.plan_code.specs.declared.label.Label.{Label}
-use Rattle.plan_code.specs.declared.instr.Instr.{Instr}
-use Rattle.plan_code.specs.declared.instr.Instr.TheVariants.{Wait, Until, WaitContact, WaitAny, CommitIn, CommitAt, Join, Settle, End, Edit as Edits, Test, TestTime, Jump, Set, Loop}
-use Rattle.plan_code.specs.Program.{Program, label_at}
-use Rattle.plan_verifier.specs.declared.cause.Cause.{Cause}
-use Rattle.plan_verifier.specs.declared.cause.Cause.TheVariants.{Target}
-use Rattle.plan_verifier.specs.Flows.{HasItsCounter}
-use Rattle.plan_verifier.proofs.Finding.{decides_is_true, decides_is_false, flow_computes, flow_fine, fine_none, none_two, two_none, none_if, if_none, not_not, refuted, none_where, needed, none_unless}
-use Rattle.plan_verifier.specs.Typing.{Known, IsFine, continues, target_of, spent, Declares, Fits, CanEnter, Reaches}
-use Rattle.plan_verifier.specs.Refusals.{FitsLabel, EntryRefused, JumpRefused, InstrRefused, KnownRefused}
-use Rattle.plan_verifier.specs.Walking.{◌first_or◌, is_fit, declared_by, entry_cause, jump_cause, flow_cause, target_cause, instr_cause, known_cause}
-use Rattle.plan_verifier.proofs.DecidingWalks.{decides_fits}
-use Rattle.plan_verifier.proofs.DecidingFlows.{Decides, Computes, decides_not, decides_both, decides_lt, decides_eq, computes_always, computes_where, computes_orelse}
+use Rattle.std.proofs.Common.{◌≡◌, ℕ, ◌+◌, ◌<◌, ◌≤◌, true, not, length, Option, Some, None, refl, sym, ap, subst, ◌∙◌}
+use Rattle.std.proofs.Common.{arith}
+use Rattle.plan_verifier.proofs.Names.{not-false, IsConfiguration, Label, Instr, Wait, Until, WaitContact, WaitAny}
+use Rattle.plan_verifier.proofs.Names.{CommitIn, CommitAt, Join, Settle, End, Edits, Test, TestTime, Jump, Set, Loop}
+use Rattle.plan_verifier.proofs.Names.{Program, label_at, Cause, Target, HasItsCounter, Known, IsFine, continues}
+use Rattle.plan_verifier.proofs.Names.{target_of, spent, Declares, Fits, CanEnter, Reaches, FitsLabel, EntryRefused}
+use Rattle.plan_verifier.proofs.Names.{JumpRefused, InstrRefused, KnownRefused, ◌first_or◌, is_fit, declared_by}
+use Rattle.plan_verifier.proofs.Names.{entry_cause, jump_cause, flow_cause, target_cause, instr_cause, known_cause}
+use Rattle.plan_verifier.proofs.Finding.{decides_is_true, decides_is_false, flow_computes, flow_fine, fine_none}
+use Rattle.plan_verifier.proofs.Finding.{none_two, two_none, none_if, if_none, refuted, none_where, needed, none_unless}
+use Rattle.plan_verifier.proofs.DecidingFlows.{Decides, Computes, decides_not, decides_both, decides_lt, decides_eq}
+use Rattle.plan_verifier.proofs.DecidingFlows.{computes_always, computes_where, computes_orelse, decides_fits}
 use Rattle.plan_verifier.proofs.Tabled.{IsTabled, declared_once}
 
 -- ---- the cause found is the one that holds, if any does
 
-pub decides_label : (code : Program) (label : Label) (t : Known) → Declares code label (declared_by code label) → Decides (is_fit t (declared_by code label)) (FitsLabel code label t)
+pub decides_label : (code : Program) (label : Label) (t : Known) → Declares code label (declared_by code label)
+    → Decides (is_fit t (declared_by code label)) (FitsLabel code label t)
 decides_label code label t declares =
     let d = decides_fits t (declared_by code label) in
     record {
@@ -26,45 +24,42 @@ decides_label code label t declares =
       found = λ h. d.found (subst (λ (u : Known). Fits t u) (declared_once code label _ _ h.1 declares) h.2);
     }
 
-pub entry_computes : (code : Program) (label : Label) (t : Known) → Declares code label (declared_by code label) → Computes (entry_cause code label t) (EntryRefused code label t)
+pub entry_computes : (code : Program) (label : Label) (t : Known) → Declares code label (declared_by code label)
+    → Computes (entry_cause code label t) (EntryRefused code label t)
 entry_computes code label t declares =
     computes_orelse _ _ _ _ (computes_where _ _ _ (decides_not _ _ (decides_label code label t declares)))
     (computes_where _ _ _ (decides_lt t.allowance label.cost))
 
-jump_computes : (code : Program) (o : Option Label) (t : Known) → ((label : Label) → o ≡ Some label → Declares code label (declared_by code label))
+jump_computes : (code : Program) (o : Option Label) (t : Known)
+    → ((label : Label) → o ≡ Some label → Declares code label (declared_by code label))
     → Computes (jump_cause code o t) (JumpRefused code o t)
 jump_computes code None t declares = computes_always Target
 jump_computes code (Some label) t declares = entry_computes code label t (declares label refl)
 
-pub declares_at : (code : Program) (pc : ℕ) → IsTabled code → (label : Label) → label_at code pc ≡ Some label → Declares code label (declared_by code label)
+pub declares_at : (code : Program) (pc : ℕ) → IsTabled code → (label : Label) → label_at code pc ≡ Some label
+    → Declares code label (declared_by code label)
 declares_at code pc h label e = h.declares label (h.found pc label e).0
 
-target_computes : (code : Program) (target : ℕ) (t : Known) → IsTabled code → Computes (jump_cause code (label_at code target) t) (JumpRefused code (label_at code target) t)
+target_computes : (code : Program) (target : ℕ) (t : Known) → IsTabled code
+    → Computes (jump_cause code (label_at code target) t) (JumpRefused code (label_at code target) t)
 target_computes code target t h = jump_computes code (label_at code target) t (declares_at code target h)
 
 computes_alone : (o : Option Cause) (R : Cause → Type 0) → Computes o R → Computes (o first_or None) R
 computes_alone None R c = c
 computes_alone (Some cause) R c = c
 
-instr_computes : (code : Program) (i : Instr) (t : Known) → IsTabled code → Computes (instr_cause code i t) (InstrRefused code i t)
-instr_computes code (Edits edit) t h = flow_computes code.plan (Edits edit) t
-instr_computes code (CommitIn delay) t h = flow_computes code.plan (CommitIn delay) t
-instr_computes code (CommitAt count) t h = flow_computes code.plan (CommitAt count) t
-instr_computes code (Wait frames) t h = flow_computes code.plan (Wait frames) t
-instr_computes code (Until day) t h = flow_computes code.plan (Until day) t
-instr_computes code (WaitContact contact closed) t h = flow_computes code.plan (WaitContact contact closed) t
-instr_computes code (WaitAny closed opened until frames) t h = flow_computes code.plan (WaitAny closed opened until frames) t
-instr_computes code Join t h = flow_computes code.plan Join t
-instr_computes code Settle t h = flow_computes code.plan Settle t
+instr_computes : (code : Program) (i : Instr) (t : Known) → IsTabled code
+    → Computes (instr_cause code i t) (InstrRefused code i t)
 instr_computes code (Test contact target) t h = computes_alone _ _ (target_computes code target (spent t) h)
 instr_computes code (TestTime from to target) t h = computes_alone _ _ (target_computes code target (spent t) h)
 instr_computes code (Jump target) t h = computes_alone _ _ (target_computes code target (spent t) h)
 instr_computes code (Loop counter target) t h =
-    computes_alone _ _ (computes_orelse _ _ _ _ (computes_where _ _ _ (decides_is_false _)) (target_computes code target (spent t) h))
-instr_computes code (Set counter times) t h = flow_computes code.plan (Set counter times) t
-instr_computes code End t h = flow_computes code.plan End t
+    computes_alone _ _ (computes_orelse _ _ _ _ (computes_where _ _ _ (decides_is_false _))
+    (target_computes code target (spent t) h))
+instr_computes code i t h = flow_computes code.plan i t
 
-pub known_computes : (code : Program) (pc : ℕ) (i : Instr) (t : Known) → IsTabled code → Computes (known_cause code pc i t) (KnownRefused code pc i t)
+pub known_computes : (code : Program) (pc : ℕ) (i : Instr) (t : Known) → IsTabled code
+    → Computes (known_cause code pc i t) (KnownRefused code pc i t)
 known_computes code pc i t h =
     computes_orelse _ _ _ _ (computes_where _ _ _ (decides_eq t.allowance 0))
     (computes_orelse _ _ _ _ (instr_computes code i t h)
@@ -72,34 +67,43 @@ known_computes code pc i t h =
 
 -- ---- no cause is found exactly where the instruction is fine
 
-pub entry_comes : (code : Program) (label : Label) (t : Known) → Declares code label (declared_by code label) → entry_cause code label t ≡ None → CanEnter code label t
+pub entry_comes : (code : Program) (label : Label) (t : Known) → Declares code label (declared_by code label)
+    → entry_cause code label t ≡ None → CanEnter code label t
 entry_comes code label t declares e =
     let parts = none_two _ _ e in
     let fit = needed _ _ _ (decides_label code label t declares) parts.0 in
     let enough : t.allowance < label.cost → ⊥ = refuted _ _ _ (decides_lt t.allowance label.cost) parts.1 in
     record { declared = fit.0; declares = fit.1; fits = fit.2; affords = omega (arith, enough) }
 
-pub comes_none : (code : Program) (label : Label) (t : Known) → Declares code label (declared_by code label) → CanEnter code label t → entry_cause code label t ≡ None
+pub comes_none : (code : Program) (label : Label) (t : Known) → Declares code label (declared_by code label)
+    → CanEnter code label t → entry_cause code label t ≡ None
 comes_none code label t declares h =
     two_none _ _ (none_unless _ _ _ (decides_label code label t declares) (h.declared, h.declares, h.fits))
     (none_where _ _ _ (decides_lt t.allowance label.cost) (λ lt. omega (arith, h.affords, lt)))
 
-jump_reaches : (code : Program) (target : ℕ) (o : Option Label) (t : Known) → label_at code target ≡ o → ((label : Label) → o ≡ Some label → Declares code label (declared_by code label))
+jump_reaches : (code : Program) (target : ℕ) (o : Option Label) (t : Known) → label_at code target ≡ o
+    → ((label : Label) → o ≡ Some label → Declares code label (declared_by code label))
     → jump_cause code o t ≡ None → Reaches code target t
 jump_reaches code target None t at declares e = absurd cc
-jump_reaches code target (Some label) t at declares e = record { label = label; there = at; comes = entry_comes code label t (declares label refl) e }
+jump_reaches code target (Some label) t at declares e =
+    record { label = label; there = at; comes = entry_comes code label t (declares label refl) e }
 
-reaches_none : (code : Program) (target : ℕ) (t : Known) → IsTabled code → Reaches code target t → jump_cause code (label_at code target) t ≡ None
+reaches_none : (code : Program) (target : ℕ) (t : Known) → IsTabled code → Reaches code target t
+    → jump_cause code (label_at code target) t ≡ None
 reaches_none code target t h r =
-    subst (λ (o : Option Label). jump_cause code o t ≡ None) (sym r.there) (comes_none code r.label t (declares_at code target h r.label r.there) r.comes)
+    subst (λ (o : Option Label). jump_cause code o t ≡ None) (sym r.there)
+    (comes_none code r.label t (declares_at code target h r.label r.there) r.comes)
 
-reached_none : (code : Program) (target : ℕ) (t : Known) → IsTabled code → ((goal : ℕ) → Some target ≡ Some goal → Reaches code goal t) → jump_cause code (label_at code target) t ≡ None
+reached_none : (code : Program) (target : ℕ) (t : Known) → IsTabled code
+    → ((goal : ℕ) → Some target ≡ Some goal → Reaches code goal t) → jump_cause code (label_at code target) t ≡ None
 reached_none code target t h r = reaches_none code target t h (r target refl)
 
-none_reaches : (code : Program) (target : ℕ) (t : Known) → IsTabled code → jump_cause code (label_at code target) t ≡ None → (goal : ℕ) → Some target ≡ Some goal → Reaches code goal t
+none_reaches : (code : Program) (target : ℕ) (t : Known) → IsTabled code
+    → jump_cause code (label_at code target) t ≡ None → (goal : ℕ) → Some target ≡ Some goal → Reaches code goal t
 none_reaches code target t h e goal same =
     let here : target ≡ goal = cc in
-    subst (λ (n : ℕ). Reaches code n t) here (jump_reaches code target (label_at code target) t refl (declares_at code target h) e)
+    subst (λ (n : ℕ). Reaches code n t) here
+    (jump_reaches code target (label_at code target) t refl (declares_at code target h) e)
 
 no_target : (code : Program) (t : Known) → (goal : ℕ) → None ≡ Some goal → Reaches code goal t
 no_target code t goal e = absurd cc
@@ -114,70 +118,63 @@ pub record HasTarget (code : Program) (i : Instr) (t : Known) : Type 0 where
   pub counter : HasItsCounter i t.counters
   pub targets : (goal : ℕ) → target_of i ≡ Some goal → Reaches code goal (spent t)
 
-goes_nowhere : (code : Program) (i : Instr) (t : Known) → HasItsCounter i t.counters → target_of i ≡ None → HasTarget code i t
-goes_nowhere code i t counter e = record { counter = counter; targets = λ goal f. no_target code (spent t) goal (sym e ∙ f) }
+goes_nowhere : (code : Program) (i : Instr) (t : Known) → HasItsCounter i t.counters → target_of i ≡ None
+    → HasTarget code i t
+goes_nowhere code i t counter e =
+    record { counter = counter; targets = λ goal f. no_target code (spent t) goal (sym e ∙ f) }
 
-none_targets : (code : Program) (i : Instr) (t : Known) → IsTabled code → target_cause code i t ≡ None → HasTarget code i t
-none_targets code (Edits edit) t h e = goes_nowhere code (Edits edit) t tt refl
-none_targets code (CommitIn delay) t h e = goes_nowhere code (CommitIn delay) t tt refl
-none_targets code (CommitAt count) t h e = goes_nowhere code (CommitAt count) t tt refl
-none_targets code (Wait frames) t h e = goes_nowhere code (Wait frames) t tt refl
-none_targets code (Until day) t h e = goes_nowhere code (Until day) t tt refl
-none_targets code (WaitContact contact closed) t h e = goes_nowhere code (WaitContact contact closed) t tt refl
-none_targets code (WaitAny closed opened until frames) t h e = goes_nowhere code (WaitAny closed opened until frames) t tt refl
-none_targets code Join t h e = goes_nowhere code Join t tt refl
-none_targets code Settle t h e = goes_nowhere code Settle t tt refl
-none_targets code (Test contact target) t h e = record { counter = tt; targets = none_reaches code target (spent t) h e }
-none_targets code (TestTime from to target) t h e = record { counter = tt; targets = none_reaches code target (spent t) h e }
+none_targets : (code : Program) (i : Instr) (t : Known) → IsTabled code → target_cause code i t ≡ None
+    → HasTarget code i t
+none_targets code (Test contact target) t h e =
+    record { counter = tt; targets = none_reaches code target (spent t) h e }
+none_targets code (TestTime from to target) t h e =
+    record { counter = tt; targets = none_reaches code target (spent t) h e }
 none_targets code (Jump target) t h e = record { counter = tt; targets = none_reaches code target (spent t) h e }
 none_targets code (Loop counter target) t h e =
     let parts = none_two _ _ e in
-    record { counter = not_not _ (none_if _ _ parts.0); targets = none_reaches code target (spent t) h parts.1 }
-none_targets code (Set counter times) t h e = goes_nowhere code (Set counter times) t tt refl
-none_targets code End t h e = goes_nowhere code End t tt refl
+    record { counter = not-false _ (none_if _ _ parts.0); targets = none_reaches code target (spent t) h parts.1 }
+none_targets code i t h e = goes_nowhere code i t tt refl
 
-pub instr_good : (code : Program) (i : Instr) (t : Known) → IsTabled code → instr_cause code i t ≡ None → IsGood code i t
+pub instr_good : (code : Program) (i : Instr) (t : Known) → IsTabled code → instr_cause code i t ≡ None
+    → IsGood code i t
 instr_good code i t h e =
     let parts = none_two (target_cause code i t) (flow_cause code.plan i t) e in
     let there = none_targets code i t h parts.0 in
     record { fine = flow_fine code.plan i t there.counter parts.1; targets = there.targets }
 
 targets_none : (code : Program) (i : Instr) (t : Known) → IsTabled code → IsGood code i t → target_cause code i t ≡ None
-targets_none code (Edits edit) t h g = refl
-targets_none code (CommitIn delay) t h g = refl
-targets_none code (CommitAt count) t h g = refl
-targets_none code (Wait frames) t h g = refl
-targets_none code (Until day) t h g = refl
-targets_none code (WaitContact contact closed) t h g = refl
-targets_none code (WaitAny closed opened until frames) t h g = refl
-targets_none code Join t h g = refl
-targets_none code Settle t h g = refl
 targets_none code (Test contact target) t h g = reached_none code target (spent t) h g.targets
 targets_none code (TestTime from to target) t h g = reached_none code target (spent t) h g.targets
 targets_none code (Jump target) t h g = reached_none code target (spent t) h g.targets
-targets_none code (Loop counter target) t h g = two_none _ _ (if_none _ _ (ap not g.fine)) (reached_none code target (spent t) h g.targets)
-targets_none code (Set counter times) t h g = refl
-targets_none code End t h g = refl
+targets_none code (Loop counter target) t h g =
+    two_none _ _ (if_none _ _ (ap not g.fine)) (reached_none code target (spent t) h g.targets)
+targets_none code _ t h g = refl
 
-pub good_none : (code : Program) (i : Instr) (t : Known) → IsTabled code → IsConfiguration t.next → IsGood code i t → instr_cause code i t ≡ None
+pub good_none : (code : Program) (i : Instr) (t : Known) → IsTabled code → IsConfiguration t.next → IsGood code i t
+    → instr_cause code i t ≡ None
 good_none code i t h formed g =
-    two_none (target_cause code i t) (flow_cause code.plan i t) (targets_none code i t h g) (fine_none code.plan i t formed g.fine)
+    two_none (target_cause code i t) (flow_cause code.plan i t) (targets_none code i t h g)
+    (fine_none code.plan i t formed g.fine)
 
 pub record IsPassed (code : Program) (pc : ℕ) (i : Instr) (t : Known) : Type 0 where
   pub allowance : 1 ≤ t.allowance
   pub good : IsGood code i t
   pub inside : continues i ≡ true → pc + 1 ≡ length code.lines → ⊥
 
-pub known_passed : (code : Program) (pc : ℕ) (i : Instr) (t : Known) → IsTabled code → known_cause code pc i t ≡ None → IsPassed code pc i t
+pub known_passed : (code : Program) (pc : ℕ) (i : Instr) (t : Known) → IsTabled code → known_cause code pc i t ≡ None
+    → IsPassed code pc i t
 known_passed code pc i t h e =
     let one = none_two _ _ e in
     let two = none_two _ _ one.1 in
     let some : t.allowance ≡ 0 → ⊥ = refuted _ _ _ (decides_eq t.allowance 0) one.0 in
-    let last = refuted _ _ _ (decides_both _ _ _ _ (decides_is_true (continues i)) (decides_eq (pc + 1) (length code.lines))) two.1 in
+    let last = refuted _ _ _ (decides_both _ _ _ _ (decides_is_true (continues i))
+    (decides_eq (pc + 1) (length code.lines))) two.1 in
     record { allowance = omega (arith, some); good = instr_good code i t h two.0; inside = λ on end. last (on, end) }
 
-pub passed_none : (code : Program) (pc : ℕ) (i : Instr) (t : Known) → IsTabled code → IsConfiguration t.next → IsPassed code pc i t → known_cause code pc i t ≡ None
+pub passed_none : (code : Program) (pc : ℕ) (i : Instr) (t : Known) → IsTabled code → IsConfiguration t.next
+    → IsPassed code pc i t → known_cause code pc i t ≡ None
 passed_none code pc i t h formed p =
     two_none _ _ (none_where _ _ _ (decides_eq t.allowance 0) (λ z. omega (arith, p.allowance, z)))
     (two_none _ _ (good_none code i t h formed p.good)
-    (none_where _ _ _ (decides_both _ _ _ _ (decides_is_true (continues i)) (decides_eq (pc + 1) (length code.lines))) (λ both. p.inside both.0 both.1)))
+    (none_where _ _ _ (decides_both _ _ _ _ (decides_is_true (continues i)) (decides_eq (pc + 1) (length code.lines)))
+    (λ both. p.inside both.0 both.1)))

@@ -1,71 +1,46 @@
 -- What the tests of a flow decide, and that the causes they find are the first in the order of refusals.
-use Rattle.std.proofs.Common.{◌≡◌, ◌↔◌, IsTrue, ℕ, ◌<◌, ◌≤◌, ◌==◌, ◌⊎◌, Bool, true, false, not, ◌&&◌, ◌||◌, nat_lt, nat_le, Option, Some, None, refl, sym, ap, subst, ◌∙◌, inl, inr, arith}
-use Rattle.std.proofs.lemmas.Bool.{false≢true}
-use Rattle.mux_config.specs.Configuration.{Configuration}
+use Rattle.std.proofs.Common.{◌≡◌, ◌↔◌, IsTrue, ℕ, ◌<◌, ◌≤◌, ◌==◌, ◌⊎◌, Bool, true, false, not, ◌&&◌, ◌||◌, nat_lt}
+use Rattle.std.proofs.Common.{nat_le, Option, Some, None, refl, sym, ap, ◌∙◌, inl, inr, arith}
+use Rattle.plan_verifier.proofs.Names.{false≢true, false_from_ne_true, both_ways, not-true, and_parts, and_from}
+use Rattle.plan_verifier.proofs.Names.{or_cases, or_left, or_right, none-some, Configuration, Plan, Swap, Idle, Within}
+use Rattle.plan_verifier.proofs.Names.{Perhaps, Counters, Cause, HasRoom, IsCertain, IsSurelyPending}
+use Rattle.plan_verifier.proofs.Names.{HasConfigurationsOf, FitsSwap, Where, WhereSome, ◌orelse◌, cause_if, cause_of}
+use Rattle.plan_verifier.proofs.Names.{is_same, is_idle, is_surely_pending, is_certain, has_room_for_notice}
+use Rattle.plan_verifier.proofs.Names.{is_swap_count, has_configurations_of, fits_swap, Known, Fits, IsInitial}
+use Rattle.plan_verifier.proofs.Names.{includes, is_fit, is_initial}
 use Rattle.mux_config.specs.Change.{has_same_subs, has_same_services}
-use Rattle.mux_config.proofs.Same.{list_same, list_equal, sub_same, sub_itself, service_same, service_itself, packet_same, packet_itself}
+use Rattle.mux_config.proofs.Same.{list_same, list_equal, sub_same, sub_itself, service_same, service_itself}
+use Rattle.mux_config.proofs.Same.{packet_same, packet_itself}
 use Rattle.mux_config.specs.Sameness.{is_same_sub, is_same_service, is_same_packet}
 use Rattle.fib_codec.specs.Layouts.{layout_mode}
-use Rattle.plan_code.specs.declared.plan.Plan.{Plan}
-use Rattle.plan_code.specs.declared.label.Swap.{Swap}
-use Rattle.plan_code.specs.declared.label.Swap.TheVariants.{Idle, Within, Perhaps}
 use Rattle.mux_types.specs.declared.limits.TheConstants.{COUNTS}
 use Rattle.plan_code.specs.Machine.{IsSwapCount}
-use Rattle.plan_verifier.specs.declared.cause.Cause.{Cause}
-use Rattle.plan_verifier.specs.Rules.{Known, HasRoom, IsCertain, IsSurelyPending, HasConfigurationsOf, FitsSwap}
-use Rattle.plan_verifier.specs.Causes.{Where, WhereSome, ◌orelse◌}
-use Rattle.plan_verifier.specs.Tests.{cause_if, cause_of, ◌first_or◌, is_same, is_idle, is_surely_pending, is_certain, has_room_for_notice, is_swap_count, has_configurations_of, fits_swap}
+use Rattle.plan_code.specs.Flags.{Includes}
+use Rattle.plan_code.proofs.Bits.{all_included, included_all}
+use Rattle.plan_verifier.specs.Rules.{Known}
+use Rattle.plan_verifier.specs.Tests.{◌first_or◌}
 
 -- the test is true exactly where the fact holds
 pub record Decides (b : Bool) (P : Type 0) : Type 0 where
   pub told : b ≡ true → P
   pub found : P → b ≡ true
 
-pub is_false : (b : Bool) → (b ≡ true → ⊥) → b ≡ false
-is_false true h = absurd (h refl)
-is_false false h = refl
-
-pub not_true : (b : Bool) → b ≡ false → b ≡ true → ⊥
-not_true b e f = false≢true (sym e ∙ f)
-
-not_false : (b : Bool) → not b ≡ true → b ≡ false
-not_false true e = absurd (false≢true e)
-not_false false e = refl
-
 pub decides_not : (b : Bool) (P : Type 0) → Decides b P → Decides (not b) (P → ⊥)
 decides_not b P d = record {
-  told = λ e p. not_true b (not_false b e) (d.found p);
-  found = λ h. ap not (is_false b (λ e. h (d.told e)));
+  told = λ e p. both_ways b (not-true b e) (d.found p);
+  found = λ h. ap not (false_from_ne_true b (λ e. h (d.told e)));
 }
-
-both_parts : (a b : Bool) → (a && b) ≡ true → (a ≡ true) × (b ≡ true)
-both_parts true b e = (refl, e)
-both_parts false b e = absurd (false≢true e)
-
-both_hold : (a b : Bool) → a ≡ true → b ≡ true → (a && b) ≡ true
-both_hold a b p q = subst (λ (x : Bool). (x && b) ≡ true) (sym p) q
 
 pub decides_both : (a b : Bool) (P Q : Type 0) → Decides a P → Decides b Q → Decides (a && b) (P × Q)
 decides_both a b P Q one two = record {
-  told = λ e. let parts = both_parts a b e in (one.told parts.0, two.told parts.1);
-  found = λ h. both_hold a b (one.found h.0) (two.found h.1);
+  told = λ e. let parts = and_parts a b e in (one.told parts.0, two.told parts.1);
+  found = λ h. and_from a b (one.found h.0) (two.found h.1);
 }
-
-either_part : (a b : Bool) → (a || b) ≡ true → (a ≡ true) ⊎ (b ≡ true)
-either_part true b e = inl refl
-either_part false b e = inr e
-
-first_holds : (a b : Bool) → a ≡ true → (a || b) ≡ true
-first_holds a b p = subst (λ (x : Bool). (x || b) ≡ true) (sym p) refl
-
-second_holds : (a b : Bool) → b ≡ true → (a || b) ≡ true
-second_holds true b q = refl
-second_holds false b q = q
 
 pub decides_one : (a b : Bool) (P Q : Type 0) → Decides a P → Decides b Q → Decides (a || b) (P ⊎ Q)
 decides_one a b P Q one two = record {
-  told = λ e. elim (either_part a b e) [ inl p ↦ inl (one.told p) | inr q ↦ inr (two.told q) ];
-  found = λ h. elim h [ inl p ↦ first_holds a b (one.found p) | inr q ↦ second_holds a b (two.found q) ];
+  told = λ e. elim (or_cases a b e) [ inl p ↦ inl (one.told p) | inr q ↦ inr (two.told q) ];
+  found = λ h. elim h [ inl p ↦ or_left a b (one.found p) | inr q ↦ or_right a b (two.found q) ];
 }
 
 pub decides_lt : (a b : ℕ) → Decides (nat_lt a b) (a < b)
@@ -88,23 +63,26 @@ decides_false = record { told = λ e. false≢true e; found = λ h. absurd h }
 pub decides_same : (c d : Configuration) → Decides (is_same c d) (c ≡ d)
 decides_same c d = record {
   told = λ e.
-      let parts = both_parts _ _ e in
-      let rest = both_parts _ _ parts.1 in
+      let parts = and_parts _ _ e in
+      let rest = and_parts _ _ parts.1 in
       let subs : c.subs ≡ d.subs = list_same is_same_sub sub_same c.subs d.subs parts.0 in
       let services : c.services ≡ d.services = list_same is_same_service service_same c.services d.services rest.0 in
       let packets : c.packets ≡ d.packets = list_same is_same_packet packet_same c.packets d.packets rest.1 in
       λ i. record { subs = subs i; services = services i; packets = packets i };
   found = λ e.
-      both_hold _ _ (list_equal is_same_sub sub_itself c.subs d.subs (ap (λ (x : Configuration). x.subs) e))
-      (both_hold _ _ (list_equal is_same_service service_itself c.services d.services (ap (λ (x : Configuration). x.services) e))
+      and_from _ _ (list_equal is_same_sub sub_itself c.subs d.subs (ap (λ (x : Configuration). x.subs) e))
+      (and_from _ _ (list_equal is_same_service service_itself c.services d.services
+      (ap (λ (x : Configuration). x.services) e))
       (list_equal is_same_packet packet_itself c.packets d.packets (ap (λ (x : Configuration). x.packets) e)));
 }
 
 -- the two comparisons that make up a test
-compared : (a b : Bool) (c d : Configuration) → a ≡ has_same_subs c d → b ≡ has_same_services c d → (a && b) ≡ is_same c d
+compared : (a b : Bool) (c d : Configuration) → a ≡ has_same_subs c d → b ≡ has_same_services c d
+    → (a && b) ≡ is_same c d
 compared a b c d e f = ap (λ (x : Bool). x && b) e ∙ ap (λ (x : Bool). has_same_subs c d && x) f
 
-pub same_services : (a b : Bool) (c d : Configuration) → a ≡ has_same_subs c d → b ≡ has_same_services c d → a ≡ true → (IsTrue b ↔ (c ≡ d))
+pub same_services : (a b : Bool) (c d : Configuration) → a ≡ has_same_subs c d → b ≡ has_same_services c d → a ≡ true
+    → (IsTrue b ↔ (c ≡ d))
 same_services a b c d e f true_here =
     let both : b ≡ is_same c d = sym (ap (λ (x : Bool). x && b) true_here) ∙ compared a b c d e f in
     (λ h. (decides_same c d).told (sym both ∙ h), λ h. both ∙ (decides_same c d).found h)
@@ -132,19 +110,24 @@ decides_certain frames (Perhaps hi) = decides_true
 
 pub decides_room : (plan : Plan) (t : Known) → Decides (has_room_for_notice plan t) (HasRoom plan t)
 decides_room plan t =
-    let all = decides_both _ _ _ _ (decides_both _ _ _ _ (decides_le _ plan.period) (decides_le _ plan.notice)) (decides_le _ plan.period) in
+    let all = decides_both _ _ _ _ (decides_both _ _ _ _ (decides_le _ plan.period) (decides_le _ plan.notice))
+    (decides_le _ plan.period) in
     record {
       told = λ e. let h = all.told e in record { within_period = h.0.0; three_times = h.0.1; alone = h.1 };
       found = λ h. all.found ((h.within_period, h.three_times), h.alone);
     }
 
-pub decides_count : (plan : Plan) (count : ℕ) → Decides (is_swap_count plan count) (IsSwapCount (layout_mode plan.layout) count)
+pub decides_count : (plan : Plan) (count : ℕ) → Decides (is_swap_count plan count)
+    (IsSwapCount (layout_mode plan.layout) count)
 decides_count plan count = decides_both _ _ _ _ (decides_eq _ 0) (decides_lt count COUNTS)
 
-decides_configurations : (t declared : Known) → Decides (has_configurations_of t declared) (HasConfigurationsOf t declared)
-decides_configurations t declared = decides_both _ _ _ _ (decides_same t.current declared.current) (decides_same t.next declared.next)
+decides_configurations : (t declared : Known) → Decides (has_configurations_of t declared)
+    (HasConfigurationsOf t declared)
+decides_configurations t declared =
+    decides_both _ _ _ _ (decides_same t.current declared.current) (decides_same t.next declared.next)
 
-decides_no_later : (hi high : ℕ) (t declared : Known) → Decides (nat_le hi high && has_configurations_of t declared) (HasConfigurationsOf t declared × (hi ≤ high))
+decides_no_later : (hi high : ℕ) (t declared : Known) → Decides (nat_le hi high && has_configurations_of t declared)
+    (HasConfigurationsOf t declared × (hi ≤ high))
 decides_no_later hi high t declared =
     let both = decides_both _ _ _ _ (decides_le hi high) (decides_configurations t declared) in
     record { told = λ e. let h = both.told e in (h.1, h.0); found = λ h. both.found (h.1, h.0) }
@@ -152,10 +135,12 @@ decides_no_later hi high t declared =
 pub decides_fits_swap : (p q : Swap) (t declared : Known) → Decides (fits_swap p q t declared) (FitsSwap p q t declared)
 decides_fits_swap Idle Idle t declared = decides_configurations t declared
 decides_fits_swap Idle (Within low high) t declared = decides_false
-decides_fits_swap Idle (Perhaps high) t declared = decides_both _ _ _ _ (decides_same t.current declared.next) (decides_same t.next declared.next)
+decides_fits_swap Idle (Perhaps high) t declared =
+    decides_both _ _ _ _ (decides_same t.current declared.next) (decides_same t.next declared.next)
 decides_fits_swap (Within lo hi) Idle t declared = decides_false
 decides_fits_swap (Within lo hi) (Within low high) t declared =
-    let all = decides_both _ _ _ _ (decides_both _ _ _ _ (decides_le low lo) (decides_le hi high)) (decides_configurations t declared) in
+    let all = decides_both _ _ _ _ (decides_both _ _ _ _ (decides_le low lo) (decides_le hi high))
+    (decides_configurations t declared) in
     record { told = λ e. let h = all.told e in (h.1, h.0.0, h.0.1); found = λ h. all.found ((h.1, h.2), h.0) }
 decides_fits_swap (Within lo hi) (Perhaps high) t declared = decides_no_later hi high t declared
 decides_fits_swap (Perhaps hi) Idle t declared = decides_false
@@ -193,15 +178,36 @@ pub computes_some : {T : Type 0} (o : Option T) (cause : T → Cause) → Comput
 computes_some None cause = record { found = λ given h. absurd h; told = λ given e. absurd cc }
 computes_some (Some fault) cause = record { found = λ given h. ap Some (sym h); told = λ given e. cc }
 
-pub none_some : {T : Type 0} {x : T} → None ≡ Some x → ⊥
-none_some e = cc
-
-pub computes_orelse : (o p : Option Cause) (R S : Cause → Type 0) → Computes o R → Computes p S → Computes (o first_or p) (R orelse S)
+pub computes_orelse : (o p : Option Cause) (R S : Cause → Type 0) → Computes o R → Computes p S
+    → Computes (o first_or p) (R orelse S)
 computes_orelse None p R S one two = record {
-  found = λ given h. elim h [ inl r ↦ absurd (none_some (one.found given r)) | inr s ↦ two.found given s.1 ];
-  told = λ given e. inr ((λ cause r. none_some (one.found cause r)), two.told given e);
+  found = λ given h. elim h [ inl r ↦ absurd (none-some _ (one.found given r)) | inr s ↦ two.found given s.1 ];
+  told = λ given e. inr ((λ cause r. none-some _ (one.found cause r)), two.told given e);
 }
 computes_orelse (Some cause) p R S one two = record {
   found = λ given h. elim h [ inl r ↦ one.found given r | inr s ↦ absurd (s.0 cause (one.told cause refl)) ];
   told = λ given e. inl (one.told given e);
 }
+
+-- ---- tests of the walk
+
+pub decides_includes : (a b : Counters) → Decides (includes a b) (Includes a b)
+decides_includes a b = record { told = all_included a b; found = included_all a b }
+
+pub decides_fits : (t declared : Known) → Decides (is_fit t declared) (Fits t declared)
+decides_fits t declared =
+    let both = decides_both _ _ _ _ (decides_includes t.counters declared.counters)
+    (decides_fits_swap t.pending declared.pending t declared) in
+    record {
+      told = λ e. let h = both.told e in record { swap = h.1; counters = h.0 };
+      found = λ h. both.found (h.counters, h.swap);
+    }
+
+pub decides_initial : (t : Known) → Decides (is_initial t) (IsInitial t)
+decides_initial t =
+    let all = decides_both _ _ _ _ (decides_both _ _ _ _ (decides_idle t.pending) (decides_eq t.counters.0 0))
+    (decides_same t.current t.next) in
+    record {
+      told = λ e. let h = all.told e in record { same = h.1; idle = h.0.0; unset = h.0.1 };
+      found = λ h. all.found ((h.idle, h.unset), h.same);
+    }

@@ -1,20 +1,16 @@
 -- The cause found at an instruction is the first of the definition, and none is found where the instruction is fine.
-use Rattle.std.proofs.Common.{◌≡◌, ◌↔◌, ℕ, ◌<◌, ◌≤◌, Bool, true, false, not, Option, Some, None, Result, Ok, Err, IfErr, refl, sym, ap, subst, arith}
-use Rattle.mux_config.specs.Configuration.{IsConfiguration}
-use Rattle.mux_config.specs.Sound.{first_fault}
+use Rattle.std.proofs.Common.{◌≡◌, ◌↔◌, ℕ, ◌<◌, ◌≤◌, Bool, true, false, not, Option, Some, None, Result, Ok, Err, IfErr}
+use Rattle.std.proofs.Common.{refl, sym, ap, subst, arith}
+use Rattle.plan_verifier.proofs.Names.{false_from_ne_true, both_ways, not-false, IsConfiguration, first_fault, Plan}
+use Rattle.plan_verifier.proofs.Names.{Counters, Swap, Idle, Within, Perhaps, Instr, Wait, CommitIn, CommitAt, Join}
+use Rattle.plan_verifier.proofs.Names.{Edits, Loop, Cause, CanCommit, CommitRefused, FlowRefused, Flow, HasItsCounter}
+use Rattle.plan_verifier.proofs.Names.{known_with, known_at, flow_of, cause_if, cause_of, commit_cause, fits_swap}
 use Rattle.mux_config.proofs.Sounding.{sound_told, sound_found}
-use Rattle.plan_code.specs.declared.plan.Plan.{Plan}
-use Rattle.plan_code.specs.declared.flags.Counters.{Counters}
-use Rattle.plan_code.specs.declared.label.Swap.{Swap}
-use Rattle.plan_code.specs.declared.label.Swap.TheVariants.{Idle, Within, Perhaps}
-use Rattle.plan_code.specs.declared.instr.Instr.{Instr}
-use Rattle.plan_code.specs.declared.instr.Instr.TheVariants.{Wait, Until, WaitContact, WaitAny, CommitIn, CommitAt, Join, Settle, End, Edit as Edits, Test, TestTime, Jump, Set, Loop}
-use Rattle.plan_verifier.specs.declared.cause.Cause.{Cause}
-use Rattle.plan_verifier.specs.Rules.{Known, CanCommit, IsFine}
-use Rattle.plan_verifier.specs.Causes.{CommitRefused, FlowRefused}
-use Rattle.plan_verifier.specs.Flows.{Flow, HasItsCounter, known_with, known_at, flow_of}
-use Rattle.plan_verifier.specs.Tests.{cause_if, cause_of, ◌first_or◌, unless, commit_cause, flow_cause, fits_swap}
-use Rattle.plan_verifier.proofs.DecidingFlows.{Decides, Computes, is_false, not_true, decides_not, decides_lt, decides_same, decides_idle, decides_pending, decides_certain, decides_room, decides_count, computes_never, computes_where, computes_some, computes_orelse}
+use Rattle.plan_verifier.specs.Rules.{Known, IsFine}
+use Rattle.plan_verifier.specs.Tests.{◌first_or◌, unless, flow_cause}
+use Rattle.plan_verifier.proofs.DecidingFlows.{Decides, Computes, decides_not, decides_lt, decides_same, decides_idle}
+use Rattle.plan_verifier.proofs.DecidingFlows.{decides_pending, decides_certain, decides_room, decides_count}
+use Rattle.plan_verifier.proofs.DecidingFlows.{computes_never, computes_where, computes_some, computes_orelse}
 
 pub decides_is_true : (b : Bool) → Decides b (b ≡ true)
 decides_is_true b = record { told = λ e. e; found = λ e. e }
@@ -23,7 +19,8 @@ pub decides_is_false : (b : Bool) → Decides (not b) (b ≡ false)
 decides_is_false true = record { told = λ e. sym e; found = λ e. sym e }
 decides_is_false false = record { told = λ e. refl; found = λ e. refl }
 
-pub commit_computes : (plan : Plan) (t : Known) (b : Bool) (P : Type 0) (cause : Cause) → Decides b P → Computes (commit_cause plan t b cause) (CommitRefused plan t P cause)
+pub commit_computes : (plan : Plan) (t : Known) (b : Bool) (P : Type 0) (cause : Cause) → Decides b P
+    → Computes (commit_cause plan t b cause) (CommitRefused plan t P cause)
 commit_computes plan t b P cause d =
     computes_orelse _ _ _ _ (computes_where _ _ _ (decides_not _ _ (decides_idle t.pending)))
     (computes_orelse _ _ _ _ (computes_where _ _ _ d)
@@ -32,21 +29,13 @@ commit_computes plan t b P cause d =
     (computes_where _ _ _ (decides_not _ _ (decides_room plan t))))))
 
 pub flow_computes : (plan : Plan) (i : Instr) (t : Known) → Computes (flow_cause plan i t) (FlowRefused plan i t)
-flow_computes plan (Edits edit) t = computes_orelse _ _ _ _ (computes_where _ _ _ (decides_not _ _ (decides_idle t.pending))) (computes_some _ _)
+flow_computes plan (Edits edit) t =
+    computes_orelse _ _ _ _ (computes_where _ _ _ (decides_not _ _ (decides_idle t.pending))) (computes_some _ _)
 flow_computes plan (CommitIn delay) t = commit_computes plan t _ _ _ (decides_lt delay plan.notice)
 flow_computes plan (CommitAt count) t = commit_computes plan t _ _ _ (decides_not _ _ (decides_count plan count))
 flow_computes plan (Wait frames) t = computes_where _ _ _ (decides_not _ _ (decides_certain frames t.pending))
-flow_computes plan (Until day) t = computes_never
-flow_computes plan (WaitContact contact closed) t = computes_never
-flow_computes plan (WaitAny closed opened until frames) t = computes_never
 flow_computes plan Join t = computes_where _ _ _ (decides_not _ _ (decides_pending t.pending))
-flow_computes plan Settle t = computes_never
-flow_computes plan (Test contact target) t = computes_never
-flow_computes plan (TestTime from to target) t = computes_never
-flow_computes plan (Jump target) t = computes_never
-flow_computes plan (Loop counter target) t = computes_never
-flow_computes plan (Set counter times) t = computes_never
-flow_computes plan End t = computes_never
+flow_computes plan _ t = computes_never
 
 -- ---- no cause is found exactly where the instruction is fine
 
@@ -71,25 +60,22 @@ none_of (Some fault) cause e = absurd cc
 pub of_none : {T : Type 0} (o : Option T) (cause : T → Cause) → o ≡ None → cause_of o cause ≡ None
 of_none o cause e = rw e refl
 
-pub not_not : (b : Bool) → not b ≡ false → b ≡ true
-not_not true e = refl
-not_not false e = sym e
-
 -- a test for a fault
 pub refuted : (b : Bool) (P : Type 0) (cause : Cause) → Decides b P → cause_if b cause ≡ None → P → ⊥
-refuted b P cause d e p = not_true b (none_if b cause e) (d.found p)
+refuted b P cause d e p = both_ways b (none_if b cause e) (d.found p)
 
 pub none_where : (b : Bool) (P : Type 0) (cause : Cause) → Decides b P → (P → ⊥) → cause_if b cause ≡ None
-none_where b P cause d h = if_none b cause (is_false b (λ e. h (d.told e)))
+none_where b P cause d h = if_none b cause (false_from_ne_true b (λ e. h (d.told e)))
 
 -- a test for a requirement
 pub needed : (b : Bool) (P : Type 0) (cause : Cause) → Decides b P → cause_if (not b) cause ≡ None → P
-needed b P cause d e = d.told (not_not b (none_if (not b) cause e))
+needed b P cause d e = d.told (not-false b (none_if (not b) cause e))
 
 pub none_unless : (b : Bool) (P : Type 0) (cause : Cause) → Decides b P → P → cause_if (not b) cause ≡ None
 none_unless b P cause d p = if_none (not b) cause (ap not (d.found p))
 
-pub can_commit : (plan : Plan) (t : Known) (b : Bool) (P : Type 0) (cause : Cause) → Decides b P → commit_cause plan t b cause ≡ None → CanCommit plan t × (P → ⊥)
+pub can_commit : (plan : Plan) (t : Known) (b : Bool) (P : Type 0) (cause : Cause) → Decides b P
+    → commit_cause plan t b cause ≡ None → CanCommit plan t × (P → ⊥)
 can_commit plan t b P cause d e =
     let one = none_two _ _ e in
     let two = none_two _ _ one.1 in
@@ -104,7 +90,8 @@ can_commit plan t b P cause d e =
       refuted b P cause d two.0,
     )
 
-pub commit_none : (plan : Plan) (t : Known) (b : Bool) (P : Type 0) (cause : Cause) → Decides b P → IsConfiguration t.next → CanCommit plan t → (P → ⊥) → commit_cause plan t b cause ≡ None
+pub commit_none : (plan : Plan) (t : Known) (b : Bool) (P : Type 0) (cause : Cause) → Decides b P
+    → IsConfiguration t.next → CanCommit plan t → (P → ⊥) → commit_cause plan t b cause ≡ None
 commit_none plan t b P cause d formed h n =
     two_none _ _ (none_unless _ _ _ (decides_idle t.pending) h.idle)
     (two_none _ _ (none_where b P cause d n)
@@ -112,8 +99,10 @@ commit_none plan t b P cause d formed h n =
     (two_none _ _ (none_where _ _ _ (decides_same t.next t.current) h.changes)
     (none_unless _ _ _ (decides_room plan t) h.room))))
 
-pub flow_fine : (plan : Plan) (i : Instr) (t : Known) → HasItsCounter i t.counters → flow_cause plan i t ≡ None → IsFine plan i t
-flow_fine plan (Edits edit) t c e = let parts = none_two _ _ e in (needed _ _ _ (decides_idle t.pending) parts.0, none_of _ _ parts.1)
+pub flow_fine : (plan : Plan) (i : Instr) (t : Known) → HasItsCounter i t.counters → flow_cause plan i t ≡ None
+    → IsFine plan i t
+flow_fine plan (Edits edit) t c e = let parts = none_two _ _ e in
+    (needed _ _ _ (decides_idle t.pending) parts.0, none_of _ _ parts.1)
 flow_fine plan (CommitIn delay) t c e =
     let h = can_commit plan t _ _ _ (decides_lt delay plan.notice) e in
     let short : delay < plan.notice → ⊥ = h.1 in
@@ -125,35 +114,21 @@ flow_fine plan (CommitAt count) t c e =
     let h = can_commit plan t _ _ _ (decides_not _ _ d) e in
     (h.0, needed _ _ _ d two.0)
 flow_fine plan (Wait frames) t c e = needed _ _ _ (decides_certain frames t.pending) e
-flow_fine plan (Until day) t c e = tt
-flow_fine plan (WaitContact contact closed) t c e = tt
-flow_fine plan (WaitAny closed opened until frames) t c e = tt
 flow_fine plan Join t c e = needed _ _ _ (decides_pending t.pending) e
-flow_fine plan Settle t c e = tt
-flow_fine plan (Test contact target) t c e = tt
-flow_fine plan (TestTime from to target) t c e = tt
-flow_fine plan (Jump target) t c e = tt
 flow_fine plan (Loop counter target) t c e = c
-flow_fine plan (Set counter times) t c e = tt
-flow_fine plan End t c e = tt
+flow_fine plan _ t c e = tt
 
-pub fine_none : (plan : Plan) (i : Instr) (t : Known) → IsConfiguration t.next → IsFine plan i t → flow_cause plan i t ≡ None
+pub fine_none : (plan : Plan) (i : Instr) (t : Known) → IsConfiguration t.next → IsFine plan i t
+    → flow_cause plan i t ≡ None
 fine_none plan (Edits edit) t formed h = two_none _ _ (none_unless _ _ _ (decides_idle t.pending) h.0) (of_none _ _ h.1)
 fine_none plan (CommitIn delay) t formed h =
-    commit_none plan t _ _ _ (decides_lt delay plan.notice) formed h.0 (λ lt. let enough : plan.notice ≤ delay = h.1 in omega (arith, lt, enough))
-fine_none plan (CommitAt count) t formed h = commit_none plan t _ _ _ (decides_not _ _ (decides_count plan count)) formed h.0 (λ n. n h.1)
+    commit_none plan t _ _ _ (decides_lt delay plan.notice) formed h.0
+    (λ lt. let enough : plan.notice ≤ delay = h.1 in omega (arith, lt, enough))
+fine_none plan (CommitAt count) t formed h =
+    commit_none plan t _ _ _ (decides_not _ _ (decides_count plan count)) formed h.0 (λ n. n h.1)
 fine_none plan (Wait frames) t formed h = none_unless _ _ _ (decides_certain frames t.pending) h
-fine_none plan (Until day) t formed h = refl
-fine_none plan (WaitContact contact closed) t formed h = refl
-fine_none plan (WaitAny closed opened until frames) t formed h = refl
 fine_none plan Join t formed h = none_unless _ _ _ (decides_pending t.pending) h
-fine_none plan Settle t formed h = refl
-fine_none plan (Test contact target) t formed h = refl
-fine_none plan (TestTime from to target) t formed h = refl
-fine_none plan (Jump target) t formed h = refl
-fine_none plan (Loop counter target) t formed h = refl
-fine_none plan (Set counter times) t formed h = refl
-fine_none plan End t formed h = refl
+fine_none plan _ t formed h = refl
 
 -- ---- results of functions
 
@@ -165,7 +140,8 @@ pub unless_ok : (o : Option Cause) → Ok tt ≡ unless o → o ≡ None
 unless_ok None e = refl
 unless_ok (Some cause) e = absurd cc
 
-pub answers_refused : (plan : Plan) (i : Instr) (t : Known) (r : Result (Unit {0}) Cause) → r ≡ unless (flow_cause plan i t) → IfErr r (λ cause. FlowRefused plan i t cause)
+pub answers_refused : (plan : Plan) (i : Instr) (t : Known) (r : Result (Unit {0}) Cause)
+    → r ≡ unless (flow_cause plan i t) → IfErr r (λ cause. FlowRefused plan i t cause)
 answers_refused plan i t (Ok done) e = tt
 answers_refused plan i t (Err given) e = (flow_computes plan i t).told given (unless_err _ given e)
 
@@ -173,22 +149,10 @@ answers_refused plan i t (Err given) e = (flow_computes plan i t).told given (un
 
 pub flow_alone : (plan : Plan) (i : Instr) (t : Known) → flow_cause plan i (known_at (flow_of t)) ≡ flow_cause plan i t
 flow_alone plan (Edits edit) t = refl
-flow_alone plan (CommitIn delay) t = refl
-flow_alone plan (CommitAt count) t = refl
-flow_alone plan (Wait frames) t = refl
-flow_alone plan (Until day) t = refl
-flow_alone plan (WaitContact contact closed) t = refl
-flow_alone plan (WaitAny closed opened until frames) t = refl
-flow_alone plan Join t = refl
-flow_alone plan Settle t = refl
-flow_alone plan (Test contact target) t = refl
-flow_alone plan (TestTime from to target) t = refl
-flow_alone plan (Jump target) t = refl
-flow_alone plan (Loop counter target) t = refl
-flow_alone plan (Set counter times) t = refl
-flow_alone plan End t = refl
+flow_alone plan _ t = refl
 
-pub swap_alone : (p q : Swap) (t declared : Known) → fits_swap p q (known_at (flow_of t)) (known_at (flow_of declared)) ≡ fits_swap p q t declared
+pub swap_alone : (p q : Swap) (t declared : Known) → fits_swap p q (known_at (flow_of t)) (known_at (flow_of declared))
+    ≡ fits_swap p q t declared
 swap_alone Idle Idle t declared = refl
 swap_alone Idle (Within low high) t declared = refl
 swap_alone Idle (Perhaps high) t declared = refl
@@ -199,7 +163,8 @@ swap_alone (Perhaps hi) Idle t declared = refl
 swap_alone (Perhaps hi) (Within low high) t declared = refl
 swap_alone (Perhaps hi) (Perhaps high) t declared = refl
 
-pub commit_fine : (plan : Plan) (f : Flow) (c d : Counters) (a b : ℕ) → CanCommit plan (known_with f c a) → CanCommit plan (known_with f d b)
+pub commit_fine : (plan : Plan) (f : Flow) (c d : Counters) (a b : ℕ) → CanCommit plan (known_with f c a)
+    → CanCommit plan (known_with f d b)
 commit_fine plan f c d a b h = record {
   idle = h.idle;
   sound = h.sound;

@@ -1,60 +1,62 @@
 -- The flow after an instruction, and how counters and the allowance change.
 use Rattle.std.proofs.Common.{◌≡◌, ℕ, ◌-◌, Bool, true, false, if◌then◌else◌, nat_lt, refl}
-use Rattle.plan_code.specs.declared.plan.Plan.{Plan}
-use Rattle.plan_code.specs.declared.flags.Counters.{Counters}
-use Rattle.plan_code.specs.declared.label.Swap.{Swap}
-use Rattle.plan_code.specs.declared.label.Swap.TheVariants.{Idle, Within, Perhaps}
-use Rattle.plan_code.specs.declared.instr.Instr.{Instr}
-use Rattle.plan_code.specs.declared.instr.Instr.TheVariants.{Wait, Until, WaitContact, WaitAny, CommitIn, CommitAt, Join, Settle, End, Edit, Test, TestTime, Jump, Set, Loop}
-use Rattle.plan_verifier.specs.Rules.{known_after_swap, after_wait, perhaps_swapped, after_pause, after_settle, spent, rested, leaves}
-use Rattle.plan_verifier.specs.Flows.{Flow, known_with, known_at, flow_of, after_instr, set_after, left_over}
+use Rattle.plan_verifier.proofs.Names.{Plan, Counters, Swap, Idle, Within, Perhaps, Instr, Wait, Until, WaitContact}
+use Rattle.plan_verifier.proofs.Names.{WaitAny, Settle, known_after_swap, after_wait, perhaps_swapped, after_pause}
+use Rattle.plan_verifier.proofs.Names.{after_settle, rested, Flow, known_with, known_at, flow_of, after_instr}
+use Rattle.plan_verifier.proofs.Names.{set_after, left_over}
+use Rattle.plan_verifier.specs.Rules.{spent, leaves}
 
-waited_known : (plan : Plan) (frames : ℕ) (p : Swap) (f : Flow) (c : Counters) (a : ℕ) → rested plan (after_wait frames p (known_with f c a)) ≡ known_with (flow_of (after_wait frames p (known_at f))) c plan.budget
+waited_known : (plan : Plan) (frames : ℕ) (p : Swap) (f : Flow) (c : Counters) (a : ℕ)
+    → rested plan (after_wait frames p (known_with f c a))
+    ≡ known_with (flow_of (after_wait frames p (known_at f))) c plan.budget
 waited_known plan frames Idle f c a = refl
 waited_known plan frames (Within lo hi) f c a = by (nat_lt frames lo)
   where
-    by : (b : Bool) → rested plan (if b then record (known_with f c a) { pending = Within (lo - frames) (hi - frames) } else known_after_swap (known_with f c a))
-        ≡ known_with (flow_of (if b then record (known_at f) { pending = Within (lo - frames) (hi - frames) } else known_after_swap (known_at f))) c plan.budget
+    by : (b : Bool) → rested plan
+        (if b then record (known_with f c a) { pending = Within (lo - frames) (hi - frames) } else known_after_swap
+        (known_with f c a))
+        ≡ known_with (flow_of (if b then record (known_at f) { pending = Within (lo - frames) (hi - frames) } else
+        known_after_swap (known_at f))) c plan.budget
     by true = refl
     by false = refl
 waited_known plan frames (Perhaps hi) f c a = by (nat_lt frames hi)
   where
-    by : (b : Bool) → rested plan (if b then record (known_with f c a) { pending = Perhaps (hi - frames) } else known_after_swap (known_with f c a))
-        ≡ known_with (flow_of (if b then record (known_at f) { pending = Perhaps (hi - frames) } else known_after_swap (known_at f))) c plan.budget
+    by : (b : Bool) → rested plan
+        (if b then record (known_with f c a) { pending = Perhaps (hi - frames) } else known_after_swap
+        (known_with f c a))
+        ≡ known_with (flow_of (if b then record (known_at f) { pending = Perhaps (hi - frames) } else known_after_swap
+        (known_at f))) c plan.budget
     by true = refl
     by false = refl
 
-perhaps_known : (plan : Plan) (hi : ℕ) (f : Flow) (c : Counters) (a : ℕ) → rested plan (perhaps_swapped hi (known_with f c a)) ≡ known_with (flow_of (perhaps_swapped hi (known_at f))) c plan.budget
+perhaps_known : (plan : Plan) (hi : ℕ) (f : Flow) (c : Counters) (a : ℕ)
+    → rested plan (perhaps_swapped hi (known_with f c a))
+    ≡ known_with (flow_of (perhaps_swapped hi (known_at f))) c plan.budget
 perhaps_known plan hi f c a = by (nat_lt 1 hi)
   where
-    by : (b : Bool) → rested plan (if b then record (known_with f c a) { pending = Perhaps (hi - 1) } else known_after_swap (known_with f c a))
-        ≡ known_with (flow_of (if b then record (known_at f) { pending = Perhaps (hi - 1) } else known_after_swap (known_at f))) c plan.budget
+    by : (b : Bool) → rested plan
+        (if b then record (known_with f c a) { pending = Perhaps (hi - 1) } else known_after_swap (known_with f c a))
+        ≡ known_with (flow_of (if b then record (known_at f) { pending = Perhaps (hi - 1) } else known_after_swap
+        (known_at f))) c plan.budget
     by true = refl
     by false = refl
 
-paused_known : (plan : Plan) (p : Swap) (f : Flow) (c : Counters) (a : ℕ) → rested plan (after_pause p (known_with f c a)) ≡ known_with (flow_of (after_pause p (known_at f))) c plan.budget
+paused_known : (plan : Plan) (p : Swap) (f : Flow) (c : Counters) (a : ℕ)
+    → rested plan (after_pause p (known_with f c a)) ≡ known_with (flow_of (after_pause p (known_at f))) c plan.budget
 paused_known plan Idle f c a = refl
 paused_known plan (Within lo hi) f c a = perhaps_known plan hi f c a
 paused_known plan (Perhaps hi) f c a = perhaps_known plan hi f c a
 
-settled_known : (p : Swap) (f : Flow) (c : Counters) (a : ℕ) → spent (after_settle p (known_with f c a)) ≡ known_with (flow_of (after_settle p (known_at f))) c (a - 1)
+settled_known : (p : Swap) (f : Flow) (c : Counters) (a : ℕ)
+    → spent (after_settle p (known_with f c a)) ≡ known_with (flow_of (after_settle p (known_at f))) c (a - 1)
 settled_known Idle f c a = refl
-settled_known (Within lo hi) f c a = refl
-settled_known (Perhaps hi) f c a = refl
+settled_known _ f c a = refl
 
-pub leaves_known : (plan : Plan) (i : Instr) (f : Flow) (c : Counters) (a : ℕ) → leaves plan i (known_with f c a) ≡ known_with (after_instr plan i f) (set_after i c) (left_over plan i a)
+pub leaves_known : (plan : Plan) (i : Instr) (f : Flow) (c : Counters) (a : ℕ)
+    → leaves plan i (known_with f c a) ≡ known_with (after_instr plan i f) (set_after i c) (left_over plan i a)
 leaves_known plan (Wait frames) f c a = waited_known plan frames f.pending f c a
 leaves_known plan (Until day) f c a = paused_known plan f.pending f c a
 leaves_known plan (WaitContact contact closed) f c a = paused_known plan f.pending f c a
 leaves_known plan (WaitAny closed opened until frames) f c a = paused_known plan f.pending f c a
-leaves_known plan (CommitIn delay) f c a = refl
-leaves_known plan (CommitAt count) f c a = refl
-leaves_known plan Join f c a = refl
 leaves_known plan Settle f c a = settled_known f.pending f c a
-leaves_known plan End f c a = refl
-leaves_known plan (Edit edit) f c a = refl
-leaves_known plan (Test contact target) f c a = refl
-leaves_known plan (TestTime from to target) f c a = refl
-leaves_known plan (Jump target) f c a = refl
-leaves_known plan (Set counter times) f c a = refl
-leaves_known plan (Loop counter target) f c a = refl
+leaves_known plan _ f c a = refl

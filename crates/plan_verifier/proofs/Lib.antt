@@ -1,13 +1,12 @@
+pub mod Names
 pub mod DecidingFlows
 pub mod Finding
 pub mod Leaving
-pub mod Merging
 pub mod Moving
 pub mod Samples
 mod VectorsOfIndices
 pub mod Answering
 pub mod Causes
-pub mod DecidingWalks
 pub mod Entries
 pub mod OneVerdict
 pub mod Stepping

@@ -1,44 +1,33 @@
 -- A typing is what the walk finds; so a code is typed, or refused at one instruction with one cause, never both.
-use Rattle.std.proofs.Common.{◌≡◌, ℕ, zero, suc, ◌+◌, ◌<◌, ◌≤◌, ◌⊎◌, Bool, true, false, nat_lt, nat_le, if◌then◌else◌, List, [], ◌∷◌, length, drop, find, slice_get, Contains, Option, Some, None, option_map, Ok, refl, sym, ap, subst, ◌∙◌, inl, inr, arith}
-use Rattle.std.proofs.lemmas.Option.{slice_get_within}
-use Rattle.mux_config.specs.Configuration.{IsConfiguration}
+use Rattle.std.proofs.Common.{◌≡◌, ℕ, zero, suc, ◌+◌, ◌<◌, ◌≤◌, ◌⊎◌, Bool, true, false, nat_lt, nat_le, if◌then◌else◌}
+use Rattle.std.proofs.Common.{List, [], ◌∷◌, length, drop, find, slice_get, Contains, Option, Some, None, option_map}
+use Rattle.std.proofs.Common.{Ok, refl, sym, ap, subst, ◌∙◌, inl, inr, arith}
+use Rattle.plan_verifier.proofs.Names.{slice_get_within, IsConfiguration, AddSub, AddService, AddComponent, AddPacket}
+use Rattle.plan_verifier.proofs.Names.{Plan, Label, Swap, Idle, Within, Perhaps, Line, Instr, Wait, Until, WaitContact}
+use Rattle.plan_verifier.proofs.Names.{WaitAny, Join, Settle, Edits, Program, IsProgram, IsInstr, IsEdit, instr_at}
+use Rattle.plan_verifier.proofs.Names.{label_at, Cause, Table, Refusal, Known, IsFine, leaves, continues, Arrives}
+use Rattle.plan_verifier.proofs.Names.{Declares, IsOpening, IsTyping, IsTyped, IsTypingBelow, IsFirstPast, IsRefusedAt}
+use Rattle.plan_verifier.proofs.Names.{IsRefused, CodesHaveOneVerdict, left_before, whole_cause, entered, known_cause}
+use Rattle.plan_verifier.proofs.Names.{passed_on, refused_at, past_label, walk, refusal_of}
 use Rattle.mux_config.specs.Edits.{IsInRange}
 use Rattle.mux_config.specs.declared.edit.Edit.{Edit}
-use Rattle.mux_config.specs.declared.edit.Edit.TheVariants.{AddSub, DropSub, MoveSub, RateSub, AddService, DropService, AddComponent, DropComponent, AddPacket, DropPacket}
 use Rattle.mux_config.proofs.Keeping.{edits_keep}
-use Rattle.plan_code.specs.declared.plan.Plan.{Plan}
-use Rattle.plan_code.specs.declared.label.Label.{Label}
-use Rattle.plan_code.specs.declared.label.Swap.{Swap}
-use Rattle.plan_code.specs.declared.label.Swap.TheVariants.{Idle, Within, Perhaps}
-use Rattle.plan_code.specs.declared.instr.Line.{Line}
-use Rattle.plan_code.specs.declared.instr.Instr.{Instr}
-use Rattle.plan_code.specs.declared.instr.Instr.TheVariants.{Wait, Until, WaitContact, WaitAny, CommitIn, CommitAt, Join, Settle, End, Edit as Edits, Test, TestTime, Jump, Set, Loop}
-use Rattle.plan_code.specs.Program.{Program, IsProgram, IsInstr, IsEdit, instr_at, label_at}
-use Rattle.plan_verifier.specs.declared.cause.Cause.{Cause}
-use Rattle.plan_verifier.specs.declared.cause.Cause.TheVariants.{Table}
-use Rattle.plan_verifier.specs.declared.refusal.Refusal.{Refusal}
-use Rattle.plan_verifier.specs.Typing.{Known, IsFine, leaves, continues, after_wait, perhaps_swapped, after_pause, after_settle, known_after_swap, Arrives, Declares, IsOpening, IsTyping, IsTyped}
-use Rattle.plan_verifier.specs.Refusals.{IsTypingBelow, IsFirstPast, IsRefusedAt, IsRefused, CodesHaveOneVerdict, left_before}
-use Rattle.plan_verifier.specs.Walking.{whole_cause, entered, known_cause, passed_on, refused_at, past_label, walk, refusal_of}
+use Rattle.plan_verifier.specs.Typing.{after_wait, perhaps_swapped, after_pause, after_settle, known_after_swap}
 use Rattle.plan_verifier.proofs.DecidingFlows.{decides_le}
 use Rattle.plan_verifier.proofs.Causes.{IsPassed, passed_none}
 use Rattle.plan_verifier.proofs.Entries.{whole_computes, IsHere, IsEnteredAt, entered_found}
-use Rattle.plan_verifier.proofs.Tabled.{IsTabled, AreFormed, tabled, found, mapped, declared_once}
-use Rattle.plan_verifier.proofs.Verdicts.{dropped, slice_there, same_some, left_told, left_found, none_past, none_found, first_past, stops, passes, IsVerdict, found_from}
+use Rattle.plan_verifier.proofs.Tabled.{IsTabled, AreFormed, tabled, found, mapped, declared_once, some_same}
+use Rattle.plan_verifier.proofs.Verdicts.{slice_there, left_told, left_found, none_past, none_found, first_past, stops}
+use Rattle.plan_verifier.proofs.Verdicts.{passes, IsVerdict, found_from, dropped}
 
 -- ---- configurations stay well-formed
 
-in_range : (e : Edit) → IsEdit e → IsInRange e
+pub in_range : (e : Edit) → IsEdit e → IsInRange e
 in_range (AddSub s) h = (h.named, h.from_one, h.to_four)
-in_range (DropSub id) h = tt
-in_range (MoveSub id start) h = tt
-in_range (RateSub id kbits) h = tt
 in_range (AddService sid) h = h
-in_range (DropService sid) h = tt
 in_range (AddComponent sid m) h = h.1
-in_range (DropComponent sid carrier) h = tt
 in_range (AddPacket p) h = (h.named, h.typed, h.carried)
-in_range (DropPacket scid) h = tt
+in_range _ h = tt
 
 formed_swapped : (t : Known) → AreFormed t → AreFormed (known_after_swap t)
 formed_swapped t h = record { current = h.next; next = h.next }
@@ -72,34 +61,36 @@ formed_settled (Perhaps hi) t h = formed_swapped t h
 formed_as : (t u : Known) → t.current ≡ u.current → t.next ≡ u.next → AreFormed t → AreFormed u
 formed_as t u e f h = record { current = subst IsConfiguration e h.current; next = subst IsConfiguration f h.next }
 
-leaves_formed : (plan : Plan) (i : Instr) (t : Known) → IsInstr i → IsFine plan i t → AreFormed t → AreFormed (leaves plan i t)
-leaves_formed plan (Edits edit) t is fine h = record { current = h.current; next = edits_keep edit t.next (in_range edit is) h.next fine.1 }
-leaves_formed plan (CommitIn delay) t is fine h = formed_as t _ refl refl h
-leaves_formed plan (CommitAt count) t is fine h = formed_as t _ refl refl h
-leaves_formed plan (Wait frames) t is fine h = formed_as (after_wait frames t.pending t) _ refl refl (formed_waited frames t.pending t h)
-leaves_formed plan (Until day) t is fine h = formed_as (after_pause t.pending t) _ refl refl (formed_paused t.pending t h)
-leaves_formed plan (WaitContact contact closed) t is fine h = formed_as (after_pause t.pending t) _ refl refl (formed_paused t.pending t h)
-leaves_formed plan (WaitAny closed opened until frames) t is fine h = formed_as (after_pause t.pending t) _ refl refl (formed_paused t.pending t h)
+leaves_formed : (plan : Plan) (i : Instr) (t : Known) → IsInstr i → IsFine plan i t → AreFormed t
+    → AreFormed (leaves plan i t)
+leaves_formed plan (Edits edit) t is fine h =
+    record { current = h.current; next = edits_keep edit t.next (in_range edit is) h.next fine.1 }
+leaves_formed plan (Wait frames) t is fine h =
+    formed_as (after_wait frames t.pending t) _ refl refl (formed_waited frames t.pending t h)
+leaves_formed plan (Until day) t is fine h =
+    formed_as (after_pause t.pending t) _ refl refl (formed_paused t.pending t h)
+leaves_formed plan (WaitContact contact closed) t is fine h =
+    formed_as (after_pause t.pending t) _ refl refl (formed_paused t.pending t h)
+leaves_formed plan (WaitAny closed opened until frames) t is fine h =
+    formed_as (after_pause t.pending t) _ refl refl (formed_paused t.pending t h)
 leaves_formed plan Join t is fine h = formed_as (known_after_swap t) _ refl refl (formed_swapped t h)
 leaves_formed plan Settle t is fine h = formed_as (after_settle t.pending t) _ refl refl (formed_settled t.pending t h)
-leaves_formed plan (Test contact target) t is fine h = formed_as t _ refl refl h
-leaves_formed plan (TestTime from to target) t is fine h = formed_as t _ refl refl h
-leaves_formed plan (Jump target) t is fine h = formed_as t _ refl refl h
-leaves_formed plan (Loop counter target) t is fine h = formed_as t _ refl refl h
-leaves_formed plan (Set counter times) t is fine h = formed_as t _ refl refl h
-leaves_formed plan End t is fine h = formed_as t _ refl refl h
+leaves_formed plan _ t is fine h = formed_as t _ refl refl h
 
 -- ---- what a typing says at one pc
 
-at_label : (code : Program) (end : ℕ) (typing : List Known) → IsTabled code → IsTypingBelow code end typing → (pc : ℕ) (label : Label) (t : Known)
-    → label_at code pc ≡ Some label → pc < end → slice_get typing pc ≡ Some t → Declares code label t × (label.cost ≤ code.plan.budget)
+at_label : (code : Program) (end : ℕ) (typing : List Known) → IsTabled code → IsTypingBelow code end typing
+    → (pc : ℕ) (label : Label) (t : Known)
+    → label_at code pc ≡ Some label → pc < end → slice_get typing pc ≡ Some t → Declares code label t
+    × (label.cost ≤ code.plan.budget)
 at_label code end typing h below pc label t e lt at =
     let f = h.found pc label e in
     let p = below.labels label f.0 (subst (λ (n : ℕ). n < end) (sym f.1) lt) in
-    let same : p.known ≡ t = same_some _ _ _ p.there (subst (λ (n : ℕ). slice_get typing n ≡ Some t) (sym f.1) at) in
+    let same : p.known ≡ t = some_same _ _ _ p.there (subst (λ (n : ℕ). slice_get typing n ≡ Some t) (sym f.1) at) in
     (subst (λ (u : Known). Declares code label u) same p.declares, p.within)
 
-formed_label : (code : Program) → IsTabled code → (pc : ℕ) (label : Label) (t : Known) → label_at code pc ≡ Some label → Declares code label t → AreFormed t
+formed_label : (code : Program) → IsTabled code → (pc : ℕ) (label : Label) (t : Known) → label_at code pc ≡ Some label
+    → Declares code label t → AreFormed t
 formed_label code h pc label t e d =
     let f = h.found pc label e in
     subst AreFormed (declared_once code label _ _ (h.declares label f.0) d) (h.formed label f.0)
@@ -111,7 +102,8 @@ record ComesIn (code : Program) (typing : List Known) (pc : ℕ) (i : Instr) (u 
   onward : continues i ≡ true
   arrives : Arrives code typing (suc pc) (label_at code (suc pc)) (leaves code.plan i u)
 
-comes_in : (code : Program) (end : ℕ) (typing : List Known) → IsTypingBelow code end typing → (pc : ℕ) (i : Instr) (u : Known) → suc pc < end
+comes_in : (code : Program) (end : ℕ) (typing : List Known) → IsTypingBelow code end typing
+    → (pc : ℕ) (i : Instr) (u : Known) → suc pc < end
     → instr_at code pc ≡ Some i → slice_get typing pc ≡ Some u → continues i ≡ true → ComesIn code typing pc i u
 comes_in code end typing below pc i u lt at known on =
     let up : pc + 1 ≡ suc pc = omega arith in
@@ -120,11 +112,13 @@ comes_in code end typing below pc i u lt at known on =
       there = at;
       known = known;
       onward = on;
-      arrives = subst (λ (n : ℕ). Arrives code typing n (label_at code n) (leaves code.plan i u)) up (s.onward on (omega (arith, lt)));
+      arrives = subst (λ (n : ℕ). Arrives code typing n (label_at code n) (leaves code.plan i u)) up
+          (s.onward on (omega (arith, lt)));
     }
 
 -- the preceding instruction continues to an instruction without a label
-reached_from : (code : Program) (end : ℕ) (typing : List Known) → IsTypingBelow code end typing → (pc : ℕ) → suc pc < end → label_at code (suc pc) ≡ None
+reached_from : (code : Program) (end : ℕ) (typing : List Known) → IsTypingBelow code end typing → (pc : ℕ)
+    → suc pc < end → label_at code (suc pc) ≡ None
     → (i : Instr) × (u : Known) × ComesIn code typing pc i u
 reached_from code end typing below pc lt none =
     let a = below.reached (suc pc) lt none in
@@ -134,40 +128,54 @@ reached_from code end typing below pc lt none =
     let u = slice_there typing pc (omega (arith, lt, each)) in
     (a.instr, u.0, comes_in code end typing below pc a.instr u.0 lt at u.1 a.onward)
 
-formed_by : (code : Program) (end : ℕ) (typing : List Known) → IsTabled code → IsTypingBelow code end typing → (pc : ℕ) (o : Option Label) → label_at code (suc pc) ≡ o
-    → suc pc < end → (t : Known) → slice_get typing (suc pc) ≡ Some t → ((u : Known) → slice_get typing pc ≡ Some u → AreFormed u) → AreFormed t
+formed_by : (code : Program) (end : ℕ) (typing : List Known) → IsTabled code → IsTypingBelow code end typing
+    → (pc : ℕ) (o : Option Label) → label_at code (suc pc) ≡ o
+    → suc pc < end → (t : Known) → slice_get typing (suc pc) ≡ Some t
+    → ((u : Known) → slice_get typing pc ≡ Some u → AreFormed u) → AreFormed t
 formed_by code end typing h below pc (Some label) e lt t at before =
     formed_label code h (suc pc) label t e (at_label code end typing h below (suc pc) label t e lt at).0
 formed_by code end typing h below pc None e lt t at before =
     let r = reached_from code end typing below pc lt e in
     let i = r.0 in
     let u = r.1 in
-    let arrived : Arrives code typing (suc pc) None (leaves code.plan i u) = subst (λ (o : Option Label). Arrives code typing (suc pc) o (leaves code.plan i u)) e r.2.arrives in
-    let same : leaves code.plan i u ≡ t = same_some _ _ _ arrived at in
+    let arrived : Arrives code typing (suc pc) None (leaves code.plan i u) =
+    subst (λ (o : Option Label). Arrives code typing (suc pc) o (leaves code.plan i u)) e r.2.arrives in
+    let same : leaves code.plan i u ≡ t = some_same _ _ _ arrived at in
     let s = below.safe pc i u r.2.there r.2.known in
     subst AreFormed same (leaves_formed code.plan i u (h.instrs pc i r.2.there) s.fine (before u r.2.known))
 
-formed_first : (code : Program) (end : ℕ) (typing : List Known) → IsTabled code → IsTypingBelow code end typing → 0 < end → (t : Known) → slice_get typing 0 ≡ Some t → AreFormed t
+formed_first : (code : Program) (end : ℕ) (typing : List Known) → IsTabled code → IsTypingBelow code end typing
+    → 0 < end → (t : Known) → slice_get typing 0 ≡ Some t → AreFormed t
 formed_first code end typing h below lt t at =
     let o = below.opening lt in
     formed_label code h 0 o.label t o.first (at_label code end typing h below 0 o.label t o.first lt at).0
 
-formed_at : (code : Program) (end : ℕ) (typing : List Known) → IsTabled code → IsTypingBelow code end typing → (pc : ℕ) → pc < end → (t : Known) → slice_get typing pc ≡ Some t → AreFormed t
+formed_at : (code : Program) (end : ℕ) (typing : List Known) → IsTabled code → IsTypingBelow code end typing → (pc : ℕ)
+    → pc < end → (t : Known) → slice_get typing pc ≡ Some t → AreFormed t
 formed_at code end typing h below zero lt t at = formed_first code end typing h below lt t at
 formed_at code end typing h below (suc pc) lt t at =
-    formed_by code end typing h below pc (label_at code (suc pc)) refl lt t at (λ u there. formed_at code end typing h below pc (omega (arith, lt)) u there)
+    formed_by code end typing h below pc (label_at code (suc pc)) refl lt t at
+    (λ u there. formed_at code end typing h below pc (omega (arith, lt)) u there)
 
-arrived_here : (code : Program) (typing : List Known) (pc : ℕ) (o : Option Label) (t u : Known) → slice_get typing pc ≡ Some t → Arrives code typing pc o u → IsHere code o t u
-arrived_here code typing pc None t u at h = same_some _ _ _ h at
+arrived_here : (code : Program) (typing : List Known) (pc : ℕ) (o : Option Label) (t u : Known)
+    → slice_get typing pc ≡ Some t → Arrives code typing pc o u → IsHere code o t u
+arrived_here code typing pc None t u at h = some_same _ _ _ h at
 arrived_here code typing pc (Some label) t u at h = h
 
-entered_below : (code : Program) (end : ℕ) (typing : List Known) → IsTabled code → IsTypingBelow code end typing → (pc : ℕ) → pc < end → (t : Known) → slice_get typing pc ≡ Some t
+entered_below : (code : Program) (end : ℕ) (typing : List Known) → IsTabled code → IsTypingBelow code end typing
+    → (pc : ℕ) → pc < end → (t : Known) → slice_get typing pc ≡ Some t
     → IsEnteredAt code typing pc t
 entered_below code end typing h below zero lt t at =
     let o = below.opening lt in
     let d = at_label code end typing h below 0 o.label t o.first lt at in
     let same : o.known ≡ t = declared_once code o.label _ _ o.declares d.0 in
-    record { label = o.label; there = o.first; declares = d.0; opening = subst (λ (u : Known). IsOpening code.plan u) same o.opening; within = d.1 }
+    record {
+      label = o.label;
+      there = o.first;
+      declares = d.0;
+      opening = subst (λ (u : Known). IsOpening code.plan u) same o.opening;
+      within = d.1;
+    }
 entered_below code end typing h below (suc pc) lt t at = record {
   placed = λ label e. at_label code end typing h below (suc pc) label t e lt at;
   arrives = λ u came.
@@ -180,7 +188,8 @@ entered_below code end typing h below (suc pc) lt t at = record {
       (leaves code.plan r.0 r.1, left_found code.plan _ _ r.0 r.1 r.2.there r.2.known r.2.onward);
 }
 
-passed_below : (code : Program) (end : ℕ) (typing : List Known) → IsTypingBelow code end typing → (pc : ℕ) (i : Instr) (t : Known)
+passed_below : (code : Program) (end : ℕ) (typing : List Known) → IsTypingBelow code end typing
+    → (pc : ℕ) (i : Instr) (t : Known)
     → instr_at code pc ≡ Some i → slice_get typing pc ≡ Some t → IsPassed code pc i t
 passed_below code end typing below pc i t at known =
     let s = below.safe pc i t at known in
@@ -192,7 +201,8 @@ passed_below code end typing below pc i t at known =
 
 -- ---- the walk along a typing
 
-walk_reaches : (code : Program) (end : ℕ) (typing : List Known) → IsTabled code → IsTypingBelow code end typing → end ≤ length code.lines → (pc : ℕ) → pc ≤ end
+walk_reaches : (code : Program) (end : ℕ) (typing : List Known) → IsTabled code → IsTypingBelow code end typing
+    → end ≤ length code.lines → (pc : ℕ) → pc ≤ end
     → refusal_of code ≡ walk code (drop pc code.lines) pc (left_before code typing pc)
 walk_reaches code end typing h below len zero le = refl
 walk_reaches code end typing h below len (suc pc) le =
@@ -201,12 +211,18 @@ walk_reaches code end typing h below len (suc pc) le =
     let t = slice_there typing pc (omega (arith, le, each)) in
     let at : instr_at code pc ≡ Some line.0.instr = ap (option_map (λ (l : Line). l.instr)) line.1 in
     let formed = formed_at code end typing h below pc (omega (arith, le)) t.0 t.1 in
-    let enters : entered code pc (left_before code typing pc) ≡ Ok t.0 = entered_found code typing pc t.0 h formed.current (entered_below code end typing h below pc (omega (arith, le)) t.0 t.1) in
-    let none : known_cause code pc line.0.instr t.0 ≡ None = passed_none code pc line.0.instr t.0 h formed.next (passed_below code end typing below pc line.0.instr t.0 at t.1) in
+    let enters : entered code pc (left_before code typing pc) ≡ Ok t.0 =
+    entered_found code typing pc t.0 h formed.current
+    (entered_below code end typing h below pc (omega (arith, le)) t.0 t.1) in
+    let none : known_cause code pc line.0.instr t.0 ≡ None =
+    passed_none code pc line.0.instr t.0 h formed.next
+    (passed_below code end typing below pc line.0.instr t.0 at t.1) in
     let before = walk_reaches code end typing h below len pc (omega (arith, le)) in
     let cut : drop pc code.lines ≡ line.0 ∷ drop (suc pc) code.lines = dropped code.lines pc line.0 line.1 in
-    let go : walk code (line.0 ∷ drop (suc pc) code.lines) pc (left_before code typing pc) ≡ walk code (drop (suc pc) code.lines) (pc + 1) (passed_on code.plan line.0.instr t.0) =
-    passes pc _ (known_cause code pc line.0.instr) (λ u. walk code (drop (suc pc) code.lines) (pc + 1) (passed_on code.plan line.0.instr u)) t.0 enters none in
+    let go : walk code (line.0 ∷ drop (suc pc) code.lines) pc (left_before code typing pc)
+    ≡ walk code (drop (suc pc) code.lines) (pc + 1) (passed_on code.plan line.0.instr t.0) =
+    passes pc _ (known_cause code pc line.0.instr) (λ u.
+    walk code (drop (suc pc) code.lines) (pc + 1) (passed_on code.plan line.0.instr u)) t.0 enters none in
     let left : left_before code typing (suc pc) ≡ passed_on code.plan line.0.instr t.0 = rw (at, t.1) refl in
     let up : pc + 1 ≡ suc pc = omega arith in
     before ∙ ap (λ (ls : List Line). walk code ls pc (left_before code typing pc)) cut ∙ go
@@ -221,18 +237,26 @@ walk_ends : (code : Program) (typing : List Known) → IsTabled code → IsTypin
     → refusal_of code ≡ past_label (find (λ (l : Label). nat_le (length code.lines) l.pc) code.labels)
 walk_ends code typing h below =
     walk_reaches code (length code.lines) typing h below (omega arith) (length code.lines) (omega arith)
-    ∙ ap (λ (ls : List Line). walk code ls (length code.lines) (left_before code typing (length code.lines))) (drop_all code.lines)
+    ∙ ap (λ (ls : List Line). walk code ls (length code.lines) (left_before code typing (length code.lines)))
+    (drop_all code.lines)
 
 -- ---- verdicts
 
-typing_below : (code : Program) (typing : List Known) → IsTyping code typing → IsTypingBelow code (length code.lines) typing
+typing_below : (code : Program) (typing : List Known) → IsTyping code typing
+    → IsTypingBelow code (length code.lines) typing
 typing_below code typing h = record {
   each = h.each;
   opening = λ some. h.opening;
   labels = λ label here lt. h.labels label here;
   safe = λ pc i t at known.
       let s = h.safe pc i t at known in
-      record { allowance = s.allowance; fine = s.fine; inside = s.inside; onward = λ on lt. s.onward on; targets = s.targets };
+      record {
+        allowance = s.allowance;
+        fine = s.fine;
+        inside = s.inside;
+        onward = λ on lt. s.onward on;
+        targets = s.targets;
+      };
   reached = h.reached;
 }
 
@@ -244,7 +268,8 @@ typed_passes code h typed =
     let lt : label.pc < length typing = slice_get_within typing label.pc p.known p.there in
     let each : length typing ≡ length code.lines = typed.1.each in
     omega (arith, lt, each) in
-    walk_ends code typing (tabled code h) (typing_below code typing typed.1) ∙ ap past_label (none_found (length code.lines) code.labels inside)
+    walk_ends code typing (tabled code h) (typing_below code typing typed.1)
+    ∙ ap past_label (none_found (length code.lines) code.labels inside)
 
 past_is : (code : Program) (pc : ℕ) (o : Option Label) → IsProgram code → IsFirstPast code pc → length code.lines ≤ pc
     → find (λ (l : Label). nat_le (length code.lines) l.pc) code.labels ≡ o → past_label o ≡ refused_at pc Table
@@ -258,7 +283,9 @@ past_is code pc (Some label) h first past e =
     let same : first.label.pc ≡ pc = f.1 in
     let g = found (λ (l : Label). nat_le (length code.lines) l.pc) code.labels label e in
     let above : pc ≤ label.pc = first.first label g.0 ((decides_le (length code.lines) label.pc).told g.1) in
-    let below : label.pc ≤ first.label.pc = first_past (length code.lines) code.labels label h.labels_ascend e first.label f.0 (omega (arith, past, same)) in
+    let below : label.pc ≤ first.label.pc =
+    first_past (length code.lines) code.labels label h.labels_ascend e first.label f.0
+    (omega (arith, past, same)) in
     let here : label.pc ≡ pc = omega (arith, above, below, same) in
     ap (λ (n : ℕ). refused_at n Table) here
 
@@ -271,23 +298,29 @@ none_there : (pc : ℕ) (t : Known) → slice_get [] pc ≡ Some t → ⊥
 none_there zero t e = cc
 none_there (suc pc) t e = cc
 
-refused_by : (code : Program) (pc : ℕ) (cause : Cause) (typing : List Known) (o : Option Instr) → IsProgram code → instr_at code pc ≡ o → IsRefusedAt code typing pc o cause
+refused_by : (code : Program) (pc : ℕ) (cause : Cause) (typing : List Known) (o : Option Instr) → IsProgram code
+    → instr_at code pc ≡ o → IsRefusedAt code typing pc o cause
     → refusal_of code ≡ refused_at pc cause
 refused_by code pc cause typing (Some i) h at r =
     let tables = tabled code h in
     let line = mapped (λ (l : Line). l.instr) (slice_get code.lines pc) i at in
     let lt : pc < length code.lines = slice_get_within code.lines pc line.0 line.1 in
-    let found : whole_cause (entered code pc (left_before code typing pc)) (known_cause code pc line.0.instr) ≡ Some cause =
-    subst (λ (j : Instr). whole_cause (entered code pc (left_before code typing pc)) (known_cause code pc j) ≡ Some cause) (sym line.2) ((whole_computes code typing pc i tables).found cause r.1) in
+    let found : whole_cause (entered code pc (left_before code typing pc)) (known_cause code pc line.0.instr)
+    ≡ Some cause =
+    subst (λ (j : Instr). whole_cause (entered code pc (left_before code typing pc)) (known_cause code pc j)
+    ≡ Some cause) (sym line.2) ((whole_computes code typing pc i tables).found cause r.1) in
     walk_reaches code pc typing tables r.0 (omega (arith, lt)) pc (omega arith)
     ∙ ap (λ (ls : List Line). walk code ls pc (left_before code typing pc)) (dropped code.lines pc line.0 line.1)
-    ∙ stops pc (entered code pc (left_before code typing pc)) (known_cause code pc line.0.instr) (λ t. walk code (drop (suc pc) code.lines) (pc + 1) (passed_on code.plan line.0.instr t)) cause found
+    ∙ stops pc (entered code pc (left_before code typing pc)) (known_cause code pc line.0.instr)
+    (λ t. walk code (drop (suc pc) code.lines) (pc + 1) (passed_on code.plan line.0.instr t)) cause found
 refused_by code pc cause typing None h at r =
     let past : length code.lines ≤ pc = past_lines code.lines pc at in
-    walk_ends code typing (tabled code h) r.0 ∙ past_is code pc (find (λ (l : Label). nat_le (length code.lines) l.pc) code.labels) h r.1 past refl
+    walk_ends code typing (tabled code h) r.0 ∙ past_is code pc
+    (find (λ (l : Label). nat_le (length code.lines) l.pc) code.labels) h r.1 past refl
     ∙ ap (refused_at pc) (sym r.2)
 
-pub refused_stops : (code : Program) (pc : ℕ) (cause : Cause) → IsProgram code → IsRefused code pc cause → refusal_of code ≡ refused_at pc cause
+pub refused_stops : (code : Program) (pc : ℕ) (cause : Cause) → IsProgram code → IsRefused code pc cause
+    → refusal_of code ≡ refused_at pc cause
 refused_stops code pc cause h r = refused_by code pc cause r.0 (instr_at code pc) h refl r.1
 
 none_below : (code : Program) → IsTypingBelow code 0 []
@@ -305,10 +338,12 @@ verdict code h = found_from code h code.lines 0 [] refl (omega arith) (none_belo
 pub typed_if : (code : Program) → IsProgram code → refusal_of code ≡ None → IsTyped code
 typed_if code h e = subst (λ (o : Option Refusal). IsVerdict code o) e (verdict code h)
 
-pub refused_if : (code : Program) (pc : ℕ) (cause : Cause) → IsProgram code → refusal_of code ≡ refused_at pc cause → IsRefused code pc cause
+pub refused_if : (code : Program) (pc : ℕ) (cause : Cause) → IsProgram code → refusal_of code ≡ refused_at pc cause
+    → IsRefused code pc cause
 refused_if code pc cause h e = subst (λ (o : Option Refusal). IsVerdict code o) e (verdict code h)
 
-either : (code : Program) → (o : Option Refusal) → IsVerdict code o → IsTyped code ⊎ ((pc : ℕ) × (cause : Cause) × IsRefused code pc cause)
+either : (code : Program) → (o : Option Refusal) → IsVerdict code o → IsTyped code
+    ⊎ ((pc : ℕ) × (cause : Cause) × IsRefused code pc cause)
 either code None v = inl v
 either code (Some r) v = inr (r.pc, r.cause, v)
 
@@ -319,9 +354,10 @@ codes_have_one_verdict code h = record {
       let both : None ≡ refused_at pc cause = sym (typed_passes code h typed) ∙ refused_stops code pc cause h refused in
       cc;
   one = λ pc other_pc cause other one two.
-      let both : refused_at pc cause ≡ refused_at other_pc other = sym (refused_stops code pc cause h one) ∙ refused_stops code other_pc other h two in
+      let both : refused_at pc cause ≡ refused_at other_pc other =
+      sym (refused_stops code pc cause h one) ∙ refused_stops code other_pc other h two in
       let a : Refusal = record { pc = pc; cause = cause } in
       let b : Refusal = record { pc = other_pc; cause = other } in
-      let same : a ≡ b = same_some (refused_at pc cause) a b refl both in
+      let same : a ≡ b = some_same (refused_at pc cause) a b refl both in
       (ap (λ (r : Refusal). r.pc) same, ap (λ (r : Refusal). r.cause) same);
 }

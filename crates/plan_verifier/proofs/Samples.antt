@@ -1,32 +1,20 @@
--- What vectors speak of: a plan, a sub-channel, labels, instructions and small codes, and that all of them are within their limits.
-use Rattle.std.proofs.Common.{ℕ, zero, suc, ◌+◌, ◌*◌, ◌<◌, ◌≤◌, List, [], ◌∷◌, length, refl, arith}
+-- What vectors speak of: a plan, a sub-channel, labels, instructions and small codes, and that all of them are within
+-- their limits.
+use Rattle.std.proofs.Common.{ℕ, zero, suc, ◌+◌, ◌*◌, ◌<◌, ◌≤◌, List, [], ◌∷◌, length, arith}
+use Rattle.plan_verifier.proofs.Names.{Configuration, IsPlaced, IsConfiguration, IsAscending, nothing, Counters, Instr}
+use Rattle.plan_verifier.proofs.Names.{Line, Label, Idle, Plan, Program, IsProgram, IsPlan, IsLabel, IsLine, IsInstr}
+use Rattle.plan_verifier.proofs.Names.{label_key}
 use Rattle.std.specs.List.{AllByRecursion}
 use Rattle.mux_eep.specs.declared.sizes.EepSet.TheVariants.{A}
 use Rattle.mux_types.specs.declared.parts.Sub.{Sub}
-use Rattle.mux_config.specs.Configuration.{Configuration, IsPlaced, IsConfiguration, IsAscending, nothing}
 use Rattle.fib_codec.specs.declared.frame_layout.FrameLayout.TheVariants.{Whole}
 use Rattle.fib_codec.specs.declared.modes.Mode.TheVariants.{I}
-use Rattle.plan_code.specs.declared.flags.Counters.{Counters}
-use Rattle.plan_code.specs.declared.instr.Instr.{Instr}
-use Rattle.plan_code.specs.declared.instr.Line.{Line}
-use Rattle.plan_code.specs.declared.label.Label.{Label}
-use Rattle.plan_code.specs.declared.label.Swap.TheVariants.{Idle}
-use Rattle.plan_code.specs.declared.plan.Plan.{Plan}
-use Rattle.plan_code.specs.Program.{Program, IsProgram, IsPlan, IsLabel, IsLine, IsInstr, label_key}
 
 abbrev pub plan : Plan
 plan = record { eid = 0xe1c5; layout = Whole I; period = 4; notice = 24; budget = 20 }
 
 pub plan_is : IsPlan plan
-plan_is = record {
-  ensemble = omega arith;
-  period_from = omega arith;
-  period_to = omega arith;
-  notice_from = omega arith;
-  notice_to = omega arith;
-  budget_from = omega arith;
-  budget_to = omega arith;
-}
+plan_is = grind arith
 
 -- ---- configurations
 
@@ -45,23 +33,14 @@ one_sub = with_sub 128
 -- n sub-channels of 8 kbit/s, one after the other: 24 of them take two pages
 abbrev pub small_subs : ℕ → ℕ → List Sub
 small_subs zero id = []
-small_subs (suc n) id = record { id = id; start = 6 * id; protection = record { set = A; level = 3 }; kbits = 8 } ∷ small_subs n (id + 1)
+small_subs (suc n) id = record { id = id; start = 6 * id; protection = record { set = A; level = 3 }; kbits = 8 }
+    ∷ small_subs n (id + 1)
 
 abbrev pub many_subs : Configuration
 many_subs = record { subs = small_subs 24 0; services = []; packets = [] }
 
 pub empty_is : IsConfiguration nothing
-empty_is = record {
-  subs_ascend = tt;
-  services_ascend = tt;
-  packets_ascend = tt;
-  subs_placed = tt;
-  services_formed = tt;
-  packets_addressed = tt;
-  subs_few = omega arith;
-  services_few = omega arith;
-  packets_few = omega arith;
-}
+empty_is = grind arith
 
 with_sub_is : (kbits : ℕ) → IsPlaced (sub_at_rate kbits) → IsConfiguration (with_sub kbits)
 with_sub_is kbits placed = record {
@@ -77,23 +56,11 @@ with_sub_is kbits placed = record {
 }
 
 pub one_sub_is : IsConfiguration one_sub
-one_sub_is = with_sub_is 128 (record {
-  named = omega arith;
-  from_one = omega arith;
-  to_four = omega arith;
-  sized = record { positive = omega arith; multiple = refl; from_table = refl; within = omega arith };
-  ends = omega arith;
-})
+one_sub_is = with_sub_is 128 (grind arith)
 
 -- at a lower rate
 pub lower_is : IsConfiguration (with_sub 96)
-lower_is = with_sub_is 96 (record {
-  named = omega arith;
-  from_one = omega arith;
-  to_four = omega arith;
-  sized = record { positive = omega arith; multiple = refl; from_table = refl; within = omega arith };
-  ends = omega arith;
-})
+lower_is = with_sub_is 96 (grind arith)
 
 -- ---- labels and instructions
 
@@ -109,15 +76,7 @@ abbrev pub label : ℕ → ℕ → Label
 label pc cost = counting pc 0 cost
 
 pub counting_is : (pc set cost : ℕ) → pc < 65536 → set < 256 → 1 ≤ cost → cost ≤ 255 → IsLabel 1 (counting pc set cost)
-counting_is pc set cost low few from to = record {
-  place = low;
-  current = omega arith;
-  following = omega arith;
-  bounds = tt;
-  set = few;
-  cost_from = from;
-  cost_to = to;
-}
+counting_is pc set cost low few from to = grind arith
 
 pub label_is : (pc cost : ℕ) → pc < 65536 → 1 ≤ cost → cost ≤ 255 → IsLabel 1 (label pc cost)
 label_is pc cost low from to = counting_is pc 0 cost low (omega arith) from to
@@ -126,22 +85,27 @@ abbrev pub line : Instr → Line
 line i = record { number = 1; instr = i }
 
 pub line_is : (i : Instr) → IsInstr i → IsLine (line i)
-line_is i h = record { numbered = omega arith; formed = h }
+line_is i h = grind arith
 
 -- ---- codes
 
+abbrev pub code_under : Plan → Configuration → List Label → List Line → Program
+code_under plan c labels lines = record { plan = plan; configurations = c ∷ []; labels = labels; lines = lines }
+
 -- with this first configuration
 abbrev pub code_from : Configuration → List Label → List Line → Program
-code_from c labels lines = record { plan = plan; configurations = c ∷ []; labels = labels; lines = lines }
+code_from c labels lines = code_under plan c labels lines
 
 -- with an empty one
 abbrev pub code : List Label → List Line → Program
 code labels lines = code_from nothing labels lines
 
-pub code_from_is : (c : Configuration) (labels : List Label) (lines : List Line) → IsConfiguration c → AllByRecursion (IsLabel 1) labels → IsAscending label_key labels → 1 ≤ length labels → length labels ≤ 1024
-    → AllByRecursion IsLine lines → 1 ≤ length lines → length lines ≤ 4096 → IsProgram (code_from c labels lines)
-code_from_is c labels lines is formed ascend from to each first last = record {
-  planned = plan_is;
+code_under_is : (plan : Plan) (c : Configuration) (labels : List Label) (lines : List Line) → IsPlan plan
+    → IsConfiguration c → AllByRecursion (IsLabel 1) labels → IsAscending label_key labels
+    → 1 ≤ length labels → length labels ≤ 1024 → AllByRecursion IsLine lines → 1 ≤ length lines → length lines ≤ 4096
+    → IsProgram (code_under plan c labels lines)
+code_under_is plan c labels lines planned is formed ascend from to each first last = record {
+  planned = planned;
   configurations_from = omega arith;
   configurations_to = omega arith;
   configurations_formed = (is, tt);
@@ -154,12 +118,26 @@ code_from_is c labels lines is formed ascend from to each first last = record {
   lines_formed = each;
 }
 
--- with one label, at the first instruction, of this cost
-pub first_from_is : (c : Configuration) (cost : ℕ) (lines : List Line) → IsConfiguration c → 1 ≤ cost → cost ≤ 255 → AllByRecursion IsLine lines → 1 ≤ length lines → length lines ≤ 4096
-    → IsProgram (code_from c (label 0 cost ∷ []) lines)
-first_from_is c cost lines is from to each first last =
-    code_from_is c (label 0 cost ∷ []) lines is (label_is 0 cost (omega arith) from to, tt) (tt, tt) (omega arith) (omega arith) each first last
+pub code_from_is : (c : Configuration) (labels : List Label) (lines : List Line) → IsConfiguration c
+    → AllByRecursion (IsLabel 1) labels → IsAscending label_key labels → 1 ≤ length labels → length labels ≤ 1024
+    → AllByRecursion IsLine lines → 1 ≤ length lines → length lines ≤ 4096 → IsProgram (code_from c labels lines)
+code_from_is c labels lines = code_under_is plan c labels lines plan_is
 
-pub first_is : (cost : ℕ) (lines : List Line) → 1 ≤ cost → cost ≤ 255 → AllByRecursion IsLine lines → 1 ≤ length lines → length lines ≤ 4096
+-- with one label, at the first instruction, of this cost
+pub first_under_is : (plan : Plan) (c : Configuration) (cost : ℕ) (lines : List Line) → IsPlan plan → IsConfiguration c
+    → 1 ≤ cost → cost ≤ 255
+    → AllByRecursion IsLine lines → 1 ≤ length lines → length lines ≤ 4096
+    → IsProgram (code_under plan c (label 0 cost ∷ []) lines)
+first_under_is plan c cost lines planned is from to =
+    code_under_is plan c (label 0 cost ∷ []) lines planned is (label_is 0 cost (omega arith) from to, tt) (tt, tt)
+    (omega arith) (omega arith)
+
+pub first_from_is : (c : Configuration) (cost : ℕ) (lines : List Line) → IsConfiguration c → 1 ≤ cost → cost ≤ 255
+    → AllByRecursion IsLine lines → 1 ≤ length lines → length lines ≤ 4096
+    → IsProgram (code_from c (label 0 cost ∷ []) lines)
+first_from_is c cost lines = first_under_is plan c cost lines plan_is
+
+pub first_is : (cost : ℕ) (lines : List Line) → 1 ≤ cost → cost ≤ 255 → AllByRecursion IsLine lines → 1 ≤ length lines
+    → length lines ≤ 4096
     → IsProgram (code (label 0 cost ∷ []) lines)
-first_is cost lines from to each first last = first_from_is nothing cost lines empty_is from to each first last
+first_is cost lines = first_from_is nothing cost lines empty_is

@@ -1,24 +1,20 @@
 -- Lookup in the tables of a code: the label at an instruction, and what it declares.
-use Rattle.std.proofs.Common.{◌≡◌, ℕ, ◌+◌, ◌<◌, Bool, true, false, eqb, List, [], ◌∷◌, length, Contains, find, slice_get, Option, Some, None, option_map, refl, sym, ap, subst, ◌∙◌, arith}
-use Rattle.std.proofs.lemmas.Bool.{eqb-true}
-use Rattle.std.proofs.lemmas.Option.{slice_get_within, get_or_from_slice_get, slice_get-get_or}
-use Rattle.mux_config.specs.Configuration.{Configuration, IsConfiguration, nothing}
+use Rattle.std.proofs.Common.{◌≡◌, ℕ, ◌+◌, ◌<◌, Bool, true, false, eqb, List, [], ◌∷◌, length, Contains, find}
+use Rattle.std.proofs.Common.{slice_get, Option, Some, None, option_map, refl, sym, ap, subst, ◌∙◌, arith}
+use Rattle.plan_verifier.proofs.Names.{eqb-true, slice_get_within, get_or_from_slice_get, slice_get-get_or}
+use Rattle.plan_verifier.proofs.Names.{Configuration, IsConfiguration, nothing, Label, Instr, Line, Program, IsProgram}
+use Rattle.plan_verifier.proofs.Names.{IsLabel, IsInstr, IsLine, label_key, label_at, instr_at, Known, Declares}
+use Rattle.plan_verifier.proofs.Names.{IsTyping, Arrives, continues, leaves, configuration_at, declared_by}
 use Rattle.mux_types.proofs.Elements.{contains_first, contains_later, each_contains}
-use Rattle.plan_code.specs.declared.label.Label.{Label}
-use Rattle.plan_code.specs.declared.instr.Instr.{Instr}
-use Rattle.plan_code.specs.declared.instr.Line.{Line}
-use Rattle.plan_code.specs.Program.{Program, IsProgram, IsLabel, IsInstr, IsLine, label_key, label_at, instr_at}
 use Rattle.plan_code.proofs.Ascending.{find_at}
-use Rattle.plan_verifier.specs.Typing.{Known, Declares, IsTyping, Arrives, continues, leaves}
-use Rattle.plan_verifier.specs.Indexed.{configuration_at}
-use Rattle.plan_verifier.specs.Walking.{declared_by}
 
 -- ---- lists
 
 pub contains_at : {T : Type 0} (xs : List T) (k : ℕ) (x : T) → slice_get xs k ≡ Some x → Contains xs x
 contains_at xs k x e = (k, slice_get_within xs k x e, get_or_from_slice_get xs k x x e)
 
-found_by : {T : Type 0} (test : T → Bool) (y x : T) (ys : List T) (b : Bool) → test y ≡ b → (find test ys ≡ Some x → Contains ys x × (test x ≡ true))
+found_by : {T : Type 0} (test : T → Bool) (y x : T) (ys : List T) (b : Bool) → test y ≡ b
+    → (find test ys ≡ Some x → Contains ys x × (test x ≡ true))
     → find test (y ∷ ys) ≡ Some x → Contains (y ∷ ys) x × (test x ≡ true)
 found_by test y x ys true is later e =
     let here : Some y ≡ Some x = sym (rw is refl) ∙ e in
@@ -29,11 +25,13 @@ found_by test y x ys false is later e =
     let h = later there in
     (contains_later y ys x h.0, h.1)
 
-pub found : {T : Type 0} (test : T → Bool) (xs : List T) (x : T) → find test xs ≡ Some x → Contains xs x × (test x ≡ true)
+pub found : {T : Type 0} (test : T → Bool) (xs : List T) (x : T) → find test xs ≡ Some x → Contains xs x
+    × (test x ≡ true)
 found test [] x e = absurd cc
 found test (y ∷ ys) x e = found_by test y x ys (test y) refl (found test ys x) e
 
-pub mapped : {T U : Type 0} (f : T → U) (o : Option T) (y : U) → option_map f o ≡ Some y → (x : T) × (o ≡ Some x) × (f x ≡ y)
+pub mapped : {T U : Type 0} (f : T → U) (o : Option T) (y : U) → option_map f o ≡ Some y → (x : T) × (o ≡ Some x)
+    × (f x ≡ y)
 mapped f None y e = absurd cc
 mapped f (Some x) y e = (x, refl, cc)
 
@@ -54,12 +52,15 @@ pub record IsTabled (code : Program) : Type 0 where
   pub there : (label : Label) → Contains code.labels label → label_at code label.pc ≡ Some label
   pub instrs : (pc : ℕ) (i : Instr) → instr_at code pc ≡ Some i → IsInstr i
 
-pub label_of : (code : Program) → IsProgram code → (label : Label) → Contains code.labels label → IsLabel (length code.configurations) label
+pub label_of : (code : Program) → IsProgram code → (label : Label) → Contains code.labels label
+    → IsLabel (length code.configurations) label
 label_of code h label here = each_contains (IsLabel (length code.configurations)) code.labels label h.labels_formed here
 
-formed_at : (code : Program) → IsProgram code → (k : ℕ) → k < length code.configurations → IsConfiguration (configuration_at code.configurations k)
+formed_at : (code : Program) → IsProgram code → (k : ℕ) → k < length code.configurations
+    → IsConfiguration (configuration_at code.configurations k)
 formed_at code h k lt =
-    each_contains IsConfiguration code.configurations _ h.configurations_formed (contains_at code.configurations k _ (within_table code.configurations k lt))
+    each_contains IsConfiguration code.configurations _ h.configurations_formed
+    (contains_at code.configurations k _ (within_table code.configurations k lt))
 
 pub tabled : (code : Program) → IsProgram code → IsTabled code
 tabled code h = record {
@@ -78,7 +79,8 @@ tabled code h = record {
   found = λ pc label e.
       let f = found (λ (l : Label). eqb l.pc pc) code.labels label e in
       (f.0, eqb-true _ _ f.1);
-  there = λ label here. find_at label_key label.pc code.labels here.0 label h.labels_ascend here.1 (ap label_key here.2) ∙ ap Some here.2;
+  there = λ label here. find_at label_key label.pc code.labels here.0 label h.labels_ascend here.1 (ap label_key here.2)
+      ∙ ap Some here.2;
   instrs = λ pc i e.
       let m = mapped (λ (l : Line). l.instr) (slice_get code.lines pc) i e in
       let line : IsLine m.0 = each_contains IsLine code.lines m.0 h.lines_formed (contains_at code.lines pc m.0 m.1) in
@@ -86,28 +88,38 @@ tabled code h = record {
 }
 
 -- a label declares exactly one state
-some_same : {T : Type 0} (o : Option T) (x y : T) → o ≡ Some x → o ≡ Some y → x ≡ y
+pub some_same : {T : Type 0} (o : Option T) (x y : T) → o ≡ Some x → o ≡ Some y → x ≡ y
 some_same o x y e f = let both : Some x ≡ Some y = sym e ∙ f in cc
 
-pub declared_once : (code : Program) (label : Label) (t u : Known) → Declares code label t → Declares code label u → t ≡ u
+pub declared_once : (code : Program) (label : Label) (t u : Known) → Declares code label t → Declares code label u
+    → t ≡ u
 declared_once code label t u a b =
     let current : t.current ≡ u.current = some_same _ _ _ a.current b.current in
     let next : t.next ≡ u.next = some_same _ _ _ a.next b.next in
     let pending : t.pending ≡ u.pending = sym a.pending ∙ b.pending in
     let counters : t.counters ≡ u.counters = sym a.counters ∙ b.counters in
     let allowance : t.allowance ≡ u.allowance = sym a.cost ∙ b.cost in
-    λ i. record { current = current i; next = next i; pending = pending i; counters = counters i; allowance = allowance i }
+    λ i. record {
+      current = current i;
+      next = next i;
+      pending = pending i;
+      counters = counters i;
+      allowance = allowance i;
+    }
 
 -- without a label, what is known is what the instruction before left
-pub unlabelled : (p : Program) (typing : List Known) (pc : ℕ) (i : Instr) (t u : Known) → IsTyping p typing → instr_at p pc ≡ Some i → slice_get typing pc ≡ Some t → label_at p (pc + 1) ≡ None
+pub unlabelled : (p : Program) (typing : List Known) (pc : ℕ) (i : Instr) (t u : Known) → IsTyping p typing
+    → instr_at p pc ≡ Some i → slice_get typing pc ≡ Some t → label_at p (pc + 1) ≡ None
     → slice_get typing (pc + 1) ≡ Some u → u ≡ leaves p.plan i t
 unlabelled p typing pc i t u h at there e later =
     let within : pc + 1 < length typing = slice_get_within typing (pc + 1) u later in
     let inside : pc + 1 < length p.lines = subst (λ n. pc + 1 < n) h.each within in
     let after = h.reached (pc + 1) inside e in
     let back : after.before ≡ pc = omega (arith, after.next) in
-    let same : after.instr ≡ i = some_same _ after.instr i (subst (λ k. instr_at p k ≡ Some after.instr) back after.there) at in
+    let same : after.instr ≡ i =
+    some_same _ after.instr i (subst (λ k. instr_at p k ≡ Some after.instr) back after.there) at in
     let onward : continues i ≡ true = subst (λ j. continues j ≡ true) same after.onward in
     let arrives = (h.safe pc i t at there).onward onward in
-    let gets : slice_get typing (pc + 1) ≡ Some (leaves p.plan i t) = subst (λ o. Arrives p typing (pc + 1) o (leaves p.plan i t)) e arrives in
+    let gets : slice_get typing (pc + 1) ≡ Some (leaves p.plan i t) =
+    subst (λ o. Arrives p typing (pc + 1) o (leaves p.plan i t)) e arrives in
     some_same _ u (leaves p.plan i t) later gets

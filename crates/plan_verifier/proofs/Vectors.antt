@@ -1,13 +1,8 @@
 -- Small codes: which are typed, and why and where others are refused.
 use Rattle.std.proofs.Common.{ℕ, [], ◌∷◌, refl, arith}
-use Rattle.plan_code.specs.declared.instr.Instr.{Instr}
-use Rattle.plan_code.specs.declared.instr.Instr.TheVariants.{Join, End}
-use Rattle.plan_code.specs.Program.{Program, IsProgram, IsInstr}
-use Rattle.plan_verifier.specs.declared.cause.Cause.{Cause}
-use Rattle.plan_verifier.specs.declared.cause.Cause.TheVariants.{JoinIdle}
+use Rattle.plan_verifier.proofs.Names.{Instr, Join, End, Program, IsProgram, IsInstr, Cause, JoinIdle, IsTyped}
+use Rattle.plan_verifier.proofs.Names.{IsRefused}
 use Rattle.plan_verifier.proofs.Samples.{label, line, line_is, code, first_is}
-use Rattle.plan_verifier.specs.Typing.{IsTyped}
-use Rattle.plan_verifier.specs.Refusals.{IsRefused}
 use Rattle.plan_verifier.proofs.OneVerdict.{typed_if, refused_if, codes_have_one_verdict}
 
 -- one instruction, with a cost of 1

@@ -1,23 +1,20 @@
--- Flows whose configurations are in a table, and the indices of configurations after an instruction: examples that hold,
--- and examples that fail.
+-- Flows whose configurations are in a table, and the indices of configurations after an instruction: examples that
+-- hold, and examples that fail.
 use Rattle.std.proofs.Common.{◌≡◌, ℕ, true, false, List, [], ◌∷◌, length, Option, Some, None, refl, sym, ap, arith}
-use Rattle.std.proofs.lemmas.Bool.{false≢true}
-use Rattle.mux_config.specs.Configuration.{Configuration, nothing}
-use Rattle.mux_config.specs.declared.edit.Edit.TheVariants.{DropSub}
-use Rattle.plan_code.specs.declared.instr.Instr.TheVariants.{Edit as Edits, Wait}
-use Rattle.plan_code.specs.declared.label.Swap.{Swap}
-use Rattle.plan_code.specs.declared.label.Swap.TheVariants.{Idle, Within, Perhaps}
-use Rattle.plan_verifier.specs.declared.fitting.Condition.TheVariants.{NextTwice}
-use Rattle.plan_verifier.specs.declared.indices.IndexedFlow.{IndexedFlow}
-use Rattle.plan_verifier.specs.declared.indices.Indices.{Indices}
+use Rattle.plan_verifier.proofs.Names.{false≢true, Configuration, nothing, DropSub, Edits, Wait, Swap, Idle, Within}
+use Rattle.plan_verifier.proofs.Names.{Perhaps, NextTwice, IndexedFlow, Indices, Flow, known_at, satisfies}
+use Rattle.plan_verifier.proofs.Names.{configuration_at, flow_at, has_swapped, indices_of, swapped_indices}
+use Rattle.plan_verifier.proofs.Names.{moved_indices, indices_after, fit_indices, AreAt, IsAt, IsTracked, IsWithin}
 use Rattle.plan_verifier.specs.declared.tracked.TrackedFlow.{TrackedFlow}
-use Rattle.plan_verifier.specs.Flows.{Flow, known_at}
-use Rattle.plan_verifier.specs.Tests.{satisfies}
-use Rattle.plan_verifier.specs.Indexed.{configuration_at, flow_at, has_swapped, indices_of, swapped_indices, moved_indices, indices_after, fit_indices, AreAt, IsAt, IsTracked, IsWithin}
 
 -- a configuration of one packet component
 abbrev other : Configuration
-other = record { subs = []; services = []; packets = record { scid = 1; sub = 0; ty = 5; address = 1; dg = false } ∷ [] }
+other = record {
+  subs = [];
+  services = [];
+  packets = record { scid = 1; sub = 0; ty = 5; address = 1; dg = false }
+      ∷ [];
+}
 
 differ : other ≡ nothing → ⊥
 differ e = let count : 1 ≡ 0 = ap (λ (c : Configuration). length c.packets) e in absurd (omega (arith, count))
@@ -115,7 +112,8 @@ made = refl
 none_made : has_swapped Idle Idle ≡ true → ⊥
 none_made e = false≢true e
 
-not_before_the_swap : satisfies NextTwice (known_at (flow nothing other Idle)) (known_at (flow nothing other (Perhaps 3))) ≡ true → ⊥
+not_before_the_swap : satisfies NextTwice (known_at (flow nothing other Idle))
+    (known_at (flow nothing other (Perhaps 3))) ≡ true → ⊥
 not_before_the_swap e = false≢true e
 
 swapped : satisfies NextTwice (known_at (flow other other Idle)) (known_at (flow nothing other (Perhaps 3))) ≡ true

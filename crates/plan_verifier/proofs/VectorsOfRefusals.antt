@@ -1,23 +1,22 @@
 -- Why small codes are refused: for each definition of refusals, examples that hold and examples that fail.
-use Rattle.std.proofs.Common.{◌≡◌, ◌≢◌, ℕ, zero, suc, ◌<◌, ◌≤◌, [], ◌∷◌, slice_get, Contains, Some, None, inl, inr, refl, sym, ap, subst, arith}
-use Rattle.std.proofs.lemmas.Bool.{false≢true}
-use Rattle.mux_config.specs.declared.edit.Edit.TheVariants.{AddSub, DropSub}
+use Rattle.std.proofs.Common.{◌≡◌, ◌≢◌, ℕ, zero, suc, ◌<◌, ◌≤◌, [], ◌∷◌, Contains, Some, None, inl, inr, refl, sym, ap}
+use Rattle.std.proofs.Common.{subst, arith}
+use Rattle.plan_verifier.proofs.Names.{false≢true, AddSub, DropSub, Label, Idle, Within, Instr, Join, End, Edits, Jump}
+use Rattle.plan_verifier.proofs.Names.{Program, IsProgram, IsInstr, label_at, label_key, Cause, Target, Table, OfEdit}
+use Rattle.plan_verifier.proofs.Names.{Pending, Notice, JoinIdle, Mismatch, Cost, FallsOff, Known, Declares, HasOpening}
+use Rattle.plan_verifier.proofs.Names.{FitsLabel, EntryRefused, JumpRefused, InstrRefused, KnownRefused, TakenRefused}
+use Rattle.plan_verifier.proofs.Names.{LabelRefused, PcRefused, OpenedRefused, OpeningRefused, IsSafeBelow}
+use Rattle.plan_verifier.proofs.Names.{IsTypingBelow, InstructionRefused, IsFirstPast, IsRefusedAt, IsRefused}
+use Rattle.plan_verifier.proofs.Names.{HasOneVerdict}
 use Rattle.mux_config.specs.declared.fault.EditFault.TheVariants.{IdAbsent}
-use Rattle.plan_code.specs.declared.label.Label.{Label}
-use Rattle.plan_code.specs.declared.label.Swap.TheVariants.{Idle, Within}
-use Rattle.plan_code.specs.declared.instr.Instr.{Instr}
-use Rattle.plan_code.specs.declared.instr.Instr.TheVariants.{CommitIn, Join, End, Edit as Edits, Jump}
-use Rattle.plan_code.specs.Program.{Program, IsProgram, IsLine, IsInstr, instr_at, label_at, label_key}
-use Rattle.plan_verifier.specs.declared.cause.Cause.{Cause}
-use Rattle.plan_verifier.specs.declared.cause.Cause.TheVariants.{Target, Table, Edit as OfEdit, Pending, Notice, JoinIdle, Mismatch, Cost, FallsOff}
 use Rattle.plan_verifier.proofs.Samples.{plan, sub, counters, label, line, code, line_is, first_is}
-use Rattle.plan_verifier.specs.Typing.{Known, Declares, HasOpening, IsLabelTyped, IsAfter}
-use Rattle.plan_verifier.specs.Refusals.{Where, WhereSome, CommitRefused, FitsLabel, EntryRefused, JumpRefused, InstrRefused, KnownRefused, TakenRefused, LabelRefused, PcRefused, OpenedRefused, OpeningRefused, IsSafeBelow, IsTypingBelow, InstructionRefused, IsFirstPast, IsRefusedAt, IsRefused, HasOneVerdict}
+use Rattle.plan_verifier.specs.Refusals.{Where, WhereSome, CommitRefused}
 use Rattle.plan_verifier.proofs.Tabled.{IsTabled, tabled, declared_once}
 use Rattle.plan_verifier.proofs.Causes.{decides_label, entry_computes, known_computes}
 use Rattle.plan_verifier.proofs.Entries.{whole_computes}
-use Rattle.plan_verifier.proofs.OneVerdict.{codes_have_one_verdict}
-use Rattle.plan_verifier.proofs.VectorsOfTyping.{joins, opened, edited, committed, its_label_declares, a_first_sub_channel, opens_empty}
+use Rattle.plan_verifier.proofs.OneVerdict.{refused_if, codes_have_one_verdict}
+use Rattle.plan_verifier.proofs.VectorsOfTyping.{joins, joins_is, adds_sub, opened, edited, committed}
+use Rattle.plan_verifier.proofs.VectorsOfTyping.{its_label_declares, a_first_sub_channel}
 
 -- adds a sub-channel, and then waits for a swap although none was committed
 abbrev unjoined : Program
@@ -29,18 +28,16 @@ lone i = code (label 0 3 ∷ []) (line i ∷ [])
 
 -- ---- their fields are within their limits
 
-adds : IsLine (line (Edits (AddSub sub)))
-adds = line_is (Edits (AddSub sub)) (record { named = omega arith; start = omega arith; from_one = omega arith; to_four = omega arith; rate = omega arith })
-
 joins_tabled : IsTabled joins
-joins_tabled =
-    tabled joins (first_is 3 joins.lines (omega arith) (omega arith) (adds, (line_is (CommitIn 24) (omega arith, omega arith), (line_is Join tt, (line_is End tt, tt)))) (omega arith) (omega arith))
+joins_tabled = tabled joins joins_is
 
 unjoined_is : IsProgram unjoined
-unjoined_is = first_is 3 unjoined.lines (omega arith) (omega arith) (adds, (line_is Join tt, tt)) (omega arith) (omega arith)
+unjoined_is = first_is 3 unjoined.lines (omega arith) (omega arith) (adds_sub, (line_is Join tt, tt)) (omega arith)
+    (omega arith)
 
 lone_tabled : (i : Instr) → IsInstr i → IsTabled (lone i)
-lone_tabled i h = tabled (lone i) (first_is 3 (line i ∷ []) (omega arith) (omega arith) (line_is i h, tt) (omega arith) (omega arith))
+lone_tabled i h = tabled (lone i)
+    (first_is 3 (line i ∷ []) (omega arith) (omega arith) (line_is i h, tt) (omega arith) (omega arith))
 
 -- ---- causes in order
 
@@ -65,7 +62,10 @@ commit_while_pending : CommitRefused plan committed (23 < 24) Notice Pending
 commit_while_pending = inl swap_pending
 
 not_for_its_delay : CommitRefused plan committed (23 < 24) Notice Notice → ⊥
-not_for_its_delay h = elim h [ inl first ↦ (let e : Notice ≡ Pending = first.1 in absurd cc) | inr later ↦ later.0 Pending swap_pending ]
+not_for_its_delay h = elim h [
+  | inl first ↦ (let e : Notice ≡ Pending = first.1 in absurd cc)
+  | inr later ↦ later.0 Pending swap_pending
+]
 
 with_another_next_one : FitsLabel joins (label 0 3) edited → ⊥
 with_another_next_one h = false≢true ((decides_label joins (label 0 3) edited its_label_declares).found h)
@@ -77,7 +77,8 @@ cannot_afford_the_label : EntryRefused joins (label 0 3) spent_two Cost
 cannot_afford_the_label = (entry_computes joins (label 0 3) spent_two its_label_declares).told Cost refl
 
 comes_to_the_label : (cause : Cause) → EntryRefused joins (label 0 3) opened cause → ⊥
-comes_to_the_label cause h = let e : None ≡ Some cause = (entry_computes joins (label 0 3) opened its_label_declares).found cause h in absurd cc
+comes_to_the_label cause h = let e : None ≡ Some cause =
+    (entry_computes joins (label 0 3) opened its_label_declares).found cause h in absurd cc
 
 a_label_there : (cause : Cause) → JumpRefused joins (Some (label 0 3)) opened cause → ⊥
 a_label_there cause h = comes_to_the_label cause h
@@ -96,7 +97,8 @@ falls_off : KnownRefused joins 3 Join committed FallsOff
 falls_off = (known_computes joins 3 Join committed joins_tabled).told FallsOff refl
 
 joins_nothing_first : KnownRefused joins 3 Join opened FallsOff → ⊥
-joins_nothing_first h = let e : Some JoinIdle ≡ Some FallsOff = (known_computes joins 3 Join opened joins_tabled).found FallsOff h in absurd cc
+joins_nothing_first h = let e : Some JoinIdle ≡ Some FallsOff =
+    (known_computes joins 3 Join opened joins_tabled).found FallsOff h in absurd cc
 
 -- ---- where the machine reaches an instruction
 
@@ -106,14 +108,18 @@ takes_too_much = inl (omega arith, refl)
 takes_what_there_is : (cause : Cause) → TakenRefused joins 0 End (label 0 3) opened cause → ⊥
 takes_what_there_is cause h = elim h [
   | inl first ↦ (let e : 20 < 3 = first.0 in omega (arith, e))
-  | inr later ↦ (let e : None ≡ Some cause = (known_computes joins 0 End opened joins_tabled).found cause later.1 in absurd cc)
+  | inr later ↦ (let e : None ≡ Some cause = (known_computes joins 0 End opened joins_tabled).found cause later.1 in
+      absurd cc)
 ]
 
 label_before_a_join : LabelRefused joins 0 Join (label 0 3) JoinIdle
 label_before_a_join = (
   opened,
   its_label_declares,
-  inr ((λ cause first. let e : 20 < 3 = first.0 in omega (arith, e)), (known_computes joins 0 Join opened joins_tabled).told JoinIdle refl),
+  inr (
+    (λ cause first. let e : 20 < 3 = first.0 in omega (arith, e)),
+    (known_computes joins 0 Join opened joins_tabled).told JoinIdle refl,
+  ),
 )
 
 label_before_an_end : (cause : Cause) → LabelRefused joins 0 End (label 0 3) cause → ⊥
@@ -126,13 +132,15 @@ neither_label_nor_way : PcRefused joins 2 Join None None Table
 neither_label_nor_way = refl
 
 comes_with_a_swap : PcRefused joins 2 Join None (Some committed) JoinIdle → ⊥
-comes_with_a_swap h = let e : None ≡ Some JoinIdle = (known_computes joins 2 Join committed joins_tabled).found JoinIdle h in absurd cc
+comes_with_a_swap h = let e : None ≡ Some JoinIdle =
+    (known_computes joins 2 Join committed joins_tabled).found JoinIdle h in absurd cc
 
 begins_without_a_label : OpeningRefused joins End None Table
 begins_without_a_label = refl
 
 begins_with_an_end : (cause : Cause) → OpeningRefused (lone End) End (Some (label 0 3)) cause → ⊥
-begins_with_an_end cause h = let e : None ≡ Some cause = (whole_computes (lone End) [] 0 End (lone_tabled End tt)).found cause h in absurd cc
+begins_with_an_end cause h = let e : None ≡ Some cause =
+    (whole_computes (lone End) [] 0 End (lone_tabled End tt)).found cause h in absurd cc
 
 lone_declares : (i : Instr) → Declares (lone i) (label 0 3) opened
 lone_declares i = record { current = refl; next = refl; pending = refl; counters = refl; cost = refl }
@@ -144,9 +152,6 @@ opens_idle : (cause : Cause) → OpenedRefused (lone End) End (label 0 3) opened
 opens_idle cause h = begins_with_an_end cause (opened, lone_declares End, h)
 
 -- ---- the instructions below a pc
-
-unjoined_declares : Declares unjoined (label 0 3) opened
-unjoined_declares = record { current = refl; next = refl; pending = refl; counters = refl; cost = refl }
 
 -- what follows that pc is not checked
 safe_below_one : IsSafeBelow unjoined 1 (opened ∷ []) 0 (Edits (AddSub sub)) opened
@@ -161,34 +166,22 @@ safe_below_one = record {
 join_of_nothing : IsSafeBelow unjoined 2 (opened ∷ edited ∷ []) 1 Join edited → ⊥
 join_of_nothing h = h.fine
 
-safe_there : (pc : ℕ) (i : Instr) (t : Known) → instr_at unjoined pc ≡ Some i → slice_get (opened ∷ []) pc ≡ Some t → IsSafeBelow unjoined 1 (opened ∷ []) pc i t
-safe_there zero i t e f =
-    let same : Edits (AddSub sub) ≡ i = cc in
-    let known : opened ≡ t = cc in
-    subst (λ (u : Known). IsSafeBelow unjoined 1 (opened ∷ []) 0 i u) known (subst (λ (j : Instr). IsSafeBelow unjoined 1 (opened ∷ []) 0 j opened) same safe_below_one)
-safe_there (suc pc) i t e f = absurd cc
+unjoined_refused : IsRefused unjoined 1 JoinIdle
+unjoined_refused = refused_if unjoined 1 JoinIdle unjoined_is refl
 
-placed_there : (l : Label) → Contains unjoined.labels l → IsLabelTyped unjoined (opened ∷ []) l
-placed_there l (zero, lt, same) =
-    subst (λ (x : Label). IsLabelTyped unjoined (opened ∷ []) x) same (record { known = opened; there = refl; declares = unjoined_declares; within = omega arith })
-placed_there l (suc n, lt, same) = absurd (omega (arith, lt))
-
-no_more_below : (pc : ℕ) → pc < 1 → label_at unjoined pc ≡ None → IsAfter unjoined pc
-no_more_below zero lt e = absurd cc
-no_more_below (suc pc) lt e = absurd (omega (arith, lt))
-
-typing_below_one : IsTypingBelow unjoined 1 (opened ∷ [])
-typing_below_one = record { each = refl; opening = λ some. record { label = label 0 3; known = opened; first = refl; declares = unjoined_declares; opening = opens_empty }; labels = λ l has lt. placed_there l has; safe = safe_there; reached = no_more_below }
+typing_below_one : IsTypingBelow unjoined 1 unjoined_refused.0
+typing_below_one = unjoined_refused.1.0
 
 typing_below_two : IsTypingBelow unjoined 2 (opened ∷ edited ∷ []) → ⊥
 typing_below_two h = (h.safe 1 Join edited refl refl).fine
 
-second_refused : InstructionRefused unjoined (opened ∷ []) 1 Join JoinIdle
-second_refused = (whole_computes unjoined (opened ∷ []) 1 Join (tabled unjoined unjoined_is)).told JoinIdle refl
+second_refused : InstructionRefused unjoined unjoined_refused.0 1 Join JoinIdle
+second_refused = unjoined_refused.1.1
 
 second_not_for_its_cost : InstructionRefused unjoined (opened ∷ []) 1 Join Cost → ⊥
 second_not_for_its_cost h =
-    let e : Some JoinIdle ≡ Some Cost = (whole_computes unjoined (opened ∷ []) 1 Join (tabled unjoined unjoined_is)).found Cost h in
+    let e : Some JoinIdle ≡ Some Cost =
+    (whole_computes unjoined (opened ∷ []) 1 Join (tabled unjoined unjoined_is)).found Cost h in
     absurd cc
 
 -- ---- labels past the end
@@ -210,8 +203,8 @@ another_label_past h = let e : 9 ≤ 7 = h.first (label 7 3) (1, omega arith, re
 
 -- ---- the first cause at the first instruction that has one
 
-refused_at_the_join : IsRefusedAt unjoined (opened ∷ []) 1 (Some Join) JoinIdle
-refused_at_the_join = (typing_below_one, second_refused)
+refused_at_the_join : IsRefusedAt unjoined unjoined_refused.0 1 (Some Join) JoinIdle
+refused_at_the_join = unjoined_refused.1
 
 for_no_other_cause : IsRefusedAt unjoined (opened ∷ []) 1 (Some Join) Cost → ⊥
 for_no_other_cause h = second_not_for_its_cost h.1
@@ -241,4 +234,7 @@ never_refused zero cause r = declares_nothing r.1.1.0 r.1.1.1
 never_refused (suc pc) cause r = no_opening (r.1.0.opening (omega arith))
 
 no_verdict : HasOneVerdict astray → ⊥
-no_verdict h = elim h.either [ inl typed ↦ no_opening typed.1.opening | inr refused ↦ never_refused refused.0 refused.1 refused.2 ]
+no_verdict h = elim h.either [
+  | inl typed ↦ no_opening typed.1.opening
+  | inr refused ↦ never_refused refused.0 refused.1 refused.2
+]

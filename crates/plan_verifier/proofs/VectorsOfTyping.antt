@@ -1,21 +1,14 @@
 -- Typed codes on a small code: for each definition, an example that holds and one that fails.
-use Rattle.std.proofs.Common.{◌≡◌, ◌≢◌, ℕ, zero, suc, ◌+◌, ◌<◌, ◌≤◌, List, [], ◌∷◌, slice_get, Contains, Option, Some, None, inl, inr, refl, ap, subst, arith}
-use Rattle.std.proofs.lemmas.Bool.{false≢true}
-use Rattle.mux_config.specs.Configuration.{Configuration, nothing}
-use Rattle.mux_config.specs.Sound.{IsSound}
-use Rattle.mux_config.specs.declared.edit.Edit.TheVariants.{AddSub}
+use Rattle.std.proofs.Common.{◌≡◌, ◌≢◌, ℕ, ◌+◌, ◌≤◌, List, [], ◌∷◌, Option, Some, None, inl, inr, refl, ap, arith}
+use Rattle.plan_verifier.proofs.Names.{false≢true, Configuration, nothing, IsSound, AddSub, Plan, Swap, Idle, Within}
+use Rattle.plan_verifier.proofs.Names.{CommitIn, Join, End, Edits, Program, IsProgram, IsLine, Known, IsFine, Declares}
+use Rattle.plan_verifier.proofs.Names.{Fits, CanEnter, IsInitial, IsOpening, HasOpening, IsLabelTyped, Reaches, IsAfter}
+use Rattle.plan_verifier.proofs.Names.{IsSafe, IsTyping, IsTyped}
 use Rattle.mux_config.proofs.Sounding.{sound_told}
-use Rattle.plan_code.specs.declared.plan.Plan.{Plan}
-use Rattle.plan_code.specs.declared.label.Label.{Label}
-use Rattle.plan_code.specs.declared.label.Swap.{Swap}
-use Rattle.plan_code.specs.declared.label.Swap.TheVariants.{Idle, Within}
-use Rattle.plan_code.specs.declared.instr.Instr.{Instr}
-use Rattle.plan_code.specs.declared.instr.Instr.TheVariants.{CommitIn, Join, End, Edit as Edits}
-use Rattle.plan_code.specs.Program.{Program, instr_at, label_at}
-use Rattle.plan_verifier.proofs.Samples.{plan, sub, one_sub, many_subs, counters, label, line, code}
-use Rattle.plan_verifier.specs.Typing.{Known, HasRoom, CanCommit, IsCertain, IsFine, Declares, HasConfigurationsOf, FitsSwap, Fits, CanEnter, IsInitial, IsOpening, HasOpening, IsLabelTyped, Reaches, IsAfter, IsSafe, IsTyping}
-use Rattle.plan_verifier.proofs.DecidingWalks.{decides_initial}
-use Rattle.plan_verifier.proofs.DecidingFlows.{decides_room}
+use Rattle.plan_verifier.proofs.Samples.{plan, sub, one_sub, many_subs, counters, label, line, line_is, code, first_is}
+use Rattle.plan_verifier.specs.Typing.{HasRoom, CanCommit, IsCertain, HasConfigurationsOf, FitsSwap}
+use Rattle.plan_verifier.proofs.DecidingFlows.{decides_room, decides_initial}
+use Rattle.plan_verifier.proofs.OneVerdict.{typed_if}
 
 -- ---- values shared by these vectors: the sub-channel of the samples, added to an empty multiplex
 
@@ -25,11 +18,20 @@ each_frame = record plan { period = 1 }
 
 -- with an empty current configuration
 abbrev pub knows : Configuration → Swap → ℕ → Known
-knows next pending allowance = record { current = nothing; next = next; pending = pending; counters = counters 0; allowance = allowance }
+knows next pending allowance =
+    record { current = nothing; next = next; pending = pending; counters = counters 0; allowance = allowance }
 
 -- adds the sub-channel, commits it, waits for the swap and ends
 abbrev pub joins : Program
 joins = code (label 0 3 ∷ []) (line (Edits (AddSub sub)) ∷ line (CommitIn 24) ∷ line Join ∷ line End ∷ [])
+
+pub adds_sub : IsLine (line (Edits (AddSub sub)))
+adds_sub = line_is (Edits (AddSub sub)) (grind arith)
+
+pub joins_is : IsProgram joins
+joins_is = first_is 3 joins.lines (omega arith) (omega arith)
+    (adds_sub, (line_is (CommitIn 24) (omega arith, omega arith), (line_is Join tt, (line_is End tt, tt))))
+    (omega arith) (omega arith)
 
 -- what is known at each of its instructions
 abbrev pub opened : Known
@@ -69,7 +71,12 @@ pub not_the_current : one_sub ≢ nothing
 not_the_current e = let subs : sub ∷ [] ≡ [] = ap (λ (c : Configuration). c.subs) e in absurd cc
 
 pub can_commit_one_sub : CanCommit plan edited
-can_commit_one_sub = record { idle = refl; sound = one_sub_is_sound; changes = not_the_current; room = room_for_one_sub }
+can_commit_one_sub = record {
+  idle = refl;
+  sound = one_sub_is_sound;
+  changes = not_the_current;
+  room = room_for_one_sub;
+}
 
 not_without_a_change : CanCommit plan opened → ⊥
 not_without_a_change h = h.changes refl
@@ -103,7 +110,8 @@ no_configuration_there : Declares joins (record (label 0 3) { next = 1 }) opened
 no_configuration_there h = let e : None ≡ Some nothing = h.next in absurd cc
 
 another_next_one : HasConfigurationsOf opened committed → ⊥
-another_next_one h = let e : nothing ≡ one_sub = h.1 in let subs : [] ≡ sub ∷ [] = ap (λ (c : Configuration). c.subs) e in absurd cc
+another_next_one h = let e : nothing ≡ one_sub = h.1 in let subs : [] ≡ sub ∷ [] =
+    ap (λ (c : Configuration). c.subs) e in absurd cc
 
 -- bounds within those of the label, and bounds outside of them
 narrower_bounds : FitsSwap (Within 24 27) (Within 20 30) committed committed
@@ -119,7 +127,12 @@ pub opened_fits : Fits opened opened
 opened_fits = record { swap = (refl, refl); counters = λ r set. set }
 
 comes_to_its_label : CanEnter joins (label 0 3) opened
-comes_to_its_label = record { declared = opened; declares = its_label_declares; fits = opened_fits; affords = omega arith }
+comes_to_its_label = record {
+  declared = opened;
+  declares = its_label_declares;
+  fits = opened_fits;
+  affords = omega arith;
+}
 
 cannot_afford_it : CanEnter joins (label 0 3) (record opened { allowance = 2 }) → ⊥
 cannot_afford_it h = let e : 3 ≤ 2 = h.affords in omega (arith, e)
@@ -140,7 +153,13 @@ not_with_two_pages : IsOpening each_frame (record joined { current = many_subs; 
 not_with_two_pages h = let e : 2 ≤ 1 = h.within_period in omega (arith, e)
 
 pub its_opening : HasOpening joins
-its_opening = record { label = label 0 3; known = opened; first = refl; declares = its_label_declares; opening = opens_empty }
+its_opening = record {
+  label = label 0 3;
+  known = opened;
+  first = refl;
+  declares = its_label_declares;
+  opening = opens_empty;
+}
 
 no_label_at_its_beginning : HasOpening (code (label 1 3 ∷ []) (line End ∷ line End ∷ [])) → ⊥
 no_label_at_its_beginning h = let e : None ≡ Some h.label = h.first in absurd cc
@@ -161,24 +180,6 @@ no_label_at_the_target h = let e : None ≡ Some h.label = h.there in absurd cc
 
 -- ---- codes
 
-pub edit_is_safe : IsSafe joins known_there 0 (Edits (AddSub sub)) opened
-edit_is_safe = record {
-  allowance = omega arith;
-  fine = a_first_sub_channel;
-  inside = λ on. omega arith;
-  onward = λ on. refl;
-  targets = λ target e. absurd cc;
-}
-
-commit_is_safe : IsSafe joins known_there 1 (CommitIn 24) edited
-commit_is_safe = record {
-  allowance = omega arith;
-  fine = a_delay_of_the_notice;
-  inside = λ on. omega arith;
-  onward = λ on. refl;
-  targets = λ target e. absurd cc;
-}
-
 pub join_is_safe : IsSafe joins known_there 2 Join committed
 join_is_safe = record {
   allowance = omega arith;
@@ -188,48 +189,17 @@ join_is_safe = record {
   targets = λ target e. absurd cc;
 }
 
-end_is_safe : IsSafe joins known_there 3 End joined
-end_is_safe = record {
-  allowance = omega arith;
-  fine = tt;
-  inside = λ on. absurd (false≢true on);
-  onward = λ on. absurd (false≢true on);
-  targets = λ target e. absurd cc;
-}
-
 nothing_left_to_spend : IsSafe joins known_there 2 Join (record committed { allowance = 0 }) → ⊥
 nothing_left_to_spend h = let e : 1 ≤ 0 = h.allowance in omega (arith, e)
-
-safe_for : (pc : ℕ) (i : Instr) (t : Known) → IsSafe joins known_there pc i t
-    → (j : Instr) (u : Known) → Some i ≡ Some j → Some t ≡ Some u → IsSafe joins known_there pc j u
-safe_for pc i t h j u e f =
-    let same : i ≡ j = cc in
-    let known : t ≡ u = cc in
-    subst (λ (v : Known). IsSafe joins known_there pc j v) known (subst (λ (k : Instr). IsSafe joins known_there pc k t) same h)
-
-safe_everywhere : (pc : ℕ) (i : Instr) (t : Known) → instr_at joins pc ≡ Some i → slice_get known_there pc ≡ Some t → IsSafe joins known_there pc i t
-safe_everywhere zero i t e f = safe_for 0 (Edits (AddSub sub)) opened edit_is_safe i t e f
-safe_everywhere (suc zero) i t e f = safe_for 1 (CommitIn 24) edited commit_is_safe i t e f
-safe_everywhere (suc (suc zero)) i t e f = safe_for 2 Join committed join_is_safe i t e f
-safe_everywhere (suc (suc (suc zero))) i t e f = safe_for 3 End joined end_is_safe i t e f
-safe_everywhere (suc (suc (suc (suc pc)))) i t e f = absurd cc
-
-placed_everywhere : (l : Label) → Contains joins.labels l → IsLabelTyped joins known_there l
-placed_everywhere l (zero, lt, same) = subst (λ (x : Label). IsLabelTyped joins known_there x) same its_label_is_placed
-placed_everywhere l (suc n, lt, same) = absurd (omega (arith, lt))
 
 nothing_before_the_first : IsAfter joins 0 → ⊥
 nothing_before_the_first h = let e : 0 ≡ h.before + 1 = h.next in omega (arith, e)
 
-after_another : (pc : ℕ) → pc < 4 → label_at joins pc ≡ None → IsAfter joins pc
-after_another zero lt e = absurd cc
-after_another (suc zero) lt e = record { before = 0; instr = Edits (AddSub sub); next = refl; there = refl; onward = refl }
-after_another (suc (suc zero)) lt e = record { before = 1; instr = CommitIn 24; next = refl; there = refl; onward = refl }
-after_another (suc (suc (suc zero))) lt e = record { before = 2; instr = Join; next = refl; there = refl; onward = refl }
-after_another (suc (suc (suc (suc pc)))) lt e = absurd (omega (arith, lt))
+the_second_after_the_first : IsAfter joins 1
+the_second_after_the_first = record { before = 0; instr = Edits (AddSub sub); next = refl; there = refl; onward = refl }
 
-its_typing : IsTyping joins known_there
-its_typing = record { each = refl; opening = its_opening; labels = placed_everywhere; safe = safe_everywhere; reached = after_another }
+its_typing : IsTyped joins
+its_typing = typed_if joins joins_is refl
 
 -- after the join the swap has been made
 forgets_the_swap : IsTyping joins (opened ∷ edited ∷ committed ∷ committed ∷ []) → ⊥

@@ -7,10 +7,13 @@ use Rattle.fib_codec.specs.Layouts.{layout_mode}
 use Rattle.plan_code.specs.declared.plan.Plan.{Plan}
 use Rattle.plan_code.specs.declared.label.Swap.TheVariants.{Idle}
 use Rattle.plan_code.specs.declared.instr.Instr.{Instr}
-use Rattle.plan_code.specs.declared.instr.Instr.TheVariants.{Wait, Until, WaitContact, WaitAny, CommitIn, CommitAt, Join, Settle, End, Edit as Edits, Test, TestTime, Jump, Set, Loop}
+use Rattle.plan_code.specs.declared.instr.Instr.TheVariants.{Wait, Until, WaitContact, WaitAny, CommitIn, CommitAt}
+use Rattle.plan_code.specs.declared.instr.Instr.TheVariants.{Join, Settle, End, Edit as Edits, Test, TestTime, Jump}
+use Rattle.plan_code.specs.declared.instr.Instr.TheVariants.{Set, Loop}
 use Rattle.plan_code.specs.Machine.{IsSwapCount}
 use Rattle.plan_verifier.specs.declared.cause.Cause.{Cause}
-use Rattle.plan_verifier.specs.declared.cause.Cause.TheVariants.{Edit as OfEdit, Config as OfConfig, Pending, NoChange, Notice, Count, JoinIdle, SwapUncertain, Round}
+use Rattle.plan_verifier.specs.declared.cause.Cause.TheVariants.{Edit as OfEdit, Config as OfConfig, Pending, NoChange}
+use Rattle.plan_verifier.specs.declared.cause.Cause.TheVariants.{Notice, Count, JoinIdle, SwapUncertain, Round}
 use Rattle.plan_verifier.specs.Rules.{Known, HasRoom, IsCertain, IsSurelyPending}
 
 -- ---- causes in order

@@ -23,11 +23,18 @@ held content f = record { current = content f.current; next = content f.next; pe
 
 -- adds these counters and this allowance
 abbrev pub known_with : Flow → Counters → ℕ → Known
-known_with t counters allowance = record { current = t.current; next = t.next; pending = t.pending; counters = counters; allowance = allowance }
+known_with t counters allowance =
+    record { current = t.current; next = t.next; pending = t.pending; counters = counters; allowance = allowance }
 
 -- without counters and an allowance: what a statement needs and leaves depends on the configurations and the swap alone
 abbrev pub known_at : Flow → Known
-known_at t = record { current = t.current; next = t.next; pending = t.pending; counters = record { 0 = 0 }; allowance = 0 }
+known_at t = record {
+  current = t.current;
+  next = t.next;
+  pending = t.pending;
+  counters = record { 0 = 0 };
+  allowance = 0;
+}
 
 abbrev pub flow_of : Known → Flow
 flow_of t = record { current = t.current; next = t.next; pending = t.pending }

@@ -1,9 +1,11 @@
 -- Flows whose configurations are in a table, and which configuration of a flow is which one of a table.
-use Rattle.std.specs.Prelude.{◌≡◌, ℕ, ◌<◌, ◌&&◌, Bool, not, if◌then◌else◌, List, get_or, slice_get, Option, Some, None, IfSome}
+use Rattle.std.specs.Prelude.{◌≡◌, ℕ, ◌<◌, ◌&&◌, Bool, not, if◌then◌else◌, List, get_or, slice_get, Option, Some, None}
+use Rattle.std.specs.Prelude.{IfSome}
 use Rattle.mux_config.specs.Configuration.{Configuration, nothing}
 use Rattle.plan_code.specs.declared.label.Swap.{Swap}
 use Rattle.plan_code.specs.declared.instr.Instr.{Instr}
-use Rattle.plan_code.specs.declared.instr.Instr.TheVariants.{Edit as Edits, Join, Wait, Until, WaitContact, WaitAny, Settle}
+use Rattle.plan_code.specs.declared.instr.Instr.TheVariants.{Edit as Edits, Join, Wait, Until, WaitContact, WaitAny}
+use Rattle.plan_code.specs.declared.instr.Instr.TheVariants.{Settle}
 use Rattle.plan_verifier.specs.declared.indices.IndexedFlow.{IndexedFlow}
 use Rattle.plan_verifier.specs.declared.indices.Indices.{Indices}
 use Rattle.plan_verifier.specs.declared.tracked.TrackedFlow.{TrackedFlow}
@@ -16,7 +18,11 @@ configuration_at table index = get_or table index nothing
 
 -- the flow with the configurations at these indices
 abbrev pub flow_at : List Configuration → IndexedFlow → Flow
-flow_at table f = record { current = configuration_at table f.current; next = configuration_at table f.next; pending = f.pending }
+flow_at table f = record {
+  current = configuration_at table f.current;
+  next = configuration_at table f.next;
+  pending = f.pending;
+}
 
 -- both indices are within a table of this length
 abbrev pub IsWithin : ℕ → IndexedFlow → Type 0

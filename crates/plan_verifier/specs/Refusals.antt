@@ -1,6 +1,7 @@
 -- Why a code is refused, and where: the first cause in the order tested, at the first instruction that has one.
 pub use Rattle.plan_verifier.specs.Causes.{Where, WhereSome, ◌orelse◌, CommitRefused, FlowRefused}
-use Rattle.std.specs.Prelude.{◌≡◌, ℕ, zero, suc, ◌+◌, ◌<◌, ◌≤◌, ◌⊎◌, true, false, if◌then◌else◌, List, length, slice_get, Contains, Option, Some, None}
+use Rattle.std.specs.Prelude.{◌≡◌, ℕ, zero, suc, ◌+◌, ◌<◌, ◌≤◌, ◌⊎◌, true, false, if◌then◌else◌, List, length}
+use Rattle.std.specs.Prelude.{slice_get, Contains, Option, Some, None}
 use Rattle.mux_config.specs.Sound.{first_fault}
 use Rattle.plan_code.specs.declared.plan.Plan.{Plan}
 use Rattle.plan_code.specs.declared.label.Label.{Label}
@@ -9,8 +10,10 @@ use Rattle.plan_code.specs.declared.instr.Instr.TheVariants.{Test, TestTime, Jum
 use Rattle.plan_code.specs.Flags.{is_set}
 use Rattle.plan_code.specs.Program.{Program, IsProgram, instr_at, label_at}
 use Rattle.plan_verifier.specs.declared.cause.Cause.{Cause}
-use Rattle.plan_verifier.specs.declared.cause.Cause.TheVariants.{Target, Table, Config as OfConfig, CounterUnset, Mismatch, Cost, Round, FallsOff}
-use Rattle.plan_verifier.specs.Typing.{Known, pages_alone, leaves, target_of, continues, spent, Declares, Fits, IsInitial, HasOpening, IsLabelTyped, IsAfter, IsFine, Reaches, Arrives, IsTyped}
+use Rattle.plan_verifier.specs.declared.cause.Cause.TheVariants.{Target, Table, Config as OfConfig, CounterUnset}
+use Rattle.plan_verifier.specs.declared.cause.Cause.TheVariants.{Mismatch, Cost, Round, FallsOff}
+use Rattle.plan_verifier.specs.Typing.{Known, pages_alone, leaves, target_of, continues, spent, Declares, Fits}
+use Rattle.plan_verifier.specs.Typing.{IsInitial, HasOpening, IsLabelTyped, IsAfter, IsFine, Reaches, Arrives, IsTyped}
 
 -- ---- at an instruction, given what is known there
 
@@ -49,7 +52,8 @@ KnownRefused code pc i t =
 
 -- given the state that the label declares
 abbrev pub TakenRefused : Program → ℕ → Instr → Label → Known → Cause → Type 0
-TakenRefused code pc i label declared = Where (code.plan.budget < label.cost) Cost orelse KnownRefused code pc i declared
+TakenRefused code pc i label declared =
+    Where (code.plan.budget < label.cost) Cost orelse KnownRefused code pc i declared
 
 abbrev pub LabelRefused : Program → ℕ → Instr → Label → Cause → Type 0
 LabelRefused code pc i label given =
@@ -84,7 +88,8 @@ pub record IsSafeBelow (code : Program) (end : ℕ) (typing : List Known) (pc : 
   pub allowance : 1 ≤ t.allowance
   pub fine : IsFine code.plan i t
   pub inside : continues i ≡ true → pc + 1 < length code.lines
-  pub onward : continues i ≡ true → pc + 1 < end → Arrives code typing (pc + 1) (label_at code (pc + 1)) (leaves code.plan i t)
+  pub onward : continues i ≡ true → pc + 1 < end → Arrives code typing (pc + 1) (label_at code (pc + 1))
+      (leaves code.plan i t)
   pub targets : (target : ℕ) → target_of i ≡ Some target → Reaches code target (spent t)
 
 -- the instructions below a pc have a typing
@@ -92,7 +97,8 @@ pub record IsTypingBelow (code : Program) (end : ℕ) (typing : List Known) : Ty
   pub each : length typing ≡ end
   pub opening : 0 < end → HasOpening code
   pub labels : (label : Label) → Contains code.labels label → label.pc < end → IsLabelTyped code typing label
-  pub safe : (pc : ℕ) (i : Instr) (t : Known) → instr_at code pc ≡ Some i → slice_get typing pc ≡ Some t → IsSafeBelow code end typing pc i t
+  pub safe : (pc : ℕ) (i : Instr) (t : Known) → instr_at code pc ≡ Some i → slice_get typing pc ≡ Some t
+      → IsSafeBelow code end typing pc i t
   pub reached : (pc : ℕ) → pc < end → label_at code pc ≡ None → IsAfter code pc
 
 -- what holds after an instruction, if it continues
@@ -107,7 +113,8 @@ left_before code typing (suc pc) = left_by code.plan (instr_at code pc) (slice_g
 
 abbrev pub InstructionRefused : Program → List Known → ℕ → Instr → Cause → Type 0
 InstructionRefused code typing zero i = OpeningRefused code i (label_at code 0)
-InstructionRefused code typing (suc pc) i = PcRefused code (suc pc) i (label_at code (suc pc)) (left_before code typing (suc pc))
+InstructionRefused code typing (suc pc) i =
+    PcRefused code (suc pc) i (label_at code (suc pc)) (left_before code typing (suc pc))
 
 -- the first label at or past the end of the code has this pc
 pub record IsFirstPast (code : Program) (pc : ℕ) : Type 0 where

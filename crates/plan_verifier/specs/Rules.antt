@@ -1,5 +1,6 @@
 -- The rules of a plan: what is known at an instruction, what the instruction needs, and what holds after it.
-use Rattle.std.specs.Prelude.{◌≡◌, ◌≢◌, ℕ, ◌+◌, ◌-◌, ◌*◌, ◌<◌, ◌≤◌, ◌⊎◌, Bool, true, false, if◌then◌else◌, nat_lt, Option, Some, None}
+use Rattle.std.specs.Prelude.{◌≡◌, ◌≢◌, ℕ, ◌+◌, ◌-◌, ◌*◌, ◌<◌, ◌≤◌, ◌⊎◌, Bool, true, false, if◌then◌else◌, nat_lt}
+use Rattle.std.specs.Prelude.{Option, Some, None}
 use Rattle.mux_config.specs.Configuration.{Configuration}
 use Rattle.mux_config.specs.Edits.{edit_fault, changed}
 use Rattle.mux_config.specs.Sound.{IsSound}
@@ -12,7 +13,9 @@ use Rattle.plan_code.specs.declared.flags.Counters.{Counters}
 use Rattle.plan_code.specs.declared.label.Swap.{Swap}
 use Rattle.plan_code.specs.declared.label.Swap.TheVariants.{Idle, Within, Perhaps}
 use Rattle.plan_code.specs.declared.instr.Instr.{Instr}
-use Rattle.plan_code.specs.declared.instr.Instr.TheVariants.{Wait, Until, WaitContact, WaitAny, CommitIn, CommitAt, Join, Settle, End, Edit as Edits, Test, TestTime, Jump, Set, Loop}
+use Rattle.plan_code.specs.declared.instr.Instr.TheVariants.{Wait, Until, WaitContact, WaitAny, CommitIn, CommitAt}
+use Rattle.plan_code.specs.declared.instr.Instr.TheVariants.{Join, Settle, End, Edit as Edits, Test, TestTime, Jump}
+use Rattle.plan_code.specs.declared.instr.Instr.TheVariants.{Set, Loop}
 use Rattle.plan_code.specs.Flags.{is_set, with_counter, without_counter}
 use Rattle.plan_code.specs.Machine.{IsSwapCount}
 
@@ -94,7 +97,8 @@ abbrev pub after_wait : ℕ → Swap → Known → Known
 after_wait frames Idle t = t
 after_wait frames (Within lo hi) t =
     if nat_lt frames lo then record t { pending = Within (lo - frames) (hi - frames) } else known_after_swap t
-after_wait frames (Perhaps hi) t = if nat_lt frames hi then record t { pending = Perhaps (hi - frames) } else known_after_swap t
+after_wait frames (Perhaps hi) t =
+    if nat_lt frames hi then record t { pending = Perhaps (hi - frames) } else known_after_swap t
 
 -- after one frame or more, where the swap falls after at most this many frames
 abbrev pub perhaps_swapped : ℕ → Known → Known

@@ -1,5 +1,6 @@
 -- The tests of a flow, and the cause that they find, as functions; `Causes.antt` defines what a cause means.
-use Rattle.std.specs.Prelude.{ℕ, ◌*◌, ◌%◌, ◌==◌, ◌&&◌, ◌||◌, Bool, true, false, not, nat_lt, nat_le, Option, Some, None, Result, Ok, Err}
+use Rattle.std.specs.Prelude.{ℕ, ◌*◌, ◌%◌, ◌==◌, ◌&&◌, ◌||◌, Bool, true, false, not, nat_lt, nat_le, Option, Some, None}
+use Rattle.std.specs.Prelude.{Result, Ok, Err}
 use Rattle.mux_config.specs.Configuration.{Configuration}
 use Rattle.mux_config.specs.Change.{has_same_subs, has_same_services}
 use Rattle.mux_config.specs.Edits.{edit_fault}
@@ -11,11 +12,12 @@ use Rattle.plan_code.specs.declared.plan.Plan.{Plan}
 use Rattle.plan_code.specs.declared.label.Swap.{Swap}
 use Rattle.plan_code.specs.declared.label.Swap.TheVariants.{Idle, Within, Perhaps}
 use Rattle.plan_code.specs.declared.instr.Instr.{Instr}
-use Rattle.plan_code.specs.declared.instr.Instr.TheVariants.{Wait, CommitIn, CommitAt, Join, Edit as Edits, Until, WaitContact, WaitAny, Settle, Test, TestTime, Jump, Loop, Set, End}
+use Rattle.plan_code.specs.declared.instr.Instr.TheVariants.{Wait, CommitIn, CommitAt, Join, Edit as Edits}
 use Rattle.plan_verifier.specs.declared.fitting.Condition.{Condition}
 use Rattle.plan_verifier.specs.declared.fitting.Condition.TheVariants.{Never, Both, NextTwice}
 use Rattle.plan_verifier.specs.declared.cause.Cause.{Cause}
-use Rattle.plan_verifier.specs.declared.cause.Cause.TheVariants.{Edit as OfEdit, Config as OfConfig, Pending, NoChange, Notice, Count, JoinIdle, SwapUncertain, Round}
+use Rattle.plan_verifier.specs.declared.cause.Cause.TheVariants.{Edit as OfEdit, Config as OfConfig, Pending, NoChange}
+use Rattle.plan_verifier.specs.declared.cause.Cause.TheVariants.{Notice, Count, JoinIdle, SwapUncertain, Round}
 use Rattle.plan_verifier.specs.Rules.{Known, notice_pages, pages_alone}
 
 -- ---- causes in order
@@ -77,7 +79,8 @@ fits_swap Idle Idle t declared = has_configurations_of t declared
 fits_swap Idle (Within low high) t declared = false
 fits_swap Idle (Perhaps high) t declared = is_same t.current declared.next && is_same t.next declared.next
 fits_swap (Within lo hi) Idle t declared = false
-fits_swap (Within lo hi) (Within low high) t declared = nat_le low lo && nat_le hi high && has_configurations_of t declared
+fits_swap (Within lo hi) (Within low high) t declared =
+    nat_le low lo && nat_le hi high && has_configurations_of t declared
 fits_swap (Within lo hi) (Perhaps high) t declared = nat_le hi high && has_configurations_of t declared
 fits_swap (Perhaps hi) Idle t declared = false
 fits_swap (Perhaps hi) (Within low high) t declared = false
@@ -105,21 +108,13 @@ commit_cause plan t fault cause =
     first_or change_cause plan t
 
 abbrev pub flow_cause : Plan → Instr → Known → Option Cause
-flow_cause plan (Edits edit) t = cause_if (not (is_idle t.pending)) Pending first_or cause_of (edit_fault edit t.next) OfEdit
+flow_cause plan (Edits edit) t =
+    cause_if (not (is_idle t.pending)) Pending first_or cause_of (edit_fault edit t.next) OfEdit
 flow_cause plan (CommitIn delay) t = commit_cause plan t (nat_lt delay plan.notice) Notice
 flow_cause plan (CommitAt count) t = commit_cause plan t (not (is_swap_count plan count)) Count
 flow_cause plan (Wait frames) t = cause_if (not (is_certain frames t.pending)) SwapUncertain
-flow_cause plan (Until day) t = None
-flow_cause plan (WaitContact contact closed) t = None
-flow_cause plan (WaitAny closed opened until frames) t = None
 flow_cause plan Join t = cause_if (not (is_surely_pending t.pending)) JoinIdle
-flow_cause plan Settle t = None
-flow_cause plan (Test contact target) t = None
-flow_cause plan (TestTime from to target) t = None
-flow_cause plan (Jump target) t = None
-flow_cause plan (Loop counter target) t = None
-flow_cause plan (Set counter times) t = None
-flow_cause plan End t = None
+flow_cause plan _ t = None
 
 -- for a plan that starts with this configuration
 abbrev pub start_cause : Plan → Configuration → Option Cause

@@ -1,7 +1,9 @@
 -- Typed codes: what is known at each instruction of a code, such that the code cannot trap. What an instruction needs,
 -- and what holds after it, is defined in `Rules.antt`; its names are here too.
-pub use Rattle.plan_verifier.specs.Rules.{Known, pages_alone, notice_pages, HasRoom, CanCommit, IsCertain, IsSurelyPending, IsFine, known_after_swap}
-pub use Rattle.plan_verifier.specs.Rules.{after_wait, perhaps_swapped, after_pause, after_settle, spent, rested, leaves, HasConfigurationsOf, FitsSwap, target_of, continues}
+pub use Rattle.plan_verifier.specs.Rules.{Known, pages_alone, notice_pages, HasRoom, CanCommit, IsCertain}
+pub use Rattle.plan_verifier.specs.Rules.{IsSurelyPending, IsFine, known_after_swap}
+pub use Rattle.plan_verifier.specs.Rules.{after_wait, perhaps_swapped, after_pause, after_settle, spent, rested, leaves}
+pub use Rattle.plan_verifier.specs.Rules.{HasConfigurationsOf, FitsSwap, target_of, continues}
 use Rattle.std.specs.Prelude.{◌≡◌, ℕ, ◌+◌, ◌<◌, ◌≤◌, true, List, length, slice_get, Contains, Option, Some, None}
 use Rattle.mux_config.specs.Sound.{IsSound}
 use Rattle.plan_code.specs.declared.plan.Plan.{Plan}
@@ -95,7 +97,8 @@ pub record IsTyping (code : Program) (typing : List Known) : Type 0 where
   pub each : length typing ≡ length code.lines
   pub opening : HasOpening code
   pub labels : (label : Label) → Contains code.labels label → IsLabelTyped code typing label
-  pub safe : (pc : ℕ) (i : Instr) (t : Known) → instr_at code pc ≡ Some i → slice_get typing pc ≡ Some t → IsSafe code typing pc i t
+  pub safe : (pc : ℕ) (i : Instr) (t : Known) → instr_at code pc ≡ Some i → slice_get typing pc ≡ Some t
+      → IsSafe code typing pc i t
   pub reached : (pc : ℕ) → pc < length code.lines → label_at code pc ≡ None → IsAfter code pc
 
 abbrev pub IsTyped : Program → Type 0

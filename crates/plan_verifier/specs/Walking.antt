@@ -1,6 +1,8 @@
 -- The verifier's walk over a code, as functions. No public contract refers to it.
-pub use Rattle.plan_verifier.specs.Tests.{cause_if, cause_of, ◌first_or◌, unless, is_same, is_idle, fits_swap, flow_cause, start_cause}
-use Rattle.std.specs.Prelude.{◌≡◌, ℕ, zero, suc, ◌+◌, ◌==◌, ◌&&◌, Bool, not, if◌then◌else◌, nat_lt, nat_le, List, [], ◌∷◌, length, find, Option, Some, None, Result, Ok, Err}
+pub use Rattle.plan_verifier.specs.Tests.{cause_if, cause_of, ◌first_or◌, unless, is_same, is_idle, fits_swap}
+pub use Rattle.plan_verifier.specs.Tests.{flow_cause, start_cause}
+use Rattle.std.specs.Prelude.{◌≡◌, ℕ, zero, suc, ◌+◌, ◌==◌, ◌&&◌, Bool, not, if◌then◌else◌, nat_lt, nat_le, List, []}
+use Rattle.std.specs.Prelude.{◌∷◌, length, find, Option, Some, None, Result, Ok, Err}
 use Rattle.std.specs.Int.RustNames.{bit_and}
 use Rattle.plan_code.specs.declared.plan.Plan.{Plan}
 use Rattle.plan_code.specs.declared.flags.Counters.{Counters}
@@ -88,7 +90,8 @@ abbrev pub known_at_pc : Program → Option Label → Option Known → Result Kn
 known_at_pc code None None = Err Table
 known_at_pc code None (Some t) = Ok t
 known_at_pc code (Some label) None = taken (label_cause code label) (declared_by code label)
-known_at_pc code (Some label) (Some t) = taken (entry_cause code label t first_or label_cause code label) (declared_by code label)
+known_at_pc code (Some label) (Some t) =
+    taken (entry_cause code label t first_or label_cause code label) (declared_by code label)
 
 abbrev pub entered : Program → ℕ → Option Known → Result Known Cause
 entered code zero came = opening_known code (label_at code 0)

@@ -89,27 +89,24 @@ fn run<S: Store>(plan: &Plan, instr: Instr, flow: &mut Flow<S>) -> Result<(), Ca
         Instr::WaitContact { .. } => pause(flow),
         Instr::WaitAny { .. } => pause(flow),
         Instr::Settle => settle(flow),
-        Instr::Test { .. } => {}
-        Instr::TestTime { .. } => {}
-        Instr::Jump(_) => {}
-        Instr::Loop { .. } => {}
-        Instr::Set { .. } => {}
-        Instr::End => {}
+        _ => {}
     }
     Ok(())
 }
 
 impl<S: Store> Flow<S> {
-    /// Updates the flow to what holds at the next instruction, if control continues there. Only the configurations and
-    /// the swap are checked: a loop's counter is assumed to be set, and labels are not checked.
+    /// Updates the flow to what holds at the next instruction, if control continues there. Only the
+    /// configurations and the swap are checked: a loop's counter is assumed to be set, and labels
+    /// are not checked.
     ///
     /// # Errors
     ///
-    /// The first cause in this order; the flow is then unchanged. An edit: `Pending`, where a swap is or may be
-    /// pending; `Edit`. A commit: `Pending`; `Notice`, where the delay is shorter than the notice, or `Count`, where no
-    /// swap falls on the CIF count; `Config`, where the next configuration is not sound; `NoChange`, where it is the
-    /// current one; `Round`, where there is no room for its pages. A wait: `SwapUncertain`, where it may end before or
-    /// after the swap. A join: `JoinIdle`, where a swap may not be pending.
+    /// The first cause in this order; the flow is then unchanged. An edit: `Pending`, where a swap
+    /// is or may be pending; `Edit`. A commit: `Pending`; `Notice`, where the delay is shorter than
+    /// the notice, or `Count`, where no swap falls on the CIF count; `Config`, where the next
+    /// configuration is not sound; `NoChange`, where it is the current one; `Round`, where there is
+    /// no room for its pages. A wait: `SwapUncertain`, where it may end before or after the swap. A
+    /// join: `JoinIdle`, where a swap may not be pending.
     pub fn apply(&mut self, plan: &Plan, instr: Instr) -> Result<(), Cause>
         ensures fine { (counters : Counters) (allowance : ℕ) → HasItsCounter instr counters
             → (IsOk result ↔ IsFine plan.now instr (known_with (held S.content self.old)

@@ -3,15 +3,15 @@
 use mux_config::{ConfigFault, EditFault};
 use thiserror::Error;
 
-/// Why a code is refused at an instruction. It is printed as its name; after `Edit` and `Config` comes the fault of the
-/// edit or of the configuration.
+/// Why a code is refused at an instruction. It is printed as its name; after `Edit` and `Config`
+/// comes the fault of the edit or of the configuration.
 #[derive(Clone, Copy, Debug, PartialEq, Eq, Error)]
 pub enum Cause {
     /// There is no label at the target of the instruction.
     #[error("Target")]
     Target,
-    /// A label is missing at the first instruction, or at one that the preceding instruction does not continue to; or a
-    /// label is past the last instruction.
+    /// A label is missing at the first instruction, or at one that the preceding instruction does
+    /// not continue to; or a label is past the last instruction.
     #[error("Table")]
     Table,
     /// The edit has this fault on the next configuration.
@@ -29,7 +29,8 @@ pub enum Cause {
     /// A commit whose delay is shorter than the notice.
     #[error("Notice")]
     Notice,
-    /// A commit at a CIF count of 5000 or more, or on which no swap can fall in the transmission mode.
+    /// A commit at a CIF count of 5000 or more, or on which no swap can fall in the transmission
+    /// mode.
     #[error("Count")]
     Count,
     /// A join where no swap is pending, or may not be.
@@ -47,8 +48,8 @@ pub enum Cause {
     /// More instructions may run in one frame than the budget or a label's cost allows.
     #[error("Cost")]
     Cost,
-    /// The configurations take more pages than the period has frames, or than can be sent three times within the
-    /// notice.
+    /// The configurations take more pages than the period has frames, or than can be sent three
+    /// times within the notice.
     #[error("Round")]
     Round,
     /// The last instruction continues past the end of the code.

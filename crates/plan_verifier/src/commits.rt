@@ -7,7 +7,8 @@ ghost use Rattle.plan_code.specs.Machine.{IsSwapCount};
 ghost use Rattle.plan_code.specs.declared.instr.Instr.TheVariants.{CommitIn, CommitAt};
 ghost use Rattle.plan_verifier.specs.Rules.{HasRoom, IsFine};
 ghost use Rattle.plan_verifier.specs.Flows.{held, known_at, after_instr};
-ghost use Rattle.plan_verifier.specs.Tests.{unless, is_swap_count, has_room_for_notice, change_cause, flow_cause};
+ghost use Rattle.plan_verifier.specs.Tests.{unless, is_swap_count, has_room_for_notice};
+ghost use Rattle.plan_verifier.specs.Tests.{change_cause, flow_cause};
 
 use crate::cause::Cause;
 use crate::flow::{Flow, is_idle, is_same};
@@ -16,8 +17,8 @@ use mux_config::{Store, soundness};
 use plan_code::limits::COUNTS;
 use plan_code::{Delay, Plan, Swap};
 
-/// Whether the pages of both configurations fit in the period and, three times, in the notice, and those of the next
-/// one in the period.
+/// Whether the pages of both configurations fit in the period and, three times, in the notice, and
+/// those of the next one in the period.
 fn has_room<S: Store>(plan: &Plan, flow: &Flow<S>) -> bool
     ensures value { result ≡ has_room_for_notice plan.now (known_at (held S.content flow.now)) }
     ensures room { IsTrue result ↔ HasRoom plan.now (known_at (held S.content flow.now)) }
@@ -28,8 +29,8 @@ fn has_room<S: Store>(plan: &Plan, flow: &Flow<S>) -> bool
         && pages_alone(plan, &flow.next) <= usize::from(plan.period)
 }
 
-/// Whether the next configuration can be committed when no swap is pending. Refusals: `Config`, where it is not
-/// sound, `NoChange` and `Round`.
+/// Whether the next configuration can be committed when no swap is pending. Refusals: `Config`,
+/// where it is not sound, `NoChange` and `Round`.
 fn test_change<S: Store>(plan: &Plan, flow: &Flow<S>) -> Result<(), Cause>
     ensures cause { result ≡ unless (change_cause plan.now (known_at (held S.content flow.now))) }
     ensures fine { IsOk result ↔ (IsSound (S.content flow.now.next)

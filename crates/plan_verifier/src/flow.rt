@@ -8,8 +8,8 @@ use mux_config::Store;
 use mux_config::reconfiguration::{has_same_services, has_same_subs};
 use plan_code::Swap;
 
-/// What is known of the configurations and of the swap from the current one to the next, with each configuration in a
-/// store.
+/// What is known of the configurations and of the swap from the current one to the next, with each
+/// configuration in a store.
 #[derive(Drop)]
 pub struct Flow<S: Store> {
     /// The current configuration.

@@ -1,8 +1,11 @@
-//! Flows whose configurations are in a table, and which configuration of a flow is which one of a table.
+//! Flows whose configurations are in a table, and which configuration of a flow is which one of a
+//! table.
 
 ghost use Rattle.std.specs.Prelude.{◌≡◌, List, length};
 ghost use Rattle.mux_config.specs.Configuration.{Configuration};
-ghost use Rattle.plan_verifier.specs.Indexed.{flow_at, AreAt, IsWithin, indices_of, swapped_indices, has_swapped, moved_indices, indices_after, fit_indices};
+ghost use Rattle.plan_verifier.specs.Indexed.{flow_at, AreAt, IsWithin, indices_of};
+ghost use Rattle.plan_verifier.specs.Indexed.{swapped_indices, has_swapped, moved_indices};
+ghost use Rattle.plan_verifier.specs.Indexed.{indices_after, fit_indices};
 
 use crate::flow::is_idle;
 use plan_code::{Instr, Swap};
@@ -18,8 +21,8 @@ pub struct IndexedFlow {
     pub pending: Swap,
 }
 
-/// The indices of the two configurations of a flow in a table, where these are known. An edit changes the next
-/// configuration, whose index is then unknown.
+/// The indices of the two configurations of a flow in a table, where these are known. An edit
+/// changes the next configuration, whose index is then unknown.
 #[derive(Clone, Copy)]
 pub struct Indices {
     /// The index of the current configuration.
@@ -95,8 +98,8 @@ pub(crate) fn indices_after(instr: Instr, before: Swap, after: Swap, indices: In
     }
 }
 
-/// The indices of a flow with this swap that fits another: those of the other, except for the current one if the swap
-/// may have been made.
+/// The indices of a flow with this swap that fits another: those of the other, except for the
+/// current one if the swap may have been made.
 pub(crate) fn fit_indices(pending: Swap, other: &IndexedFlow) -> Indices
     ensures { result ≡ fit_indices pending other.now }
 {

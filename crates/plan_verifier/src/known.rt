@@ -10,7 +10,8 @@ use plan_code::Counters;
 /// What is known whenever the machine reaches an instruction, with each configuration in a store.
 #[derive(Drop)]
 pub(crate) struct KnownState<S: Store> {
-    /// What is known of the configurations and the swap, and where the configurations are in the code's table.
+    /// What is known of the configurations and the swap, and where the configurations are in the
+    /// code's table.
     pub(crate) tracked: TrackedFlow<S>,
     /// Counters that are certainly set.
     pub(crate) counters: Counters,

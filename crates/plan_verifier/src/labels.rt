@@ -4,7 +4,8 @@ ghost use Rattle.std.specs.Prelude.{◌≡◌, ℕ, length, IfSome};
 ghost use Rattle.plan_code.specs.Program.{IsProgram, IsLabel, label_at};
 ghost use Rattle.plan_verifier.specs.Indexed.{IsTracked};
 ghost use Rattle.plan_verifier.specs.Held.{known_of, flow_of_label};
-ghost use Rattle.plan_verifier.specs.Walking.{unless, is_fit, declared_by, entry_cause, label_cause};
+ghost use Rattle.plan_verifier.specs.Walking.{unless, is_fit, declared_by, entry_cause};
+ghost use Rattle.plan_verifier.specs.Walking.{label_cause};
 
 use crate::known::{KnownState, includes};
 use crate::{Cause, IndexedFlow};
@@ -42,8 +43,9 @@ fn is_fit<S: Store>(code: &Code, label: &Label, state: &KnownState<S>) -> bool
     includes(state.counters, label.counters) && state.tracked.fits(code.configs(), &flow_of(label))
 }
 
-/// Checks that the state fits what a label declares, and notes where its configurations are then. Refusals:
-/// `Mismatch`, where it does not fit, and `Cost`, where this allowance is below the label's cost.
+/// Checks that the state fits what a label declares, and notes where its configurations are then.
+/// Refusals: `Mismatch`, where it does not fit, and `Cost`, where this allowance is below the
+/// label's cost.
 pub(crate) fn test_entry<S: Store>(
     code: &Code,
     label: &Label,

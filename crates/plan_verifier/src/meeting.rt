@@ -17,7 +17,8 @@ fn has<S: Store, T: Store>(flow: &Flow<S>, current: &T, next: &T) -> bool
     is_same(&flow.current, current) && is_same(&flow.next, next)
 }
 
-/// Whether two paths can merge: each fits the merged flow. The one whose configurations that flow has fits it anyway.
+/// Whether two paths can merge: each fits the merged flow. The one whose configurations that flow
+/// has fits it anyway.
 fn agree<S: Store>(first: &Flow<S>, second: &Flow<S>) -> bool
     ensures { IsTrue result ↔ (FitsFlow (held S.content first.now) (merged
         (held S.content first.now) (held S.content second.now)) × FitsFlow
@@ -53,7 +54,8 @@ impl<S: Store> Flow<S> {
         }
     }
 
-    /// Merges this path with another. False where one of them does not fit the merged flow; this one is then unchanged.
+    /// Merges this path with another. False where one of them does not fit the merged flow; this
+    /// one is then unchanged.
     pub fn meet(&mut self, other: &Flow<S>) -> bool
         ensures met { result ≡ true → held S.content self.new ≡ merged (held S.content self.old)
             (held S.content other.now) }

@@ -8,7 +8,8 @@ use fib_carousel::pages;
 use mux_config::Store;
 use plan_code::Plan;
 
-/// The number of pages that the current and the next configuration take together, in the frames of a notice.
+/// The number of pages that the current and the next configuration take together, in the frames of
+/// a notice.
 pub(crate) fn notice_pages<'a, S: Store>(plan: &Plan, current: &'a S, next: &'a S) -> usize
     ensures { result ≡ rounds plan.now.layout (page_set (S.content current.now) (Some
         (S.content next.now))) }

@@ -10,21 +10,8 @@ pub fn commits(instr: Instr) -> bool
     ensures { result ≡ commits instr }
 {
     match instr {
-        Instr::CommitIn(_) => true,
-        Instr::CommitAt(_) => true,
-        Instr::Edit(_) => false,
-        Instr::Wait(_) => false,
-        Instr::Until(_) => false,
-        Instr::WaitContact { .. } => false,
-        Instr::WaitAny { .. } => false,
-        Instr::Join => false,
-        Instr::Settle => false,
-        Instr::End => false,
-        Instr::Test { .. } => false,
-        Instr::TestTime { .. } => false,
-        Instr::Jump(_) => false,
-        Instr::Set { .. } => false,
-        Instr::Loop { .. } => false,
+        Instr::CommitIn(_) | Instr::CommitAt(_) => true,
+        _ => false,
     }
 }
 
@@ -33,21 +20,8 @@ pub fn continues(instr: Instr) -> bool
     ensures { result ≡ continues instr }
 {
     match instr {
-        Instr::Jump(_) => false,
-        Instr::End => false,
-        Instr::Edit(_) => true,
-        Instr::CommitIn(_) => true,
-        Instr::CommitAt(_) => true,
-        Instr::Wait(_) => true,
-        Instr::Until(_) => true,
-        Instr::WaitContact { .. } => true,
-        Instr::WaitAny { .. } => true,
-        Instr::Join => true,
-        Instr::Settle => true,
-        Instr::Test { .. } => true,
-        Instr::TestTime { .. } => true,
-        Instr::Set { .. } => true,
-        Instr::Loop { .. } => true,
+        Instr::Jump(_) | Instr::End => false,
+        _ => true,
     }
 }
 
@@ -56,21 +30,9 @@ pub fn suspends(instr: Instr) -> bool
     ensures { result ≡ suspends instr }
 {
     match instr {
-        Instr::Wait(_) => true,
-        Instr::Until(_) => true,
-        Instr::WaitContact { .. } => true,
-        Instr::WaitAny { .. } => true,
-        Instr::Join => true,
-        Instr::End => true,
-        Instr::Edit(_) => false,
-        Instr::CommitIn(_) => false,
-        Instr::CommitAt(_) => false,
-        Instr::Settle => false,
-        Instr::Test { .. } => false,
-        Instr::TestTime { .. } => false,
-        Instr::Jump(_) => false,
-        Instr::Set { .. } => false,
-        Instr::Loop { .. } => false,
+        Instr::Wait(_) | Instr::Until(_) | Instr::WaitContact { .. } => true,
+        Instr::WaitAny { .. } | Instr::Join | Instr::End => true,
+        _ => false,
     }
 }
 
@@ -79,20 +41,8 @@ pub fn target_of(instr: Instr) -> Option<u16>
     ensures { result ≡ target_of instr }
 {
     match instr {
-        Instr::Test { target, .. } => Some(target),
-        Instr::TestTime { target, .. } => Some(target),
-        Instr::Jump(target) => Some(target),
-        Instr::Loop { target, .. } => Some(target),
-        Instr::Edit(_) => None,
-        Instr::CommitIn(_) => None,
-        Instr::CommitAt(_) => None,
-        Instr::Wait(_) => None,
-        Instr::Until(_) => None,
-        Instr::WaitContact { .. } => None,
-        Instr::WaitAny { .. } => None,
-        Instr::Join => None,
-        Instr::Settle => None,
-        Instr::Set { .. } => None,
-        Instr::End => None,
+        Instr::Test { target, .. } | Instr::TestTime { target, .. } => Some(target),
+        Instr::Jump(target) | Instr::Loop { target, .. } => Some(target),
+        _ => None,
     }
 }

@@ -10,8 +10,8 @@ use crate::pages::pages_alone;
 use mux_config::{Store, soundness};
 use plan_code::Plan;
 
-/// Whether a plan can start with this configuration. Refusals, in this order: `Config`, where it is not sound, and
-/// `Round`, where its pages take longer than the period.
+/// Whether a plan can start with this configuration. Refusals, in this order: `Config`, where it is
+/// not sound, and `Round`, where its pages take longer than the period.
 pub fn test_opening<S: Store>(plan: &Plan, opening: &S) -> Result<(), Cause>
     ensures cause { result ≡ unless (start_cause plan.now (S.content opening.now)) }
     ensures fine { IsOk result ↔ (IsSound (S.content opening.now)

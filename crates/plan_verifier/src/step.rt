@@ -7,7 +7,8 @@ ghost use Rattle.plan_verifier.specs.Flows.{flow_of, known_with, after_instr, se
 ghost use Rattle.plan_verifier.specs.Indexed.{IsTracked};
 ghost use Rattle.plan_verifier.specs.Held.{known_of};
 ghost use Rattle.plan_verifier.specs.Typing.{leaves, spent, continues};
-ghost use Rattle.plan_verifier.specs.Walking.{unless, flow_cause, target_cause, instr_cause, known_cause, jump_cause, instr_or_end};
+ghost use Rattle.plan_verifier.specs.Walking.{unless, flow_cause, target_cause, instr_cause};
+ghost use Rattle.plan_verifier.specs.Walking.{known_cause, jump_cause, instr_or_end};
 
 use crate::Cause;
 use crate::known::KnownState;
@@ -16,7 +17,8 @@ use crate::properties::continues;
 use mux_config::Store;
 use plan_code::{Code, Instr, Plan};
 
-/// Checks a jump to the label at the target. Refusals: `Target`, where there is none, `Mismatch` and `Cost`.
+/// Checks a jump to the label at the target. Refusals: `Target`, where there is none, `Mismatch`
+/// and `Cost`.
 fn test_jump<S: Store>(code: &Code, target: u16, state: &mut KnownState<S>) -> Result<(), Cause>
     requires allowance { 1 ≤ state.old.allowance }
     requires tracked { IsTracked S.content code.now.configurations state.old.tracked }
@@ -32,8 +34,8 @@ fn test_jump<S: Store>(code: &Code, target: u16, state: &mut KnownState<S>) -> R
     }
 }
 
-/// Checks the jump of an instruction, if it has one. Refusals: `CounterUnset`, where a loop's counter may not
-/// be set, `Target`, `Mismatch` and `Cost`.
+/// Checks the jump of an instruction, if it has one. Refusals: `CounterUnset`, where a loop's
+/// counter may not be set, `Target`, `Mismatch` and `Cost`.
 fn test_target<S: Store>(code: &Code, instr: Instr, state: &mut KnownState<S>) -> Result<(), Cause>
     requires allowance { 1 ≤ state.old.allowance }
     requires tracked { IsTracked S.content code.now.configurations state.old.tracked }
@@ -67,7 +69,8 @@ fn test_target<S: Store>(code: &Code, instr: Instr, state: &mut KnownState<S>) -
     }
 }
 
-/// Updates the configurations and the swap for an instruction, or returns the first cause for refusing it.
+/// Updates the configurations and the swap for an instruction, or returns the first cause for
+/// refusing it.
 fn advance<S: Store>(plan: &Plan, instr: Instr, state: &mut KnownState<S>) -> Result<(), Cause>
     ensures cause { result ≡ unless (flow_cause plan.now instr (known_of S.content state.old)) }
     ensures left { OnOk result (known_of S.content state.new

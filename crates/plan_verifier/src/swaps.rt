@@ -1,7 +1,8 @@
 //! How waiting affects a pending swap.
 
 ghost use Rattle.std.specs.Prelude.{◌≡◌};
-ghost use Rattle.plan_verifier.specs.Rules.{known_after_swap, after_wait, perhaps_swapped, after_pause, after_settle};
+ghost use Rattle.plan_verifier.specs.Rules.{known_after_swap, after_wait, perhaps_swapped};
+ghost use Rattle.plan_verifier.specs.Rules.{after_pause, after_settle};
 ghost use Rattle.plan_verifier.specs.Flows.{held, known_at, flow_of};
 ghost use Rattle.plan_verifier.specs.Tests.{is_certain, is_surely_pending};
 
@@ -9,8 +10,8 @@ use crate::flow::Flow;
 use mux_config::Store;
 use plan_code::Swap;
 
-/// Whether a wait of this many frames certainly ends before the swap, or certainly not before it. A swap that may
-/// already have been made may also fall during the wait.
+/// Whether a wait of this many frames certainly ends before the swap, or certainly not before it. A
+/// swap that may already have been made may also fall during the wait.
 pub(crate) fn is_certain(frames: u16, pending: Swap) -> bool
     ensures { result ≡ is_certain frames pending }
 {

@@ -1,13 +1,16 @@
 //! A flow of which it is known where its configurations are in a table.
 
-ghost use Rattle.std.specs.Prelude.{◌≡◌, ◌↔◌, ◌<◌, ◌&&◌, ℕ, List, length, None, true, false, if◌then◌else◌, IsTrue, IsOk, OnOk, IfErr};
+ghost use Rattle.std.specs.Prelude.{◌≡◌, ◌↔◌, ◌<◌, ◌&&◌, ℕ, List, length, None, true, false};
+ghost use Rattle.std.specs.Prelude.{if◌then◌else◌, IsTrue, IsOk, OnOk, IfErr};
 ghost use Rattle.mux_config.specs.Configuration.{Configuration};
 ghost use Rattle.plan_code.specs.declared.flags.Counters.{Counters};
 ghost use Rattle.plan_verifier.specs.Rules.{IsFine};
 ghost use Rattle.plan_verifier.specs.Causes.{FlowRefused};
-ghost use Rattle.plan_verifier.specs.Flows.{held, known_at, known_with, after_instr, merged, FitsFlow, HasItsCounter};
+ghost use Rattle.plan_verifier.specs.Flows.{held, known_at, known_with, after_instr, merged};
+ghost use Rattle.plan_verifier.specs.Flows.{FitsFlow, HasItsCounter};
 ghost use Rattle.plan_verifier.specs.Tests.{unless, flow_cause, fits_swap, is_idle, is_same};
-ghost use Rattle.plan_verifier.specs.Indexed.{configuration_at, flow_at, IsAt, IsTracked, IsWithin, indices_of, indices_after, fit_indices};
+ghost use Rattle.plan_verifier.specs.Indexed.{configuration_at, flow_at, IsAt, IsTracked, IsWithin};
+ghost use Rattle.plan_verifier.specs.Indexed.{indices_of, indices_after, fit_indices};
 
 use crate::cause::Cause;
 use crate::fitting::{Condition, needed, widest};
@@ -16,7 +19,8 @@ use crate::indices::{IndexedFlow, Indices, fit_indices, indices_after};
 use mux_config::{Config, Store};
 use plan_code::{Instr, Plan, Swap};
 
-/// A flow, and where its configurations are in a table. What is known to be there is neither compared nor copied.
+/// A flow, and where its configurations are in a table. What is known to be there is neither
+/// compared nor copied.
 #[derive(Drop)]
 pub struct TrackedFlow<S: Store> {
     /// What is known of the configurations and the swap.
@@ -68,7 +72,8 @@ impl<S: Store> TrackedFlow<S> {
         }
     }
 
-    /// Updates the flow to what holds at the next instruction, as [`Flow::apply`], and the indices with it.
+    /// Updates the flow to what holds at the next instruction, as [`Flow::apply`], and the indices
+    /// with it.
     ///
     /// # Errors
     ///
@@ -139,8 +144,8 @@ impl<S: Store> TrackedFlow<S> {
         }
     }
 
-    /// Whether another flow, with its configurations in this table, implies what this one says but for the swap, which
-    /// is the given one.
+    /// Whether another flow, with its configurations in this table, implies what this one says but
+    /// for the swap, which is the given one.
     fn is_fit_by(&self, table: &[Config], other: &IndexedFlow, pending: Swap) -> bool
         requires within { IsWithin (length table.now) other.now }
         requires tracked { IsTracked S.content table.now self.now }
@@ -154,8 +159,9 @@ impl<S: Store> TrackedFlow<S> {
         }
     }
 
-    /// Notes where the configurations are of a flow that fits another, with its configurations in a table: where those
-    /// of the other are, except for the current one if the swap may have been made.
+    /// Notes where the configurations are of a flow that fits another, with its configurations in a
+    /// table: where those of the other are, except for the current one if the swap may have been
+    /// made.
     pub fn note_fit(&mut self, other: &IndexedFlow)
         ensures flow { self.new.flow ≡ self.old.flow }
         ensures indices { self.new.indices ≡ fit_indices self.old.flow.pending other.now }
@@ -166,7 +172,8 @@ impl<S: Store> TrackedFlow<S> {
         self.indices = fit_indices(self.flow.pending, other);
     }
 
-    /// Becomes another flow, with its configurations in this table. Copies what is not known to be in place already.
+    /// Becomes another flow, with its configurations in this table. Copies what is not known to be
+    /// in place already.
     pub fn take(&mut self, table: &[Config], other: &IndexedFlow)
         requires within { IsWithin (length table.now) other.now }
         requires tracked { IsTracked S.content table.now self.old }
@@ -185,8 +192,8 @@ impl<S: Store> TrackedFlow<S> {
         self.indices = other.indices();
     }
 
-    /// Whether this path and another can merge: each fits the merged flow. The one whose configurations that flow has
-    /// fits it anyway.
+    /// Whether this path and another can merge: each fits the merged flow. The one whose
+    /// configurations that flow has fits it anyway.
     fn agrees(&self, table: &[Config], other: &IndexedFlow) -> bool
         requires within { IsWithin (length table.now) other.now }
         requires tracked { IsTracked S.content table.now self.now }
@@ -202,8 +209,8 @@ impl<S: Store> TrackedFlow<S> {
         self.is_fit_by(table, other, pending)
     }
 
-    /// Merges this path with another, with its configurations in this table. False where one of them does not fit the
-    /// merged flow; this one is then unchanged.
+    /// Merges this path with another, with its configurations in this table. False where one of
+    /// them does not fit the merged flow; this one is then unchanged.
     pub fn meet(&mut self, table: &[Config], other: &IndexedFlow) -> bool
         requires within { IsWithin (length table.now) other.now }
         requires tracked { IsTracked S.content table.now self.old }

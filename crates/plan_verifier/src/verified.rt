@@ -11,7 +11,8 @@ use mux_config::Store;
 use plan_code::Code;
 use std::marker::Model;
 
-/// A code that `verify` has accepted: it is typed. In contracts it is the program that the code represents.
+/// A code that `verify` has accepted: it is typed. In contracts it is the program that the code
+/// represents.
 #[derive(Drop)]
 pub struct Verified {
     code: Code,
@@ -44,22 +45,25 @@ impl Verified {
 pub struct Refused {
     /// The code.
     pub code: Code,
-    /// The index of the instruction at which it is refused, from 0; or the pc of a label past the last instruction.
+    /// The index of the instruction at which it is refused, from 0; or the pc of a label past the
+    /// last instruction.
     pub pc: u16,
     /// Why it is refused there.
     pub cause: Cause,
 }
 
-/// Checks that a code is typed: then no playback of it traps, for any frames and contact changes. It makes one pass
-/// over the code from its first instruction, with two configurations in stores of this type, and does not allocate.
+/// Checks that a code is typed: then no playback of it traps, for any frames and contact changes.
+/// It makes one pass over the code from its first instruction, with two configurations in stores of
+/// this type, and does not allocate.
 ///
-/// `Refused` returns the code, with the first instruction that has a cause and its first cause, in this order. First
-/// instruction: `Table`, where it has no label; `Mismatch`, where its label declares two different configurations, a
-/// pending swap or a counter; `Cost`, where the label's cost is over the budget; `Config`, where its configuration is
-/// not sound; `Round`, where its pages take longer than the period. Other instructions: `Mismatch` and `Cost` at a
-/// label; `Table`, without a label after an instruction that does not continue. All instructions: `Cost`, where no
-/// allowance is left; the causes of the instruction itself; `FallsOff`, where the last one continues. Last of all,
-/// `Table` at the first label past the last instruction.
+/// `Refused` returns the code, with the first instruction that has a cause and its first cause, in
+/// this order. First instruction: `Table`, where it has no label; `Mismatch`, where its label
+/// declares two different configurations, a pending swap or a counter; `Cost`, where the label's
+/// cost is over the budget; `Config`, where its configuration is not sound; `Round`, where its
+/// pages take longer than the period. Other instructions: `Mismatch` and `Cost` at a label;
+/// `Table`, without a label after an instruction that does not continue. All instructions: `Cost`,
+/// where no allowance is left; the causes of the instruction itself; `FallsOff`, where the last one
+/// continues. Last of all, `Table` at the first label past the last instruction.
 pub fn verify<S: Store>(code: Code) -> Result<Verified, Refused>
     ensures typed { IsOk result ↔ IsTyped code }
     ensures same { IfOk result (λ v. v ≡ code) }

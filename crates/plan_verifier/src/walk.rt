@@ -5,7 +5,10 @@ ghost use Rattle.plan_code.specs.Program.{IsProgram, instr_at, label_at};
 ghost use Rattle.plan_verifier.specs.Indexed.{IsTracked};
 ghost use Rattle.plan_verifier.specs.Held.{known_of};
 ghost use Rattle.plan_verifier.specs.Typing.{leaves, continues};
-ghost use Rattle.plan_verifier.specs.Walking.{whole_cause, opening_known, known_at_pc, entered, known_if_reached, known_cause, past_end, walk, refusal_of, opening_cause, is_initial, unless, PassesInstr, instr_or_end};
+ghost use Rattle.plan_verifier.specs.Walking.{whole_cause, opening_known, known_at_pc, entered};
+ghost use Rattle.plan_verifier.specs.Walking.{known_if_reached, known_cause, past_end, walk};
+ghost use Rattle.plan_verifier.specs.Walking.{refusal_of, opening_cause, is_initial, unless};
+ghost use Rattle.plan_verifier.specs.Walking.{PassesInstr, instr_or_end};
 
 use crate::flow::{is_idle, is_same};
 use crate::known::KnownState;
@@ -17,7 +20,8 @@ use crate::{Cause, Flow, TrackedFlow, test_opening};
 use mux_config::Store;
 use plan_code::{Code, Counters, Label, Swap};
 
-/// Whether a code can start in this state: equal configurations, no pending swap and no counter set.
+/// Whether a code can start in this state: equal configurations, no pending swap and no counter
+/// set.
 fn is_initial<S: Store>(state: &KnownState<S>) -> bool
     ensures { result ≡ is_initial (known_of S.content state.now) }
 {
@@ -26,8 +30,8 @@ fn is_initial<S: Store>(state: &KnownState<S>) -> bool
         && is_same(&state.tracked.flow.current, &state.tracked.flow.next)
 }
 
-/// Checks that a code can start in the state of its first label. Refusals, in this order: `Mismatch`, `Cost`, `Config`
-/// and `Round`.
+/// Checks that a code can start in the state of its first label. Refusals, in this order:
+/// `Mismatch`, `Cost`, `Config` and `Round`.
 fn test_first<S: Store>(code: &Code, label: &Label, state: &KnownState<S>) -> Result<(), Cause>
     ensures { result ≡ unless (opening_cause code.now label.now (known_of S.content state.now)) }
 {
@@ -56,8 +60,8 @@ fn open<S: Store>(code: &Code, state: &mut KnownState<S>) -> Result<(), Cause>
     }
 }
 
-/// Updates the state at a later instruction, where `comes` says whether the preceding one continues to it; or returns
-/// why the code is refused there.
+/// Updates the state at a later instruction, where `comes` says whether the preceding one continues
+/// to it; or returns why the code is refused there.
 fn enter<S: Store>(
     code: &Code,
     pc: u16,

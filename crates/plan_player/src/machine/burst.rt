@@ -16,12 +16,7 @@ fn is_running(hold: Hold) -> bool
 {
     match hold {
         Hold::Running => true,
-        Hold::Waits(_) => false,
-        Hold::WaitsDay(_) => false,
-        Hold::WaitsContact { .. } => false,
-        Hold::WaitsAny { .. } => false,
-        Hold::WaitsSwap => false,
-        Hold::Ended => false,
+        _ => false,
     }
 }
 
@@ -35,8 +30,8 @@ fn step<S: Store>(code: &Code, plan: &Plan, machine: &mut Machine<S>)
     carry_out(plan, instr, machine);
 }
 
-/// Executes instructions until one suspends, and returns their number; none of them traps, and they are within the
-/// budget. Neither traps nor the budget are tested for.
+/// Executes instructions until one suspends, and returns their number; none of them traps, and they
+/// are within the budget. Neither traps nor the budget are tested for.
 #[tactic(auto, using(crate::proofs::Remaining::remains_all, crate::proofs::Remaining::stops))]
 pub(crate) fn run<S: Store>(code: &Code, machine: &mut Machine<S>) -> u8
     requires { CanRun code.now (state_of S.content machine.old) }

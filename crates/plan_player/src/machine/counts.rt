@@ -13,25 +13,22 @@ use mux_config::Store;
 use plan_code::Hold;
 use plan_code::limits::{COUNTS, FRAMES_A_DAY};
 
-/// The number of frames until the swap, one frame later.
-fn left_after_frame(left: Option<u16>) -> Option<u16>
-    ensures { result ≡ left_after_frame left }
+/// The number of frames until the swap, this many frames later.
+fn left_later(left: Option<u16>, frames: u16) -> Option<u16>
+    ensures { result ≡ left_later frames left }
 {
     match left {
         None => None,
-        Some(left) => Some(left.saturating_sub(1)),
+        Some(left) => Some(left.saturating_sub(frames)),
     }
 }
 
-/// The wait condition, one frame later.
-fn hold_after_frame(hold: Hold) -> Hold
-    ensures { result ≡ hold_after_frame hold }
+/// The wait condition, this many frames later.
+fn hold_later(hold: Hold, frames: u16) -> Hold
+    ensures { result ≡ hold_later frames hold }
 {
     match hold {
-        Hold::Running => Hold::Running,
-        Hold::Waits(frames) => Hold::Waits(frames.saturating_sub(1)),
-        Hold::WaitsDay(frame) => Hold::WaitsDay(frame),
-        Hold::WaitsContact { contact, closed } => Hold::WaitsContact { contact, closed },
+        Hold::Waits(left) => Hold::Waits(left.saturating_sub(frames)),
         Hold::WaitsAny {
             closed,
             opened,
@@ -41,11 +38,24 @@ fn hold_after_frame(hold: Hold) -> Hold
             closed,
             opened,
             until,
-            left: left_after_frame(left),
+            left: left_later(left, frames),
         },
-        Hold::WaitsSwap => Hold::WaitsSwap,
-        Hold::Ended => Hold::Ended,
+        _ => hold,
     }
+}
+
+/// The number of frames until the swap, one frame later.
+fn left_after_frame(left: Option<u16>) -> Option<u16>
+    ensures { result ≡ left_after_frame left }
+{
+    left_later(left, 1)
+}
+
+/// The wait condition, one frame later.
+fn hold_after_frame(hold: Hold) -> Hold
+    ensures { result ≡ hold_after_frame hold }
+{
+    hold_later(hold, 1)
 }
 
 /// The CIF count after this one: 0 again after 4999 (EN 300 401 clause 5.1).
@@ -94,8 +104,8 @@ pub(crate) fn page_after(pages: usize, page: u8) -> u8
     }
 }
 
-/// Ends a frame: advances the CIF count and the frame of the day, counts down a pending swap and a wait, and sets the
-/// page in turn.
+/// Ends a frame: advances the CIF count and the frame of the day, counts down a pending swap and a
+/// wait, and sets the page in turn.
 pub(crate) fn pass<S: Store>(page_index: u8, machine: &mut Machine<S>)
     ensures { (plan : Plan) → state_of S.content machine.new
         ≡ record (with_next_counts plan (state_of S.content machine.old)) {
@@ -109,41 +119,6 @@ pub(crate) fn pass<S: Store>(page_index: u8, machine: &mut Machine<S>)
     machine.page_index = page_index;
 }
 
-/// The number of frames until the swap, this many frames later.
-fn left_later(left: Option<u16>, frames: u16) -> Option<u16>
-    ensures { result ≡ left_later frames left }
-{
-    match left {
-        None => None,
-        Some(left) => Some(left.saturating_sub(frames)),
-    }
-}
-
-/// The wait condition, this many frames later.
-fn hold_later(hold: Hold, frames: u16) -> Hold
-    ensures { result ≡ hold_later frames hold }
-{
-    match hold {
-        Hold::Running => Hold::Running,
-        Hold::Waits(left) => Hold::Waits(left.saturating_sub(frames)),
-        Hold::WaitsDay(frame) => Hold::WaitsDay(frame),
-        Hold::WaitsContact { contact, closed } => Hold::WaitsContact { contact, closed },
-        Hold::WaitsAny {
-            closed,
-            opened,
-            until,
-            left,
-        } => Hold::WaitsAny {
-            closed,
-            opened,
-            until,
-            left: left_later(left, frames),
-        },
-        Hold::WaitsSwap => Hold::WaitsSwap,
-        Hold::Ended => Hold::Ended,
-    }
-}
-
 /// The page in turn this many frames after `page`, with this many pages.
 fn page_later(pages: u8, page: u8, frames: u16) -> u8
     requires { page < pages }
@@ -152,7 +127,8 @@ fn page_later(pages: u8, page: u8, frames: u16) -> u8
     ((u32::from(page) + u32::from(frames)) % u32::from(pages)) as u8
 }
 
-/// Ends this many frames at once, at least one, in each of which what is sent takes this many pages.
+/// Ends this many frames at once, at least one, in each of which what is sent takes this many
+/// pages.
 pub(crate) fn pass_many<S: Store>(pages: u8, frames: u16, machine: &mut Machine<S>)
     requires some { 1 ≤ frames }
     requires within { machine.old.page_index < pages }

@@ -1,7 +1,8 @@
 //! The first step of a frame: a due swap, and the end of a wait.
 
 ghost use Rattle.std.specs.Prelude.{◌≡◌};
-ghost use Rattle.plan_runs.specs.Frames.{is_due, is_day, is_any_here, is_here, hold_after_swap, with_swap, with_hold_ended, ready};
+ghost use Rattle.plan_runs.specs.Frames.{is_due, is_day, is_any_here, is_here, hold_after_swap};
+ghost use Rattle.plan_runs.specs.Frames.{with_swap, with_hold_ended, ready};
 ghost use Rattle.plan_player.specs.Positions.{state_of};
 
 use super::Machine;
@@ -23,27 +24,13 @@ fn hold_after_swap(hold: Hold) -> Hold
     ensures { result ≡ hold_after_swap hold }
 {
     match hold {
-        Hold::Running => Hold::Running,
         Hold::WaitsSwap => Hold::Running,
-        Hold::Waits(frames) => Hold::Waits(frames),
-        Hold::WaitsDay(frame) => Hold::WaitsDay(frame),
-        Hold::WaitsContact { contact, closed } => Hold::WaitsContact { contact, closed },
-        Hold::WaitsAny {
-            closed,
-            opened,
-            until,
-            left,
-        } => Hold::WaitsAny {
-            closed,
-            opened,
-            until,
-            left,
-        },
-        Hold::Ended => Hold::Ended,
+        _ => hold,
     }
 }
 
-/// Makes the swap: the next configuration becomes the current one, a wait for the swap ends, and page 0 is in turn.
+/// Makes the swap: the next configuration becomes the current one, a wait for the swap ends, and
+/// page 0 is in turn.
 fn swap<S: Store>(machine: &mut Machine<S>)
     ensures { state_of S.content machine.new ≡ with_swap (state_of S.content machine.old) }
 {
@@ -109,8 +96,8 @@ fn end_hold<S: Store>(machine: &mut Machine<S>)
     }
 }
 
-/// Begins a frame: makes a due swap, and then resumes the machine if its wait condition is met. Returns whether a swap
-/// was made.
+/// Begins a frame: makes a due swap, and then resumes the machine if its wait condition is met.
+/// Returns whether a swap was made.
 pub(crate) fn begin<S: Store>(machine: &mut Machine<S>) -> bool
     ensures state { state_of S.content machine.new ≡ ready (state_of S.content machine.old) }
     ensures swapped { result ≡ is_due machine.old.left }

@@ -1,9 +1,12 @@
 //! Executing one instruction that doesn't trap.
 
 ghost use Rattle.std.specs.Prelude.{◌≡◌, ◌<◌};
-ghost use Rattle.plan_code.specs.Machine.{HasNoFault, IsAllowed, IsCounterSet, frames_until, is_in_window, effect, suspend};
+ghost use Rattle.plan_code.specs.Machine.{HasNoFault, IsAllowed, IsCounterSet, frames_until};
+ghost use Rattle.plan_code.specs.Machine.{is_in_window, effect, suspend};
 ghost use Rattle.plan_code.specs.declared.plan.Plan.{Plan as AnyPlan};
-ghost use Rattle.plan_code.specs.declared.instr.Instr.TheVariants.{WaitAny, CommitIn, CommitAt, Settle, Edit as Edits, Test, TestTime, Jump, Set, Loop, End};
+ghost use Rattle.plan_code.specs.declared.instr.Instr.TheVariants.{WaitAny, CommitIn, CommitAt};
+ghost use Rattle.plan_code.specs.declared.instr.Instr.TheVariants.{Settle, Edit as Edits, Test};
+ghost use Rattle.plan_code.specs.declared.instr.Instr.TheVariants.{TestTime, Jump, Set, Loop, End};
 ghost use Rattle.plan_player.specs.Positions.{state_of};
 
 use super::Machine;
@@ -176,8 +179,8 @@ fn repeat<S: Store>(counter: CounterId, target: u16, machine: &mut Machine<S>)
     }
 }
 
-/// Executes an instruction that doesn't trap, without testing for traps. Its pc is not the largest `u16`, so that the
-/// next one exists.
+/// Executes an instruction that doesn't trap, without testing for traps. Its pc is not the largest
+/// `u16`, so that the next one exists.
 pub(crate) fn carry_out<S: Store>(plan: &Plan, instr: Instr, machine: &mut Machine<S>)
     requires within { machine.old.pc < 65535 }
     requires allowed { IsAllowed plan.now instr (state_of S.content machine.old) }

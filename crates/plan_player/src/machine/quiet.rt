@@ -39,7 +39,8 @@ fn before_day(day: u32, frame: u32) -> u32
     }
 }
 
-/// The number of frames before this frame of the day, if there is one, and before the end of the day.
+/// The number of frames before this frame of the day, if there is one, and before the end of the
+/// day.
 fn before_until(day: u32, until: Option<DayFrame>) -> u32
     ensures { IfSome until (DayIsAway day result) }
 {
@@ -107,8 +108,8 @@ fn before_resuming<S: Store>(machine: &Machine<S>) -> u32
     }
 }
 
-/// A number of frames, at most `most`, that are quiet from this one on. It may be smaller than possible, since frames
-/// are not tested one by one.
+/// A number of frames, at most `most`, that are quiet from this one on. It may be smaller than
+/// possible, since frames are not tested one by one.
 pub(crate) fn quiet_frames<S: Store>(code: &Code, machine: &Machine<S>, most: u32) -> u32
     ensures quiet { AreQuiet code.now result (state_of S.content machine.now) }
     ensures bound { result ≤ most }

@@ -5,7 +5,8 @@ ghost use Rattle.std.specs.Option.{option_map, option_copied};
 ghost use Rattle.mux_config.specs.Change.{change_of, bits_of};
 ghost use Rattle.fib_codec.specs.Modes.{count_step};
 ghost use Rattle.fib_codec.specs.Ranges.{IsEnsembleInformation};
-ghost use Rattle.plan_runs.specs.Frames.{is_noticed, is_first_noticed, low_of_swap, announced_next, ensemble_sent};
+ghost use Rattle.plan_runs.specs.Frames.{is_noticed, is_first_noticed, low_of_swap, announced_next};
+ghost use Rattle.plan_runs.specs.Frames.{ensemble_sent};
 ghost use Rattle.plan_player.specs.Positions.{state_of, with_notice_begun};
 ghost use Rattle.plan_player.specs.Stretch.{header_of, ensemble_at};
 
@@ -14,7 +15,8 @@ use mux_config::{Ensemble, Store};
 use plan_code::limits::COUNTS;
 use plan_code::{Mode, Plan};
 
-/// Whether a frame is in the notice: from this many frames before the swap to the last one before it.
+/// Whether a frame is in the notice: from this many frames before the swap to the last one before
+/// it.
 pub(crate) fn is_noticed(notice: u8, left: Option<u16>) -> bool
     ensures { result ≡ is_noticed notice left }
 {
@@ -34,8 +36,8 @@ pub(crate) fn is_first_noticed(notice: u8, left: Option<u16>) -> bool
     }
 }
 
-/// Begins a notice: page 0 is in turn in its first frame. Returns whether the frame is the first of a notice.
-/// To be called after the frame's instructions.
+/// Begins a notice: page 0 is in turn in its first frame. Returns whether the frame is the first of
+/// a notice. To be called after the frame's instructions.
 pub(crate) fn begin_notice<S: Store>(plan: &Plan, machine: &mut Machine<S>) -> bool
     ensures state { state_of S.content machine.new ≡
         with_notice_begun plan.now (state_of S.content machine.old) }
@@ -82,8 +84,8 @@ pub(crate) fn is_on_step(mode: Mode, count: u16) -> bool
     }
 }
 
-/// The content of FIG 0/0 except for the CIF count (EN 300 401 clause 6.4): the same throughout a notice, and
-/// throughout the frames outside of a notice.
+/// The content of FIG 0/0 except for the CIF count (EN 300 401 clause 6.4): the same throughout a
+/// notice, and throughout the frames outside of a notice.
 #[derive(Clone, Copy, Debug, PartialEq, Eq)]
 pub(crate) struct Header {
     eid: u16,
@@ -113,8 +115,9 @@ impl Header {
     }
 }
 
-/// The content of FIG 0/0 except for the count: in a notice the change flags and the low part of the swap's count,
-/// otherwise neither. In a notice `change` has to be the flags of the pending change.
+/// The content of FIG 0/0 except for the count: in a notice the change flags and the low part of
+/// the swap's count, otherwise neither. In a notice `change` has to be the flags of the pending
+/// change.
 pub(crate) fn make_header<S: Store>(plan: &Plan, machine: &Machine<S>, change: u8) -> Header
     requires { is_noticed plan.now.notice machine.now.left ≡ true →
         change ≡ bits_of (change_of (S.content machine.now.current)
@@ -135,9 +138,10 @@ pub(crate) fn make_header<S: Store>(plan: &Plan, machine: &Machine<S>, change: u
     }
 }
 
-/// The FIG 0/0 of the frame (EN 300 401 clause 6.4): in a notice with the change flags and the low part of the swap's
-/// count, otherwise with neither. In a notice `change` has to be the flags of the pending change. None where the CIF
-/// count is not a multiple of the mode's step. Its fields must fit in their bits.
+/// The FIG 0/0 of the frame (EN 300 401 clause 6.4): in a notice with the change flags and the low
+/// part of the swap's count, otherwise with neither. In a notice `change` has to be the flags of
+/// the pending change. None where the CIF count is not a multiple of the mode's step. Its fields
+/// must fit in their bits.
 pub(crate) fn ensemble<S: Store>(plan: &Plan, machine: &Machine<S>, change: u8) -> Option<Ensemble>
     requires within { IfSome (ensemble_sent plan.now (state_of S.content machine.now))
         IsEnsembleInformation }

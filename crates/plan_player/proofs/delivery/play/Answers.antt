@@ -1,8 +1,8 @@
 use Rattle.std.proofs.Common.{◌≡◌, ℕ, List, ◌∷◌, [], ◌++◌, ◌+◌, take, ap, sym, ◌∙◌}
-use Rattle.std.proofs.lemmas.List.{take_more}
-use Rattle.plan_runs.specs.declared.event.Event.{Event}
+use Rattle.plan_player.proofs.Names.{take_more}
 use Rattle.plan_player.proofs.Delivering.{one_more, stopped_here}
 use Rattle.plan_player.proofs.delivery.play.Goals as goal
+use Rattle.plan_runs.specs.declared.event.Event.{Event}
 
 pub returns-in-Err-clause-stopped : goal.returns-in-Err-clause-stopped
 returns-in-Err-clause-stopped g c =
@@ -13,7 +13,8 @@ returns-in-Err-clause-stopped g c =
     take_more events i e c.loop-event-test.true ∙ ap (λ (x : Event). take i events ++ x ∷ []) (sym c.event-item.is) in
     let taken = g.K.Sink.taken in
     let h = c.in-Err.ensures in
-    stopped_here c.args.player.now c.loop-event.player c.play_event.new.player events i e (taken c.args.sink.now) (taken c.loop-event.sink) (taken c.play_event.new.sink) c.loop-event.frames c.in-Err.bytes
+    stopped_here c.args.player.now c.loop-event.player c.play_event.new.player events i e (taken c.args.sink.now)
+    (taken c.loop-event.sink) (taken c.play_event.new.sink) c.loop-event.frames c.in-Err.bytes
     c.loop-event.invariant.done more h.frame h.state h.bound h.part
 
 pub loop-event-preserved : goal.loop-event-preserved
@@ -26,7 +27,14 @@ loop-event-preserved g c =
     let taken = g.K.Sink.taken in
     let h = c.in-Ok.ensures in
     record {
-      done = one_more c.args.player.now c.loop-event.player c.play_event.new.player events i e (taken c.args.sink.now) (taken c.loop-event.sink) (taken c.play_event.new.sink) c.loop-event.frames c.in-Ok.made
+      done = one_more c.args.player.now c.loop-event.player c.play_event.new.player events i e (taken c.args.sink.now)
+          (taken c.loop-event.sink) (taken c.play_event.new.sink) c.loop-event.frames c.in-Ok.made
           c.loop-event.invariant.done more h.state h.bytes h.frames h.one;
       works = h.works;
     }
+
+pub returns-in-Err-clause-headline : goal.returns-in-Err-clause-headline
+returns-in-Err-clause-headline g c = c.promise.ensures c.args.events.now
+
+pub returns-clause-headline : goal.returns-clause-headline
+returns-clause-headline g c = c.promise.ensures c.args.events.now

@@ -1,9 +1,6 @@
 use Rattle.std.proofs.Common.{sym, subst}
-use Rattle.plan_code.specs.declared.plan.Plan.{Plan}
-use Rattle.plan_code.specs.Machine.{State}
-use Rattle.plan_runs.specs.Frames.{sent_entries}
-use Rattle.plan_player.specs.Positions.{state_of}
-use Rattle.plan_player.specs.Phase.{Keeps}
+use Rattle.plan_player.proofs.Names.{state_of, Keeps}
+use Rattle.plan_runs.proofs.Names.{Plan, State, sent_entries}
 use Rattle.plan_player.proofs.frame_step.make_frame.Goals as goal
 
 pub send-requires-clause-keeps : goal.send-requires-clause-keeps
@@ -11,6 +8,8 @@ send-requires-clause-keeps g c =
     let p = c.args.code.now in
     let pages = c.prepare-steps.new.pages in
     let s : State = state_of g.S.Store.content c.prepare-steps.new.machine in
-    let at = subst (λ (u : State). Keeps p.plan.layout (sent_entries p.plan u) u.page_index pages) (sym c.prepare-steps.ensures.state) c.prepare-steps.ensures.keeps in
-    let here = subst (λ (q : Plan). Keeps q.layout (sent_entries q s) s.page_index pages) (sym c.plan-plan.ensures.value) at in
+    let at = subst (λ (u : State). Keeps p.plan.layout (sent_entries p.plan u) u.page_index pages)
+    (sym c.prepare-steps.ensures.state) c.prepare-steps.ensures.keeps in
+    let here = subst (λ (q : Plan). Keeps q.layout (sent_entries q s) s.page_index pages)
+    (sym c.plan-plan.ensures.value) at in
     c.note_change.ensures.keeps c.plan-plan.result.layout (sent_entries c.plan-plan.result s) s.page_index here

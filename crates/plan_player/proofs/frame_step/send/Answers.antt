@@ -1,9 +1,6 @@
-use Rattle.std.proofs.Common.{ℕ, ◌<◌, sym, ap, subst, ◌∙◌, arith}
-use Rattle.plan_code.specs.Machine.{State}
-use Rattle.plan_runs.specs.Frames.{sent_entries, sent_rounds, with_next_counts}
-use Rattle.fib_carousel.specs.Pages.{page_after}
-use Rattle.plan_player.specs.Positions.{state_of}
-use Rattle.plan_player.specs.Phase.{HasPage}
+use Rattle.std.proofs.Common.{ℕ, ◌<◌, ap, ◌∙◌, arith}
+use Rattle.plan_player.proofs.Names.{state_of}
+use Rattle.plan_runs.proofs.Names.{State, sent_entries, sent_rounds, with_next_counts, page_after}
 use Rattle.plan_player.proofs.Keeping.{turned, next_page}
 use Rattle.plan_player.proofs.frame_step.send.Goals as goal
 
@@ -12,16 +9,16 @@ show-requires g c =
     let plan = c.args.plan.now in
     let s = state_of g.S.Store.content c.args.machine.now in
     let made = c.make_page_to_send.ensures in
-    let pages = c.make_page_to_send.new.pages.pages in
-    let page = made.keeps.each s.page_index made.made in
-    (plan.layout, sent_entries plan s, subst (λ (n : ℕ). HasPage plan.layout (sent_entries plan s) n pages) (sym c.page_index-page_index.ensures) page)
+    (plan.layout, sent_entries plan s, made.keeps.each s.page_index made.made)
 
 pub returns-clause-keeps : goal.returns-clause-keeps
 returns-clause-keeps g c =
     let plan = c.args.plan.now in
     let s = state_of g.S.Store.content c.args.machine.now in
     let made = c.make_page_to_send.ensures in
-    c.show.ensures.keeps _ _ _ (turned plan.layout (sent_entries plan s) s.page_index (sent_rounds plan s) c.make_page_to_send.new.pages made.keeps made.made)
+    c.show.ensures.keeps _ _ _
+    (turned plan.layout (sent_entries plan s) s.page_index (sent_rounds plan s) c.make_page_to_send.new.pages
+    made.keeps made.made)
 
 pub returns-clause-state : goal.returns-clause-state
 returns-clause-state g c =
@@ -30,5 +27,7 @@ returns-clause-state g c =
     let made = c.make_page_to_send.ensures in
     let pages = c.show.new.pages in
     let page_index : s.page_index < pages.made = omega (arith, made.made, c.show.ensures.made) in
-    let next = next_page plan.layout (sent_entries plan s) s.page_index c.count.result pages (c.show.ensures.keeps _ _ _ made.keeps) page_index c.count.ensures.whole c.count.ensures.more in
-    c.pass.ensures plan ∙ ap (λ (t : ℕ). let r : State = record (with_next_counts plan s) { page_index = t } in r) (c.page_after.ensures ∙ ap (λ (n : ℕ). page_after c.count.result n) c.page_index-page_index.ensures ∙ next)
+    let next = next_page plan.layout (sent_entries plan s) s.page_index c.count.result pages
+    (c.show.ensures.keeps _ _ _ made.keeps) page_index c.count.ensures.whole c.count.ensures.more in
+    c.pass.ensures plan ∙ ap (λ (t : ℕ). let r : State = record (with_next_counts plan s) { page_index = t } in r)
+    (c.page_after.ensures ∙ next)

@@ -1,19 +1,22 @@
 use Rattle.std.proofs.Common.{◌-◌, ◌≤◌, ℕ, replicate, subst, sym, arith}
-use Rattle.plan_runs.specs.declared.event.Event.TheVariants.{Frame}
-use Rattle.plan_player.specs.Delivery.{Stopped}
+use Rattle.plan_player.proofs.Names.{Stopped}
 use Rattle.plan_player.proofs.Joining.{joined_frames, stopped_frames, few_frames}
 use Rattle.plan_player.proofs.frames.play_frames.Goals as goal
+use Rattle.plan_runs.specs.declared.event.Event.TheVariants.{Frame}
 
 pub overflow_add-done-in-Err : goal.overflow_add-done-in-Err
 overflow_add-done-in-Err g c =
-    let few : c.in-Err.cut.frames ≤ c.args.count - c.loop-done.done = few_frames _ _ (c.args.count - c.loop-done.done) _ _ _ _ c.in-Err.ensures.stopped in
+    let few : c.in-Err.cut.frames ≤ c.args.count - c.loop-done.done =
+    few_frames _ _ (c.args.count - c.loop-done.done) _ _ _ _ c.in-Err.ensures.stopped in
     omega (arith, few, c.loop-done.invariant.within, c.ranges.count.fits)
 
 pub returns-in-Err-clause-stopped : goal.returns-in-Err-clause-stopped
 returns-in-Err-clause-stopped g c =
     let taken = g.K.Sink.taken in
-    subst (λ (n : ℕ). Stopped c.args.player.now c.play_some.new.player (replicate c.args.count Frame) (taken c.args.sink.now) (taken c.play_some.new.sink) n c.in-Err.cut.bytes) (sym c.from.ensures)
-    (stopped_frames _ _ _ _ _ _ c.loop-done.done c.args.count _ _ (omega (arith, c.loop-done-test.true)) c.loop-done.invariant.delivered c.in-Err.ensures.stopped)
+    subst (λ (n : ℕ). Stopped c.args.player.now c.play_some.new.player (replicate c.args.count Frame)
+    (taken c.args.sink.now) (taken c.play_some.new.sink) n c.in-Err.cut.bytes) (sym c.from.ensures)
+    (stopped_frames _ _ _ _ _ _ c.loop-done.done c.args.count _ _ (omega (arith, c.loop-done-test.true))
+    c.loop-done.invariant.delivered c.in-Err.ensures.stopped)
 
 pub loop-done-preserved : goal.loop-done-preserved
 loop-done-preserved g c =

@@ -1,18 +1,19 @@
 use Rattle.std.proofs.Common.{◌≡◌, ◌-◌, ◌+◌, ◌≤◌, ℕ, subst, sym, arith}
-use Rattle.plan_player.specs.Playing.{Playing}
-use Rattle.plan_player.specs.Quiet.{AreQuiet}
+use Rattle.plan_player.proofs.Names.{Playing, AreQuiet}
 use Rattle.plan_player.proofs.Joining.{joined_frames, stopped_frames, few_frames}
 use Rattle.plan_player.proofs.Stretches.{quiet_rest}
 use Rattle.plan_player.proofs.frames.play_quiet.Goals as goal
 
 pub overflow_add-result : goal.overflow_add-result
 overflow_add-result g c =
-    let few : c.in-Err.cut.frames ≤ c.args.count - c.loop-done.done = few_frames _ _ (c.args.count - c.loop-done.done) _ _ _ _ c.in-Err.ensures.stopped in
+    let few : c.in-Err.cut.frames ≤ c.args.count - c.loop-done.done =
+    few_frames _ _ (c.args.count - c.loop-done.done) _ _ _ _ c.in-Err.ensures.stopped in
     omega (arith, few, c.loop-done.invariant.within, c.ranges.count.fits)
 
 pub returns-in-Err-clause-stopped : goal.returns-in-Err-clause-stopped
 returns-in-Err-clause-stopped g c =
-    stopped_frames _ _ _ _ _ _ c.loop-done.done c.args.count _ _ (omega (arith, c.loop-done.invariant.within)) c.loop-done.invariant.delivered c.in-Err.ensures.stopped
+    stopped_frames _ _ _ _ _ _ c.loop-done.done c.args.count _ _ (omega (arith, c.loop-done.invariant.within))
+    c.loop-done.invariant.delivered c.in-Err.ensures.stopped
 
 pub loop-done-preserved : goal.loop-done-preserved
 loop-done-preserved g c =
@@ -26,7 +27,8 @@ loop-done-preserved g c =
     let some = h.some in
     let rest = quiet_rest mid.code left made mid.state some.1 before.quiet in
     let fewer : left - made ≡ c.args.count - (k + made) = omega (arith, some.1, before.within) in
-    let quiet : AreQuiet new.code (left - made) new.state = subst (λ (x : Playing). AreQuiet x.code (left - made) x.state) (sym h.done.state) rest in
+    let quiet : AreQuiet new.code (left - made) new.state =
+    subst (λ (x : Playing). AreQuiet x.code (left - made) x.state) (sym h.done.state) rest in
     record {
       within = omega (arith, some.1, before.within);
       plan = subst (λ (x : Playing). c.plan-plan.result ≡ x.code.plan) (sym h.done.state) before.plan;

@@ -1,15 +1,15 @@
 use Rattle.std.proofs.Common.{◌≡◌, ◌-◌, ◌≤◌, false, replicate}
-use Rattle.plan_runs.specs.declared.event.Event.TheVariants.{Frame}
-use Rattle.plan_player.specs.Delivery.{Delivered}
-use Rattle.plan_player.specs.Quiet.{AreQuiet}
+use Rattle.plan_player.proofs.Names.{Delivered, AreQuiet}
 use Rattle.plan_player.proofs.frames.play_quiet.Given as goal
+use Rattle.plan_runs.specs.declared.event.Event.TheVariants.{Frame}
 
 abbrev pub invariant-loop-done : goal.invariant-loop-done
 invariant-loop-done g l = record {
   within : l.done ≤ l.count;
   plan : l.plan ≡ l.player.code.plan;
   quiet : AreQuiet l.player.code (l.count - l.done) l.player.state;
-  delivered : Delivered l.initial.player l.player (replicate l.done Frame) (g.K.Sink.taken l.initial.sink) (g.K.Sink.taken l.sink) l.done;
+  delivered : Delivered l.initial.player l.player (replicate l.done Frame) (g.K.Sink.taken l.initial.sink)
+      (g.K.Sink.taken l.sink) l.done;
   works : g.K.Sink.has_failed l.sink ≡ false;
 }
 

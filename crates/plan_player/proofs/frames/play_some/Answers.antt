@@ -1,10 +1,22 @@
 use Rattle.std.proofs.Common.{arith}
-use Rattle.plan_player.proofs.Joining.{stopped_among}
+use Rattle.plan_player.proofs.Joining.{stopped_among, one_delivered, one_stopped}
 use Rattle.plan_player.proofs.frames.play_some.Goals as goal
 
+pub returns-in-Ok-clause-done : goal.returns-in-Ok-clause-done
+returns-in-Ok-clause-done g c =
+    let taken = g.K.Sink.taken in
+    one_delivered c.args.player.now c.put_frame.new.self (taken c.args.sink.now) (taken c.put_frame.new.sink)
+    c.in-Ok.ensures.state c.in-Ok.ensures.bytes
+
 pub returns-in-Err-clause-stopped : goal.returns-in-Err-clause-stopped
-returns-in-Err-clause-stopped g c = stopped_among _ _ 1 c.args.most _ _ _ _ c.requires.one c.in-Err.ensures.stopped
+returns-in-Err-clause-stopped g c =
+    let h = c.in-Err.ensures in
+    let x = g.K.Sink.taken c.args.sink.now in
+    let y = g.K.Sink.taken c.put_frame.new.sink in
+    stopped_among c.args.player.now c.put_frame.new.self 1 c.args.most x y 0 c.in-Err.bytes c.requires.one
+    (one_stopped c.args.player.now c.put_frame.new.self x y c.in-Err.bytes h.state h.bound h.part)
 
 pub returns-in-Err-play_quiet-clause-stopped : goal.returns-in-Err-play_quiet-clause-stopped
 returns-in-Err-play_quiet-clause-stopped g c =
-    stopped_among _ _ c.quiet_frames-quiet.result c.args.most _ _ _ _ (omega (arith, c.quiet_frames-quiet.ensures.bound)) c.in-Err-play_quiet.ensures.stopped
+    stopped_among _ _ c.quiet_frames-quiet.result c.args.most _ _ _ _
+    (omega (arith, c.quiet_frames-quiet.ensures.bound)) c.in-Err-play_quiet.ensures.stopped

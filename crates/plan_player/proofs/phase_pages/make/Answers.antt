@@ -1,8 +1,8 @@
 use Rattle.std.proofs.Common.{ℕ, subst}
+use Rattle.plan_player.proofs.Names.{IsKept, IsAtPage}
+use Rattle.plan_runs.proofs.Names.{page_after, rounds}
 use Rattle.std.specs.Option.{option_copied}
-use Rattle.fib_carousel.specs.Pages.{page_set_of, page_after, rounds}
-use Rattle.fib_carousel.specs.Kept.{IsKept}
-use Rattle.fib_carousel.specs.Walk.{IsAtPage}
+use Rattle.fib_carousel.specs.Pages.{page_set_of}
 use Rattle.plan_player.proofs.Keeping.{one_more}
 use Rattle.plan_player.proofs.phase_pages.make.Goals as goal
 
@@ -13,7 +13,8 @@ returns-clause-keeps g c =
     let at = (c.requires.keeps.cursor c.requires.within).1 in
     let page = c.kept_page-page.result in
     let cursor = c.kept_page-page.new.self in
-    one_more layout ms c.args.pages.now c.from-place.result page c.number.result cursor c.requires.keeps c.from-place.ensures c.requires.few c.requires.within
+    one_more layout ms c.args.pages.now c.from-place.result page c.number.result cursor c.requires.keeps
+    c.from-place.ensures c.requires.few c.requires.within
     (subst (λ (k : ℕ). IsKept layout ms k page) at c.kept_page-page.ensures.kept)
     (subst (λ (k : ℕ). IsAtPage layout ms (page_after (rounds layout ms) k) cursor) at c.kept_page-page.ensures.next)
     c.number.ensures

@@ -1,9 +1,6 @@
 use Rattle.std.proofs.Common.{◌≡◌, ℕ, List, ◌+◌, ◌-◌, ◌*◌, ◌%◌, ◌≤◌, refl, sym, ap, subst, ◌∙◌, arith}
-use Rattle.std.proofs.Math.Nat.{mod-add-mod}
-use Rattle.fib_codec.specs.Layouts.{layout_mode, frame_fibs}
-use Rattle.mux_types.specs.declared.limits.TheConstants.{COUNTS}
-use Rattle.fib_codec.specs.Modes.{count_step}
-use Rattle.fib_codec.specs.declared.modes.Mode.{Mode}
+use Rattle.plan_player.proofs.Names.{mod-add-mod, COUNTS}
+use Rattle.plan_runs.proofs.Names.{layout_mode, frame_fibs, count_step, Mode}
 use borrow.Rule.Slice.PartMut.{put_mid, mid_of, same_len_mid}
 use Rattle.plan_player.proofs.Alike.{mixed_all, first_on_step, next_on_step, first_near, entered, continued}
 use Rattle.plan_player.proofs.recount.recount_frames.Goals as goal
@@ -14,17 +11,21 @@ loop-at-init c =
     let count : ℕ = c.args.count in
     let step : ℕ = c.step-step.result in
     let at : ℕ = c.before_step-at.result in
-    let is_step : step ≡ count_step (layout_mode plan.layout) = c.step-step.ensures.value ∙ ap (λ (m : Mode). count_step m) c.mode.ensures in
-    let by_mode : at ≡ (count_step (layout_mode plan.layout) - count % count_step (layout_mode plan.layout)) % count_step (layout_mode plan.layout) =
+    let is_step : step ≡ count_step (layout_mode plan.layout) =
+    c.step-step.ensures.value ∙ ap (λ (m : Mode). count_step m) c.mode.ensures in
+    let by_mode : at ≡ (count_step (layout_mode plan.layout) - count % count_step (layout_mode plan.layout))
+    % count_step (layout_mode plan.layout) =
     c.before_step-at.ensures ∙ ap (λ (m : ℕ). (m - count % m) % m) is_step in
     let small : at ≤ 4 = subst (λ (x : ℕ). x ≤ 4) (sym by_mode) (first_near (layout_mode plan.layout) count) in
     record {
       near = omega (arith, small);
       number = c.count_later-number.ensures;
-      on_step = ap (λ (n : ℕ). n % count_step (layout_mode plan.layout)) (c.count_later-number.ensures ∙ ap (λ (a : ℕ). (count + a) % COUNTS) by_mode)
+      on_step = ap (λ (n : ℕ). n % count_step (layout_mode plan.layout))
+          (c.count_later-number.ensures ∙ ap (λ (a : ℕ). (count + a) % COUNTS) by_mode)
           ∙ first_on_step (layout_mode plan.layout) count;
       whole = refl;
-      bytes = λ s t alike counts is. entered plan c.args.header c.args.frames count at step s t c.args.bytes.now alike counts c.requires.count is_step c.before_step-at.ensures is;
+      bytes = λ s t alike counts is. entered plan c.args.header c.args.frames count at step s t c.args.bytes.now alike
+          counts c.requires.count is_step c.before_step-at.ensures is;
     }
 
 pub loop-at-preserved : goal.loop-at-preserved
@@ -40,7 +41,8 @@ loop-at-preserved c =
     let bytes : List ℕ = c.loop-at.bytes in
     let new : List ℕ = c.recount.new.fib in
     let before = c.loop-at.invariant in
-    let is_step : step ≡ count_step (layout_mode plan.layout) = c.step-step.ensures.value ∙ ap (λ (m : Mode). count_step m) c.mode.ensures in
+    let is_step : step ≡ count_step (layout_mode plan.layout) =
+    c.step-step.ensures.value ∙ ap (λ (m : Mode). count_step m) c.mode.ensures in
     let is_size : size ≡ 32 * frame_fibs plan.layout = ap (λ (k : ℕ). 32 * k) c.fibs-size.ensures.value in
     let is_width : width ≡ 32 = omega arith in
     let at_offset : offset ≡ at * size = ap (λ (k : ℕ). k * size) c.from.ensures in
@@ -48,17 +50,22 @@ loop-at-preserved c =
     let behind : count + at + step ≡ count + (at + step) = omega arith in
     record {
       near = omega (arith, c.loop-at-test.true, c.step-step.ensures.in_range);
-      number = later ∙ ap (λ (n : ℕ). (n + step) % COUNTS) before.number ∙ mod-add-mod (count + at) COUNTS step ∙ ap (λ (n : ℕ). n % COUNTS) behind;
-      on_step = ap (λ (n : ℕ). n % count_step (layout_mode plan.layout)) (later ∙ ap (λ (m : ℕ). (number + m) % COUNTS) is_step)
+      number = later ∙ ap (λ (n : ℕ). (n + step) % COUNTS) before.number ∙ mod-add-mod (count + at) COUNTS step
+          ∙ ap (λ (n : ℕ). n % COUNTS) behind;
+      on_step = ap (λ (n : ℕ). n % count_step (layout_mode plan.layout))
+          (later ∙ ap (λ (m : ℕ). (number + m) % COUNTS) is_step)
           ∙ next_on_step (layout_mode plan.layout) number before.on_step;
       whole = same_len_mid offset width bytes new c.recount.ensures.size ∙ before.whole;
       bytes = λ s t alike counts is.
-          continued plan c.args.header c.args.frames count at number step size offset width c.high.result (number % 250) s t bytes (mid_of offset width bytes) new (put_mid offset width bytes new)
-          alike counts c.requires.count is_step is_size c.loop-at-test.true before.number before.on_step at_offset is_width c.high.ensures refl
+          continued plan c.args.header c.args.frames count at number step size offset width c.high.result (number % 250)
+          s t bytes (mid_of offset width bytes) new (put_mid offset width bytes new)
+          alike counts c.requires.count is_step is_size c.loop-at-test.true before.number before.on_step at_offset
+          is_width c.high.ensures refl
           (before.bytes s t alike counts is) refl c.recount.ensures.bytes refl;
     }
 
 pub returns-clause-frames : goal.returns-clause-frames
 returns-clause-frames c = λ s t alike counts is.
     c.loop-at.invariant.bytes s t alike counts is
-    ∙ mixed_all c.args.plan.now c.args.frames (c.args.frames - (c.args.frames - c.loop-at.at)) s t (omega (arith, c.loop-at-test.false))
+    ∙ mixed_all c.args.plan.now c.args.frames (c.args.frames - (c.args.frames - c.loop-at.at)) s t
+    (omega (arith, c.loop-at-test.false))

@@ -1,11 +1,6 @@
 use Rattle.std.proofs.Common.{◌≡◌, ◌+◌, ◌-◌, ◌%◌, ◌≤◌, length}
-use Rattle.std.specs.List.{concat}
-use Rattle.fib_codec.specs.Layouts.{layout_mode}
-use Rattle.mux_types.specs.declared.limits.TheConstants.{COUNTS}
-use Rattle.fib_codec.specs.Modes.{count_step}
-use Rattle.plan_code.specs.Machine.{State}
-use Rattle.plan_runs.specs.Announced.{notice_frames}
-use Rattle.plan_player.specs.Stretch.{AreAlike}
+use Rattle.plan_player.proofs.Names.{concat, COUNTS, AreAlike}
+use Rattle.plan_runs.proofs.Names.{layout_mode, count_step, State, notice_frames}
 use Rattle.plan_player.proofs.Alike.{mixed}
 use Rattle.plan_player.proofs.recount.recount_frames.Given as goal
 
@@ -15,7 +10,8 @@ invariant-loop-at l = record {
   number : l.number ≡ (l.count + l.at) % COUNTS;
   on_step : l.number % count_step (layout_mode l.plan.layout) ≡ 0;
   whole : length l.bytes ≡ length l.initial.bytes;
-  bytes : (s t : State) → AreAlike l.plan l.header l.frames s t → t.count ≡ l.count → l.initial.bytes ≡ concat (notice_frames l.plan l.frames s)
+  bytes : (s t : State) → AreAlike l.plan l.header l.frames s t → t.count ≡ l.count
+      → l.initial.bytes ≡ concat (notice_frames l.plan l.frames s)
       → l.bytes ≡ mixed l.plan l.frames (l.frames - (l.frames - l.at)) s t;
 }
 

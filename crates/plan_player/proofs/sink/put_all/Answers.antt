@@ -1,7 +1,5 @@
 use Rattle.std.proofs.Common.{◌-◌, ◌++◌, length, take, drop, sym, ap, subst, ◌∙◌, arith, length-take}
-use Rattle.std.proofs.Math.Seq.{take-add, take-take}
-use Rattle.std.specs.Io.KnownBytes.{Appends}
-use Rattle.std.proofs.KnownBytes.{Appends-trans}
+use Rattle.plan_player.proofs.Names.{take-add, take-take, Appends, Appends-trans}
 use Rattle.plan_player.proofs.sink.put_all.Goals as goal
 
 pub loop-taken-preserved : goal.loop-taken-preserved
@@ -12,7 +10,8 @@ loop-taken-preserved g c =
     let before = c.loop-taken.invariant in
     let fits = c.in-Some.ensures.bound in
     let most = length-take (length bytes - done) (drop done bytes) in
-    let joined = ap (λ l. take done bytes ++ l) (take-take count (length bytes - done) (drop done bytes) (omega arith)) ∙ sym (take-add done count bytes) in
+    let joined = ap (λ l. take done bytes ++ l) (take-take count (length bytes - done) (drop done bytes) (omega arith))
+    ∙ sym (take-add done count bytes) in
     record {
       within = omega arith;
       taken = subst (Appends _ _) joined (Appends-trans _ _ _ _ _ before.taken c.in-Some.ensures.some);

@@ -1,9 +1,6 @@
 use Rattle.std.proofs.Common.{◌-◌, ◌≡◌, ◌≤◌, ◌*◌, length}
-use Rattle.std.specs.List.{concat}
-use Rattle.plan_code.specs.Machine.{State}
-use Rattle.plan_runs.specs.Announced.{notice_frames}
-use Rattle.plan_player.specs.Positions.{state_of}
-use Rattle.plan_player.specs.Quiet.{counted_on}
+use Rattle.plan_player.proofs.Names.{concat, state_of, counted_on}
+use Rattle.plan_runs.proofs.Names.{State, notice_frames}
 use Rattle.plan_player.proofs.stretch.begin.Given as goal
 
 abbrev pub invariant-loop-done : goal.invariant-loop-done

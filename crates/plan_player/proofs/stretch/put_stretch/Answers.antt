@@ -1,11 +1,6 @@
 use Rattle.std.proofs.Common.{◌≡◌, ◌+◌, ◌<◌, ◌*◌, ◌/◌, ◌%◌, ℕ, suc, List, length, take, sym, ap, subst, ◌∙◌, arith}
-use Rattle.std.specs.List.{concat}
-use Rattle.std.specs.Io.KnownBytes.{Appends}
-use Rattle.plan_code.specs.Machine.{State}
-use Rattle.plan_runs.specs.Announced.{notice_frames}
-use Rattle.plan_player.specs.Positions.{state_of}
-use Rattle.plan_player.specs.Quiet.{counted_on}
-use Rattle.plan_player.specs.Stretch.{IsCut}
+use Rattle.plan_player.proofs.Names.{concat, Appends, state_of, counted_on, IsCut}
+use Rattle.plan_runs.proofs.Names.{State, notice_frames}
 use Rattle.plan_player.proofs.Together.{Cut, stretch_cut, stretch_rounds, fewer_rounds}
 use Rattle.plan_player.proofs.stretch.put_stretch.Given as given
 use Rattle.plan_player.proofs.stretch.put_stretch.Goals as goal
@@ -13,12 +8,14 @@ use Rattle.plan_player.proofs.stretch.put_stretch.Goals.{After-fibs-size}
 
 -- the bytes that the sink took are whole frames and a part of one
 cut : (g : given.Over) (c : After-fibs-size g)
-    → Cut c.args.plan.now c.args.count (state_of g.S.Store.content c.args.machine.now) c.in-Err.taken (c.in-Err.taken / (32 * c.fibs-size.result)) (c.in-Err.taken % (32 * c.fibs-size.result))
+    → Cut c.args.plan.now c.args.count (state_of g.S.Store.content c.args.machine.now) c.in-Err.taken
+    (c.in-Err.taken / (32 * c.fibs-size.result)) (c.in-Err.taken % (32 * c.fibs-size.result))
 cut g c =
     let s : State = state_of g.S.Store.content c.args.machine.now in
     let inside : c.in-Err.taken < length (concat (notice_frames c.args.plan.now c.args.count s)) =
     subst (λ (l : List ℕ). c.in-Err.taken < length l) (c.as_slice.ensures ∙ c.fill.ensures) c.in-Err.ensures.bound in
-    stretch_cut c.args.plan.now c.args.count s c.args.pages.now (32 * c.fibs-size.result) c.in-Err.taken c.requires.stretch (ap (λ (k : ℕ). 32 * k) c.fibs-size.ensures.value)
+    stretch_cut c.args.plan.now c.args.count s c.args.pages.now (32 * c.fibs-size.result) c.in-Err.taken
+    c.requires.stretch (ap (λ (k : ℕ). 32 * k) c.fibs-size.ensures.value)
     (omega (arith, c.fibs-size.ensures.in_range)) inside
 
 pub overflow_cast-frames : goal.overflow_cast-frames
@@ -42,10 +39,12 @@ returns-in-Err-clause-cut g c =
     let frames : ℕ = c.in-Err.taken / (32 * c.fibs-size.result) in
     let bytes : ℕ = c.in-Err.taken % (32 * c.fibs-size.result) in
     let all = cut g (goal.at.returns-in-Err-clause-cut g c).After-fibs-size in
-    let rounds = fewer_rounds plan (frames + 1) n s c.args.pages.now.made (omega (arith, all.few)) (stretch_rounds plan n s c.args.pages.now c.requires.stretch) in
+    let rounds = fewer_rounds plan (frames + 1) n s c.args.pages.now.made (omega (arith, all.few))
+    (stretch_rounds plan n s c.args.pages.now c.requires.stretch) in
     let next : frames + 1 ≡ suc frames = omega arith in
     let part : Appends x y (take c.in-Err.taken (concat (notice_frames plan n s))) =
-    subst (λ (l : List ℕ). Appends x y (take c.in-Err.taken l)) (c.as_slice.ensures ∙ c.fill.ensures) c.in-Err.ensures.part in
+    subst (λ (l : List ℕ). Appends x y (take c.in-Err.taken l)) (c.as_slice.ensures ∙ c.fill.ensures)
+    c.in-Err.ensures.part in
     let whole : IsCut plan n s t x y frames bytes = record {
       few = all.few;
       part = all.part;
@@ -55,8 +54,12 @@ returns-in-Err-clause-cut g c =
     subst (λ (k : ℕ). IsCut plan n s t x y k bytes) (sym c.from-in-Err.ensures) whole
 
 pub returns-in-Ok-clause-counted : goal.returns-in-Ok-clause-counted
-returns-in-Ok-clause-counted g c =
-    (c.args.count, omega arith, c.pass_many.ensures c.args.plan.now (stretch_rounds c.args.plan.now c.args.count _ c.args.pages.now c.requires.stretch))
+returns-in-Ok-clause-counted g c = (
+  c.args.count,
+  omega arith,
+  c.pass_many.ensures c.args.plan.now
+      (stretch_rounds c.args.plan.now c.args.count _ c.args.pages.now c.requires.stretch),
+)
 
 pub returns-in-Err-clause-counted : goal.returns-in-Err-clause-counted
 returns-in-Err-clause-counted g c =
@@ -65,5 +68,6 @@ returns-in-Err-clause-counted g c =
     let s : State = state_of g.S.Store.content c.args.machine.now in
     let frames : ℕ = c.in-Err.taken / (32 * c.fibs-size.result) in
     let all = cut g (goal.at.returns-in-Err-clause-counted g c).After-fibs-size in
-    let rounds = fewer_rounds plan (frames + 1) n s c.args.pages.now.made (omega (arith, all.few)) (stretch_rounds plan n s c.args.pages.now c.requires.stretch) in
+    let rounds = fewer_rounds plan (frames + 1) n s c.args.pages.now.made (omega (arith, all.few))
+    (stretch_rounds plan n s c.args.pages.now c.requires.stretch) in
     (frames + 1, omega (arith, all.few), c.pass_many-in-Err.ensures plan rounds)

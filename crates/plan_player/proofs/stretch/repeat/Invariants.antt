@@ -1,10 +1,6 @@
 use Rattle.std.proofs.Common.{◌≡◌, ◌-◌, ◌%◌, ◌<◌, ◌≤◌}
-use Rattle.std.specs.List.{concat}
-use Rattle.fib_codec.specs.Layouts.{layout_mode}
-use Rattle.fib_codec.specs.Modes.{count_step}
-use Rattle.plan_code.specs.Machine.{State}
-use Rattle.plan_runs.specs.Announced.{notice_frames}
-use Rattle.plan_player.specs.Positions.{state_of}
+use Rattle.plan_player.proofs.Names.{concat, state_of}
+use Rattle.plan_runs.proofs.Names.{layout_mode, count_step, State, notice_frames}
 use Rattle.plan_player.proofs.stretch.repeat.Given as goal
 
 abbrev pub invariant-loop-done : goal.invariant-loop-done

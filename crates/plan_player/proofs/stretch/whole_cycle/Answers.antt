@@ -1,9 +1,11 @@
 use Rattle.std.proofs.Common.{ℕ, ◌*◌, ◌%◌, ap, ◌∙◌}
-use Rattle.std.proofs.Math.Nat.{mul_comm, mul-mod_left}
+use Rattle.plan_player.proofs.Names.{mul_comm, mul-mod_left}
 use Rattle.plan_player.proofs.stretch.whole_cycle.Goals as goal
 
 pub returns-clause-cycle : goal.returns-clause-cycle
-returns-clause-cycle c = ap (λ (x : ℕ). c.args.step * x % c.args.pages) c.from-pages.ensures ∙ mul-mod_left c.args.step c.args.pages
+returns-clause-cycle c = ap (λ (x : ℕ). c.args.step * x % c.args.pages) c.from-pages.ensures
+    ∙ mul-mod_left c.args.step c.args.pages
 
 pub returns-clause-steps : goal.returns-clause-steps
-returns-clause-steps c = ap (λ (x : ℕ). x % c.args.step) (mul_comm c.args.step c.from-pages.result) ∙ mul-mod_left c.from-pages.result c.args.step
+returns-clause-steps c = ap (λ (x : ℕ). x % c.args.step) (mul_comm c.args.step c.from-pages.result)
+    ∙ mul-mod_left c.from-pages.result c.args.step

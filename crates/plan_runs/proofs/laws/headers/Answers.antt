@@ -1,9 +1,6 @@
-use Rattle.plan_runs.proofs.Right.{PageLaws}
-use Rattle.plan_runs.proofs.SentHeaders.{headers_are_sent}
+use Rattle.plan_runs.proofs.Right.{page_laws}
 use Rattle.plan_runs.proofs.laws.headers.Goals as goal
+use Rattle.plan_runs.proofs.Headline.{headers_are_sent}
 
 pub returns : goal.returns
-returns c =
-    let laws : PageLaws =
-    record { each = c.pages.ensures.each; pageable = c.carried.ensures.pageable; valid = c.carried.ensures.valid; heard = c.carried.ensures.heard; ensemble = c.carried.ensures.ensemble } in
-    headers_are_sent laws
+returns c = headers_are_sent page_laws

@@ -1,9 +1,6 @@
 use Rattle.plan_runs.proofs.Headline.{headline_holds}
-use Rattle.plan_runs.proofs.Right.{PageLaws}
+use Rattle.plan_runs.proofs.Right.{page_laws}
 use Rattle.plan_runs.proofs.laws.headline.Goals as goal
 
 pub returns : goal.returns
-returns c =
-    let laws : PageLaws =
-    record { each = c.pages.ensures.each; pageable = c.carried.ensures.pageable; valid = c.carried.ensures.valid; heard = c.carried.ensures.heard; ensemble = c.carried.ensures.ensemble } in
-    headline_holds laws
+returns c = headline_holds page_laws

@@ -1,12 +1,8 @@
 use Rattle.std.proofs.Common.{◌∙◌, ap, List}
-use Rattle.mux_config.specs.Configuration.{Configuration}
-use Rattle.plan_verifier.specs.declared.indices.IndexedFlow.{IndexedFlow}
-use Rattle.plan_verifier.specs.Flows.{flow_of, known_at}
-use Rattle.plan_verifier.specs.Indexed.{flow_at}
+use Rattle.plan_verifier.proofs.Names.{Configuration, IndexedFlow, flow_of, known_at, flow_at, known_of, flow_of_label}
+use Rattle.plan_verifier.proofs.Names.{Known, declared_by}
 use Rattle.plan_verifier.proofs.Finding.{swap_alone}
-use Rattle.plan_verifier.specs.Held.{known_of, flow_of_label}
-use Rattle.plan_verifier.specs.Typing.{Known}
-use Rattle.plan_verifier.specs.Walking.{declared_by, fits_swap}
+use Rattle.plan_verifier.specs.Walking.{fits_swap}
 use Rattle.plan_verifier.proofs.Answering.{fit_counters, fit_no_counters}
 use Rattle.plan_verifier.proofs.labels.is_fit.Goals as goal
 
@@ -15,8 +11,10 @@ returns-then-includes g c = λ allowance.
     let t : Known = record (known_of g.S.Store.content c.args.state.now) { allowance = allowance } in
     let label = c.args.label.now in
     let fits = c.fits.ensures.value
-    ∙ ap (λ (f : IndexedFlow). fits_swap t.pending f.pending (known_at (flow_of t)) (known_at (flow_at c.configs.result.now f))) c.flow_of.ensures
-    ∙ ap (λ (table : List Configuration). fits_swap t.pending label.pending (known_at (flow_of t)) (known_at (flow_at table (flow_of_label label)))) c.configs.ensures.value
+    ∙ ap (λ (f : IndexedFlow). fits_swap t.pending f.pending (known_at (flow_of t))
+    (known_at (flow_at c.configs.result.now f))) c.flow_of.ensures
+    ∙ ap (λ (table : List Configuration). fits_swap t.pending label.pending (known_at (flow_of t))
+    (known_at (flow_at table (flow_of_label label)))) c.configs.ensures.value
     ∙ swap_alone t.pending label.pending t (declared_by c.args.code.now label) in
     fit_counters _ _ t (declared_by c.args.code.now label) c.includes.ensures c.if-includes.true fits
 

@@ -1,9 +1,6 @@
 use Rattle.std.proofs.Common.{◌∙◌, sym, ap}
-use Rattle.plan_code.specs.declared.plan.Plan.{Plan}
-use Rattle.plan_verifier.specs.Flows.{flow_of, known_with, set_after, left_over}
+use Rattle.plan_verifier.proofs.Names.{Plan, flow_of, known_with, set_after, left_over, known_of, Known, leaves}
 use Rattle.plan_verifier.proofs.Leaving.{leaves_known}
-use Rattle.plan_verifier.specs.Held.{known_of}
-use Rattle.plan_verifier.specs.Typing.{Known, leaves}
 use Rattle.plan_verifier.proofs.step.step.Goals as goal
 
 pub returns-clause-left : goal.returns-clause-left
@@ -12,10 +9,12 @@ returns-clause-left g c =
     let i = c.args.instr.now in
     let known : Known = known_of g.S.Store.content c.test_target.new.state in
     c.account.ensures.value
-    ∙ ap (λ (t : Known). known_with (flow_of t) (set_after i t.counters) (left_over plan i t.allowance)) c.in_ok-advance.ensures.left
+    ∙ ap (λ (t : Known). known_with (flow_of t) (set_after i t.counters) (left_over plan i t.allowance))
+    c.in_ok-advance.ensures.left
     ∙ sym (leaves_known plan i (flow_of known) known.counters known.allowance)
     ∙ ap (λ (p : Plan). leaves p i known) c.plan-plan.ensures.value
     ∙ ap (λ (t : Known). leaves c.args.code.now.plan i t) c.test_target.ensures.kept
 
 pub returns-clause-tracked : goal.returns-clause-tracked
-returns-clause-tracked g c = rw c.account.ensures.tracked (c.in_ok-advance.ensures.tracked c.args.code.now.configurations c.test_target.ensures.tracked)
+returns-clause-tracked g c = rw c.account.ensures.tracked
+    (c.in_ok-advance.ensures.tracked c.args.code.now.configurations c.test_target.ensures.tracked)

@@ -1,10 +1,10 @@
 use Rattle.std.proofs.Common.{◌≡◌, drop, find, nat_le, length}
-use Rattle.plan_code.specs.declared.label.Label.{Label}
-use Rattle.plan_verifier.specs.Walking.{past_end, past_label}
+use Rattle.plan_verifier.proofs.Names.{Label, past_end, past_label}
 use Rattle.plan_verifier.proofs.walk.past_end.Given as goal
 
 abbrev pub invariant-loop-label : goal.invariant-loop-label
 invariant-loop-label l = record {
-  sought : past_end l.code ≡ past_label (find (λ (x : Label). nat_le (length l.code.lines) x.pc) (drop l.label-index l.code.labels));
+  sought : past_end l.code ≡ past_label (find (λ (x : Label). nat_le (length l.code.lines) x.pc)
+      (drop l.label-index l.code.labels));
   ends : l.end ≡ length l.code.lines;
 }

@@ -1,7 +1,5 @@
 use Rattle.std.proofs.Common.{◌+◌, ◌<◌, Bool, length, drop, sym, ap, ◌∙◌, arith}
-use Rattle.plan_verifier.specs.Held.{known_of}
-use Rattle.plan_verifier.specs.Typing.{continues}
-use Rattle.plan_verifier.specs.Walking.{walk, known_if_reached}
+use Rattle.plan_verifier.proofs.Names.{known_of, continues, walk, known_if_reached}
 use Rattle.plan_verifier.proofs.Stepping.{walk_stop, walk_go}
 use Rattle.plan_verifier.proofs.walk.refusal.Goals as goal
 
@@ -9,7 +7,8 @@ pub returns-in-Err-clause-value : goal.returns-in-Err-clause-value
 returns-in-Err-clause-value g c =
     let code = c.args.code.now in
     let within : c.loop-pc.pc < length code.lines = omega (arith, c.count-pc-end.ensures.value, c.loop-pc-test.true) in
-    sym (walk_stop code c.loop-pc.pc (known_if_reached c.loop-pc.comes (known_of g.S.Store.content c.loop-pc.state)) c.in-Err.cause within c.loop-pc.invariant.walked c.in-Err.ensures.refused)
+    sym (walk_stop code c.loop-pc.pc (known_if_reached c.loop-pc.comes (known_of g.S.Store.content c.loop-pc.state))
+    c.in-Err.cause within c.loop-pc.invariant.walked c.in-Err.ensures.refused)
 
 pub loop-pc-preserved : goal.loop-pc-preserved
 loop-pc-preserved g c =
@@ -20,7 +19,8 @@ loop-pc-preserved g c =
     let onward = c.continues-comes.ensures ∙ ap continues c.instr_at.ensures in
     record {
       walked = walk_go code c.loop-pc.pc came left within c.loop-pc.invariant.walked c.in-Ok.ensures.passed
-          ∙ ap (λ (b : Bool). walk code (drop (c.loop-pc.pc + 1) code.lines) (c.loop-pc.pc + 1) (known_if_reached b left)) (sym onward);
+          ∙ ap (λ (b : Bool). walk code (drop (c.loop-pc.pc + 1) code.lines) (c.loop-pc.pc + 1)
+          (known_if_reached b left)) (sym onward);
       formed = c.loop-pc.invariant.formed;
       tracked = c.in-Ok.ensures.tracked;
     }

@@ -1,13 +1,11 @@
 use Rattle.std.proofs.Common.{◌≡◌, drop}
-use Rattle.plan_code.specs.Program.{IsProgram}
-use Rattle.plan_verifier.specs.Indexed.{IsTracked}
-use Rattle.plan_verifier.specs.Held.{known_of}
-use Rattle.plan_verifier.specs.Walking.{walk, refusal_of, known_if_reached}
+use Rattle.plan_verifier.proofs.Names.{IsProgram, IsTracked, known_of, walk, refusal_of, known_if_reached}
 use Rattle.plan_verifier.proofs.walk.refusal.Given as goal
 
 abbrev pub invariant-loop-pc : goal.invariant-loop-pc
 invariant-loop-pc g l = record {
-  walked : refusal_of l.code ≡ walk l.code (drop l.pc l.code.lines) l.pc (known_if_reached l.comes (known_of g.S.Store.content l.state));
+  walked : refusal_of l.code ≡ walk l.code (drop l.pc l.code.lines) l.pc
+      (known_if_reached l.comes (known_of g.S.Store.content l.state));
   formed : IsProgram l.code;
   tracked : IsTracked g.S.Store.content l.code.configurations l.state.tracked;
 }

@@ -1,17 +1,20 @@
-use Rattle.plan_verifier.specs.Held.{known_of}
-use Rattle.plan_verifier.specs.Walking.{known_if_reached, instr_or_end}
-use Rattle.plan_code.specs.Program.{instr_at}
+use Rattle.plan_verifier.proofs.Names.{known_of, known_if_reached, instr_or_end, instr_at}
 use Rattle.plan_verifier.proofs.Stepping.{visit_refused, visit_passed, visit_stopped}
 use Rattle.plan_verifier.proofs.walk.visit.Goals as goal
 
 pub returns-in-Ok-clause-refused : goal.returns-in-Ok-clause-refused
 returns-in-Ok-clause-refused g c =
-    visit_refused c.args.code.now c.args.pc (instr_or_end (instr_at c.args.code.now c.args.pc)) (known_if_reached c.args.comes (known_of g.S.Store.content c.args.state.now)) _ c.judge.result c.in-Ok.ensures.known c.judge.ensures.cause
+    visit_refused c.args.code.now c.args.pc (instr_or_end (instr_at c.args.code.now c.args.pc))
+    (known_if_reached c.args.comes (known_of g.S.Store.content c.args.state.now)) _ c.judge.result
+    c.in-Ok.ensures.known c.judge.ensures.cause
 
 pub returns-in-Ok-clause-passed : goal.returns-in-Ok-clause-passed
 returns-in-Ok-clause-passed g c =
-    visit_passed c.args.code.now c.args.pc (instr_or_end (instr_at c.args.code.now c.args.pc)) (known_if_reached c.args.comes (known_of g.S.Store.content c.args.state.now)) _ _ c.judge.result c.in-Ok.ensures.known c.judge.ensures.cause c.judge.ensures.left
+    visit_passed c.args.code.now c.args.pc (instr_or_end (instr_at c.args.code.now c.args.pc))
+    (known_if_reached c.args.comes (known_of g.S.Store.content c.args.state.now)) _ _ c.judge.result
+    c.in-Ok.ensures.known c.judge.ensures.cause c.judge.ensures.left
 
 pub returns-in-Err-clause-refused : goal.returns-in-Err-clause-refused
 returns-in-Err-clause-refused g c =
-    visit_stopped c.args.code.now c.args.pc (instr_or_end (instr_at c.args.code.now c.args.pc)) (known_if_reached c.args.comes (known_of g.S.Store.content c.args.state.now)) _ c.in-Err.ensures.refused
+    visit_stopped c.args.code.now c.args.pc (instr_or_end (instr_at c.args.code.now c.args.pc))
+    (known_if_reached c.args.comes (known_of g.S.Store.content c.args.state.now)) _ c.in-Err.ensures.refused

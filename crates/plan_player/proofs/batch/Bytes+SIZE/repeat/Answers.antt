@@ -1,5 +1,6 @@
-use Rattle.std.proofs.Common.{◌≡◌, ℕ, List, ◌+◌, ◌-◌, ◌*◌, ◌≤◌, ◌++◌, sym, ap, ap₂, ◌∙◌, arith, length, take, drop, length-take-le}
-use Rattle.fib_codec.specs.Layouts.{frame_fibs}
+use Rattle.std.proofs.Common.{◌≡◌, ℕ, List, ◌+◌, ◌-◌, ◌*◌, ◌≤◌, ◌++◌, sym, ap, ap₂, ◌∙◌, arith, length, take, drop}
+use Rattle.std.proofs.Common.{length-take-le}
+use Rattle.plan_runs.proofs.Names.{frame_fibs}
 use Rattle.plan_player.proofs.Cycles.{copied, appended}
 use Rattle.plan_player.proofs.batch.Bytes+SIZE.repeat.Goals as goal
 
@@ -13,27 +14,37 @@ returns c =
     let copy : List ℕ = c.copy_front.new.bytes in
     let text : List ℕ = c.recount_frames.new.bytes in
     let view : old ≡ take offset b = sym c.self.view_is in
-    let is_len : len ≡ c.args.frames * (32 * frame_fibs c.args.plan.now.layout) = ap₂ (λ (m n : ℕ). m * (32 * n)) c.from.ensures c.fibs.ensures.value in
+    let is_len : len ≡ c.args.frames * (32 * frame_fibs c.args.plan.now.layout) =
+    ap₂ (λ (m n : ℕ). m * (32 * n)) c.from.ensures c.fibs.ensures.value in
     let whole : length b ≡ 16384 = c.self.invariant.1 in
     let within : offset ≤ 16384 = c.self.invariant.0 in
-    let long : length old ≡ offset = ap (λ (l : List ℕ). length l) view ∙ length-take-le offset b (omega (arith, whole, within)) in
+    let long : length old ≡ offset = ap (λ (l : List ℕ). length l) view
+    ∙ length-take-le offset b (omega (arith, whole, within)) in
     let few : len ≤ offset = omega (arith, is_len, long, c.requires.there) in
     let fits : offset + len ≤ length b = omega (arith, is_len, long, whole, c.requires.room) in
     let is_width : width ≡ len = omega arith in
     let part : take width (drop offset copy) ≡ take len old =
-    ap (λ (w : ℕ). take w (drop offset copy)) is_width ∙ copied b offset len copy few fits c.copy_front.ensures ∙ ap (λ (l : List ℕ). take len l) (sym view) in
+    ap (λ (w : ℕ). take w (drop offset copy)) is_width ∙ copied b offset len copy few fits c.copy_front.ensures
+    ∙ ap (λ (l : List ℕ). take len l) (sym view) in
     let text_long : length text ≡ len =
-    c.recount_frames.ensures.size ∙ ap (λ (l : List ℕ). length l) part ∙ length-take-le len old (omega (arith, few, long)) in
-    let all = appended b copy text (take offset copy ++ (text ++ drop width (drop offset copy))) offset len fits c.copy_front.ensures text_long
-    (ap (λ (w : ℕ). take offset copy ++ (text ++ drop w (drop offset copy))) is_width) in
-    (text, all ∙ ap (λ (l : List ℕ). l ++ text) (sym view), λ s t alike counts is. c.recount_frames.ensures.frames s t alike counts (part ∙ ap (λ (k : ℕ). take k old) is_len ∙ is))
+    c.recount_frames.ensures.size ∙ ap (λ (l : List ℕ). length l) part
+    ∙ length-take-le len old (omega (arith, few, long)) in
+    let all = appended b copy text (take offset copy ++ (text ++ drop width (drop offset copy))) offset len fits
+    c.copy_front.ensures text_long
+    (ap (λ (w : ℕ). take offset copy ++ (text ++ drop w (drop offset copy))) is_width) in (
+      text,
+      all ∙ ap (λ (l : List ℕ). l ++ text) (sym view),
+      λ s t alike counts is. c.recount_frames.ensures.frames s t alike counts
+          (part ∙ ap (λ (k : ℕ). take k old) is_len ∙ is),
+    )
 
 pub copy_front-requires-clause-before : goal.copy_front-requires-clause-before
 copy_front-requires-clause-before c =
     let b : List ℕ = c.self.inside.bytes in
     let offset : ℕ = c.self.inside.len in
     let len : ℕ = c.from.result * (32 * c.fibs.result) in
-    let is_len : len ≡ c.args.frames * (32 * frame_fibs c.args.plan.now.layout) = ap₂ (λ (m n : ℕ). m * (32 * n)) c.from.ensures c.fibs.ensures.value in
+    let is_len : len ≡ c.args.frames * (32 * frame_fibs c.args.plan.now.layout) =
+    ap₂ (λ (m n : ℕ). m * (32 * n)) c.from.ensures c.fibs.ensures.value in
     let whole : length b ≡ 16384 = c.self.invariant.1 in
     let within : offset ≤ 16384 = c.self.invariant.0 in
     let long : length c.args.self.now ≡ offset =

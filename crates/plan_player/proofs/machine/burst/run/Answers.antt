@@ -1,8 +1,7 @@
 -- Answers of `run` in src/burst.rt
 use Rattle.std.proofs.Common.{◌≡◌, ◌+◌, true, false, sym, subst, ◌∙◌}
-use Rattle.plan_code.specs.Machine.{State}
-use Rattle.plan_runs.specs.Frames.{is_running}
-use Rattle.plan_player.specs.Positions.{state_of}
+use Rattle.plan_player.proofs.Names.{state_of}
+use Rattle.plan_runs.proofs.Names.{State, is_running}
 use Rattle.plan_player.proofs.Remaining.{Remains, goes, stops}
 use Rattle.plan_player.proofs.machine.burst.run.Goals as goal
 
@@ -11,19 +10,23 @@ pub step-requires-clause-allowed : goal.step-requires-clause-allowed
 step-requires-clause-allowed g c =
     let now : State = state_of g.S.Store.content c.instructions.machine in
     let runs : is_running now.hold ≡ true = sym c.is_running.ensures ∙ c.instructions-test.true in
-    (goes c.args.code.now (state_of g.S.Store.content c.args.machine.now) c.instructions.steps now c.instructions.invariant runs).allowed
+    (goes c.args.code.now (state_of g.S.Store.content c.args.machine.now) c.instructions.steps now
+    c.instructions.invariant runs).allowed
 
 -- src/burst.rt:48:5
 pub instructions-preserved : goal.instructions-preserved
 instructions-preserved g c =
     let now : State = state_of g.S.Store.content c.instructions.machine in
     let runs : is_running now.hold ≡ true = sym c.is_running.ensures ∙ c.instructions-test.true in
-    let next = (goes c.args.code.now (state_of g.S.Store.content c.args.machine.now) c.instructions.steps now c.instructions.invariant runs).next in
-    subst (λ (t : State). Remains c.args.code.now (state_of g.S.Store.content c.args.machine.now) (c.instructions.steps + 1) t) (sym c.step.ensures) next
+    let next = (goes c.args.code.now (state_of g.S.Store.content c.args.machine.now) c.instructions.steps now
+    c.instructions.invariant runs).next in
+    subst (λ (t : State). Remains c.args.code.now (state_of g.S.Store.content c.args.machine.now)
+    (c.instructions.steps + 1) t) (sym c.step.ensures) next
 
 -- src/burst.rt:39:1
 pub returns-clause-state : goal.returns-clause-state
 returns-clause-state g c =
     let now : State = state_of g.S.Store.content c.instructions.machine in
     let held : is_running now.hold ≡ false = sym c.is_running.ensures ∙ c.instructions-test.false in
-    (stops c.args.code.now (state_of g.S.Store.content c.args.machine.now) c.instructions.steps now c.instructions.invariant held).state
+    (stops c.args.code.now (state_of g.S.Store.content c.args.machine.now) c.instructions.steps now
+    c.instructions.invariant held).state

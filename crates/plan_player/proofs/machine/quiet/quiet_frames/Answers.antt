@@ -1,8 +1,6 @@
 use Rattle.std.proofs.Common.{◌≤◌, ℕ, subst, arith}
-use Rattle.plan_code.specs.declared.plan.Plan.{Plan}
-use Rattle.plan_code.specs.Machine.{State}
-use Rattle.plan_player.specs.Positions.{state_of}
-use Rattle.plan_player.specs.Quiet.{SwapIsAway}
+use Rattle.plan_player.proofs.Names.{state_of, SwapIsAway}
+use Rattle.plan_runs.proofs.Names.{Plan, State}
 use Rattle.plan_player.proofs.Quiet.{fewer_swap, fewer_hold, are_quiet}
 use Rattle.plan_player.proofs.machine.quiet.quiet_frames.Goals as goal
 
@@ -14,6 +12,7 @@ returns-clause-quiet g c =
     let before_swap : n ≤ c.before_swap-swap.result = omega (arith, c.min.ensures, c.min-nearer.ensures) in
     let before_hold : n ≤ c.before_resuming-hold.result = omega (arith, c.min.ensures, c.min-nearer.ensures) in
     let swap : SwapIsAway p.plan.notice s.left c.before_swap-swap.result =
-    subst (λ (q : Plan). SwapIsAway q.notice s.left c.before_swap-swap.result) c.plan-plan.ensures.value c.before_swap-swap.ensures in
+    subst (λ (q : Plan). SwapIsAway q.notice s.left c.before_swap-swap.result) c.plan-plan.ensures.value
+    c.before_swap-swap.ensures in
     are_quiet p s n (fewer_swap p.plan.notice s.left c.before_swap-swap.result n before_swap swap)
     (fewer_hold s s.hold c.before_resuming-hold.result n before_hold c.before_resuming-hold.ensures)

@@ -1,11 +1,7 @@
 use Rattle.std.proofs.Common.{sym, subst, ap, ◌∙◌, arith}
-use Rattle.plan_code.specs.Machine.{State}
+use Rattle.plan_player.proofs.Names.{state_of, IsGoing, Playing}
+use Rattle.plan_runs.proofs.Names.{State, happens, IsPlayed}
 use Rattle.plan_runs.specs.declared.event.Event.TheVariants.{Contact}
-use Rattle.plan_runs.specs.Runs.{happens}
-use Rattle.plan_runs.specs.TypedRuns.{IsPlayed}
-use Rattle.plan_player.specs.Positions.{state_of}
-use Rattle.plan_player.specs.Phase.{IsGoing}
-use Rattle.plan_player.specs.Playing.{Playing}
 use Rattle.plan_player.proofs.FrameFacts.{contact_goes}
 use Rattle.plan_player.proofs.player.Player.contact.Goals as goal
 
@@ -13,14 +9,16 @@ pub invariant_of-self : goal.invariant_of-self
 invariant_of-self g c =
     let p = c.self.inside.code.now in
     let s = state_of g.S.Store.content c.self.inside.machine in
-    let going = contact_goes p s c.self.inside.steps c.self.inside.pages c.args.contact c.args.closed c.self.invariant (omega (arith, c.get-number.ensures.value, c.get-number.ensures.in_range)) in
+    let going = contact_goes p s c.self.inside.steps c.self.inside.pages c.args.contact c.args.closed c.self.invariant
+    (omega (arith, c.get-number.ensures.value, c.get-number.ensures.in_range)) in
     subst (λ (t : State). IsGoing p t c.self.inside.steps c.self.inside.pages) (sym (c.set_contact.ensures p)) going
 
 pub returns-clause-played : goal.returns-clause-played
 returns-clause-played g c =
     let p = c.self.inside.code.now in
     let s = state_of g.S.Store.content c.self.inside.machine in
-    let going = contact_goes p s c.self.inside.steps c.self.inside.pages c.args.contact c.args.closed c.self.invariant (omega (arith, c.get-number.ensures.value, c.get-number.ensures.in_range)) in
+    let going = contact_goes p s c.self.inside.steps c.self.inside.pages c.args.contact c.args.closed c.self.invariant
+    (omega (arith, c.get-number.ensures.value, c.get-number.ensures.in_range)) in
     subst (λ (t : State). IsPlayed p t) (sym (c.set_contact.ensures p)) going.played
 
 pub returns-clause-state : goal.returns-clause-state
@@ -28,4 +26,5 @@ returns-clause-state g c =
     let p = c.self.inside.code.now in
     let e = c.set_contact.ensures p in
     ap (λ (t : State). let r : Playing = record { code = p; state = t; steps = c.self.inside.steps } in r) e
-    ∙ ap (λ (x : Playing). let r : Playing = record x { state = happens x.code x.state (Contact c.args.contact c.args.closed) } in r) c.self.view_is
+    ∙ ap (λ (x : Playing). let r : Playing =
+    record x { state = happens x.code x.state (Contact c.args.contact c.args.closed) } in r) c.self.view_is

@@ -1,8 +1,7 @@
 use Rattle.std.proofs.Common.{[], subst}
-use Rattle.mux_config.specs.Sound.{IsSound}
+use Rattle.plan_player.proofs.Names.{state_of, Playing}
+use Rattle.plan_runs.proofs.Names.{IsSound}
 use Rattle.plan_runs.proofs.TypedRuns.{typed_code_runs}
-use Rattle.plan_player.specs.Positions.{state_of}
-use Rattle.plan_player.specs.Playing.{Playing}
 use Rattle.plan_player.proofs.player.Player.current.Goals as goal
 
 pub returns-clause-sound : goal.returns-clause-sound

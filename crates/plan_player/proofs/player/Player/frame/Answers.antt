@@ -1,30 +1,31 @@
-use Rattle.std.proofs.Common.{ap, ◌∙◌}
-use Rattle.plan_code.specs.Program.{Program}
-use Rattle.plan_runs.specs.Frames.{frame_bytes}
-use Rattle.plan_runs.specs.Announced.{FrameRuns, heard_of}
-use Rattle.plan_runs.specs.RightBytes.{FrameIsRight, IsHeardEachPeriod}
-use Rattle.plan_runs.specs.Headline.{KeepsCount}
-use Rattle.plan_player.specs.Playing.{Playing}
-use Rattle.plan_player.specs.Positions.{state_of}
-use Rattle.plan_player.specs.Phase.{IsGoing}
-use Rattle.plan_player.proofs.FrameFacts.{lent_ready, lent_goes, lent_holds}
+use Rattle.std.proofs.Common.{◌≤◌, subst, [], ◌∷◌, ap, ◌∙◌}
+use Rattle.plan_player.proofs.Names.{Playing, state_of, IsGoing}
+use Rattle.plan_runs.proofs.Names.{Program, frame_bytes}
+use Rattle.plan_runs.specs.declared.event.Event.TheVariants.{Frame}
+use Rattle.plan_player.proofs.FrameFacts.{lent_ready, lent_goes}
 use Rattle.plan_player.proofs.player.Player.frame.Given as given
 use Rattle.plan_player.proofs.player.Player.frame.Goals as goal
 use Rattle.plan_player.proofs.player.Player.frame.Goals.{After-make_frame-self-inside}
 
 -- the player after the frame
 goes : (g : given.Over) (c : After-make_frame-self-inside g)
-    → IsGoing c.self.inside.code.now (state_of g.S.Store.content c.make_frame-self-inside.new.machine) c.make_frame-self-inside.result c.make_frame-self-inside.new.pages
+    → IsGoing c.self.inside.code.now (state_of g.S.Store.content c.make_frame-self-inside.new.machine)
+    c.make_frame-self-inside.result c.make_frame-self-inside.new.pages
 goes g c =
     let i = c.self.inside in
     let made = c.make_frame-self-inside in
-    lent_goes i.code.now c.code-code.result.now (state_of g.S.Store.content i.machine) (state_of g.S.Store.content made.new.machine) i.steps made.result i.pages made.new.pages
-    c.code-code.ensures.value c.self.invariant made.ensures.state made.ensures.steps made.ensures.keeps made.ensures.change
+    lent_goes i.code.now c.code-code.result.now (state_of g.S.Store.content i.machine)
+    (state_of g.S.Store.content made.new.machine) i.steps made.result i.pages made.new.pages
+    c.code-code.ensures.value c.self.invariant made.ensures.state made.ensures.steps made.ensures.keeps
+    made.ensures.change
 
 pub make_frame-self-inside-requires : goal.make_frame-self-inside-requires
 make_frame-self-inside-requires g c =
     let i = c.self.inside in
-    record { ready = lent_ready i.code.now c.code-code.result.now (state_of g.S.Store.content i.machine) i.steps i.pages c.code-code.ensures.value c.self.invariant }
+    record {
+      ready = lent_ready i.code.now c.code-code.result.now (state_of g.S.Store.content i.machine) i.steps i.pages
+          c.code-code.ensures.value c.self.invariant;
+    }
 
 pub invariant_of-self : goal.invariant_of-self
 invariant_of-self g c = goes g (goal.at.invariant_of-self g c).After-make_frame-self-inside
@@ -39,13 +40,18 @@ returns-clause-bytes g c =
     ∙ ap (λ (x : Playing). frame_bytes x.code x.state) c.self.view_is
 
 pub returns-clause-announced : goal.returns-clause-announced
-returns-clause-announced g c = lent_holds (λ p s. FrameRuns p s (heard_of p.plan s)) _ _ (state_of g.S.Store.content c.self.inside.machine) _ _ c.code-code.ensures.value c.self.view_is c.promise.ensures.announced
+returns-clause-announced g c = (c.promise.ensures (Frame ∷ [])).runs.0
 
 pub returns-clause-right : goal.returns-clause-right
-returns-clause-right g c = lent_holds FrameIsRight _ _ (state_of g.S.Store.content c.self.inside.machine) _ _ c.code-code.ensures.value c.self.view_is c.promise.ensures.right
+returns-clause-right g c = (c.promise.ensures (Frame ∷ [])).right.0
 
 pub returns-clause-whole : goal.returns-clause-whole
-returns-clause-whole g c = lent_holds IsHeardEachPeriod _ _ (state_of g.S.Store.content c.self.inside.machine) _ _ c.code-code.ensures.value c.self.view_is c.promise.ensures.whole
+returns-clause-whole g c = (c.promise.ensures []).whole
 
 pub returns-clause-counted : goal.returns-clause-counted
-returns-clause-counted g c = λ events. lent_holds (λ p s. KeepsCount p s events) _ _ (state_of g.S.Store.content c.self.inside.machine) _ _ c.code-code.ensures.value c.self.view_is (c.promise.ensures.counted events)
+returns-clause-counted g c = λ events. (c.promise.ensures events).counted
+
+pub returns-clause-within : goal.returns-clause-within
+returns-clause-within g c =
+    subst (λ (x : Playing). c.make_frame-self-inside.result ≤ x.code.plan.budget) c.self.view_is
+    (goes g (goal.at.returns-clause-within g c).After-make_frame-self-inside).within

@@ -1,11 +1,7 @@
 use Rattle.std.proofs.Common.{◌≡◌, ℕ, ◌<◌, List, length, take, IfErr, OnOk, ap, subst, ◌∙◌}
-use Rattle.std.specs.Io.KnownBytes.{Appends}
-use Rattle.plan_code.specs.Program.{Program}
-use Rattle.plan_runs.specs.Frames.{frame_bytes}
-use Rattle.plan_player.specs.Playing.{Playing}
-use Rattle.plan_player.specs.Delivery.{next_frame}
+use Rattle.plan_player.proofs.Names.{Appends, Playing, next_frame, state_of}
+use Rattle.plan_runs.proofs.Names.{Program, frame_bytes}
 use Rattle.plan_player.proofs.FrameFacts.{lent_ready, lent_goes}
-use Rattle.plan_player.specs.Positions.{state_of}
 use Rattle.plan_player.proofs.player.Player.put_frame.Given as given
 use Rattle.plan_player.proofs.player.Player.put_frame.Goals as goal
 use Rattle.plan_player.proofs.player.Player.put_frame.Goals.{After-bytes}
@@ -21,23 +17,33 @@ sent g c =
 pub make_frame-self-inside-requires : goal.make_frame-self-inside-requires
 make_frame-self-inside-requires g c =
     let i = c.self.inside in
-    record { ready = lent_ready i.code.now c.code-code.result.now (state_of g.S.Store.content i.machine) i.steps i.pages c.code-code.ensures.value c.self.invariant }
+    record {
+      ready = lent_ready i.code.now c.code-code.result.now (state_of g.S.Store.content i.machine) i.steps i.pages
+          c.code-code.ensures.value c.self.invariant;
+    }
 
 pub invariant_of-self : goal.invariant_of-self
 invariant_of-self g c =
     let i = c.self.inside in
     let made = c.make_frame-self-inside in
-    lent_goes i.code.now c.code-code.result.now (state_of g.S.Store.content i.machine) (state_of g.S.Store.content made.new.machine) i.steps made.result i.pages made.new.pages
-    c.code-code.ensures.value c.self.invariant made.ensures.state made.ensures.steps made.ensures.keeps made.ensures.change
+    lent_goes i.code.now c.code-code.result.now (state_of g.S.Store.content i.machine)
+    (state_of g.S.Store.content made.new.machine) i.steps made.result i.pages made.new.pages
+    c.code-code.ensures.value c.self.invariant made.ensures.state made.ensures.steps made.ensures.keeps
+    made.ensures.change
 
 pub returns-clause-bytes : goal.returns-clause-bytes
 returns-clause-bytes g c =
-    subst (λ (bs : List ℕ). OnOk c.put_all.result (Appends (g.K.Sink.taken c.args.sink.now) (g.K.Sink.taken c.put_all.new.sink) bs)) (sent g (goal.at.returns-clause-bytes g c).After-bytes) c.put_all.ensures.all
+    subst (λ (bs : List ℕ). OnOk c.put_all.result
+    (Appends (g.K.Sink.taken c.args.sink.now) (g.K.Sink.taken c.put_all.new.sink) bs))
+    (sent g (goal.at.returns-clause-bytes g c).After-bytes) c.put_all.ensures.all
 
 pub returns-clause-bound : goal.returns-clause-bound
 returns-clause-bound g c =
-    subst (λ (bs : List ℕ). IfErr c.put_all.result (λ n. n < length bs)) (sent g (goal.at.returns-clause-bound g c).After-bytes) c.put_all.ensures.bound
+    subst (λ (bs : List ℕ). IfErr c.put_all.result (λ n. n < length bs))
+    (sent g (goal.at.returns-clause-bound g c).After-bytes) c.put_all.ensures.bound
 
 pub returns-clause-part : goal.returns-clause-part
 returns-clause-part g c =
-    subst (λ (bs : List ℕ). IfErr c.put_all.result (λ n. Appends (g.K.Sink.taken c.args.sink.now) (g.K.Sink.taken c.put_all.new.sink) (take n bs))) (sent g (goal.at.returns-clause-part g c).After-bytes) c.put_all.ensures.part
+    subst (λ (bs : List ℕ). IfErr c.put_all.result (λ n.
+    Appends (g.K.Sink.taken c.args.sink.now) (g.K.Sink.taken c.put_all.new.sink) (take n bs)))
+    (sent g (goal.at.returns-clause-part g c).After-bytes) c.put_all.ensures.part

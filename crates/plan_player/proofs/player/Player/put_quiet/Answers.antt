@@ -1,12 +1,8 @@
 use Rattle.std.proofs.Common.{◌≡◌, ◌-◌, ◌≤◌, ℕ, suc, replicate, true, IfOk, IfErr, refl, sym, ap, subst, arith}
-use Rattle.plan_code.specs.Machine.{State}
+use Rattle.plan_player.proofs.Names.{Playing, Delivered, Stopped, state_of, AreQuiet}
+use Rattle.plan_runs.proofs.Names.{State}
 use Rattle.plan_runs.specs.declared.event.Event.TheVariants.{Frame}
-use Rattle.plan_player.specs.Playing.{Playing}
-use Rattle.plan_player.specs.Delivery.{Delivered, Stopped}
-use Rattle.plan_player.specs.Positions.{state_of}
-use Rattle.plan_player.specs.Quiet.{AreQuiet}
-use Rattle.plan_player.proofs.OneFrame.{one_delivered, one_stopped, first_quiet}
-use Rattle.plan_player.proofs.Joining.{stopped_among}
+use Rattle.plan_player.proofs.Joining.{stopped_among, one_delivered, one_stopped, first_quiet}
 use Rattle.plan_player.proofs.Stretches.{fewer_quiet, stretch, quiet_done, quiet_stopped, some_quiet, goes_quiet}
 use Rattle.plan_player.proofs.player.Player.put_quiet.Given as given
 use Rattle.plan_player.proofs.player.Player.put_quiet.Goals as goal
@@ -22,9 +18,11 @@ few g c = omega (arith, c.min-count.ensures)
 whole : (g : given.Over) (c : After-min-count g) → c.self.inside.pages.is_whole ≡ true
 whole g c = grind (arith, c.if-not-self.false)
 
-quiet : (g : given.Over) (c : After-min-count g) → AreQuiet c.self.inside.code.now c.min-count.result (state_of g.S.Store.content c.self.inside.machine)
+quiet : (g : given.Over) (c : After-min-count g) → AreQuiet c.self.inside.code.now c.min-count.result
+    (state_of g.S.Store.content c.self.inside.machine)
 quiet g c =
-    fewer_quiet c.self.inside.code.now c.args.most c.min-count.result (state_of g.S.Store.content c.self.inside.machine) (few g c)
+    fewer_quiet c.self.inside.code.now c.args.most c.min-count.result (state_of g.S.Store.content c.self.inside.machine)
+    (few g c)
     (subst (λ (x : Playing). AreQuiet x.code c.args.most x.state) (sym c.self.view_is) c.requires.quiet)
 
 pub same-self : goal.same-self
@@ -47,7 +45,8 @@ pub returns-in-Ok-clause-done : goal.returns-in-Ok-clause-done
 returns-in-Ok-clause-done g c =
     let taken = g.K.Sink.taken in
     let h = c.in-Ok.ensures in
-    one_delivered c.args.self.now c.put_quiet_frame.new.self (taken c.args.sink.now) (taken c.put_quiet_frame.new.sink) h.state h.bytes
+    one_delivered c.args.self.now c.put_quiet_frame.new.self (taken c.args.sink.now) (taken c.put_quiet_frame.new.sink)
+    h.state h.bytes
 
 pub returns-in-Ok-clause-some : goal.returns-in-Ok-clause-some
 returns-in-Ok-clause-some g c = (omega arith, c.requires.one)
@@ -88,14 +87,16 @@ pub put_stretch-requires-clause-stretch : goal.put_stretch-requires-clause-stret
 put_stretch-requires-clause-stretch g c =
     let i = c.self.inside in
     let here = (goal.at.put_stretch-requires-clause-stretch g c).After-min-count in
-    stretch i.code.now c.args.plan.now c.min-count.result (state_of g.S.Store.content i.machine) i.steps i.pages (plan_is g here) (whole g here) c.self.invariant (quiet g here)
+    stretch i.code.now c.args.plan.now c.min-count.result (state_of g.S.Store.content i.machine) i.steps i.pages
+    (plan_is g here) (whole g here) c.self.invariant (quiet g here)
 
 pub invariant_of-self : goal.invariant_of-self
 invariant_of-self g c =
     let i = c.self.inside in
     let here = (goal.at.invariant_of-self g c).After-min-count in
     let counted = c.put_stretch.ensures.counted in
-    goes_quiet i.code.now c.args.plan.now c.min-count.result counted.0 (state_of g.S.Store.content i.machine) (state_of g.S.Store.content c.put_stretch.new.machine) i.steps i.pages
+    goes_quiet i.code.now c.args.plan.now c.min-count.result counted.0 (state_of g.S.Store.content i.machine)
+    (state_of g.S.Store.content c.put_stretch.new.machine) i.steps i.pages
     (plan_is g here) counted.1 (whole g here) c.self.invariant (quiet g here) counted.2
 
 pub returns-clause-done : goal.returns-clause-done
@@ -108,12 +109,16 @@ returns-clause-done g c =
     let new : Playing = record { code = i.code.now; state = t; steps = 0 } in
     let e = c.put_stretch.ensures in
     let some : 1 ≤ c.min-count.result = omega (arith, c.min-count.ensures, c.requires.one, c.from.ensures) in
-    subst (λ (old : Playing). IfOk c.put_stretch.result (λ k. Delivered old new (replicate k Frame) x y k)) c.self.view_is
-    (quiet_done i.code.now c.args.plan.now c.min-count.result (state_of g.S.Store.content i.machine) t i.steps x y c.put_stretch.result (plan_is g here) some (quiet g here) e.all e.state e.bytes)
+    subst (λ (old : Playing). IfOk c.put_stretch.result (λ k. Delivered old new (replicate k Frame) x y k))
+    c.self.view_is
+    (quiet_done i.code.now c.args.plan.now c.min-count.result (state_of g.S.Store.content i.machine) t i.steps x y
+    c.put_stretch.result (plan_is g here) some (quiet g here) e.all e.state e.bytes)
 
 pub returns-clause-some : goal.returns-clause-some
 returns-clause-some g c =
-    some_quiet c.args.most c.min-count.result c.put_stretch.result (omega (arith, c.min-count.ensures, c.requires.one, c.from.ensures)) (few g (goal.at.returns-clause-some g c).After-min-count) c.put_stretch.ensures.all
+    some_quiet c.args.most c.min-count.result c.put_stretch.result
+    (omega (arith, c.min-count.ensures, c.requires.one, c.from.ensures))
+    (few g (goal.at.returns-clause-some g c).After-min-count) c.put_stretch.ensures.all
 
 pub returns-clause-code : goal.returns-clause-code
 returns-clause-code g c = ap (λ (x : Playing). x.code) c.self.view_is
@@ -129,8 +134,10 @@ returns-clause-stopped g c =
     let y = g.K.Sink.taken c.put_stretch.new.sink in
     let t : State = state_of g.S.Store.content c.put_stretch.new.machine in
     let new : Playing = record { code = i.code.now; state = t; steps = 0 } in
-    subst (λ (old : Playing). IfErr c.put_stretch.result (λ cut. Stopped old new (replicate c.args.most Frame) x y cut.frames cut.bytes)) c.self.view_is
-    (quiet_stopped i.code.now c.args.plan.now c.args.most c.min-count.result (state_of g.S.Store.content i.machine) t i.steps x y c.put_stretch.result (plan_is g here) (few g here) (quiet g here) c.put_stretch.ensures.cut)
+    subst (λ (old : Playing). IfErr c.put_stretch.result
+    (λ cut. Stopped old new (replicate c.args.most Frame) x y cut.frames cut.bytes)) c.self.view_is
+    (quiet_stopped i.code.now c.args.plan.now c.args.most c.min-count.result (state_of g.S.Store.content i.machine) t
+    i.steps x y c.put_stretch.result (plan_is g here) (few g here) (quiet g here) c.put_stretch.ensures.cut)
 
 pub returns-clause-fails : goal.returns-clause-fails
 returns-clause-fails g c = c.put_stretch.ensures.fails

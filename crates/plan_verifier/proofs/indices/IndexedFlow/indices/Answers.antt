@@ -1,5 +1,5 @@
 use Rattle.std.proofs.Common.{refl}
-use Rattle.plan_verifier.specs.Indexed.{configuration_at}
+use Rattle.plan_verifier.proofs.Names.{configuration_at}
 use Rattle.plan_verifier.proofs.Moving.{is_there}
 use Rattle.plan_verifier.proofs.indices.IndexedFlow.indices.Goals as goal
 

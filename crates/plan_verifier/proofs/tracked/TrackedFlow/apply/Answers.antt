@@ -1,7 +1,5 @@
 use Rattle.std.proofs.Common.{sym, subst}
-use Rattle.plan_verifier.specs.declared.indices.Indices.{Indices}
-use Rattle.plan_verifier.specs.Flows.{Flow, held}
-use Rattle.plan_verifier.specs.Indexed.{AreAt, indices_after}
+use Rattle.plan_verifier.proofs.Names.{Indices, Flow, held, AreAt, indices_after}
 use Rattle.plan_verifier.proofs.Moving.{tracked_after}
 use Rattle.plan_verifier.proofs.tracked.TrackedFlow.apply.Goals as goal
 
@@ -12,4 +10,5 @@ returns-clause-tracked g c = λ table tracked.
     let left : Flow = held g.S.Store.content c.apply.new.self in
     let after = tracked_after c.args.plan.now c.args.instr table before.indices t tracked in
     subst (λ (k : Indices). AreAt table k left) (sym c.indices_after-self.ensures)
-    (subst (λ (u : Flow). AreAt table (indices_after c.args.instr t.pending u.pending before.indices) u) (sym c.in_ok-apply.ensures.left) after)
+    (subst (λ (u : Flow). AreAt table (indices_after c.args.instr t.pending u.pending before.indices) u)
+    (sym c.in_ok-apply.ensures.left) after)

@@ -1,11 +1,10 @@
 use Rattle.std.proofs.Common.{sym, subst}
-use Rattle.plan_verifier.specs.declared.indices.Indices.{Indices}
-use Rattle.plan_verifier.specs.Flows.{held}
-use Rattle.plan_verifier.specs.Indexed.{AreAt}
+use Rattle.plan_verifier.proofs.Names.{Indices, held, AreAt}
 use Rattle.plan_verifier.proofs.Moving.{tracked_fit}
 use Rattle.plan_verifier.proofs.tracked.TrackedFlow.note_fit.Goals as goal
 
 pub returns-clause-tracked : goal.returns-clause-tracked
 returns-clause-tracked g c = λ table within h.
     let t = held g.S.Store.content c.args.self.now.flow in
-    subst (λ (k : Indices). AreAt table k t) (sym c.fit_indices-self.ensures) (tracked_fit table c.args.other.now t within h)
+    subst (λ (k : Indices). AreAt table k t) (sym c.fit_indices-self.ensures)
+    (tracked_fit table c.args.other.now t within h)
