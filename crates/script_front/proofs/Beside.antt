@@ -1,12 +1,7 @@
 -- Alternatives beside each other, and the slots that keep them.
-use Rattle.std.proofs.Common.{◌≡◌, ℕ, zero, suc, ◌+◌, ◌-◌, ◌<◌, ◌≤◌, Bool, true, false, cond, not, ◌||◌, List, [], ◌∷◌, ◌++◌, length, take, replicate, set, refl, sym, ap, ◌∙◌, subst, append_assoc, arith}
-use Rattle.std.specs.List.{AllByRecursion, filter, list_any}
-use Rattle.std.proofs.Math.Seq.{set-append_seam, take-append_seam}
-use Rattle.std.proofs.lemmas.List.{length-append}
-use Rattle.script_front.specs.declared.alternatives.Alternative.{Alternative}
+use Rattle.script_front.proofs.Words.{[], ◌++◌, ◌+◌, ◌-◌, ◌<◌, ◌||◌, ◌∙◌, ◌∷◌, ◌≡◌, ◌≤◌, AllByRecursion, Alternative, AreAlternatives, Bool, IsAlternative, List, ap, append_assoc, arith, cond, false, filter, is_moment, is_number, length, length-append, list_any, may_follow, not, refl, replicate, set, set-append_seam, subst, suc, sym, take, take-append_seam, true, ℕ}
 use Rattle.script_front.specs.declared.alternatives.Alternative.TheVariants.{Contact, Until, Frames}
 use Rattle.script_front.specs.Slots.{in_slots}
-use Rattle.script_front.specs.Waits.{IsAlternative, is_moment, is_number, may_follow, AreAlternatives}
 
 abbrev pub Alternatives : Type 0
 Alternatives = List Alternative

@@ -1,45 +1,12 @@
 -- The printed lines of a script have its tokens.
-use Rattle.std.proofs.Common.{◌≡◌, ℕ, suc, ◌+◌, ◌-◌, ◌<◌, ◌≤◌, Bool, true, false, List, [], ◌∷◌, ◌++◌, length, refl, sym, ap, ◌∙◌, append_assoc, subst, arith}
-use Rattle.std.specs.Fmt.{decimal}
-use Rattle.std.specs.List.{All, AllByRecursion}
-use Rattle.mux_config.specs.declared.edit.Edit.{Edit}
-use Rattle.mux_config.specs.declared.edit.Edit.TheVariants.{AddSub, DropSub, MoveSub, RateSub, AddService, DropService, AddComponent, DropComponent, AddPacket, DropPacket}
-use Rattle.mux_types.specs.declared.parts.Carrier.{Carrier}
+use Rattle.script_front.proofs.Words.{[], ◌++◌, ◌+◌, ◌-◌, ◌<◌, ◌∙◌, ◌∷◌, ◌≡◌, ◌≤◌, Act, AddComponent, AddPacket, AddService, AddSub, All, AllByRecursion, AllFit, Alternative, AreWords, At, Block, Bool, Carrier, CommitAt, CommitIn, Component, Condition, Contact, Denotes, DropComponent, DropPacket, DropService, DropSub, Early, Edit, FrameLayout, HasLexemes, I, II, III, IV, IsAct, IsAlternative, IsCarrier, IsComponent, IsCondition, IsEdit, IsInBounds, IsItem, IsMoment, IsName, IsPlan, IsScript, IsSid, IsWord, Item, Join, Line, List, Mode, MoveSub, Plan, RateSub, ReserveOne, ReserveTwo, Settle, Sid, Sound, Spelled, Statement, Stream, Time, Tree, Until, Wait, WaitAny, WaitContact, Whole, act_lexemes, alternative_lexemes, alternatives_lexemes, ap, append_assoc, apply, arith, basic, block_lexemes, block_lines, block_of, carrier_lexemes, closing, condition_lexemes, decimal, decimal_word, defined_lexemes, defined_lines, edit_lexemes, either, false, forever, groups_text, header_lexemes, header_lines, hex_text, hex_word_word, if_lexemes, items_lexemes, items_lines, keyword_text, layout_mode, length, letters, level_text, limits_lexemes, line, mode_lexemes, moment_lexemes, name_at, name_word, nothing, or_lexemes, profile_word_word, refl, repeat, reserve_lexemes, sid_word_word, stop, subst, suc, sym, text_of_lines, time_word_word, tree_lexemes, tree_lines, true, when, within_lexemes, ℕ}
 use Rattle.mux_types.specs.declared.parts.Carrier.TheVariants.{Sub as BySub, Packet as ByPacket}
-use Rattle.mux_types.specs.declared.parts.Component.{Component}
-use Rattle.mux_types.specs.declared.parts.Component.TheVariants.{Sound, Stream, Packet as InPackets}
-use Rattle.mux_types.specs.declared.numbers.Sid.{Sid}
-use Rattle.mux_config.specs.Configuration.{IsSid, IsComponent}
-use Rattle.fib_codec.specs.Layouts.{layout_mode}
-use Rattle.fib_codec.specs.declared.frame_layout.FrameLayout.{FrameLayout}
-use Rattle.fib_codec.specs.declared.frame_layout.FrameLayout.TheVariants.{Whole, ReserveOne, ReserveTwo}
-use Rattle.fib_codec.specs.declared.modes.Mode.{Mode}
-use Rattle.fib_codec.specs.declared.modes.Mode.TheVariants.{I, II, III, IV}
-use Rattle.plan_code.specs.Program.{IsEdit, IsCarrier}
-use Rattle.script_front.specs.declared.tree.Act.{Act}
-use Rattle.script_front.specs.declared.tree.Condition.{Condition}
-use Rattle.script_front.specs.declared.tree.Condition.TheVariants.{Contact, Time}
+use Rattle.mux_types.specs.declared.parts.Component.TheVariants.{Packet as InPackets}
 use Rattle.script_front.specs.declared.moment.MomentForm.{MomentForm as Moment}
-use Rattle.script_front.specs.declared.moment.MomentForm.TheVariants.{At, Early}
-use Rattle.script_front.specs.declared.alternatives.Alternative.{Alternative}
 use Rattle.script_front.specs.declared.alternatives.Alternative.TheVariants.{Contact as OfContact, Until as OfMoment, Frames as OfFrames}
-use Rattle.script_front.specs.Waits.{IsMoment, IsAlternative}
-use Rattle.script_front.specs.declared.tree.Act.TheVariants.{Edit as Edits, Wait, WaitContact, Until, WaitAny, CommitIn, CommitAt, Join, Settle}
-use Rattle.plan_code.specs.declared.plan.Plan.{Plan}
-use Rattle.script_front.specs.declared.tree.Item.{Item}
-use Rattle.script_front.specs.declared.tree.Statement.{Statement}
+use Rattle.script_front.specs.declared.tree.Act.TheVariants.{Edit as Edits}
 use Rattle.script_tokens.specs.declared.keyword.Keyword.TheVariants as the
-use Rattle.script_tokens.specs.Keywords.{letters, IsName}
-use Rattle.script_front.specs.Block.{Block, nothing, basic, stop, when, either, repeat, forever, apply, block_of}
-use Rattle.script_front.specs.Tree.{Tree, IsAct, IsCondition, IsItem, IsScript, IsInBounds, AllFit}
-use Rattle.plan_code.specs.Program.{IsPlan}
-use Rattle.script_tokens.specs.Spelling.{hex_text, level_text}
-use Rattle.script_front.specs.Spelled.{carrier_lexemes, within_lexemes, groups_text, edit_lexemes, moment_lexemes, alternative_lexemes, or_lexemes, alternatives_lexemes, act_lexemes, condition_lexemes, name_at, block_lexemes, mode_lexemes, reserve_lexemes, limits_lexemes, header_lexemes, items_lexemes, defined_lexemes, tree_lexemes}
-use Rattle.script_front.specs.Printing.{Line, line, text_of_lines, closing, if_lexemes, block_lines, header_lines, items_lines, defined_lines, tree_lines}
-use Rattle.script_front.specs.Denoting.{HasLexemes, Denotes}
 use Rattle.script_front.proofs.Lined.{IsLine, AreLines, all_words, lines_have}
-use Rattle.script_tokens.proofs.Wording.{IsWord, AreWords, decimal_word, hex_word_word, sid_word_word, profile_word_word, time_word_word, keyword_text, name_word}
-use Rattle.script_tokens.specs.Reading.{Spelled}
 
 -- ---- edits and acts
 

@@ -1,17 +1,7 @@
 -- The tokens of a text are those among its pieces.
-use Rattle.std.proofs.Common.{◌≡◌, ℕ, ◌+◌, ◌-◌, List, [], ◌∷◌, ◌++◌, length, length-append, slice_range, refl, sym, ap, ◌∙◌, subst, append_assoc, arith}
-use Rattle.std.proofs.Math.Seq.{drop-append_seam, take-append_seam}
-use Rattle.script_tokens.specs.declared.token.Token.{Token}
+use Rattle.script_front.proofs.Words.{[], ◌++◌, ◌+◌, ◌-◌, ◌∙◌, ◌∷◌, ◌≡◌, AreTokens, HasLines, IsScriptOf, LineEnd, List, Ok, Piece, Result, Token, TokensFit, Tree, ap, append_assoc, arith, atom, blank, brace, comment, drop-append_seam, first_position, kind_of, length, length-append, lexemes_in, lexemes_of, lines_of, position_after, position_past, refl, script_limits, slice_range, subst, sym, take-append_seam, text_of, tokens_of, tree_lexemes, ℕ}
 use Rattle.script_tokens.specs.declared.token.Kind.{Kind}
-use Rattle.script_tokens.specs.declared.token.Kind.TheVariants.{LineEnd}
 use Rattle.script_tokens.specs.declared.token.Place.{Place}
-use Rattle.script_tokens.specs.Bytes.{kind_of, position_after, position_past, first_position}
-use Rattle.script_tokens.specs.Texts.{Piece, blank, comment, brace, atom, text_of, tokens_of, AreTokens, TokensFit, script_limits}
-use Rattle.script_tokens.specs.Reading.{lexemes_of, lines_of}
-use Rattle.script_front.specs.Tree.{Tree}
-use Rattle.script_front.specs.Spelled.{tree_lexemes, HasLines}
-use Rattle.script_front.specs.Denoting.{lexemes_in, IsScriptOf}
-use Rattle.std.specs.Prelude.{Result, Ok}
 use Rattle.script_tokens.specs.declared.fault.ScriptFault.{ScriptFault}
 use Rattle.script_tokens.specs.declared.token.Inside.TheVariants.{Nothing}
 use Rattle.script_tokens.specs.Lexing.{lexed}

@@ -1,18 +1,12 @@
 -- Statements that are spelled by some tokens are read from them, on the lines of their tokens.
-use Rattle.std.proofs.Common.{◌≡◌, ◌≢◌, ℕ, zero, suc, ◌+◌, ◌-◌, ◌<◌, ◌≤◌, Bool, true, false, List, [], ◌∷◌, ◌++◌, length, map, drop, refl, sym, ap, ◌∙◌, subst, append_assoc, lt-ltb, le-ltb, arith}
+use Rattle.script_front.proofs.Words.{[], ◌++◌, ◌+◌, ◌-◌, ◌<◌, ◌∙◌, ◌∷◌, ◌≡◌, ◌≢◌, ◌≤◌, Act, ActKeyword, Before, Block, BlockOn, Bool, Condition, IsCondition, IsInBounds, IsName, List, None, Passage, Some, Spelled, Statement, StatementKeyword, Statements, act_from, act_keyword, act_lexemes, after_itself, ap, append_assoc, apply, arith, basic, before, block_lexemes, block_of, braced, bytes_eq, bytes_eq-Decides, condition_at, condition_lexemes, counted, drop, either, false, fold-roll-Statement, forever, ind-Statement, keyword_again, le-ltb, length, letters, line_of, lt-ltb, map, map-Statement, name_at, next_itself, nothing, number_at, other_next, position, position_or_len, put, refl, repeat, statement_found, statement_keyword, statement_of, statement_step, stop, subst, suc, sym, true, unlined, values_are_read, when, whole, zero, ℕ}
 use Rattle.script_front.specs.declared.tree.Statement.TheOpen.{Statement-F}
-use Rattle.script_front.specs.declared.tree.Statement.TheFolds.{fold-roll-Statement, map-Statement, ind-Statement}
 use Rattle.script_tokens.specs.declared.keyword.Keyword.{Keyword}
+use Rattle.script_tokens.specs.Reading.{is_next}
+use Rattle.script_front.specs.BlockReader.{stops, open_at, body_at, applied_at, branch_at, statement_from, begun_at, block_at}
 use Rattle.script_tokens.specs.declared.keyword.Keyword.TheVariants as the
 use Rattle.script_tokens.specs.declared.first_keyword.StatementKeyword.TheVariants as statement
-use Rattle.script_tokens.specs.Reading.{is_next}
-use Rattle.script_front.specs.Readers.{act_from, condition_at}
-use Rattle.script_front.specs.declared.tree.Condition.{Condition}
-use Rattle.script_front.specs.Spelled.{condition_lexemes}
-use Rattle.script_front.specs.Tree.{IsCondition}
 use Rattle.script_front.proofs.ReadingWaits.{IsPast, condition_law}
-use Rattle.script_front.specs.BlockReader.{stops, open_at, body_at, applied_at, branch_at, statement_from, begun_at, block_at}
-use Rattle.script_front.proofs.Words.{unlined, Before, Block, apply, basic, before, block_of, either, forever, nothing, repeat, statement_step, stop, when, whole, Passage, Statements, put, BlockOn, act_lexemes, block_lexemes, braced, name_at, IsInBounds, counted, Act, Statement, other_next, keyword_again, statement_found, after_itself, next_itself, values_are_read, act_keyword, statement_keyword, statement_of, IsName, letters, Spelled, keyed, line_of, number_at, ActKeyword, StatementKeyword, bytes_eq-Decides, position_or_len, None, Some, position, bytes_eq}
 use Rattle.script_front.proofs.Readings.{act_first, act_rest, act_begins, act_law}
 use Rattle.script_front.proofs.ReadingBlocks.{not_zero, Names, Agree, passed, times_law, braced_then}
 

@@ -1,13 +1,6 @@
 -- Printed lines have their tokens: a space or the line end follows each token.
-use Rattle.std.proofs.Common.{◌≡◌, ◌⊎◌, inl, inr, ℕ, zero, suc, List, [], ◌∷◌, ◌++◌, refl, sym, ap, ◌∙◌, append_assoc, subst}
-use Rattle.std.proofs.lemmas.List.{append-nil}
-use Rattle.script_tokens.specs.declared.token.Kind.TheVariants.{Blank, LineEnd, Brace}
-use Rattle.script_tokens.specs.Bytes.{kind_of}
-use Rattle.script_tokens.specs.Texts.{blank, brace, atom}
-use Rattle.script_tokens.specs.Reading.{Spelled}
-use Rattle.script_front.specs.Printing.{Line, line, indent, each_after, spaced, line_text, text_of_lines}
-use Rattle.script_front.specs.Denoting.{HasLexemes}
-use Rattle.script_tokens.proofs.Wording.{IsWord, AreWords}
+use Rattle.script_front.proofs.Words.{[], ◌++◌, ◌∙◌, ◌∷◌, ◌≡◌, ◌⊎◌, AreWords, Blank, Brace, HasLexemes, IsWord, Line, LineEnd, List, Spelled, ap, append-nil, append_assoc, atom, blank, brace, each_after, indent, inl, inr, kind_of, line, line_text, refl, spaced, subst, suc, sym, zero, ℕ}
+use Rattle.script_front.specs.Printing.{text_of_lines}
 
 abbrev pub IsBlank : ℕ → Type 0
 IsBlank b = (kind_of b ≡ Blank) ⊎ (kind_of b ≡ LineEnd)

@@ -1,12 +1,5 @@
 -- The parts of a script are within its limits when printed.
-use Rattle.std.proofs.Common.{◌≡◌, ℕ, ◌+◌, ◌-◌, ◌<◌, ◌≤◌, List, [], ◌∷◌, length, get_or, drop, refl, sym, ap, ◌∙◌, subst, add-one, arith}
-use Rattle.std.proofs.Math.Seq.{drop-cons}
-use Rattle.std.specs.Prelude.{Vec}
-use Rattle.std.specs.Global.{Global}
-use Rattle.script_front.specs.declared.tree.Statement.{Statement}
-use Rattle.script_front.specs.Block.{Block, nothing, basic, stop, when, either, repeat, forever, apply, block_of}
-use Rattle.script_front.specs.Tree.{IsInBounds, AllFit}
-use Rattle.script_front.specs.Parsing.{bodies}
+use Rattle.script_front.proofs.Words.{[], ◌+◌, ◌-◌, ◌<◌, ◌∙◌, ◌∷◌, ◌≡◌, ◌≤◌, AllFit, Block, Global, IsInBounds, List, Statement, Vec, add-one, ap, apply, arith, basic, block_of, bodies, drop, drop-cons, either, forever, get_or, length, nothing, refl, repeat, stop, subst, sym, when, ℕ}
 
 -- a block in range where this many blocks are known is in range where more are known
 pub more_known : (known more depth : ℕ) (b : Block) → known ≤ more → IsInBounds known depth b → IsInBounds more depth b

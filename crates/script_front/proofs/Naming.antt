@@ -1,12 +1,7 @@
 -- A name is found exactly if it is among the names.
-use Rattle.std.proofs.Common.{◌≡◌, ◌≢◌, ℕ, zero, suc, ◌<◌, Bool, true, false, ◌||◌, List, [], ◌∷◌, ◌++◌, map, length, get_or, Option, Some, None, slice_get, refl, sym, ap, ◌∙◌, arith}
-use Rattle.std.specs.Prelude.{position, string_bytes, IfSome}
-use Rattle.std.specs.List.{list_any, position_or_len}
-use Rattle.std.specs.Str.{bytes_eq}
+use Rattle.script_front.proofs.Words.{[], ◌++◌, ◌<◌, ◌||◌, ◌∙◌, ◌∷◌, ◌≡◌, ◌≢◌, Bool, IfSome, List, None, Option, Some, ap, arith, bytes_eq, bytes_eq-Decides, false, get_or, length, list_any, map, position, position-Some, position_or_len, refl, slice_get, string_bytes, suc, sym, true, zero, ℕ}
 use Rattle.std.specs.String.{string_eq}
 use Rattle.std.proofs.lemmas.Bool.{false≢true}
-use Rattle.std.proofs.lemmas.Slice.Eq.{bytes_eq-Decides}
-use Rattle.std.proofs.lemmas.List.Quantifiers.{position-Some}
 use Rattle.std.specs.declared.string.String.{String}
 use Rattle.indexmap.specs.IndexSet.{insert_key}
 

@@ -1,31 +1,10 @@
 -- The text of a script, line by line.
-use Rattle.std.proofs.Common.{◌≡◌, ◌≢◌, ℕ, zero, suc, ◌+◌, ◌^◌, ◌-◌, ◌<◌, ◌≤◌, true, false, List, [], ◌∷◌, ◌++◌, length, get_or, drop, Some, None, slice_get, refl, sym, ap, ◌∙◌, append_assoc, add-one, arith}
-use Rattle.std.proofs.Math.Seq.{drop-cons}
-use Rattle.std.proofs.lemmas.List.{drop_all, append-nil}
-use Rattle.std.specs.Prelude.{codes, Vec}
-use Rattle.std.specs.Global.{Global}
-use Rattle.std.specs.Fmt.{decimal, digits, padded_integral, format_spec}
+use Rattle.script_front.proofs.Words.{[], ◌++◌, ◌+◌, ◌-◌, ◌<◌, ◌^◌, ◌∙◌, ◌∷◌, ◌≡◌, ◌≢◌, ◌≤◌, Act, AddComponent, Before, Block, Carrier, Component, Condition, DropComponent, Global, IsPut, Item, Line, List, None, Plan, Sid, Some, Sound, Spelled, Statement, Stream, Tree, Vec, act_lexemes, add-one, ap, append-nil, append_assoc, apply, arith, basic, before, block_lines, block_of, bodies, carried_lexemes, carrier_lexemes, closing, codes, decimal, defined_lines, definition_lines, digits, drop, drop-cons, drop_all, each_after, edit_lexemes, either, false, forever, format_spec, get_or, header_lines, hex_byte, hex_text, if_lexemes, indent, items_lines, layout_mode, length, limits_lexemes, limits_line, line, line_text, mode_lexemes, name_at, nothing, padded_integral, refl, repeat, reserve_lexemes, slice_get, spaced, stop, suc, sym, tree_lines, true, when, within_lexemes, zero, ℕ}
 use Rattle.std.proofs.lemmas.Fmt.{decimal_digit, hex_byte as shown_byte}
-use Rattle.mux_types.specs.declared.numbers.Sid.{Sid}
-use Rattle.mux_types.specs.declared.parts.Component.{Component}
-use Rattle.mux_types.specs.declared.parts.Component.TheVariants.{Sound, Stream, Packet as InPackets}
-use Rattle.mux_types.specs.declared.parts.Carrier.{Carrier}
-use Rattle.mux_config.specs.declared.edit.Edit.TheVariants.{AddComponent, DropComponent}
-use Rattle.script_front.specs.declared.tree.Act.{Act}
-use Rattle.script_front.specs.declared.tree.Condition.{Condition}
-use Rattle.fib_codec.specs.Layouts.{layout_mode}
-use Rattle.plan_code.specs.declared.plan.Plan.{Plan}
-use Rattle.script_front.specs.declared.tree.Item.{Item}
-use Rattle.script_front.specs.declared.tree.Statement.{Statement}
-use Rattle.script_tokens.specs.declared.keyword.Keyword.TheVariants as the
+use Rattle.mux_types.specs.declared.parts.Component.TheVariants.{Packet as InPackets}
 use Rattle.script_tokens.specs.Keywords.{letters}
-use Rattle.script_tokens.specs.Spelling.{hex_byte, hex_text}
-use Rattle.script_front.specs.Block.{Block, Before, nothing, basic, stop, when, either, repeat, forever, apply, before, block_of}
-use Rattle.script_front.specs.Spelled.{carried_lexemes, carrier_lexemes, within_lexemes, edit_lexemes, act_lexemes, name_at, mode_lexemes, reserve_lexemes, limits_lexemes}
-use Rattle.script_front.specs.Tree.{Tree}
-use Rattle.script_front.specs.Parsing.{bodies}
-use Rattle.script_front.specs.Printing.{Line, line, indent, if_lexemes, each_after, spaced, line_text, text_of_lines, closing, block_lines, limits_line, header_lines, items_lines, definition_lines, defined_lines, tree_lines, IsPut}
-use Rattle.script_tokens.specs.Reading.{Spelled}
+use Rattle.script_front.specs.Printing.{text_of_lines}
+use Rattle.script_tokens.specs.declared.keyword.Keyword.TheVariants as the
 
 -- ---- tokens
 

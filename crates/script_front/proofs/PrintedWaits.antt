@@ -1,21 +1,9 @@
 -- The text of waits, of moments and of conditions.
-use Rattle.std.proofs.Common.{◌≡◌, ℕ, ◌+◌, ◌<◌, ◌≤◌, List, [], ◌∷◌, ◌++◌, length, get_or, drop, refl, sym, ap, ◌∙◌, append_assoc, add-one, arith}
-use Rattle.std.proofs.Math.Seq.{drop-cons}
-use Rattle.std.proofs.lemmas.List.{drop_all, append-nil}
-use Rattle.std.specs.Prelude.{codes}
-use Rattle.script_tokens.specs.declared.keyword.Keyword.TheVariants as the
+use Rattle.script_front.proofs.Words.{[], ◌++◌, ◌+◌, ◌<◌, ◌∙◌, ◌∷◌, ◌≡◌, ◌≤◌, Alternative, At, Condition, Early, List, Time, Until, WaitAny, act_lexemes, add-one, alternative_lexemes, alternatives_lexemes, ap, append-nil, append_assoc, codes, condition_lexemes, decimal, drop, drop-cons, drop_all, each_after, get_or, if_lexemes, indent, length, line, line_text, moment_lexemes, or_lexemes, refl, spaced, sym, time_text, ℕ}
 use Rattle.script_tokens.specs.Keywords.{letters}
-use Rattle.script_tokens.specs.Spelling.{time_text}
-use Rattle.script_front.specs.declared.tree.Act.TheVariants.{Until, WaitAny}
-use Rattle.script_front.specs.declared.tree.Condition.{Condition}
-use Rattle.script_front.specs.declared.tree.Condition.TheVariants.{Time}
 use Rattle.script_front.specs.declared.moment.MomentForm.{MomentForm as Moment}
-use Rattle.script_front.specs.declared.moment.MomentForm.TheVariants.{At, Early}
-use Rattle.std.specs.Fmt.{decimal}
-use Rattle.script_front.specs.declared.alternatives.Alternative.{Alternative}
 use Rattle.script_front.specs.declared.alternatives.Alternative.TheVariants.{Until as OfMoment}
-use Rattle.script_front.specs.Spelled.{moment_lexemes, alternative_lexemes, or_lexemes, alternatives_lexemes, condition_lexemes, act_lexemes}
-use Rattle.script_front.specs.Printing.{line, indent, each_after, spaced, line_text, if_lexemes}
+use Rattle.script_tokens.specs.declared.keyword.Keyword.TheVariants as the
 use Rattle.script_front.proofs.Beside.{Alternatives}
 use Rattle.script_front.proofs.Printed.{behind_both}
 

@@ -1,16 +1,10 @@
 -- The reading of statements: what is read is in range, is counted, and is spelled by the tokens taken, on their lines.
-use Rattle.std.proofs.Common.{◌≡◌, ℕ, zero, suc, ◌+◌, ◌-◌, ◌<◌, ◌≤◌, Bool, true, false, ◌==◌, if◌then◌else◌, List, [], ◌∷◌, ◌++◌, length, drop, refl, sym, ap, ◌∙◌, subst, append_assoc, arith}
+use Rattle.script_front.proofs.Words.{[], ◌++◌, ◌+◌, ◌-◌, ◌<◌, ◌==◌, ◌>>=◌, ◌∙◌, ◌∷◌, ◌≡◌, ◌≤◌, Block, BlockOn, Bool, Condition, IsCondition, IsInBounds, List, None, Option, Passage, ReadsAsSpelled, Some, Spelled, StatementKeyword, Statements, act_from, act_keyword, act_lexemes, after, after_begins, ap, append_assoc, arith, bind_some, block_lexemes, braced, bytes_eq, bytes_eq-Decides, condition_at, condition_lexemes, counted, decimal, drop, either, false, finish, first_statement, from_one, if◌then◌else◌, is_next, length, letters, line_of, name_at, name_next, next_begins, nothing, number_at, position, position-Some, put, refl, statement_given, statement_keyword, stops, subst, suc, sym, true, values_are_read, when, zero, ℕ}
 use Rattle.std.proofs.lemmas.Bool.Decides.{nat_tests}
+use Rattle.script_front.specs.BlockReader.{open_at, body_at, applied_at, branch_at, statement_from, begun_at, block_at}
 use Rattle.script_tokens.specs.declared.keyword.Keyword.TheVariants as the
 use Rattle.script_tokens.specs.declared.first_keyword.StatementKeyword.TheVariants as statement
-use Rattle.script_tokens.specs.Reading.{is_next}
-use Rattle.script_front.specs.Readers.{act_from, condition_at}
-use Rattle.script_front.specs.declared.tree.Condition.{Condition}
-use Rattle.script_front.specs.Spelled.{condition_lexemes}
-use Rattle.script_front.specs.Tree.{IsCondition}
 use Rattle.script_front.proofs.ReadingWaits.{condition_law}
-use Rattle.script_front.specs.BlockReader.{stops, open_at, body_at, applied_at, branch_at, statement_from, begun_at, block_at}
-use Rattle.script_front.proofs.Words.{Block, either, nothing, when, Passage, Statements, put, BlockOn, act_lexemes, block_lexemes, braced, name_at, IsInBounds, counted, below, finish, from_one, keyed_law, statement_given, after_begins, bind_some, next_begins, values_are_read, act_keyword, statement_keyword, letters, ReadsAsSpelled, Spelled, after, first_statement, keyed, line_of, ◌>>=◌, name_next, number_at, StatementKeyword, position-Some, bytes_eq-Decides, decimal, None, Option, Some, position, bytes_eq}
 use Rattle.script_front.proofs.Readings.{act_first, act_begins, act_law}
 
 abbrev pub Names : Type 0

@@ -1,10 +1,7 @@
 -- The reading of definitions: what is read is spelled so, on its lines, and what is spelled so is read.
-use Rattle.std.proofs.Common.{◌≡◌, ◌≢◌, ℕ, zero, suc, ◌+◌, ◌<◌, ◌≤◌, Bool, true, false, if◌then◌else◌, List, [], ◌∷◌, ◌++◌, length, length-append, map, drop, lt-ltb, refl, sym, ap, ◌∙◌, subst, append_assoc, arith}
-use Rattle.std.specs.Global.{Global}
+use Rattle.script_front.proofs.Words.{[], ◌++◌, ◌+◌, ◌<◌, ◌>>=◌, ◌∙◌, ◌∷◌, ◌≡◌, ◌≢◌, ◌≤◌, All, All-push, AllFit, AreNamedApart, Block, BlockOn, Bool, Defined, DefinedOn, Global, Input, IsInBounds, IsName, List, None, Option, Passage, ReadsDefinition, ReadsDefinitions, Some, Spelled, Statement, Vec, after_blocks, all_pairs_push, ap, append-nil, append_assoc, arith, bind_some, block_at, block_lexemes, block_of, bodies, body_at, braced, bytes_eq, bytes_eq-Decides, counted, counted_in, defined_lexemes, drop, false, finish, if◌then◌else◌, is_next, length, length-append, letters, lt-ltb, map, name_at, name_next, new_if, next_begins, next_itself, position, position_or_len, refl, said_by, slice_index_or, subst, suc, sym, true, unlined, values_are_read, zero, ℕ}
+use Rattle.script_front.specs.BlockReader.{new_name_at, definition_at, definitions_at}
 use Rattle.script_tokens.specs.declared.keyword.Keyword.TheVariants as the
-use Rattle.script_tokens.specs.Reading.{is_next}
-use Rattle.script_front.specs.BlockReader.{body_at, block_at, new_name_at, definition_at, definitions_at}
-use Rattle.script_front.proofs.Words.{said_by, unlined, Block, block_of, Defined, Passage, after_blocks, new_if, ReadsDefinition, ReadsDefinitions, bodies, BlockOn, DefinedOn, block_lexemes, braced, defined_lexemes, name_at, AllFit, AreNamedApart, IsInBounds, counted, counted_in, Statement, finish, bind_some, next_begins, next_itself, values_are_read, IsName, letters, Input, Spelled, ◌>>=◌, name_next, append-nil, All-push, all_pairs_push, bytes_eq-Decides, All, position_or_len, None, Option, Some, Vec, position, slice_index_or, bytes_eq}
 use Rattle.script_front.proofs.ReadingBlocks.{Names, Agree, passed, closed, body_given, block_given}
 use Rattle.script_front.proofs.FoundBlocks.{no_number, AreApart, lined, lined_is, lined_unlined, plain, closing_stops, in_braces, block_found}
 

@@ -1,18 +1,10 @@
 -- The reading of a header: what is read is spelled so, and what is spelled so is read. Its mode and its reserved FIBs
 -- may be left out.
-use Rattle.std.proofs.Common.{◌≡◌, inl, inr, ℕ, zero, suc, ◌-◌, ◌≤◌, ◌<◌, false, [], ◌∷◌, ◌++◌, refl, sym, ap, ◌∙◌, append_assoc, arith}
-use Rattle.fib_codec.specs.declared.frame_layout.FrameLayout.{FrameLayout}
-use Rattle.fib_codec.specs.declared.frame_layout.FrameLayout.TheVariants.{Whole, ReserveOne, ReserveTwo}
-use Rattle.fib_codec.specs.declared.modes.Mode.{Mode}
-use Rattle.fib_codec.specs.declared.modes.Mode.TheVariants.{I, II, III, IV}
-use Rattle.fib_codec.specs.Layouts.{layout_mode}
+use Rattle.script_front.proofs.Words.{[], ◌++◌, ◌-◌, ◌<◌, ◌∙◌, ◌∷◌, ◌≡◌, ◌≤◌, FrameLayout, I, II, III, IV, IsPlan, Mode, Plan, ReadsAsSpelled, ReserveOne, ReserveTwo, Some, Spelled, Whole, ap, append_assoc, arith, bind_some, built, decimal, eid_at, either_given, false, finish, header_lexemes, hex_text, inl, inr, is_next, keyed, keyed_law, layout_mode, letters, limits_lexemes, made_found, made_given, mode_lexemes, next_itself, number_at, other_next, refl, reserve_lexemes, suc, sym, values_are_read, zero, ℕ}
 use Rattle.fib_codec.specs.Modes.{fib_count}
 use Rattle.plan_code.specs.Reading.{mode_of, reserving}
-use Rattle.plan_code.specs.declared.plan.Plan.{Plan}
-use Rattle.script_tokens.specs.declared.keyword.Keyword.TheVariants as the
-use Rattle.script_tokens.specs.Reading.{is_next}
 use Rattle.script_front.specs.Readers.{mode_at, layout_at, header_at}
-use Rattle.script_front.proofs.Words.{IsPlan, header_lexemes, limits_lexemes, mode_lexemes, reserve_lexemes, either_given, finish, keyed_law, made_found, made_given, other_next, bind_some, next_itself, values_are_read, letters, ReadsAsSpelled, Spelled, keyed, built, hex_text, eid_at, number_at, decimal, Some}
+use Rattle.script_tokens.specs.declared.keyword.Keyword.TheVariants as the
 
 -- ---- modes
 

@@ -1,9 +1,8 @@
 -- The reading of items: what is read is spelled so, on its lines, and what is spelled so is read.
-use Rattle.std.proofs.Common.{◌≡◌, ◌≢◌, ℕ, zero, suc, ◌+◌, ◌-◌, ◌≤◌, List, [], ◌∷◌, ◌++◌, length, drop, refl, sym, ap, ◌∙◌, append_assoc, arith}
+use Rattle.script_front.proofs.Words.{[], ◌++◌, ◌+◌, ◌-◌, ◌>>=◌, ◌∙◌, ◌∷◌, ◌≡◌, ◌≢◌, ◌≤◌, AddComponent, AddPacket, AddService, AddSub, Adds, All, Edit, HasMore, Input, IsItem, Item, ItemKeyword, Items, ItemsOn, List, None, Option, ReadsItems, Some, Spelled, added_by, after_items, ap, append-nil, append_assoc, arith, bind_some, drop, edit_keyword, edit_lexemes, finish, first_item, item_again, item_found, item_from, item_given, item_keyword, item_of, item_on, items_from, items_if, items_lexemes, length, letters, line_of, refl, statement_of, suc, sym, zero, ℕ}
+use Rattle.script_front.specs.Readers.{items_at}
 use Rattle.script_tokens.specs.declared.first_keyword.ItemKeyword.TheVariants as item
 use Rattle.script_tokens.specs.declared.first_keyword.EditKeyword.TheVariants as edit
-use Rattle.script_front.specs.Readers.{item_from, items_at}
-use Rattle.script_front.proofs.Words.{Edit, AddComponent, AddPacket, AddService, AddSub, added_by, HasMore, ReadsItems, Items, after_items, item_on, items_from, items_if, ItemsOn, edit_lexemes, items_lexemes, Adds, IsItem, Item, finish, item_again, item_found, item_given, bind_some, edit_keyword, item_keyword, item_of, statement_of, letters, Input, Spelled, first_item, line_of, ◌>>=◌, ItemKeyword, append-nil, All, None, Option, Some}
 use Rattle.script_front.proofs.Readings.{component_first, edit_first, edit_rest, edit_begins, item_law}
 
 -- ---- what is read

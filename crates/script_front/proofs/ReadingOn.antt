@@ -1,7 +1,6 @@
 -- Statements that are read one after another, and what the code of a statement returns.
-use Rattle.std.proofs.Common.{◌≡◌, ℕ, zero, suc, ◌-◌, ◌<◌, ◌≤◌, true, false, List, [], ◌∷◌, ◌++◌, drop, refl, sym, ap, ◌∙◌, arith}
-use Rattle.script_front.specs.BlockReader.{stops, statement_from, begun_at, block_at}
-use Rattle.script_front.proofs.Words.{Before, Block, and_then, before, block_of, nothing, Passage, put, ReadsBlock, ReadsNone, ReadsNoneAfter, ReadsStatement, Statement, Input, Spelled, first_statement, line_of, StatementKeyword, None, Option, Some}
+use Rattle.script_front.proofs.Words.{[], ◌++◌, ◌-◌, ◌<◌, ◌∙◌, ◌∷◌, ◌≡◌, ◌≤◌, Before, Block, Input, List, None, Option, Passage, ReadsBlock, ReadsNone, ReadsNoneAfter, ReadsStatement, Some, Spelled, Statement, StatementKeyword, and_then, ap, arith, before, block_of, drop, false, first_statement, line_of, nothing, put, refl, statement_from, stops, suc, sym, true, zero, ℕ}
+use Rattle.script_front.specs.BlockReader.{begun_at, block_at}
 use Rattle.script_front.proofs.ReadingBlocks.{Names, passed}
 
 -- ---- statements put in front

@@ -1,17 +1,10 @@
 -- The reading of a script: what is read is the content of the script that the tokens spell. So tokens are those of one
 -- script, apart from lines, and a text is that of one script.
-use Rattle.std.proofs.Common.{◌≡◌, ℕ, suc, ◌+◌, ◌-◌, ◌≤◌, false, List, [], ◌∷◌, ◌++◌, length, map, refl, sym, ap, ◌∙◌, subst, append_assoc, arith}
-use Rattle.script_tokens.specs.declared.token.Token.{Token}
+use Rattle.script_front.proofs.Words.{[], ◌++◌, ◌+◌, ◌-◌, ◌∙◌, ◌∷◌, ◌≡◌, ◌≤◌, All, All-nil, AreNamedApart, AreTokens, Block, BlockOn, Content, DefinedOn, HasLines, Input, IsInBounds, IsItem, IsName, IsNoScript, IsPlan, IsScript, Item, ItemsOn, List, None, ScriptsAreRead, ScriptsHaveTheirOwnTokens, Some, Spelled, SpellsTree, Statement, TextsAreOfOneScript, Token, Tree, added_by, after, after_begins, after_itself, ap, append-nil, append_assoc, arith, at_end, begin_lexemes, bind_some, block_at, block_lexemes, block_of, content_of, counted, counted_in, defined_lexemes, definitions_at, edit_keyword, edit_lexemes, false, finish, first_item, first_position, header_at, header_lexemes, is_next, item_found, items_at, items_lexemes, length, letters, lexemes_of, line_of, line_of_left, lines_of, map, other_next, refl, subst, suc, sym, tokens_of, tree_lexemes, unlined, ℕ}
+use Rattle.script_front.specs.BlockReader.{stops, script_at}
 use Rattle.script_tokens.specs.declared.keyword.Keyword.TheVariants as the
 use Rattle.script_tokens.specs.declared.first_keyword.StatementKeyword.TheVariants as statement
 use Rattle.script_tokens.specs.declared.first_keyword.ActKeyword.TheVariants as act
-use Rattle.script_tokens.specs.Bytes.{first_position}
-use Rattle.script_tokens.specs.Texts.{tokens_of, AreTokens}
-use Rattle.script_tokens.specs.Reading.{is_next}
-use Rattle.script_front.specs.Denoting.{IsNoScript}
-use Rattle.script_front.specs.Readers.{header_at, items_at}
-use Rattle.script_front.specs.BlockReader.{stops, block_at, definitions_at, script_at}
-use Rattle.script_front.proofs.Words.{IsPlan, ScriptsHaveTheirOwnTokens, TextsAreOfOneScript, added_by, unlined, Block, block_of, Content, at_end, content_of, ScriptsAreRead, SpellsTree, BlockOn, DefinedOn, HasLines, ItemsOn, begin_lexemes, block_lexemes, defined_lexemes, edit_lexemes, header_lexemes, items_lexemes, tree_lexemes, AreNamedApart, IsInBounds, IsItem, IsScript, Tree, counted, counted_in, Item, Statement, finish, other_next, item_found, after_begins, after_itself, bind_some, edit_keyword, IsName, letters, Input, Spelled, after, first_item, lexemes_of, line_of, line_of_left, lines_of, append-nil, All-nil, All, None, Some}
 use Rattle.script_front.proofs.Denoting.{are_tokens, are_its_tokens, denoted_words}
 use Rattle.script_front.proofs.Readings.{edit_first, edit_begins}
 use Rattle.script_front.proofs.ReadingHeaders.{header_given, header_found}

@@ -1,28 +1,14 @@
 -- The readings of moments, of waits and of conditions: what is read is spelled so, and what is spelled so is read, where
 -- neither `early` nor `or` follows.
-use Rattle.std.proofs.Common.{◌≡◌, ◌⊎◌, inl, inr, ℕ, zero, suc, ◌+◌, ◌-◌, ◌<◌, ◌≤◌, Bool, true, false, if◌then◌else◌, List, [], ◌∷◌, ◌++◌, length, drop, refl, sym, ap, ◌∙◌, subst, append_assoc, arith}
-use Rattle.std.specs.List.{AllByRecursion, list_any}
-use Rattle.std.proofs.lemmas.List.{length-append}
-use Rattle.script_tokens.specs.declared.keyword.Keyword.TheVariants as the
-use Rattle.script_tokens.specs.declared.keyword.Keyword.{Keyword}
+use Rattle.script_front.proofs.Words.{[], ◌++◌, ◌+◌, ◌-◌, ◌<◌, ◌>>=◌, ◌∙◌, ◌∷◌, ◌≡◌, ◌≤◌, ◌⊎◌, Act, Alternative, At, Bool, Condition, Contact, Early, IsAct, IsAlternative, IsCondition, IsMoment, None, Option, ReadsAsSpelled, Some, Spelled, Time, Wait, WaitAny, WaitContact, act_lexemes, after_itself, allowed, alternative_lexemes, alternatives_lexemes, ap, append-nil, append_assoc, arith, below, bind_some, both, both_law, built, condition_lexemes, decimal, drop, either_given, false, finish, from_one, giving, if◌then◌else◌, inl, inr, is_next, keyed, keyed_given, keyed_law, length, length-append, level_at, level_text, made_found, made_given, may_follow, moment_lexemes, next_itself, not_next, number_at, or_lexemes, other_next, refl, subst, suc, sym, time_at, time_text, true, values_are_read, wait_for, waiting, zero, ℕ}
 use Rattle.script_tokens.proofs.Keys.{no_decimal}
+use Rattle.script_tokens.specs.Reading.{either}
 use Rattle.script_tokens.specs.Keywords.{letters}
-use Rattle.script_tokens.specs.Reading.{either, giving, is_next, Reads}
-use Rattle.script_tokens.specs.Taking.{time_at}
-use Rattle.script_tokens.specs.Spelling.{time_text}
-use Rattle.script_front.specs.declared.tree.Act.TheVariants.{Wait, WaitContact, WaitAny}
-use Rattle.script_front.specs.declared.tree.Condition.{Condition}
-use Rattle.script_front.specs.declared.tree.Condition.TheVariants.{Contact, Time}
 use Rattle.script_front.specs.declared.moment.MomentForm.{MomentForm as Moment}
-use Rattle.script_front.specs.declared.moment.MomentForm.TheVariants.{At, Early}
-use Rattle.script_front.specs.declared.alternatives.Alternative.{Alternative}
 use Rattle.script_front.specs.declared.alternatives.Alternative.TheVariants.{Contact as OfContact, Until as OfMoment, Frames as OfFrames}
-use Rattle.script_front.specs.Spelled.{moment_lexemes, alternative_lexemes, or_lexemes, alternatives_lexemes, condition_lexemes}
-use Rattle.script_front.specs.Tree.{IsCondition}
-use Rattle.script_front.specs.Waits.{IsMoment, IsAlternative, is_moment, is_number, may_follow}
-use Rattle.script_front.specs.Readers.{moment_at, alternative_at, allowed, allowed_at, alternatives_from, wait_for, waiting, waiting_at, condition_at}
+use Rattle.script_front.specs.Readers.{moment_at, alternative_at, allowed_at, alternatives_from, waiting_at, condition_at}
+use Rattle.script_tokens.specs.declared.keyword.Keyword.TheVariants as the
 use Rattle.script_front.proofs.Beside.{Alternatives, AreTogether, alone, one_more, next_fits, each_later, are_together, are_alternatives}
-use Rattle.script_front.proofs.Words.{act_lexemes, IsAct, Act, below, both_law, either_given, finish, from_one, keyed_given, keyed_law, made_found, made_given, other_next, after_itself, next_itself, next_begins, not_next, values_are_read, bind_some, ReadsAsSpelled, Spelled, both, keyed, built, ◌>>=◌, level_text, level_at, number_at, decimal, append-nil, Option, None, Some}
 
 -- ---- fields
 

@@ -1,25 +1,21 @@
 -- The readings of edits and of statements without a block: what is read is spelled so, and what is spelled so is read.
-use Rattle.std.proofs.Common.{◌≡◌, inl, inr, ℕ, ◌<◌, ◌≤◌, Bool, true, false, [], ◌∷◌, ◌++◌, drop, refl, ap, ◌∙◌, subst, arith}
+use Rattle.script_front.proofs.Words.{[], ◌++◌, ◌<◌, ◌∙◌, ◌∷◌, ◌≡◌, ◌≤◌, Act, ActKeyword, AddComponent, AddPacket, AddService, AddSub, Adds, Bool, Carrier, CommitAt, CommitIn, Component, DropComponent, DropPacket, DropService, DropSub, Edit, IsAct, IsCarrier, IsComponent, IsEdit, IsNewPacket, IsNewSub, IsSid, ItemKeyword, Join, MoveSub, RateSub, ReadsAsSpelled, Settle, Some, Sound, Spelled, Stream, Until, Wait, WaitAny, WaitContact, act_keyword, act_lexemes, after_itself, ap, arith, below, bind_some, both, both_law, built, carried_lexemes, carrier_lexemes, component_keyword, decimal, drop, dropping, edit_keyword, edit_lexemes, either_given, false, finish, from_one, giving, groups_text, inl, inr, keyed, keyed_given, keyed_law, letters, made_found, made_given, moment_at, next_itself, number_at, other_next, packet_of, profile_at, profile_text, refl, sid_at, sid_text, sub_of, subst, true, values_are_read, within_lexemes, ℕ}
 use Rattle.mux_eep.specs.Sizes.{Profile}
 use Rattle.mux_types.specs.declared.parts.Sub.{Sub}
 use Rattle.mux_types.specs.declared.parts.Packet.{Packet}
-use Rattle.mux_types.specs.declared.parts.Carrier.{Carrier}
-use Rattle.mux_types.specs.declared.parts.Carrier.TheVariants.{Sub as BySub, Packet as ByPacket}
-use Rattle.mux_types.specs.declared.parts.Component.{Component}
-use Rattle.mux_types.specs.declared.parts.Component.TheVariants.{Sound, Stream, Packet as InPackets}
-use Rattle.mux_config.specs.Configuration.{IsSid, IsComponent}
-use Rattle.script_tokens.specs.declared.keyword.Keyword.TheVariants as the
 use Rattle.script_tokens.specs.declared.first_keyword.ComponentKeyword.{ComponentKeyword}
+use Rattle.script_tokens.specs.declared.first_keyword.EditKeyword.{EditKeyword}
+use Rattle.script_tokens.specs.Reading.{either}
+use Rattle.mux_types.specs.declared.parts.Carrier.TheVariants.{Sub as BySub, Packet as ByPacket}
+use Rattle.mux_types.specs.declared.parts.Component.TheVariants.{Packet as InPackets}
+use Rattle.script_front.specs.declared.tree.Act.TheVariants.{Edit as Edits}
+use Rattle.script_front.specs.Readers.{sub_at, service_at, groups_at, new_sub_at, new_packet_at, typed_sub_at, component_from, item_from, carrier_at, dropped_at, moved_at, rated_at, edit_from, committing_at, act_from}
+use Rattle.script_tokens.specs.declared.keyword.Keyword.TheVariants as the
 use Rattle.script_tokens.specs.declared.first_keyword.ComponentKeyword.TheVariants as component
 use Rattle.script_tokens.specs.declared.first_keyword.ItemKeyword.TheVariants as item
-use Rattle.script_tokens.specs.declared.first_keyword.EditKeyword.{EditKeyword}
 use Rattle.script_tokens.specs.declared.first_keyword.EditKeyword.TheVariants as edit
 use Rattle.script_tokens.specs.declared.first_keyword.ActKeyword.TheVariants as act
-use Rattle.script_front.specs.declared.tree.Act.TheVariants.{Edit as Edits, Wait, WaitContact, Until, WaitAny, CommitIn, CommitAt, Join, Settle}
-use Rattle.script_front.specs.Readers.{sub_at, service_at, groups_at, new_sub_at, new_packet_at, typed_sub_at, component_from, item_from, carrier_at, dropped_at, moved_at, rated_at, edit_from, moment_at, committing_at, act_from}
-use Rattle.script_tokens.specs.Reading.{either, giving}
 use Rattle.script_front.proofs.ReadingWaits.{IsPast, IsWait, wait_rest, moment_given, moment_found, wait_given, wait_found, contact_found, any_found}
-use Rattle.script_front.proofs.Words.{Edit, AddComponent, AddPacket, AddService, AddSub, DropComponent, DropPacket, DropService, DropSub, MoveSub, RateSub, IsCarrier, IsEdit, IsNewPacket, IsNewSub, dropping, packet_of, sub_of, act_lexemes, carried_lexemes, carrier_lexemes, edit_lexemes, groups_text, within_lexemes, Adds, IsAct, Act, below, both_law, either_given, finish, from_one, keyed_given, keyed_law, made_found, made_given, other_next, after_itself, next_itself, bind_some, values_are_read, act_keyword, component_keyword, edit_keyword, letters, ReadsAsSpelled, Spelled, both, keyed, built, level_text, profile_text, sid_text, level_at, number_at, profile_at, sid_at, ActKeyword, ItemKeyword, decimal, Some}
 
 -- ---- fields
 

@@ -1,27 +1,10 @@
 -- Short scripts that have the same tokens, and some that have not.
-use Rattle.std.proofs.Common.{◌≡◌, ◌≢◌, ℕ, ◌≤◌, true, false, List, [], ◌∷◌, ◌++◌, refl, ap, arith}
-use Rattle.std.specs.Prelude.{Some, None}
-use Rattle.std.specs.Fmt.{decimal}
-use Rattle.fib_codec.specs.declared.frame_layout.FrameLayout.{FrameLayout}
-use Rattle.fib_codec.specs.declared.frame_layout.FrameLayout.TheVariants.{Whole, ReserveOne, ReserveTwo}
-use Rattle.fib_codec.specs.declared.modes.Mode.TheVariants.{I}
-use Rattle.script_front.specs.declared.tree.Act.TheVariants.{WaitAny}
-use Rattle.script_front.specs.declared.tree.Condition.TheVariants.{Time}
-use Rattle.script_front.specs.declared.moment.MomentForm.TheVariants.{At, Early}
-use Rattle.script_front.specs.declared.alternatives.Alternative.{Alternative}
+use Rattle.script_front.proofs.Words.{[], ◌++◌, ◌∷◌, ◌≡◌, ◌≢◌, ◌≤◌, Alternative, AreAlternatives, At, Early, FrameLayout, I, IsPlan, IsScript, IsScriptOf, List, None, Plan, ReserveOne, ReserveTwo, Some, Time, Tree, WaitAny, Whole, alternative_lexemes, alternatives_lexemes, ap, arith, condition_at, condition_lexemes, content_of, decimal, false, header_lexemes, letters, may_follow, moment_frame, not_after, other_next, refl, reserve_lexemes, tree_lexemes, true, waiting_at, ℕ}
 use Rattle.script_front.specs.declared.alternatives.Alternative.TheVariants.{Contact as OfContact, Until as OfMoment, Frames as OfFrames}
-use Rattle.script_front.specs.Waits.{moment_frame, AreAlternatives, may_follow}
-use Rattle.plan_code.specs.declared.plan.Plan.{Plan}
-use Rattle.script_front.specs.Tree.{Tree, IsScript}
-use Rattle.plan_code.specs.Program.{IsPlan}
-use Rattle.script_tokens.specs.declared.keyword.Keyword.TheVariants as the
-use Rattle.script_tokens.specs.Keywords.{letters}
 use Rattle.script_tokens.specs.Reading.{is_next, after}
-use Rattle.script_tokens.proofs.Combining.{other_next, not_after}
-use Rattle.script_front.specs.Spelled.{alternative_lexemes, alternatives_lexemes, condition_lexemes, reserve_lexemes, header_lexemes, tree_lexemes}
-use Rattle.script_front.specs.Readers.{header_at, waiting_at, condition_at}
-use Rattle.script_front.specs.BlockReader.{stops, content_of, script_at}
-use Rattle.script_front.specs.Denoting.{IsScriptOf}
+use Rattle.script_front.specs.Readers.{header_at}
+use Rattle.script_front.specs.BlockReader.{stops, script_at}
+use Rattle.script_tokens.specs.declared.keyword.Keyword.TheVariants as the
 use Rattle.script_front.proofs.FoundBlocks.{closing_stops}
 use Rattle.script_front.proofs.ReadingWaits.{IsPast, one_found, any_found, condition_law}
 use Rattle.script_front.proofs.ReadingHeaders.{header_found}

@@ -1,7 +1,4 @@
-use Rattle.std.proofs.Common.{◌++◌, ap, ◌∙◌, string_bytes}
-use Rattle.fib_codec.specs.declared.modes.Mode.{Mode}
-use Rattle.script_front.specs.Spelled.{mode_lexemes}
-use Rattle.script_front.specs.Printing.{each_after}
+use Rattle.script_front.proofs.Words.{◌++◌, ◌∙◌, Mode, ap, each_after, mode_lexemes, string_bytes}
 use Rattle.script_front.proofs.Printed.{header_put}
 use Rattle.script_front.proofs.lexemes.put_header.Goals as goal
 

@@ -1,5 +1,4 @@
-use Rattle.std.proofs.Common.{sym, ◌∙◌, arith}
-use Rattle.std.proofs.lemmas.Result.{err_from_is_err_and}
+use Rattle.script_front.proofs.Words.{◌∙◌, arith, err_from_is_err_and, sym}
 use Rattle.script_front.proofs.ReadingDefinitions.{all_read, no_room, none_next}
 use Rattle.script_front.proofs.parser.definitions.Goals as goal
 

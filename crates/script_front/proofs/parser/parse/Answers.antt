@@ -1,12 +1,5 @@
-use Rattle.std.proofs.Common.{ℕ, List, sym, ap, ◌∙◌, subst}
-use Rattle.script_tokens.specs.declared.token.Token.{Token}
-use Rattle.script_tokens.specs.Reading.{Input, lexemes_of, lines_of, AreOnScriptLines}
-use Rattle.script_front.specs.Spelled.{HasLines}
-use Rattle.script_front.proofs.Denoting.{is_script}
-use Rattle.std.proofs.lemmas.Result.{err_from_is_err_and}
-use Rattle.script_tokens.specs.Bytes.{first_position}
-use Rattle.script_tokens.specs.Texts.{tokens_of}
-use Rattle.script_front.proofs.Denoting.{are_tokens}
+use Rattle.script_front.proofs.Words.{◌∙◌, AreOnScriptLines, HasLines, Input, List, Token, ap, err_from_is_err_and, first_position, lexemes_of, lines_of, subst, sym, tokens_of, ℕ}
+use Rattle.script_front.proofs.Denoting.{is_script, are_tokens}
 use Rattle.script_front.proofs.ReadingScripts.{script_given, none_spelled}
 use Rattle.script_front.proofs.parser.parse.Goals as goal
 

@@ -1,7 +1,5 @@
-use Rattle.std.proofs.Common.{rules, string_bytes, []}
+use Rattle.script_front.proofs.Words.{[], Before, block_of, fold-roll-Statement, fold_out-Statement, rules, statement_step, string_bytes}
 use Rattle.script_front.specs.declared.tree.Statement.TheViews.{the_lemmas}
-use Rattle.script_front.specs.declared.tree.Statement.TheFolds.{fold_out-Statement, fold-roll-Statement}
-use Rattle.script_front.specs.Block.{Before, statement_step, block_of}
 use Rattle.script_front.proofs.Printed.{sliced, act_put, stop_put, when_put, either_put, repeat_put, forever_put, apply_put}
 use Rattle.script_front.proofs.printer.+put_statements.Goals as goal
 

@@ -1,7 +1,4 @@
-use Rattle.std.proofs.Common.{ℕ, List, [], ◌++◌, string_bytes, sym, ap, ◌∙◌}
-use Rattle.script_front.specs.Block.{block_of}
-use Rattle.script_front.specs.Parsing.{bodies}
-use Rattle.script_front.specs.Printing.{text_of_lines, header_lines, block_lines}
+use Rattle.script_front.proofs.Words.{[], ◌++◌, ◌∙◌, List, ap, block_lines, block_of, bodies, header_lines, string_bytes, sym, text_of_lines, ℕ}
 use Rattle.script_front.proofs.Printed.{script_put}
 use Rattle.script_front.proofs.Denoted.{printed_denotes}
 use Rattle.script_front.proofs.printer.print.Goals as goal

@@ -1,9 +1,5 @@
-use Rattle.std.proofs.Common.{List, [], length, ◌++◌, string_bytes, ap, ◌∙◌, sym, subst, arith}
-use Rattle.script_front.specs.declared.tree.Statement.{Statement}
-use Rattle.script_front.specs.Block.{block_of}
-use Rattle.script_front.specs.Tree.{IsInBounds}
+use Rattle.script_front.proofs.Words.{[], ◌++◌, ◌∙◌, IsInBounds, List, Statement, ap, arith, block_of, definition_lines, length, string_bytes, subst, sym, text_of_lines}
 use Rattle.script_front.proofs.Listing.{next_fits}
-use Rattle.script_front.specs.Printing.{text_of_lines, definition_lines}
 use Rattle.script_front.proofs.Printed.{definition_more, definitions_all}
 use Rattle.script_front.proofs.printer.put_definitions.Goals as goal
 

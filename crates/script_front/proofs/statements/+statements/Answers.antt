@@ -1,6 +1,5 @@
-use Rattle.std.proofs.Common.{refl, sym, not, ap, ◌∙◌, arith}
+use Rattle.script_front.proofs.Words.{◌∙◌, ap, arith, err_from_is_err_and, not, refl, sym}
 use Rattle.std.proofs.ResultArms.{chosen}
-use Rattle.std.proofs.lemmas.Result.{err_from_is_err_and}
 use Rattle.script_front.proofs.ReadingOn.{begins_on, goes_on, all_read, none_read}
 use Rattle.script_front.proofs.statements.+statements.Goals as goal
 

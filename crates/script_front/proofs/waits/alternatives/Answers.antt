@@ -1,6 +1,5 @@
-use Rattle.std.proofs.Common.{◌≡◌, ◌≤◌, ◌∙◌, true, refl, ap, sym, arith, length, drop, Some}
+use Rattle.script_front.proofs.Words.{◌∙◌, ◌≡◌, ◌≤◌, Some, allowed_at, ap, arith, drop, length, sym, true}
 use Rattle.std.proofs.lemmas.Grind.{common_steps}
-use Rattle.script_front.specs.Readers.{allowed_at}
 use Rattle.script_front.proofs.ReadingWaits.{two_read, next_read}
 use Rattle.script_front.proofs.Beside.{Alternatives}
 use Rattle.script_front.proofs.waits.alternatives.Goals as goal

@@ -1,5 +1,4 @@
-use Rattle.std.proofs.Common.{◌≡◌, ◌≤◌, ◌+◌, ◌-◌, ◌∷◌, [], length}
-use Rattle.script_front.specs.Readers.{alternatives_from}
+use Rattle.script_front.proofs.Words.{[], ◌+◌, ◌-◌, ◌∷◌, ◌≡◌, ◌≤◌, alternatives_from, length}
 use Rattle.script_front.proofs.waits.alternatives.Given as goal
 
 abbrev pub invariant-alternatives : goal.invariant-alternatives

@@ -1,5 +1,4 @@
-use Rattle.std.proofs.Common.{◌≡◌, ◌<◌, true, length, take, refl, rules}
-use Rattle.script_front.specs.Waits.{IsAlternative, may_follow}
+use Rattle.script_front.proofs.Words.{◌<◌, ◌≡◌, IsAlternative, length, may_follow, refl, rules, take, true}
 use Rattle.script_front.proofs.Beside.{has_one_more}
 use Rattle.script_front.proofs.alternatives.Alternatives.push.Goals as goal
 

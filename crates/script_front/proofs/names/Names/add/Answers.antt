@@ -1,4 +1,4 @@
-use Rattle.std.proofs.Common.{◌≢◌, ℕ, slice_get, Some, map, string_bytes, ap, ◌∙◌, List, [], ◌∷◌, ◌++◌}
+use Rattle.script_front.proofs.Words.{[], ◌++◌, ◌∙◌, ◌∷◌, ◌≢◌, List, Some, ap, map, slice_get, string_bytes, ℕ}
 use Rattle.script_front.proofs.Naming.{added}
 use Rattle.script_front.proofs.names.Names.add.Goals as goal
 

@@ -1,4 +1,4 @@
-use Rattle.std.proofs.Common.{sym, ap, ◌∙◌, is_some}
+use Rattle.script_front.proofs.Words.{◌∙◌, ap, is_some, sym}
 use Rattle.script_front.proofs.Naming.{found_if, absent, place_is, within_if}
 use Rattle.script_front.proofs.names.Names.find.Goals as goal
 
