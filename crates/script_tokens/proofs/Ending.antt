@@ -1,8 +1,11 @@
 -- The lines of tokens, and the last token of a text.
-use Rattle.script_tokens.proofs.Words.{[], ◌++◌, ◌+◌, ◌-◌, ◌∙◌, ◌∷◌, ◌≡◌, AreLastOf, AreOnScriptLines, List, Some, Token, ap, append_assoc, arith, get_or, length, lexemes_of, line_of_left, lines_of, min, min-eq_left, refl, shown_lines, slice_get, suc, sym, zero, ℕ}
+use Rattle.script_tokens.proofs.Words.{[], ◌++◌, ◌+◌, ◌-◌, ◌∙◌, ◌∷◌, ◌≡◌, AreLastOf, AreOnScriptLines, List, Some}
+use Rattle.script_tokens.proofs.Words.{Token, ap, append_assoc, arith, get_or, length, lexemes_of, line_of_left}
+use Rattle.script_tokens.proofs.Words.{lines_of, min, min-eq_left, refl, shown_lines, slice_get, suc, sym, zero, ℕ}
 
 -- the line of the token at this index
-pub line_at : (k : ℕ) (ts : List Token) (t : Token) → slice_get ts k ≡ Some t → min t.position.line 65535 ≡ get_or (shown_lines ts) k 0
+pub line_at : (k : ℕ) (ts : List Token) (t : Token) → slice_get ts k ≡ Some t
+    → min t.position.line 65535 ≡ get_or (shown_lines ts) k 0
 line_at k [] t e = absurd cc
 line_at zero (x ∷ ts) t e = let same : x ≡ t = cc in ap (λ (y : Token). min y.position.line 65535) (sym same)
 line_at (suc k) (x ∷ ts) t e = line_at k ts t e
@@ -23,7 +26,8 @@ pub length_words : (bytes : List ℕ) (ts : List Token) → length (lexemes_of b
 length_words bytes [] = refl
 length_words bytes (t ∷ ts) = ap suc (length_words bytes ts)
 
-line_behind : (front ts : List Token) (t : Token) → get_or (shown_lines (front ++ t ∷ ts)) (length front) 0 ≡ min t.position.line 65535
+line_behind : (front ts : List Token) (t : Token) → get_or (shown_lines (front ++ t ∷ ts)) (length front) 0
+    ≡ min t.position.line 65535
 line_behind [] ts t = refl
 line_behind (x ∷ front) ts t = line_behind front ts t
 
@@ -32,15 +36,18 @@ length_behind [] ts = omega arith
 length_behind (x ∷ front) ts = let h = length_behind front ts in omega (arith, h)
 
 -- the line of the first remaining token
-pub first_line : (bytes : List ℕ) (all ts : List Token) (t : Token) → AreLastOf all (t ∷ ts) → min t.position.line 65535 ≡ line_of_left (shown_lines all) (length (lexemes_of bytes (t ∷ ts)))
+pub first_line : (bytes : List ℕ) (all ts : List Token) (t : Token) → AreLastOf all (t ∷ ts)
+    → min t.position.line 65535 ≡ line_of_left (shown_lines all) (length (lexemes_of bytes (t ∷ ts)))
 first_line bytes all ts t h =
     let l = length_words bytes (t ∷ ts) in
     let m = length_lines all in
     let n = length_behind h.front (t ∷ ts) in
-    let same : length (shown_lines all) - length (lexemes_of bytes (t ∷ ts)) ≡ length h.front = (let w = ap length h.whole in omega (arith, l, m, n, w)) in
+    let same : length (shown_lines all) - length (lexemes_of bytes (t ∷ ts)) ≡ length h.front =
+    (let w = ap length h.whole in omega (arith, l, m, n, w)) in
     rw (same, h.whole) (sym (line_behind h.front ts t))
 
-pub last_line : (all : List Token) (t : Token) → slice_get all (length all - 1) ≡ Some t → min t.position.line 65535 ≡ line_of_left (shown_lines all) 1
+pub last_line : (all : List Token) (t : Token) → slice_get all (length all - 1) ≡ Some t
+    → min t.position.line 65535 ≡ line_of_left (shown_lines all) 1
 last_line all t e = let m = length_lines all in rw (m) (line_at (length all - 1) all t e)
 
 pub no_lines : (all : List Token) → length all ≡ 0 → line_of_left (shown_lines all) 1 ≡ 0
@@ -50,6 +57,8 @@ no_lines (t ∷ ts) e = absurd (omega (arith, e))
 pub passed_last : (all ts : List Token) (t : Token) → AreLastOf all (t ∷ ts) → AreLastOf all ts
 passed_last all ts t h = record { front = h.front ++ t ∷ []; whole = h.whole ∙ sym (append_assoc h.front (t ∷ []) ts) }
 
-pub next_line : (bytes : List ℕ) (all ts : List Token) (t : Token) → AreLastOf all ts → slice_get ts 0 ≡ Some t → min t.position.line 65535 ≡ line_of_left (shown_lines all) (length (lexemes_of bytes ts))
+pub next_line : (bytes : List ℕ) (all ts : List Token) (t : Token) → AreLastOf all ts → slice_get ts 0 ≡ Some t
+    → min t.position.line 65535 ≡ line_of_left (shown_lines all) (length (lexemes_of bytes ts))
 next_line bytes all [] t h e = absurd cc
-next_line bytes all (x ∷ ts) t h e = let same : x ≡ t = cc in ap (λ (y : Token). min y.position.line 65535) (sym same) ∙ first_line bytes all ts x h
+next_line bytes all (x ∷ ts) t h e = let same : x ≡ t = cc in
+    ap (λ (y : Token). min y.position.line 65535) (sym same) ∙ first_line bytes all ts x h

@@ -1,11 +1,15 @@
 -- The first keyword of some tokens: what is found begins them, and what begins them is found.
-use Rattle.script_tokens.proofs.Words.{[], ◌>>=◌, ◌∙◌, ◌∷◌, ◌≡◌, BeginsWith, Bool, FirstKeywordsAreFound, IfSome, IsNoKeyword, Keyword, Lexeme, List, None, Option, Some, Spelled, ap, bytes_eq, bytes_eq-Decides, drop, false, if◌then◌else◌, key_of, keywords, letters, lexeme_among, refl, sym, true, ℕ}
+use Rattle.script_tokens.proofs.Words.{[], ◌>>=◌, ◌∙◌, ◌∷◌, ◌≡◌, BeginsWith, Bool, FirstKeywordsAreFound, IfSome}
+use Rattle.script_tokens.proofs.Words.{IsNoKeyword, Keyword, Lexeme, List, None, Option, Some, Spelled, ap, bytes_eq}
+use Rattle.script_tokens.proofs.Words.{bytes_eq-Decides, drop, false, if◌then◌else◌, key_of, keywords, letters}
+use Rattle.script_tokens.proofs.Words.{lexeme_among, refl, sym, true, ℕ}
 use Rattle.script_tokens.specs.declared.first_keyword.ComponentKeyword.{ComponentKeyword}
 use Rattle.script_tokens.specs.declared.first_keyword.ItemKeyword.{ItemKeyword}
 use Rattle.script_tokens.specs.declared.first_keyword.EditKeyword.{EditKeyword}
 use Rattle.script_tokens.specs.declared.first_keyword.ActKeyword.{ActKeyword}
 use Rattle.script_tokens.specs.declared.first_keyword.StatementKeyword.{StatementKeyword}
-use Rattle.script_tokens.specs.First.{component_keyword, item_keyword, edit_keyword, act_keyword, statement_keyword, statement_of, item_of}
+use Rattle.script_tokens.specs.First.{component_keyword, item_keyword, edit_keyword, act_keyword, statement_keyword}
+use Rattle.script_tokens.specs.First.{statement_of, item_of}
 use Rattle.script_tokens.specs.Keywords.{the as keyword, text as bare, word_of}
 use Rattle.script_tokens.specs.Reading.{first_key, first_statement, first_item}
 use Rattle.script_tokens.specs.declared.keyword.Keyword.TheVariants as the
@@ -25,7 +29,8 @@ pub nothing_first : (ws : Spelled) → ws ≡ [] → first_key ws ≡ None
 unfolding first_key
 nothing_first ws e = rw (e) refl
 
-pub key_is_first : (r : Option Keyword) (w : List ℕ) (ws : Spelled) → BeginsWith ws w → IfSome r (λ k. w ≡ letters k) → (r ≡ None → IsNoKeyword w) → r ≡ first_key ws
+pub key_is_first : (r : Option Keyword) (w : List ℕ) (ws : Spelled) → BeginsWith ws w → IfSome r (λ k. w ≡ letters k)
+    → (r ≡ None → IsNoKeyword w) → r ≡ first_key ws
 unfolding first_key
 key_is_first None w ws b h none = rw (b.begins, word_text w (none refl)) refl
 key_is_first (Some k) w ws b h none = rw (b.begins, h, word_the k) refl
@@ -34,7 +39,8 @@ among : (ks : List Keyword) (w : List ℕ) (k : Keyword) → lexeme_among ks w �
 among [] w k e = absurd cc
 among (j ∷ ks) w k e = chosen (bytes_eq w (letters j)) refl (among ks w k) e
   where
-    chosen : (b : Bool) → bytes_eq w (letters j) ≡ b → (lexeme_among ks w ≡ keyword k → w ≡ letters k) → if◌then◌else◌ {A = Lexeme} b (keyword j) (lexeme_among ks w) ≡ keyword k → w ≡ letters k
+    chosen : (b : Bool) → bytes_eq w (letters j) ≡ b → (lexeme_among ks w ≡ keyword k → w ≡ letters k)
+        → if◌then◌else◌ {A = Lexeme} b (keyword j) (lexeme_among ks w) ≡ keyword k → w ≡ letters k
     chosen true is later f = (let same : j ≡ k = cc in (bytes_eq-Decides w (letters j)).0 is ∙ ap letters same)
     chosen false is later f = later f
 
@@ -78,7 +84,8 @@ kept the.Forever = refl
 kept the.Apply = refl
 kept k = refl
 
-pub statement_given : (ws : Spelled) (s : StatementKeyword) → first_statement ws ≡ Some s → ws ≡ letters (statement_keyword s) ∷ drop 1 ws
+pub statement_given : (ws : Spelled) (s : StatementKeyword) → first_statement ws ≡ Some s
+    → ws ≡ letters (statement_keyword s) ∷ drop 1 ws
 unfolding first_statement
 statement_given ws s e =
     let g = bind_some (first_key ws) statement_of s e in
@@ -105,7 +112,8 @@ item_found k ws = rw (statement_found k ws) refl
 
 -- ---- keywords again
 
-component_again : (k : ComponentKeyword) → statement_of (component_keyword k) ≡ Some (statement.Act (act.Edit (edit.Item (item.Component k))))
+component_again : (k : ComponentKeyword) → statement_of (component_keyword k)
+    ≡ Some (statement.Act (act.Edit (edit.Item (item.Component k))))
 component_again component.Audio = refl
 component_again component.Data = refl
 component_again component.Carry = refl

@@ -1,5 +1,14 @@
 -- The keywords of the grammar have different letters.
-use Rattle.script_tokens.proofs.Words.{[], ◌++◌, ◌<◌, ◌∙◌, ◌∷◌, ◌≡◌, ◌≢◌, Address, Apply, At, Audio, Begin, Bool, Budget, Carry, CloseBrace, Closed, Commit, Component, Contact, Data, Define, Drop, Early, Eep, Else, End, Ensemble, Forever, Groups, If, IfSome, In, IsNoKeyword, IsNoneOf, Join, Keyword, List, Mode, Move, None, Notice, Open, OpenBrace, Option, Or, Packet, Period, Rate, Raw, Repeat, Reserve, Service, Settle, Some, Spelled, Sub, Time, To, TypeWord, Until, Wait, all_ascii_digits, ap, arith, bytes_eq, bytes_eq-Decides, change_keywords, decimal, digits_decimal, false, false≢true, flow_keywords, head_keywords, item_keywords, keywords, level_text, lexeme_among, packet_keywords, refl, subst, sym, text, the, true, wait_keywords, ℕ}
+use Rattle.script_tokens.proofs.Words.{[], ◌++◌, ◌<◌, ◌∙◌, ◌∷◌, ◌≡◌, ◌≢◌, Address, Apply, At, Audio, Begin, Bool}
+use Rattle.script_tokens.proofs.Words.{Budget, Carry, CloseBrace, Closed, Commit, Component, Contact, Data, Define}
+use Rattle.script_tokens.proofs.Words.{Drop, Early, Eep, Else, End, Ensemble, Forever, Groups, If, IfSome, In}
+use Rattle.script_tokens.proofs.Words.{IsNoKeyword, IsNoneOf, Join, Keyword, List, Mode, Move, None, Notice, Open}
+use Rattle.script_tokens.proofs.Words.{OpenBrace, Option, Or, Packet, Period, Rate, Raw, Repeat, Reserve, Service}
+use Rattle.script_tokens.proofs.Words.{Settle, Some, Spelled, Sub, Time, To, TypeWord, Until, Wait, all_ascii_digits}
+use Rattle.script_tokens.proofs.Words.{ap, arith, bytes_eq, bytes_eq-Decides, change_keywords, decimal, digits_decimal}
+use Rattle.script_tokens.proofs.Words.{false, false≢true, flow_keywords, head_keywords, item_keywords, keywords}
+use Rattle.script_tokens.proofs.Words.{level_text, lexeme_among, packet_keywords, refl, subst, sym, text, the, true}
+use Rattle.script_tokens.proofs.Words.{wait_keywords, ℕ}
 use denote.Enum.Bare.{sameb}
 use denote.Enum.Declared.{tag_of}
 use Rattle.std.specs.Cmp.{nat_eq_equiv}
@@ -73,7 +82,8 @@ false_if false h = refl
 
 none_among : (ks : List Keyword) (w : List ℕ) → IsNoKeyword w → lexeme_among ks w ≡ text w
 none_among [] w h = refl
-none_among (k ∷ ks) w h = let e = false_if (bytes_eq w (letters k)) (λ f. h k ((bytes_eq-Decides w (letters k)).0 f)) in rw (e) (none_among ks w h)
+none_among (k ∷ ks) w h = let e = false_if (bytes_eq w (letters k)) (λ f. h k ((bytes_eq-Decides w (letters k)).0 f)) in
+    rw (e) (none_among ks w h)
 
 pub word_text : (w : List ℕ) → IsNoKeyword w → word_of w ≡ text w
 unfolding word_of
@@ -81,7 +91,9 @@ word_text w h = none_among keywords w h
 
 pub no_decimal : (k : Keyword) (n : ℕ) → n < 1000000000 → all_ascii_digits (letters k) ≡ false → decimal n ≢ letters k
 no_decimal k n small none e =
-    let digits : all_ascii_digits (letters k) ≡ true = subst (λ (w : List ℕ). all_ascii_digits w ≡ true) e (digits_decimal own n (omega arith)) in false≢true (sym none ∙ digits)
+    let digits : all_ascii_digits (letters k) ≡ true =
+    subst (λ (w : List ℕ). all_ascii_digits w ≡ true) e (digits_decimal own n (omega arith)) in
+    false≢true (sym none ∙ digits)
 
 -- a keyword is equal to itself
 pub itself : (j k : Keyword) → Some j ≡ Some k → sameb the_type j k ≡ false → ⊥
@@ -90,7 +102,8 @@ itself j k e f =
     let is : sameb the_type j j ≡ true = nat_eq_equiv.refl (tag_of the_type j) in
     false≢true (sym f ∙ subst (λ (x : Keyword). sameb the_type j x ≡ true) same is)
 
-pub found_of : (r : Option Keyword) (w : List ℕ) → IfSome r (λ k. w ≡ letters k) → (r ≡ None → IsNoKeyword w) → (k : Keyword) → w ≡ letters k → r ≡ Some k
+pub found_of : (r : Option Keyword) (w : List ℕ) → IfSome r (λ k. w ≡ letters k) → (r ≡ None → IsNoKeyword w)
+    → (k : Keyword) → w ≡ letters k → r ≡ Some k
 found_of None w h none k e = absurd (none refl k e)
 found_of (Some j) w h none k e = ap Some (letters_injective j k (sym h ∙ e))
 
@@ -101,7 +114,8 @@ both_none (j ∷ js) ks w h k = (h.0, both_none js ks w h.1 k)
 
 not_among : (ks : List Keyword) (w : List ℕ) → IsNoneOf ks w → lexeme_among ks w ≡ text w
 not_among [] w h = refl
-not_among (k ∷ ks) w h = let e = false_if (bytes_eq w (letters k)) (λ f. h.0 ((bytes_eq-Decides w (letters k)).0 f)) in rw (e) (not_among ks w h.1)
+not_among (k ∷ ks) w h = let e = false_if (bytes_eq w (letters k)) (λ f. h.0 ((bytes_eq-Decides w (letters k)).0 f)) in
+    rw (e) (not_among ks w h.1)
 
 pub no_keyword : (w : List ℕ) → IsNoneOf head_keywords w → IsNoneOf item_keywords w → IsNoneOf packet_keywords w
     → IsNoneOf change_keywords w → IsNoneOf wait_keywords w → IsNoneOf flow_keywords w → IsNoKeyword w
@@ -111,13 +125,16 @@ no_keyword w h i p c t f k e =
     let b = both_none change_keywords (wait_keywords ++ flow_keywords) w c a in
     let d = both_none packet_keywords (change_keywords ++ (wait_keywords ++ flow_keywords)) w p b in
     let g = both_none item_keywords (packet_keywords ++ (change_keywords ++ (wait_keywords ++ flow_keywords))) w i d in
-    let none = both_none head_keywords (item_keywords ++ (packet_keywords ++ (change_keywords ++ (wait_keywords ++ flow_keywords)))) w h g in
+    let none = both_none head_keywords
+    (item_keywords ++ (packet_keywords ++ (change_keywords ++ (wait_keywords ++ flow_keywords)))) w h g in
     let other : the k ≡ text w = sym (word_the k) ∙ ap word_of (sym e) ∙ not_among keywords w none in
     absurd cc
 
 -- ---- levels of contacts
 
-pub no_level : (lexemes : Spelled) → ((rest : Spelled) → lexemes ≢ letters Closed ∷ rest) → ((rest : Spelled) → lexemes ≢ letters Open ∷ rest) → (closed : Bool) (rest : Spelled) → lexemes ≢ level_text closed ∷ rest
+pub no_level : (lexemes : Spelled) → ((rest : Spelled) → lexemes ≢ letters Closed ∷ rest)
+    → ((rest : Spelled) → lexemes ≢ letters Open ∷ rest) → (closed : Bool) (rest : Spelled)
+    → lexemes ≢ level_text closed ∷ rest
 no_level lexemes g r true rest e = g rest e
 no_level lexemes g r false rest e = r rest e
 

@@ -1,5 +1,7 @@
 -- The table of the kinds of bytes.
-use Rattle.script_tokens.proofs.Words.{[], ◌&&◌, ◌+◌, ◌<◌, ◌==◌, ◌∙◌, ◌∷◌, ◌≡◌, Bad, Blank, Bool, Brace, Hash, Kind, Letter, LineEnd, List, and_parts, ap, arith, eqb-true, get_or, kind_numbered, kind_of, length, refl, suc, true, zero, ℕ}
+use Rattle.script_tokens.proofs.Words.{[], ◌&&◌, ◌+◌, ◌<◌, ◌==◌, ◌∙◌, ◌∷◌, ◌≡◌, Bad, Blank, Bool, Brace, Hash, Kind}
+use Rattle.script_tokens.proofs.Words.{Letter, LineEnd, List, and_parts, ap, arith, eqb-true, get_or, kind_numbered}
+use Rattle.script_tokens.proofs.Words.{kind_of, length, refl, suc, true, zero, ℕ}
 use Rattle.script_tokens.specs.declared.kinds.TheConstants.{KINDS}
 
 abbrev number_of : Kind → ℕ
@@ -26,7 +28,8 @@ are_numbers (n ∷ ns) b = (n == number_of (kind_of b)) && are_numbers ns (suc b
 table : are_numbers KINDS 0 ≡ true
 table = refl
 
-at_place : (ns : List ℕ) (b i : ℕ) → are_numbers ns b ≡ true → i < length ns → get_or ns i 0 ≡ number_of (kind_of (b + i))
+at_place : (ns : List ℕ) (b i : ℕ) → are_numbers ns b ≡ true → i < length ns
+    → get_or ns i 0 ≡ number_of (kind_of (b + i))
 at_place [] b i h lt = absurd (omega arith)
 at_place (n ∷ ns) b zero h lt =
     let here : b ≡ b + 0 = omega arith in

@@ -1,5 +1,7 @@
 -- Short texts that have tokens, and some that have none.
-use Rattle.script_tokens.proofs.Words.{[], ◌∷◌, ◌≡◌, AreTokens, Byte, FindsNext, List, None, Ok, Place, Scan, Some, Token, arith, decimal, first_item, first_position, first_statement, number_at, refl, script_limits, token_at, tokens_left}
+use Rattle.script_tokens.proofs.Words.{[], ◌∷◌, ◌≡◌, AreTokens, Byte, FindsNext, List, None, Ok, Place, Scan, Some}
+use Rattle.script_tokens.proofs.Words.{Token, arith, decimal, first_item, first_position, first_statement, number_at}
+use Rattle.script_tokens.proofs.Words.{refl, script_limits, token_at, tokens_left}
 use Rattle.script_tokens.specs.Lexing.{lexed}
 use Rattle.script_tokens.specs.Keywords.{letters, word_of}
 use Rattle.script_tokens.specs.Taking.{name_next}
@@ -46,7 +48,8 @@ a_contact : number_at 0 15 (decimal 15 ∷ []) ≡ Some (15, [])
 a_contact = (number_law 0 15 (omega arith)).found 15 [] (omega arith, omega arith)
 
 no_contact : number_at 0 15 (decimal 16 ∷ []) ≡ None
-no_contact = number_out 0 15 16 (decimal 16) (decimal 16 ∷ []) (record { rest = []; begins = refl }) refl (omega arith) (λ low. omega arith)
+no_contact = number_out 0 15 16 (decimal 16) (decimal 16 ∷ []) (record { rest = []; begins = refl }) refl (omega arith)
+    (λ low. omega arith)
 
 -- `if` begins a statement, and `else` none; `sub` begins an item, and `drop` none
 a_statement : first_statement (letters the.If ∷ []) ≡ Some statement.If

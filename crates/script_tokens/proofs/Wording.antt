@@ -1,5 +1,13 @@
 -- Which lists of bytes are tokens, each a brace or an atom; the letters of values and names.
-use Rattle.script_tokens.proofs.Words.{[], ◌%◌, ◌&&◌, ◌++◌, ◌+◌, ◌/◌, ◌<◌, ◌==◌, ◌||◌, ◌∙◌, ◌∷◌, ◌≡◌, ◌≤◌, ◌⊎◌, A, AreLetters, B, Bad, Blank, Bool, Brace, EepSet, Hash, IsName, IsSid, IsUtf8, Keyword, Kind, Letter, Lexeme, LineEnd, List, Long, Profile, Short, Sid, Spelled, all_ascii_digits, ap, arith, bytes_eq, bytes_eq-Decides, cases_lt, decimal, decimal_nonempty, digits_decimal, eqb-true, false, false≢true, hex_digit, hex_text, if◌then◌else◌, inl, inr, is_ascii_digit, is_lower, is_name_byte, keywords, kind_of, le-ltb, length, lexeme_among, lt-ltb, nat_le, nat_tests, profile_text, refl, set_letter, sid_text, slice_index_or, subst, suc, sym, the, time_text, true, two_digits, zero, ℕ}
+use Rattle.script_tokens.proofs.Words.{[], ◌%◌, ◌&&◌, ◌++◌, ◌+◌, ◌/◌, ◌<◌, ◌==◌, ◌||◌, ◌∙◌, ◌∷◌, ◌≡◌, ◌≤◌, ◌⊎◌, A}
+use Rattle.script_tokens.proofs.Words.{AreLetters, B, Bad, Blank, Bool, Brace, EepSet, Hash, IsName, IsSid, IsUtf8}
+use Rattle.script_tokens.proofs.Words.{Keyword, Kind, Letter, Lexeme, LineEnd, List, Long, Profile, Short, Sid, Spelled}
+use Rattle.script_tokens.proofs.Words.{all_ascii_digits, ap, arith, bytes_eq, bytes_eq-Decides, cases_lt, decimal}
+use Rattle.script_tokens.proofs.Words.{decimal_nonempty, digits_decimal, eqb-true, false, false≢true, hex_digit}
+use Rattle.script_tokens.proofs.Words.{hex_text, if◌then◌else◌, inl, inr, is_ascii_digit, is_lower, is_name_byte}
+use Rattle.script_tokens.proofs.Words.{keywords, kind_of, le-ltb, length, lexeme_among, lt-ltb, nat_le, nat_tests}
+use Rattle.script_tokens.proofs.Words.{profile_text, refl, set_letter, sid_text, slice_index_or, subst, suc, sym, the}
+use Rattle.script_tokens.proofs.Words.{time_text, true, two_digits, zero, ℕ}
 use Rattle.std.specs.List.{list_all}
 use Rattle.std.proofs.lemmas.Str.{IsUtf8-from_ascii}
 use Rattle.std.proofs.lemmas.Str.Ascii.{IsAscii-from_all}
@@ -61,10 +69,12 @@ letter_from : (n first b : ℕ) → letters_from first n ≡ true → first ≤ 
 unfolding letters_from
 letter_from zero first b e low high = absurd (omega (arith, low, high))
 letter_from (suc n) first b e low high = elim (cases_lt first b) [
-  | inl lt ↦ letter_from n (first + 1) b (and_right (is_letter (kind_of first)) (letters_from (first + 1) n) e) (omega (arith, lt)) (omega (arith, high))
+  | inl lt ↦ letter_from n (first + 1) b (and_right (is_letter (kind_of first)) (letters_from (first + 1) n) e)
+      (omega (arith, lt)) (omega (arith, high))
   | inr ge ↦ (
       let same : first ≡ b = omega (arith, low, ge) in
-      subst (λ (m : ℕ). kind_of m ≡ Letter) same (letter_is (kind_of first) (and_left (is_letter (kind_of first)) (letters_from (first + 1) n) e))
+      subst (λ (m : ℕ). kind_of m ≡ Letter) same
+      (letter_is (kind_of first) (and_left (is_letter (kind_of first)) (letters_from (first + 1) n) e))
       )
 ]
 
@@ -100,11 +110,18 @@ letters_both [] ys h k = k
 letters_both (x ∷ xs) ys h k = (h.0, letters_both xs ys h.1 k)
 
 pub hex_letters : (n : ℕ) → n < 65536 → AreLetters (hex_text n)
-hex_letters n small = (hex_letter (n / 256 / 16) (omega arith), (hex_letter (n / 256 % 16) (omega arith), (hex_letter (n % 256 / 16) (omega arith), (hex_letter (n % 256 % 16) (omega arith), tt))))
+hex_letters n small = (
+  hex_letter (n / 256 / 16) (omega arith),
+  (
+    hex_letter (n / 256 % 16) (omega arith),
+    (hex_letter (n % 256 / 16) (omega arith), (hex_letter (n % 256 % 16) (omega arith), tt)),
+  ),
+)
 
 pub sid_letters : (s : Sid) → IsSid s → AreLetters (sid_text s)
 sid_letters (Short n) h = hex_letters n h
-sid_letters (Long n) h = letters_both (hex_text (n / 65536)) (hex_text (n % 65536)) (hex_letters (n / 65536) (omega (arith, h))) (hex_letters (n % 65536) (omega arith))
+sid_letters (Long n) h = letters_both (hex_text (n / 65536)) (hex_text (n % 65536))
+    (hex_letters (n / 65536) (omega (arith, h))) (hex_letters (n % 65536) (omega arith))
 
 set_kind : (s : EepSet) → kind_of (set_letter s) ≡ Letter
 set_kind A = refl
@@ -128,7 +145,10 @@ decimal_letters n small = digits_letters (decimal n) (digits_decimal own n (omeg
 
 -- values are spelled by one atom
 pub decimal_word : (n : ℕ) → n < 1000000 → IsWord (decimal n)
-decimal_word n small = inl (record { some = decimal_nonempty n (omega arith); are = decimal_letters n (omega (arith, small)) })
+decimal_word n small = inl (record {
+  some = decimal_nonempty n (omega arith);
+  are = decimal_letters n (omega (arith, small));
+})
 
 pub hex_word_word : (n : ℕ) → n < 65536 → IsWord (hex_text n)
 hex_word_word n small = inl (record { some = omega arith; are = hex_letters n small })
@@ -152,7 +172,10 @@ all_letters (b ∷ bs) = is_letter (kind_of b) && all_letters bs
 are_letters : (bs : List ℕ) → all_letters bs ≡ true → AreLetters bs
 unfolding all_letters is_letter
 are_letters [] e = tt
-are_letters (b ∷ bs) e = (letter_is (kind_of b) (and_left (is_letter (kind_of b)) (all_letters bs) e), are_letters bs (and_right (is_letter (kind_of b)) (all_letters bs) e))
+are_letters (b ∷ bs) e = (
+  letter_is (kind_of b) (and_left (is_letter (kind_of b)) (all_letters bs) e),
+  are_letters bs (and_right (is_letter (kind_of b)) (all_letters bs) e),
+)
 
 -- a brace, or letters
 is_word : List ℕ → Bool
@@ -163,7 +186,8 @@ brace_is : (b : ℕ) (bs : List ℕ) → ((b == 123) || (b == 125)) ≡ true →
 brace_is b [] e f = record {
   byte = b;
   is = refl;
-  kind = or_cases (b == 123) (b == 125) e (λ g. subst (λ (n : ℕ). kind_of n ≡ Brace) (sym (eqb-true b 123 g)) refl) (λ g. subst (λ (n : ℕ). kind_of n ≡ Brace) (sym (eqb-true b 125 g)) refl);
+  kind = or_cases (b == 123) (b == 125) e (λ g. subst (λ (n : ℕ). kind_of n ≡ Brace) (sym (eqb-true b 123 g)) refl)
+      (λ g. subst (λ (n : ℕ). kind_of n ≡ Brace) (sym (eqb-true b 125 g)) refl);
 }
 brace_is b (x ∷ bs) e f = let none = eqb-true (length (x ∷ bs)) 0 f in absurd (omega (arith, none))
 
@@ -172,22 +196,27 @@ unfolding is_word
 word_is [] e = absurd (false≢true e)
 word_is (b ∷ bs) e = chosen (is_letter (kind_of b)) refl e
   where
-    chosen : (c : Bool) → is_letter (kind_of b) ≡ c → if◌then◌else◌ {A = Bool} c (all_letters bs) (((b == 123) || (b == 125)) && (length bs == 0)) ≡ true → IsWord (b ∷ bs)
+    chosen : (c : Bool) → is_letter (kind_of b) ≡ c → if◌then◌else◌ {A = Bool} c (all_letters bs)
+        (((b == 123) || (b == 125)) && (length bs == 0)) ≡ true → IsWord (b ∷ bs)
     chosen true is f = inl (record { some = omega arith; are = (letter_is (kind_of b) is, are_letters bs f) })
-    chosen false is f = inr (brace_is b bs (and_left ((b == 123) || (b == 125)) (length bs == 0) f) (and_right ((b == 123) || (b == 125)) (length bs == 0) f))
+    chosen false is f = inr (brace_is b bs (and_left ((b == 123) || (b == 125)) (length bs == 0) f)
+        (and_right ((b == 123) || (b == 125)) (length bs == 0) f))
 
 all_words : list_all (λ k. is_word (letters k)) keywords ≡ true
 unfolding letters is_word all_letters is_letter
 all_words = refl
 
 -- a keyword is among those of the grammar
-listed : (ks : List Keyword) (w : List ℕ) (k : Keyword) → lexeme_among ks w ≡ the k → list_all (λ j. is_word (letters j)) ks ≡ true → is_word w ≡ true
+listed : (ks : List Keyword) (w : List ℕ) (k : Keyword) → lexeme_among ks w ≡ the k
+    → list_all (λ j. is_word (letters j)) ks ≡ true → is_word w ≡ true
 listed [] w k e all = absurd cc
 listed (j ∷ js) w k e all = chosen (bytes_eq w (letters j)) refl (listed js w k) e
   where
-    chosen : (c : Bool) → bytes_eq w (letters j) ≡ c → (lexeme_among js w ≡ the k → list_all (λ i. is_word (letters i)) js ≡ true → is_word w ≡ true)
+    chosen : (c : Bool) → bytes_eq w (letters j) ≡ c
+        → (lexeme_among js w ≡ the k → list_all (λ i. is_word (letters i)) js ≡ true → is_word w ≡ true)
         → if◌then◌else◌ {A = Lexeme} c (the j) (lexeme_among js w) ≡ the k → is_word w ≡ true
-    chosen true is later f = ap is_word ((bytes_eq-Decides w (letters j)).0 is) ∙ and_left (is_word (letters j)) (list_all (λ i. is_word (letters i)) js) all
+    chosen true is later f = ap is_word ((bytes_eq-Decides w (letters j)).0 is)
+        ∙ and_left (is_word (letters j)) (list_all (λ i. is_word (letters i)) js) all
     chosen false is later f = later f (and_right (is_word (letters j)) (list_all (λ i. is_word (letters i)) js) all)
 
 pub keyword_text : (k : Keyword) → IsWord (letters k)
@@ -199,7 +228,8 @@ lower_range b e = (grind (arith, nat_tests, e), grind (arith, nat_tests, e))
 
 name_range : (b : ℕ) → is_name_byte b ≡ true → ((97 ≤ b) × (b ≤ 122)) ⊎ (((48 ≤ b) × (b ≤ 57)) ⊎ (b ≡ 95))
 name_range b e = or_cases (is_lower b || (nat_le 48 b && nat_le b 57)) (b == 95) e
-    (λ f. or_cases (is_lower b) (nat_le 48 b && nat_le b 57) f (λ g. inl (lower_range b g)) (λ g. inr (inl (grind (arith, nat_tests, g), grind (arith, nat_tests, g)))))
+    (λ f. or_cases (is_lower b) (nat_le 48 b && nat_le b 57) f (λ g. inl (lower_range b g))
+    (λ g. inr (inl (grind (arith, nat_tests, g), grind (arith, nat_tests, g)))))
     (λ g. inr (inr (eqb-true b 95 g)))
 
 name_letter : (b : ℕ) → is_name_byte b ≡ true → kind_of b ≡ Letter
@@ -210,7 +240,10 @@ name_letter b e = elim (name_range b e) [
 
 name_letters : (bs : List ℕ) → list_all is_name_byte bs ≡ true → AreLetters bs
 name_letters [] e = tt
-name_letters (b ∷ bs) e = (name_letter b (and_left (is_name_byte b) (list_all is_name_byte bs) e), name_letters bs (and_right (is_name_byte b) (list_all is_name_byte bs) e))
+name_letters (b ∷ bs) e = (
+  name_letter b (and_left (is_name_byte b) (list_all is_name_byte bs) e),
+  name_letters bs (and_right (is_name_byte b) (list_all is_name_byte bs) e),
+)
 
 pub name_letters_of : (bs : List ℕ) → IsName bs → AreLetters bs
 name_letters_of [] h = tt
@@ -231,12 +264,15 @@ small_byte b e = elim (name_range b e) [
 small_bytes : (bs : List ℕ) → list_all is_name_byte bs ≡ true → (k d : ℕ) → k < length bs → slice_index_or bs k d < 128
 small_bytes [] e k d lt = absurd (omega (arith, lt))
 small_bytes (b ∷ bs) e zero d lt = small_byte b (and_left (is_name_byte b) (list_all is_name_byte bs) e)
-small_bytes (b ∷ bs) e (suc k) d lt = small_bytes bs (and_right (is_name_byte b) (list_all is_name_byte bs) e) k d (omega (arith, lt))
+small_bytes (b ∷ bs) e (suc k) d lt =
+    small_bytes bs (and_right (is_name_byte b) (list_all is_name_byte bs) e) k d (omega (arith, lt))
 
 small_name : (bs : List ℕ) → IsName bs → (k d : ℕ) → k < length bs → slice_index_or bs k d < 128
 small_name [] h k d lt = absurd (omega (arith, lt))
-small_name (b ∷ bs) h zero d lt = let r = lower_range b (and_left (is_lower b) (list_all is_name_byte bs) h.formed) in omega (arith, r.1)
-small_name (b ∷ bs) h (suc k) d lt = small_bytes bs (and_right (is_lower b) (list_all is_name_byte bs) h.formed) k d (omega (arith, lt))
+small_name (b ∷ bs) h zero d lt = let r = lower_range b (and_left (is_lower b) (list_all is_name_byte bs) h.formed) in
+    omega (arith, r.1)
+small_name (b ∷ bs) h (suc k) d lt =
+    small_bytes bs (and_right (is_lower b) (list_all is_name_byte bs) h.formed) k d (omega (arith, lt))
 
 -- names are UTF-8
 pub name_utf8 : (bs : List ℕ) → IsName bs → IsUtf8 bs

@@ -37,7 +37,10 @@ first_position = record { at = 0; position = record { line = 1; column = 1 } }
 
 abbrev pub position_after : Place → Kind → Place
 position_after p LineEnd = record { at = p.at + 1; position = record { line = p.position.line + 1; column = 1 } }
-position_after p k = record { at = p.at + 1; position = record { line = p.position.line; column = p.position.column + 1 } }
+position_after p k = record {
+  at = p.at + 1;
+  position = record { line = p.position.line; column = p.position.column + 1 };
+}
 
 -- the position after these bytes
 abbrev pub position_past : Place → List ℕ → Place

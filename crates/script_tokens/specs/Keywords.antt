@@ -1,9 +1,16 @@
 -- The keywords of the grammar, as the bytes that spell them, and the names of blocks, which are not keywords.
-use Rattle.std.specs.Prelude.{◌≡◌, ◌≢◌, ℕ, ◌≤◌, ◌||◌, ◌&&◌, ◌==◌, Bool, true, false, List, [], ◌∷◌, ◌++◌, length, nat_le, codes, if◌then◌else◌}
+use Rattle.std.specs.Prelude.{◌≡◌, ◌≢◌, ℕ, ◌≤◌, ◌||◌, ◌&&◌, ◌==◌, Bool, true, false, List, [], ◌∷◌, ◌++◌, length}
+use Rattle.std.specs.Prelude.{nat_le, codes, if◌then◌else◌}
 use Rattle.std.specs.List.{list_all, AllByRecursion}
 use Rattle.std.specs.Str.{bytes_eq}
 use Rattle.script_tokens.specs.declared.keyword.Keyword.{Keyword}
-use Rattle.script_tokens.specs.declared.keyword.Keyword.TheVariants.{Ensemble, Mode, Period, Notice, Budget, Reserve, Define, Begin, Sub, At, Eep, Service, Audio, In, Data, Carry, Packet, Groups, Raw, TypeWord, Address, Drop, Component, Move, Rate, Wait, Contact, Closed, Open, Until, Early, Or, Time, To, Commit, Join, Settle, End, If, Else, Repeat, Forever, Apply, OpenBrace, CloseBrace}
+use Rattle.script_tokens.specs.declared.keyword.Keyword.TheVariants.{Ensemble, Mode, Period, Notice, Budget, Reserve}
+use Rattle.script_tokens.specs.declared.keyword.Keyword.TheVariants.{Define, Begin, Sub, At, Eep, Service, Audio, In}
+use Rattle.script_tokens.specs.declared.keyword.Keyword.TheVariants.{Data, Carry, Packet, Groups, Raw, TypeWord}
+use Rattle.script_tokens.specs.declared.keyword.Keyword.TheVariants.{Address, Drop, Component, Move, Rate, Wait}
+use Rattle.script_tokens.specs.declared.keyword.Keyword.TheVariants.{Contact, Closed, Open, Until, Early, Or, Time, To}
+use Rattle.script_tokens.specs.declared.keyword.Keyword.TheVariants.{Commit, Join, Settle, End, If, Else, Repeat}
+use Rattle.script_tokens.specs.declared.keyword.Keyword.TheVariants.{Forever, Apply, OpenBrace, CloseBrace}
 
 unfoldable pub letters : Keyword → List ℕ
 letters Ensemble = codes "ensemble"
@@ -78,7 +85,8 @@ abbrev pub flow_keywords : List Keyword
 flow_keywords = End ∷ If ∷ Else ∷ Repeat ∷ Forever ∷ Apply ∷ OpenBrace ∷ CloseBrace ∷ []
 
 abbrev pub keywords : List Keyword
-keywords = head_keywords ++ (item_keywords ++ (packet_keywords ++ (change_keywords ++ (wait_keywords ++ flow_keywords))))
+keywords = head_keywords ++ (item_keywords ++ (packet_keywords
+    ++ (change_keywords ++ (wait_keywords ++ flow_keywords))))
 
 abbrev pub lexeme_among : List Keyword → List ℕ → Lexeme
 lexeme_among [] bytes = text bytes

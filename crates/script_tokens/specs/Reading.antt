@@ -1,5 +1,6 @@
 -- The remaining tokens of a text, as their bytes, and the lines on which they begin.
-use Rattle.std.specs.Prelude.{◌≡◌, ℕ, ◌-◌, ◌<◌, ◌≤◌, Bool, false, if◌then◌else◌, List, [], ◌∷◌, ◌++◌, map, length, drop, min, slice_range, slice_index_or, Option, Some, None, Result, Ok, Err}
+use Rattle.std.specs.Prelude.{◌≡◌, ℕ, ◌-◌, ◌<◌, ◌≤◌, Bool, false, if◌then◌else◌, List, [], ◌∷◌, ◌++◌, map, length, drop}
+use Rattle.std.specs.Prelude.{min, slice_range, slice_index_or, Option, Some, None, Result, Ok, Err}
 use Rattle.std.specs.List.{AllByRecursion}
 use Rattle.std.specs.Str.{bytes_eq}
 use Rattle.script_tokens.specs.declared.fault.ScriptFault.{ScriptFault}
@@ -139,7 +140,10 @@ pub record ReadsAsSpelled {T : Type 0} (read : Spelled → Reads T) (In : T → 
 
 -- the law of first keywords: what is found begins the tokens, and what begins them is found
 pub record FirstKeywordsAreFound : Type 0 where
-  pub statement_given : (lexemes : Spelled) (k : StatementKeyword) → first_statement lexemes ≡ Some k → lexemes ≡ letters (statement_keyword k) ∷ drop 1 lexemes
-  pub statement_found : (k : StatementKeyword) (rest : Spelled) → first_statement (letters (statement_keyword k) ∷ rest) ≡ Some k
-  pub item_given : (lexemes : Spelled) (k : ItemKeyword) → first_item lexemes ≡ Some k → lexemes ≡ letters (item_keyword k) ∷ drop 1 lexemes
+  pub statement_given : (lexemes : Spelled) (k : StatementKeyword) → first_statement lexemes ≡ Some k
+      → lexemes ≡ letters (statement_keyword k) ∷ drop 1 lexemes
+  pub statement_found : (k : StatementKeyword) (rest : Spelled)
+      → first_statement (letters (statement_keyword k) ∷ rest) ≡ Some k
+  pub item_given : (lexemes : Spelled) (k : ItemKeyword) → first_item lexemes ≡ Some k
+      → lexemes ≡ letters (item_keyword k) ∷ drop 1 lexemes
   pub item_found : (k : ItemKeyword) (rest : Spelled) → first_item (letters (item_keyword k) ∷ rest) ≡ Some k

@@ -1,5 +1,7 @@
--- Finding the tokens of a text one by one: the contract of `Scanner`. Which tokens a text has is defined in `Texts.antt`.
-use Rattle.std.specs.Prelude.{◌≡◌, ◌≢◌, ℕ, ◌+◌, ◌-◌, ◌<◌, ◌≤◌, true, false, List, [], length, drop, Option, None, Some, Result, Ok, Err}
+-- Finding the tokens of a text one by one: the contract of `Scanner`. Which tokens a text has is defined in
+-- `Texts.antt`.
+use Rattle.std.specs.Prelude.{◌≡◌, ◌≢◌, ℕ, ◌+◌, ◌-◌, ◌<◌, ◌≤◌, true, false, List, [], length, drop, Option, None, Some}
+use Rattle.std.specs.Prelude.{Result, Ok, Err}
 use Rattle.script_tokens.specs.declared.fault.ScriptFault.{ScriptFault}
 use Rattle.script_tokens.specs.declared.fault.ScriptFault.TheVariants.{Limit, Memory}
 use Rattle.script_tokens.specs.declared.scanner.Role.{Role}
@@ -38,7 +40,8 @@ pub record IsPlaceIn (text : List ℕ) (p : Place) : Type 0 where
 -- the token comes first, and the others are left; or no token is left; or nothing but the fault
 abbrev pub FindsNext : Scan → Scan → Result (Option Token) ScriptFault → Type 0
 FindsNext old new (Ok None) = (tokens_left old ≡ Ok []) × (new ≡ old)
-FindsNext old new (Ok (Some t)) = (tokens_left old ≡ added t (tokens_left new)) × (t.start < t.end) × (t.end ≤ length old.text) × (bytes_left new < bytes_left old)
+FindsNext old new (Ok (Some t)) = (tokens_left old ≡ added t (tokens_left new)) × (t.start < t.end)
+    × (t.end ≤ length old.text) × (bytes_left new < bytes_left old)
 FindsNext old new (Err e) = (tokens_left old ≡ Err e) × (e ≢ Memory) × (new ≡ old)
 
 pub record Advances (old new : Scan) : Type 0 where
@@ -48,14 +51,16 @@ pub record Advances (old new : Scan) : Type 0 where
 -- ---- one scan of bytes. No public contract depends on what follows
 
 -- this is the first token of those left, and the others are those left from the place after it
-abbrev pub FindsFirst : Limits → List ℕ → Result (List Token) ScriptFault → Result (Option (Token × Place)) ScriptFault → Type 0
+abbrev pub FindsFirst : Limits → List ℕ → Result (List Token) ScriptFault → Result (Option (Token × Place)) ScriptFault
+    → Type 0
 FindsFirst limits text left (Ok None) = left ≡ Ok []
 FindsFirst limits text left (Ok (Some (t, next))) = left ≡ added t (lexed limits Nothing next (drop next.at text))
 FindsFirst limits text left (Err e) = (left ≡ Err e) × (e ≢ Memory)
 
 abbrev pub IsFurther : List ℕ → Place → Result (Option (Token × Place)) ScriptFault → Type 0
 IsFurther text from (Ok None) = Unit {0}
-IsFurther text from (Ok (Some (t, next))) = (t.start < t.end) × (t.end ≤ length text) × (from.at < next.at) × IsPlaceIn text next
+IsFurther text from (Ok (Some (t, next))) = (t.start < t.end) × (t.end ≤ length text) × (from.at < next.at)
+    × IsPlaceIn text next
 IsFurther text from (Err e) = Unit {0}
 
 -- the token is within the limits, and the place after it is this one; or it is past a limit

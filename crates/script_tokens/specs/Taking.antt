@@ -1,6 +1,7 @@
 -- Reading values from the front of the remaining tokens: a token is read as the value that it spells, if that is in
 -- range. The law of each reading is stated at the end.
-use Rattle.std.specs.Prelude.{ℕ, ◌+◌, ◌-◌, ◌*◌, ◌<◌, ◌≤◌, Bool, true, false, ◌&&◌, ◌==◌, nat_le, nat_lt, if◌then◌else◌, List, [], ◌∷◌, length, take, drop, slice_index_or, Some, None}
+use Rattle.std.specs.Prelude.{ℕ, ◌+◌, ◌-◌, ◌*◌, ◌<◌, ◌≤◌, Bool, true, false, ◌&&◌, ◌==◌, nat_le, nat_lt, if◌then◌else◌}
+use Rattle.std.specs.Prelude.{List, [], ◌∷◌, length, take, drop, slice_index_or, Some, None}
 use Rattle.std.specs.Str.{bytes_eq}
 use Rattle.std.specs.Fmt.{decimal}
 use Rattle.mux_eep.specs.declared.sizes.EepSet.{EepSet}
@@ -30,7 +31,8 @@ abbrev pub digit_of : ℕ → ℕ
 digit_of b = if nat_lt b 58 then b - 48 else b - 55
 
 abbrev pub four_of : List ℕ → ℕ
-four_of w = (digit_of (byte_of w 0) * 16 + digit_of (byte_of w 1)) * 256 + (digit_of (byte_of w 2) * 16 + digit_of (byte_of w 3))
+four_of w = (digit_of (byte_of w 0) * 16 + digit_of (byte_of w 1)) * 256
+    + (digit_of (byte_of w 2) * 16 + digit_of (byte_of w 3))
 
 abbrev pub sid_of : List ℕ → Sid
 sid_of w = if length w == 4 then Short (four_of w) else Long (four_of (take 4 w) * 65536 + four_of (drop 4 w))
@@ -50,7 +52,8 @@ time_of w = two_of w * 3600 + (two_of (drop 3 w) * 60 + two_of (drop 6 w))
 -- ---- reading
 
 -- the value of the next token, if it fits and the token is its spelling
-unfoldable pub value_at : {A : Type 0} → (value : List ℕ → A) → (text : A → List ℕ) → (fits : A → Bool) → Spelled → Reads A
+unfoldable pub value_at : {A : Type 0} → (value : List ℕ → A) → (text : A → List ℕ) → (fits : A → Bool) → Spelled
+    → Reads A
 value_at value text fits [] = None
 value_at value text fits (w ∷ ws) = if fits (value w) && bytes_eq w (text (value w)) then Some (value w, ws) else None
 
@@ -88,7 +91,8 @@ time_at ws = value_at time_of time_text is_time ws
 
 -- whether a contact is closed
 unfoldable pub level_at : Spelled → Reads Bool
-level_at ws = if is_next the.Closed ws then Some (true, drop 1 ws) else (after the.Open ws >>= λ rest. Some (false, rest))
+level_at ws = if is_next the.Closed ws then Some (true, drop 1 ws) else
+    (after the.Open ws >>= λ rest. Some (false, rest))
 
 -- the name of a block, which is no keyword
 abbrev pub is_bare : Lexeme → Bool
@@ -105,7 +109,8 @@ name_next (w ∷ ws) = if is_name w then Some (w, ws) else None
 -- ---- laws
 
 pub record ValuesAreRead : Type 0 where
-  pub numbers : (low high : ℕ) → high < 1000000000 → ReadsAsSpelled (number_at low high) (λ n. (low ≤ n) × (n ≤ high)) (λ n. decimal n ∷ [])
+  pub numbers : (low high : ℕ) → high < 1000000000 → ReadsAsSpelled (number_at low high) (λ n. (low ≤ n) × (n ≤ high))
+      (λ n. decimal n ∷ [])
   pub eids : ReadsAsSpelled eid_at (λ n. n < 65536) (λ n. hex_text n ∷ [])
   pub sids : ReadsAsSpelled sid_at IsSid (λ s. sid_text s ∷ [])
   pub profiles : ReadsAsSpelled profile_at (λ p. (1 ≤ p.level) × (p.level ≤ 4)) (λ p. profile_text p ∷ [])

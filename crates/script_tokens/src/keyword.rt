@@ -1,7 +1,9 @@
 //! The keywords of the grammar.
 
 ghost use Rattle.std.specs.Prelude.{◌≡◌, IfSome, None};
-ghost use Rattle.script_tokens.specs.Keywords.{letters, IsNoneOf, head_keywords, item_keywords, packet_keywords, change_keywords, wait_keywords, flow_keywords};
+ghost use Rattle.script_tokens.specs.Keywords.{letters, IsNoneOf, head_keywords, item_keywords};
+ghost use Rattle.script_tokens.specs.Keywords.{packet_keywords, change_keywords, wait_keywords};
+ghost use Rattle.script_tokens.specs.Keywords.{flow_keywords};
 
 /// A keyword of the grammar, or a brace.
 #[derive(Clone, Copy, Debug, PartialEq, Eq)]
@@ -126,8 +128,8 @@ impl Keyword {
     }
 }
 
-// The keywords by subject, one function for each: for the prover, a match on byte strings costs the square of its
-// length.
+// The keywords by subject, one function for each: for the prover, a match on byte strings costs the
+// square of its length.
 
 /// The keyword that these bytes spell, if it is one of the head of a script, up to `begin`.
 #[tactic(auto, unfolding(crate::specs::Keywords::letters))]
@@ -148,7 +150,8 @@ fn find_head(bytes: &[u8]) -> Option<Keyword>
     }
 }
 
-/// The keyword that these bytes spell, if it is one of a sub-channel, a service or a component of a service.
+/// The keyword that these bytes spell, if it is one of a sub-channel, a service or a component of a
+/// service.
 #[tactic(auto, unfolding(crate::specs::Keywords::letters))]
 fn find_item(bytes: &[u8]) -> Option<Keyword>
     ensures found { IfSome result (λ k. bytes.now ≡ letters k) }

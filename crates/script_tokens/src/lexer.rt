@@ -1,8 +1,10 @@
 //! Cutting a text into tokens.
 
-ghost use Rattle.std.specs.Prelude.{◌≡◌, ◌≢◌, ◌+◌, ◌∷◌, [], ◌<◌, ◌≤◌, true, false, length, List, IfOk, IfErr, Ok, Err, Result};
+ghost use Rattle.std.specs.Prelude.{◌≡◌, ◌≢◌, ◌+◌, ◌∷◌, [], ◌<◌, ◌≤◌, true, false, length, List};
+ghost use Rattle.std.specs.Prelude.{IfOk, IfErr, Ok, Err, Result};
 ghost use Rattle.script_tokens.specs.Bytes.{position_after, first_position, token_at};
-ghost use Rattle.script_tokens.specs.Lexing.{inside_after, is_bad, IsQuiet, atom_ended, made, fits, lexed, Pushes};
+ghost use Rattle.script_tokens.specs.Lexing.{inside_after, is_bad, IsQuiet, atom_ended, made, fits};
+ghost use Rattle.script_tokens.specs.Lexing.{lexed, Pushes};
 ghost use Rattle.script_tokens.specs.Reading.{AreWithin, AreOnScriptLines};
 ghost use Rattle.script_tokens.specs.Texts.{AreTokens, IsFirstFault};
 ghost use Rattle.script_tokens.specs.declared.token.Token.{Token};
@@ -78,8 +80,8 @@ pub(crate) fn position_after(place: Place, kind: Kind) -> Place
 ///
 /// # Errors
 ///
-/// The first in text order of: `Byte` for a byte outside comments that is not allowed in a text, `Limit` for a token
-/// past a limit. `Memory` if memory runs out.
+/// The first in text order of: `Byte` for a byte outside comments that is not allowed in a text,
+/// `Limit` for a token past a limit. `Memory` if memory runs out.
 pub fn cut(alloc: Global, text: &str, limits: Limits) -> Result<Vec<Token>, ScriptFault>
     ensures tokens { IfOk result (λ v. lexed limits Nothing first_position text.now ≡ Ok v.items) }
     ensures fault { IfErr result (λ e. e ≢ Memory →
@@ -179,9 +181,9 @@ pub(crate) fn fits(limits: Limits, token: Token) -> bool
 ///
 /// # Errors
 ///
-/// `Limit` at 1:1 for a text of more than 1,048,576 bytes; otherwise the first in text order of: `Byte` for a byte
-/// outside comments that is not allowed in a script, `Limit` for an atom of more than 32 bytes or a token past line
-/// 65,535. `Memory` if memory runs out.
+/// `Limit` at 1:1 for a text of more than 1,048,576 bytes; otherwise the first in text order of:
+/// `Byte` for a byte outside comments that is not allowed in a script, `Limit` for an atom of more
+/// than 32 bytes or a token past line 65,535. `Memory` if memory runs out.
 #[tactic(auto, using(crate::proofs::Spans::on_script_lines, crate::proofs::Pieces::cut_into, crate::proofs::Pieces::not_cut))]
 pub fn lex(alloc: Global, text: &str) -> Result<Vec<Token>, ScriptFault>
     ensures tokens { IfOk result (λ v. AreTokens text.now v.items) }

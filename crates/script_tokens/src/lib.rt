@@ -1,9 +1,10 @@
 //! Tokens of scripts, event files and command files, and the values that tokens spell.
 //!
-//! `lex` cuts a script into tokens; `cut` does so for a text with other limits, and a `Scanner` finds them one by one and
-//! keeps none. A `TokenReader` iterates over the tokens of a text; each function of `values` reads the next token as a
-//! value, and those of `number` give the value that an atom spells. Begin with `Token` and `TokenReader`. Which tokens
-//! `lex` returns, and which fault, is defined in `specs/Texts.antt` (`AreTokens`, `IsFirstFault`); how values are spelled,
+//! `lex` cuts a script into tokens; `cut` does so for a text with other limits, and a `Scanner`
+//! finds them one by one and keeps none. A `TokenReader` iterates over the tokens of a text; each
+//! function of `values` reads the next token as a value, and those of `number` give the value that
+//! an atom spells. Begin with `Token` and `TokenReader`. Which tokens `lex` returns, and which
+//! fault, is defined in `specs/Texts.antt` (`AreTokens`, `IsFirstFault`); how values are spelled,
 //! in `specs/Spelling.antt`.
 #![tactic(auto)]
 

@@ -3,7 +3,8 @@
 ghost use Rattle.std.specs.Prelude.{◌≡◌, ◌≢◌, ℕ, ◌<◌, ◌≤◌, ◌++◌, ◌∷◌, [], length, IfSome, None};
 ghost use Rattle.mux_types.specs.declared.numbers.Sid.{Sid};
 ghost use Rattle.mux_eep.specs.Sizes.{Profile};
-ghost use Rattle.script_tokens.specs.Spelling.{hex_digit, hex_byte, hex_text, hex_long, sid_text, profile_text, two_digits, time_text};
+ghost use Rattle.script_tokens.specs.Spelling.{hex_digit, hex_byte, hex_text, hex_long, sid_text};
+ghost use Rattle.script_tokens.specs.Spelling.{profile_text, two_digits, time_text};
 ghost use Rattle.std.specs.Fmt.{decimal};
 ghost use Rattle.mux_config.specs.Configuration.{IsSid};
 
@@ -11,7 +12,8 @@ use crate::time::TimeOfDay;
 use mux_config::Sid;
 use mux_eep::{EepSet, Protection};
 
-/// The value of a decimal without leading zeros, of at most nine digits; None if the atom is not one.
+/// The value of a decimal without leading zeros, of at most nine digits; None if the atom is not
+/// one.
 pub fn decimal(atom: &[u8]) -> Option<u32>
     ensures found { IfSome result (λ n. (atom.now ≡ decimal n) × (n < 1000000000)) }
     ensures none { result ≡ None → (n : ℕ) → n < 1000000000 → atom.now ≢ decimal n }
@@ -90,7 +92,8 @@ fn hex_long(front: &[u8], back: &[u8]) -> Option<u32>
     Some(u32::from(high) * 65_536 + u32::from(low))
 }
 
-/// The SId of an atom: four digits 0-9 or A-F for a short one, eight for a long one; None if it is neither.
+/// The SId of an atom: four digits 0-9 or A-F for a short one, eight for a long one; None if it is
+/// neither.
 pub fn sid(atom: &[u8]) -> Option<Sid>
     ensures range { IfSome result IsSid }
     ensures spells { IfSome result (λ s. atom.now ≡ sid_text s) }

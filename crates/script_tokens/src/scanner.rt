@@ -70,8 +70,8 @@ impl<'a> Scanner<'a> {
     ///
     /// # Errors
     ///
-    /// `Byte` if a byte comes first that is not allowed outside comments, `Limit` if the token is past a limit. The
-    /// scanner is then where it was.
+    /// `Byte` if a byte comes first that is not allowed outside comments, `Limit` if the token is
+    /// past a limit. The scanner is then where it was.
     pub fn next(&mut self) -> Result<Option<Token>, ScriptFault>
         // With the tokens that are left after it, it is what was left.
         ensures found { FindsNext self.old self.new result }
@@ -118,7 +118,8 @@ fn role_of(inside: Inside, kind: Kind) -> Role
     }
 }
 
-/// The first token from a place on that is not within a token, and the place after it; None if there is none.
+/// The first token from a place on that is not within a token, and the place after it; None if
+/// there is none.
 fn scan(text: &[u8], limits: Limits, from: Place) -> Result<Option<(Token, Place)>, ScriptFault>
     requires { IsPlaceIn text.now from }
     ensures first { FindsFirst limits text.now (lexed limits Nothing from (drop from.at text.now))

@@ -45,8 +45,8 @@ impl TimeOfDay {
         self.seconds
     }
 
-    /// The first frame of the day that begins at this time or after it. A frame takes 24 ms, so there are 125 frames in
-    /// three seconds.
+    /// The first frame of the day that begins at this time or after it. A frame takes 24 ms, so
+    /// there are 125 frames in three seconds.
     pub fn frame(self) -> DayFrame
         ensures { result ≡ frame_at self }
     {

@@ -2,7 +2,8 @@
 
 use crate::fault::Position;
 
-/// A token of a text: the bytes from `start` to `end`, exclusive, and the position of the first byte.
+/// A token of a text: the bytes from `start` to `end`, exclusive, and the position of the first
+/// byte.
 #[derive(Clone, Copy, Debug, Default, PartialEq, Eq)]
 pub struct Token {
     pub start: usize,

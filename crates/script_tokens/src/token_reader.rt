@@ -18,7 +18,8 @@ pub struct TokenReader<'a> {
 
 impl<'a> Model for TokenReader<'a> {
     ghost use Rattle.std.specs.Prelude.{ℕ, List, length};
-    ghost use Rattle.script_tokens.specs.Reading.{Input, lexemes_of, shown_lines, AreWithin, AreLastOf};
+    ghost use Rattle.script_tokens.specs.Reading.{Input, lexemes_of, shown_lines, AreWithin};
+    ghost use Rattle.script_tokens.specs.Reading.{AreLastOf};
 
     ghost Value = { Input };
 
@@ -33,8 +34,13 @@ impl<'a> Model for TokenReader<'a> {
 }
 
 impl<'a> TokenReader<'a> {
-    ghost use Rattle.std.specs.Prelude.{◌≡◌, ◌≢◌, ◌↔◌, ℕ, ◌<◌, length, drop, List, [], ◌∷◌, IsTrue, MatchOption, IsSome, IfSome, None, Some, true, false, IfOk, IfErr, OnOk, OnErr};
-    ghost use Rattle.script_tokens.specs.Reading.{lexemes_of, lines_of, shown_lines, line_of_left, line_of, AreWithin, AreOnScriptLines, BeginsWith, Passes, is_next, first_key, first_statement, first_item, after, Leaves};
+    ghost use Rattle.std.specs.Prelude.{◌≡◌, ◌≢◌, ◌↔◌, ℕ, ◌<◌, length, drop, List, [], ◌∷◌, IsTrue};
+    ghost use Rattle.std.specs.Prelude.{MatchOption, IsSome, IfSome, None, Some, true, false, IfOk};
+    ghost use Rattle.std.specs.Prelude.{IfErr, OnOk, OnErr};
+    ghost use Rattle.script_tokens.specs.Reading.{lexemes_of, lines_of, shown_lines, line_of_left};
+    ghost use Rattle.script_tokens.specs.Reading.{line_of, AreWithin, AreOnScriptLines, BeginsWith};
+    ghost use Rattle.script_tokens.specs.Reading.{Passes, is_next, first_key, first_statement};
+    ghost use Rattle.script_tokens.specs.Reading.{first_item, after, Leaves};
     ghost use Rattle.script_tokens.specs.Keywords.{letters};
     ghost use Rattle.script_tokens.specs.Texts.{AreLetters};
     ghost use Rattle.script_tokens.specs.declared.fault.ScriptFault.TheVariants.{Memory};
@@ -72,7 +78,8 @@ impl<'a> TokenReader<'a> {
         }
     }
 
-    /// The line of the next token, at most 65,535, the last line of a script; 0 where no token is left.
+    /// The line of the next token, at most 65,535, the last line of a script; 0 where no token is
+    /// left.
     pub fn line(&self) -> u16
         ensures { 0 < length self.now.lexemes → result ≡ line_of self.now.lines self.now.lexemes }
     {
@@ -82,8 +89,8 @@ impl<'a> TokenReader<'a> {
         }
     }
 
-    /// The line of the last token of the text, at most 65,535, the last line of a script; 0 where the text has no
-    /// token.
+    /// The line of the last token of the text, at most 65,535, the last line of a script; 0 where
+    /// the text has no token.
     pub fn last_line(&self) -> u16
         ensures { result ≡ line_of_left self.now.lines 1 }
     {

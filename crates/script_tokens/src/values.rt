@@ -1,14 +1,16 @@
 //! Reading values: numbers in their ranges, identifiers, profiles and times.
 //!
-//! Each function but `name` advances past the token that it reads. Unless a function says otherwise, the fault is
-//! `Number` where the next token is an atom that is not such a value, and `Expected` where it is a brace or the text
-//! has ended.
+//! Each function but `name` advances past the token that it reads. Unless a function says
+//! otherwise, the fault is `Number` where the next token is an atom that is not such a value, and
+//! `Expected` where it is a brace or the text has ended.
 
-ghost use Rattle.std.specs.Prelude.{◌≡◌, ℕ, ◌∷◌, ◌<◌, ◌≤◌, [], length, List, ◌≢◌, Bool, IfOk, IfErr, OnOk, OnErr};
+ghost use Rattle.std.specs.Prelude.{◌≡◌, ℕ, ◌∷◌, ◌<◌, ◌≤◌, [], length, List, ◌≢◌, Bool, IfOk};
+ghost use Rattle.std.specs.Prelude.{IfErr, OnOk, OnErr};
 ghost use Rattle.std.specs.Fmt.{decimal};
 ghost use Rattle.script_tokens.specs.declared.fault.ScriptFault.TheVariants.{Memory};
 ghost use Rattle.script_tokens.specs.Reading.{Passes, BeginsWith, Takes};
-ghost use Rattle.script_tokens.specs.Taking.{number_at, eid_at, sid_at, profile_at, time_at, level_at, name_next};
+ghost use Rattle.script_tokens.specs.Taking.{number_at, eid_at, sid_at, profile_at, time_at};
+ghost use Rattle.script_tokens.specs.Taking.{level_at, name_next};
 ghost use Rattle.script_tokens.specs.Spelling.{level_text};
 ghost use Rattle.std.specs.Prelude.{true, false, Some, None, drop};
 ghost use Rattle.std.specs.List.{list_all};
@@ -237,8 +239,8 @@ pub fn time(reader: &mut TokenReader) -> Result<TimeOfDay, ScriptFault>
 ///
 /// # Errors
 ///
-/// `Expected` where the next token is not a name: a brace, an ill-formed atom or a keyword; or where the text has
-/// ended.
+/// `Expected` where the next token is not a name: a brace, an ill-formed atom or a keyword; or
+/// where the text has ended.
 #[tactic(auto, using(crate::proofs::Taking::name_shown))]
 pub fn name<'a>(reader: &TokenReader<'a>) -> Result<&'a str, ScriptFault>
     ensures next { IfOk result (λ s. name_next reader.now.lexemes ≡ Some (
