@@ -1,5 +1,9 @@
 -- The search for the pcs that can be reached in a frame finds them all.
-use Rattle.script_compiler.proofs.Words.{[], ◌++◌, ◌+◌, ◌<◌, ◌∙◌, ◌∷◌, ◌≡◌, ◌≤◌, ◌⊎◌, Bool, CanReach, CanRevisit, GrowsBy, Instr, IsAt, IsExpanded, IsIn, Line, List, None, Option, Searched, Some, StepsTo, ap, arith, false, get_or, inl, inr, instrs_of, length, length-append, refl, slice_get, slice_get_within, slice_set, subst, suc, sym, true, trues, zero, ℕ}
+use Rattle.script_compiler.proofs.Words.{[], ◌++◌, ◌+◌, ◌<◌, ◌∙◌, ◌∷◌, ◌≡◌, ◌≤◌, ◌⊎◌, Bool, CanReach, CanRevisit}
+use Rattle.script_compiler.proofs.Words.{GrowsBy, Instr, IsAt, IsExpanded, IsIn, Line, List, None, Option, Searched}
+use Rattle.script_compiler.proofs.Words.{Some, StepsTo, ap, arith, false, get_or, inl, inr, instrs_of, length}
+use Rattle.script_compiler.proofs.Words.{length-append, refl, slice_get, slice_get_within, slice_set, subst, suc, sym}
+use Rattle.script_compiler.proofs.Words.{true, trues, zero, ℕ}
 
 -- ---- lists
 
@@ -37,7 +41,8 @@ set_only (b ∷ ps) zero (suc k) h = inl h
 set_only (b ∷ ps) (suc j) zero h = inl h
 set_only (b ∷ ps) (suc j) (suc k) h = elim (set_only ps j k h) [ inl a ↦ inl a | inr e ↦ inr (ap (λ n. suc n) e) ]
 
-set_trues : (ps : List Bool) (k : ℕ) (d : Bool) → k < length ps → get_or ps k d ≡ false → trues (slice_set ps k true) ≡ trues ps + 1
+set_trues : (ps : List Bool) (k : ℕ) (d : Bool) → k < length ps → get_or ps k d ≡ false
+    → trues (slice_set ps k true) ≡ trues ps + 1
 set_trues [] k d lt e = absurd (omega (arith, lt))
 set_trues (true ∷ ps) zero d lt e = absurd (let h : true ≡ false = e in cc)
 set_trues (false ∷ ps) zero d lt e = omega arith
@@ -69,13 +74,24 @@ none_at (false ∷ ps) (suc k) h e = none_at ps k (omega (arith, h)) e
 
 -- ---- adding one pc, or none
 
-pub grows_none : (ps : List Bool) (ws : List ℕ) (wanted : ℕ → Type 0) → ((k : ℕ) → wanted k → k < length ps → IsAt ps k) → GrowsBy ps ps ws ws wanted
+pub grows_none : (ps : List Bool) (ws : List ℕ) (wanted : ℕ → Type 0) → ((k : ℕ) → wanted k → k < length ps → IsAt ps k)
+    → GrowsBy ps ps ws ws wanted
 grows_none ps ws wanted all = record {
-  grows = record { long = refl; kept = λ k h. h; only = λ k h. inl h; fresh = λ k h. inl h; still = λ k h. h; waits = λ k h. inl h; count = refl };
+  grows = record {
+    long = refl;
+    kept = λ k h. h;
+    only = λ k h. inl h;
+    fresh = λ k h. inl h;
+    still = λ k h. h;
+    waits = λ k h. inl h;
+    count = refl;
+  };
   all = all;
 }
 
-pub grows_one : (ps qs : List Bool) (ws vs : List ℕ) (place : ℕ) (d : Bool) → place < length ps → get_or ps place d ≡ false → qs ≡ slice_set ps place true → vs ≡ ws ++ place ∷ [] → GrowsBy ps qs ws vs (λ k. k ≡ place)
+pub grows_one : (ps qs : List Bool) (ws vs : List ℕ) (place : ℕ) (d : Bool) → place < length ps
+    → get_or ps place d ≡ false → qs ≡ slice_set ps place true → vs ≡ ws ++ place ∷ []
+    → GrowsBy ps qs ws vs (λ k. k ≡ place)
 grows_one ps qs ws vs place d lt off e f =
     let there : IsAt qs place = subst (λ (l : List Bool). IsAt l place) (sym e) (set_there ps place lt) in
     record {
@@ -85,19 +101,23 @@ grows_one ps qs ws vs place d lt off e f =
         only = λ k h. set_only ps k place (subst (λ (l : List Bool). IsAt l k) e h);
         fresh = λ k h. elim (set_only ps k place (subst (λ (l : List Bool). IsAt l k) e h)) [
           | inl a ↦ inl a
-          | inr same ↦ inr (subst (λ (l : List ℕ). IsIn k l) (sym f) (subst (λ n. IsIn k (ws ++ n ∷ [])) same (in_last k ws)))
+          | inr same ↦ inr (subst (λ (l : List ℕ). IsIn k l) (sym f)
+              (subst (λ n. IsIn k (ws ++ n ∷ [])) same (in_last k ws)))
         ];
         still = λ k h. subst (λ (l : List ℕ). IsIn k l) (sym f) (in_left k ws (place ∷ []) h);
         waits = λ k h. elim (in_snoc k place ws (subst (λ (l : List ℕ). IsIn k l) f h)) [
           | inl a ↦ inl a
           | inr same ↦ inr (subst (λ n. IsAt qs n) (sym same) there)
         ];
-        count = (let a = ap trues e ∙ set_trues ps place d lt off in let b = ap length f ∙ length-append ws (place ∷ []) in omega (arith, a, b));
+        count = (let a = ap trues e ∙ set_trues ps place d lt off in
+            let b = ap length f ∙ length-append ws (place ∷ []) in omega (arith, a, b));
       };
       all = λ k same _. subst (λ n. IsAt qs n) (sym same) there;
     }
 
-pub grows_both : (ps qs rs : List Bool) (ws vs us : List ℕ) (A B C : ℕ → Type 0) → ((k : ℕ) → A k → C k) → ((k : ℕ) → B k → C k) → ((k : ℕ) → C k → A k ⊎ B k) → GrowsBy ps qs ws vs A → GrowsBy qs rs vs us B → GrowsBy ps rs ws us C
+pub grows_both : (ps qs rs : List Bool) (ws vs us : List ℕ) (A B C : ℕ → Type 0) → ((k : ℕ) → A k → C k)
+    → ((k : ℕ) → B k → C k) → ((k : ℕ) → C k → A k ⊎ B k) → GrowsBy ps qs ws vs A → GrowsBy qs rs vs us B
+    → GrowsBy ps rs ws us C
 grows_both ps qs rs ws vs us A B C a b either g h = record {
   grows = record {
     long = h.grows.long ∙ g.grows.long;
@@ -125,12 +145,16 @@ grows_both ps qs rs ws vs us A B C a b either g h = record {
 
 -- ---- paths
 
-leads_more : (code : List Instr) (n a b c : ℕ) (i : Instr) → CanReach code n a b → slice_get code b ≡ Some i → StepsTo i b c → CanReach code (suc n) a c
-leads_more code zero a b c i h e g = (i, c, subst (λ k. slice_get code k ≡ Some i) (sym h) e, subst (λ k. StepsTo i k c) (sym h) g, refl)
+leads_more : (code : List Instr) (n a b c : ℕ) (i : Instr) → CanReach code n a b → slice_get code b ≡ Some i
+    → StepsTo i b c → CanReach code (suc n) a c
+leads_more code zero a b c i h e g =
+    (i, c, subst (λ k. slice_get code k ≡ Some i) (sym h) e, subst (λ k. StepsTo i k c) (sym h) g, refl)
 leads_more code (suc n) a b c i h e g = (h.0, h.1, h.2, h.3, leads_more code n h.1 b c i h.4 e g)
 
 -- the reached pcs are closed under steps, so every path stays in them
-stays_reached : (code : List Instr) (places : List Bool) (pc : ℕ) → pc < length code → ((k : ℕ) → IsAt places k → IsExpanded code places k) → (m k : ℕ) → IsExpanded code places k → CanReach code (suc m) k pc → IsAt places pc
+stays_reached : (code : List Instr) (places : List Bool) (pc : ℕ) → pc < length code
+    → ((k : ℕ) → IsAt places k → IsExpanded code places k) → (m k : ℕ) → IsExpanded code places k
+    → CanReach code (suc m) k pc → IsAt places pc
 stays_reached code places pc lt closed zero k leads h =
     let within : h.1 < length code = subst (λ n. n < length code) (sym h.4) lt in
     subst (λ n. IsAt places n) h.4 (leads h.0 h.1 h.2 h.3 within)
@@ -143,10 +167,14 @@ stays_reached code places pc lt closed (suc m) k leads h =
 
 module _ (code : List Instr) (pc : ℕ) where
   -- the pcs that follow the first one
-  pub search_begins : (ps qs : List Bool) (vs : List ℕ) (i : Instr) → length ps ≡ length code → trues ps ≡ 0 → slice_get code pc ≡ Some i → GrowsBy ps qs [] vs (StepsTo i pc) → Searched code pc 0 qs vs
+  pub search_begins : (ps qs : List Bool) (vs : List ℕ) (i : Instr) → length ps ≡ length code → trues ps ≡ 0
+      → slice_get code pc ≡ Some i → GrowsBy ps qs [] vs (StepsTo i pc) → Searched code pc 0 qs vs
   search_begins ps qs vs i long none e g = record {
     long = g.grows.long ∙ long;
-    sound = λ k h. elim (g.grows.only k h) [ inl a ↦ absurd (none_at ps k none a) | inr goes ↦ (0, (i, k, e, goes, refl)) ];
+    sound = λ k h. elim (g.grows.only k h) [
+      | inl a ↦ absurd (none_at ps k none a)
+      | inr goes ↦ (0, (i, k, e, goes, refl))
+    ];
     start = λ j to f goes lt. (
         let same : i ≡ j = (let x : Some i ≡ Some j = sym e ∙ f in cc) in
         g.all to (subst (λ (y : Instr). StepsTo y pc to) (sym same) goes) (omega (arith, lt, long)));
@@ -155,11 +183,16 @@ module _ (code : List Instr) (pc : ℕ) where
     count = (let x = g.grows.count in omega (arith, x, none));
   }
 
-  step_sound : (n : ℕ) (ps qs : List Bool) (old ws vs : List ℕ) (place : ℕ) (o : Option Instr) → slice_get code place ≡ o → (wanted : ℕ → Type 0) → ((k : ℕ) → wanted k → (i : Instr) × (slice_get code place ≡ Some i) × StepsTo i place k) → ((i : Instr) (k : ℕ) → slice_get code place ≡ Some i → StepsTo i place k → wanted k)
+  step_sound : (n : ℕ) (ps qs : List Bool) (old ws vs : List ℕ) (place : ℕ) (o : Option Instr)
+      → slice_get code place ≡ o → (wanted : ℕ → Type 0)
+      → ((k : ℕ) → wanted k → (i : Instr) × (slice_get code place ≡ Some i) × StepsTo i place k)
+      → ((i : Instr) (k : ℕ) → slice_get code place ≡ Some i → StepsTo i place k → wanted k)
       → old ≡ ws ++ place ∷ [] → Searched code pc n ps old → GrowsBy ps qs ws vs wanted → Searched code pc (n + 1) qs vs
   step_sound n ps qs old ws vs place o at wanted goes all e s g =
-      let point_here : IsAt ps place = s.waits place (subst (λ (l : List ℕ). IsIn place l) (sym e) (in_last place ws)) in
-      let leads : IsExpanded code qs place = λ i to f x lt. g.all to (all i to f x) (let l = s.long in omega (arith, lt, l)) in
+      let point_here : IsAt ps place =
+      s.waits place (subst (λ (l : List ℕ). IsIn place l) (sym e) (in_last place ws)) in
+      let leads : IsExpanded code qs place = λ i to f x lt.
+      g.all to (all i to f x) (let l = s.long in omega (arith, lt, l)) in
       record {
         long = g.grows.long ∙ s.long;
         sound = λ k h. elim (g.grows.only k h) [
@@ -184,29 +217,44 @@ module _ (code : List Instr) (pc : ℕ) where
           | inl a ↦ g.grows.kept k (s.waits k (subst (λ (l : List ℕ). IsIn k l) (sym e) (in_left k ws (place ∷ []) a)))
           | inr at' ↦ at'
         ];
-        count = (let x = g.grows.count in let y = s.count in let z = ap length e ∙ length-append ws (place ∷ []) in omega (arith, x, y, z));
+        count = (let x = g.grows.count in let y = s.count in let z = ap length e ∙ length-append ws (place ∷ []) in
+            omega (arith, x, y, z));
       }
 
-  pub search_complete : (n : ℕ) (places : List Bool) (waiting : List ℕ) → pc < length code → waiting ≡ [] → Searched code pc n places waiting → CanRevisit code pc → IsAt places pc
+  pub search_complete : (n : ℕ) (places : List Bool) (waiting : List ℕ) → pc < length code → waiting ≡ []
+      → Searched code pc n places waiting → CanRevisit code pc → IsAt places pc
   search_complete n places waiting lt none s back =
-      stays_reached code places pc lt (λ k h. elim (s.closed k h) [ inl waits ↦ absurd (subst (λ (l : List ℕ). IsIn k l) none waits) | inr leads ↦ leads ]) back.0 pc s.start back.1
+      stays_reached code places pc lt
+      (λ k h. elim (s.closed k h) [
+        | inl waits ↦ absurd (subst (λ (l : List ℕ). IsIn k l) none waits)
+        | inr leads ↦ leads
+      ]) back.0 pc s.start back.1
 
   -- at most as many pcs are expanded as there are
-  pub none_waits : (n : ℕ) (places : List Bool) (waiting : List ℕ) → length code ≤ n → Searched code pc n places waiting → waiting ≡ []
+  pub none_waits : (n : ℕ) (places : List Bool) (waiting : List ℕ) → length code ≤ n → Searched code pc n places waiting
+      → waiting ≡ []
   none_waits n places [] le s = refl
-  none_waits n places (w ∷ ws) le s = (let c = s.count in let m = trues_most places in let l = s.long in absurd (omega (arith, c, m, l, le)))
+  none_waits n places (w ∷ ws) le s =
+      (let c = s.count in let m = trues_most places in let l = s.long in absurd (omega (arith, c, m, l, le)))
 
 -- one pc is expanded
-pub step_by : (code : List Instr) (pc n : ℕ) (ps qs : List Bool) (old ws vs : List ℕ) (place : ℕ) (i : Instr) → slice_get code place ≡ Some i → old ≡ ws ++ place ∷ [] → Searched code pc n ps old → GrowsBy ps qs ws vs (StepsTo i place) → Searched code pc (n + 1) qs vs
+pub step_by : (code : List Instr) (pc n : ℕ) (ps qs : List Bool) (old ws vs : List ℕ) (place : ℕ) (i : Instr)
+    → slice_get code place ≡ Some i → old ≡ ws ++ place ∷ [] → Searched code pc n ps old
+    → GrowsBy ps qs ws vs (StepsTo i place) → Searched code pc (n + 1) qs vs
 step_by code pc n ps qs old ws vs place i at e s g =
-    step_sound code pc n ps qs old ws vs place (Some i) at (StepsTo i place) (λ k x. (i, at, x)) (λ j k f x. let same : i ≡ j = (let y : Some i ≡ Some j = sym at ∙ f in cc) in subst (λ (z : Instr). StepsTo z place k) (sym same) x) e s g
+    step_sound code pc n ps qs old ws vs place (Some i) at (StepsTo i place) (λ k x. (i, at, x))
+    (λ j k f x. let same : i ≡ j = (let y : Some i ≡ Some j = sym at ∙ f in cc) in
+    subst (λ (z : Instr). StepsTo z place k) (sym same) x) e s g
 
-pub step_past : (code : List Instr) (pc n : ℕ) (ps : List Bool) (old ws : List ℕ) (place : ℕ) → slice_get code place ≡ None → old ≡ ws ++ place ∷ [] → Searched code pc n ps old → Searched code pc (n + 1) ps ws
+pub step_past : (code : List Instr) (pc n : ℕ) (ps : List Bool) (old ws : List ℕ) (place : ℕ)
+    → slice_get code place ≡ None → old ≡ ws ++ place ∷ [] → Searched code pc n ps old → Searched code pc (n + 1) ps ws
 step_past code pc n ps old ws place at e s =
-    step_sound code pc n ps ps old ws ws place None at (λ k. ⊥) (λ k x. absurd x) (λ j k f x. let y : None ≡ Some j = sym at ∙ f in cc) e s
+    step_sound code pc n ps ps old ws ws place None at (λ k. ⊥) (λ k x. absurd x)
+    (λ j k f x. let y : None ≡ Some j = sym at ∙ f in cc) e s
     (grows_none ps ws (λ k. ⊥) (λ k x lt. absurd x))
 
-pub instr_there : (lines : List Line) (pc : ℕ) (l : Line) → slice_get lines pc ≡ Some l → slice_get (instrs_of lines) pc ≡ Some l.instr
+pub instr_there : (lines : List Line) (pc : ℕ) (l : Line) → slice_get lines pc ≡ Some l
+    → slice_get (instrs_of lines) pc ≡ Some l.instr
 instr_there [] pc l e = cc
 instr_there (x ∷ lines) zero l e = (let same : x ≡ l = cc in ap (λ (y : Line). Some y.instr) same)
 instr_there (x ∷ lines) (suc pc) l e = instr_there lines pc l e

@@ -1,5 +1,13 @@
 -- The code of a script has every field in range.
-use Rattle.script_compiler.proofs.Words.{[], ◌+◌, ◌<◌, ◌∙◌, ◌∷◌, ◌≡◌, ◌≢◌, ◌≤◌, AllByRecursion, AreBounds, AreLabelsOf, Bool, CompileFault, Configuration, Contains, IfLimit, Instr, IsConfiguration, IsDeepAtMost, IsJudged, IsLabel, IsLine, IsPlan, IsProgram, IsRefusal, IsScript, Label, Limit, Line, List, Memory, PlacedInstr, Plan, Refused, Some, Tree, UnpricedLabel, ap, arith, beginning, body_of, false, first_counters, get_or, if◌then◌else◌, instrs_of, label_key, length, lines_of_placed, longest, nested, opening_of, option_map, placed_instrs, refl, slice_get, slice_get-map, slice_get_within, slice_index, subst, suc, sym, true, unpriced_label, unpriced_labels, zero, ℕ}
+use Rattle.script_compiler.proofs.Words.{[], ◌+◌, ◌<◌, ◌∙◌, ◌∷◌, ◌≡◌, ◌≢◌, ◌≤◌, AllByRecursion, AreBounds, AreLabelsOf}
+use Rattle.script_compiler.proofs.Words.{Bool, CompileFault, Configuration, Contains, IfLimit, Instr, IsConfiguration}
+use Rattle.script_compiler.proofs.Words.{IsDeepAtMost, IsJudged, IsLabel, IsLine, IsPlan, IsProgram, IsRefusal}
+use Rattle.script_compiler.proofs.Words.{IsScript, Label, Limit, Line, List, Memory, PlacedInstr, Plan, Refused, Some}
+use Rattle.script_compiler.proofs.Words.{Tree, UnpricedLabel, ap, arith, beginning, body_of, false, first_counters}
+use Rattle.script_compiler.proofs.Words.{get_or, if◌then◌else◌, instrs_of, label_key, length, lines_of_placed, longest}
+use Rattle.script_compiler.proofs.Words.{nested, opening_of, option_map, placed_instrs, refl, slice_get, slice_get-map}
+use Rattle.script_compiler.proofs.Words.{slice_get_within, slice_index, subst, suc, sym, true, unpriced_label}
+use Rattle.script_compiler.proofs.Words.{unpriced_labels, zero, ℕ}
 use Rattle.plan_code.proofs.Ascending.{AscendsFrom, from_ascends}
 use Rattle.plan_code.specs.declared.flags.Counters.{Counters}
 use Rattle.script_compiler.proofs.Making.{labels_length, Parts, code_from, lines_are, marks_are}
@@ -16,7 +24,8 @@ each_from : {A : Type 0} (P : A → Type 0) (xs : List A) → ((x : A) → Conta
 each_from P [] h = tt
 each_from P (x ∷ xs) h = (h x (0, omega arith, refl), each_from P xs (λ y c. h y (suc c.0, omega (arith, c.1), c.2)))
 
-each_at : {A : Type 0} (P : A → Type 0) (xs : List A) (i : ℕ) (x d : A) → AllByRecursion P xs → i < length xs → get_or xs i d ≡ x → P x
+each_at : {A : Type 0} (P : A → Type 0) (xs : List A) (i : ℕ) (x d : A) → AllByRecursion P xs → i < length xs
+    → get_or xs i d ≡ x → P x
 each_at P [] i x d all lt e = absurd (omega (arith, lt))
 each_at P (y ∷ xs) zero x d all lt e = subst P e all.0
 each_at P (y ∷ xs) (suc i) x d all lt e = each_at P xs i x d all.1 (omega (arith, lt)) e
@@ -24,15 +33,20 @@ each_at P (y ∷ xs) (suc i) x d all lt e = each_at P xs i x d all.1 (omega (ari
 -- ---- labels, by their instructions
 
 module _ (table : List Configuration) where
-  raised : (b : Bool) (k : ℕ) (p : PlacedInstr) (ps : List PlacedInstr) (ls : List Label) → AreLabelsOf table (if b then unpriced_label k p ∷ unpriced_labels (k + 1) ps else unpriced_labels (k + 1) ps) ls
-      → ((low : ℕ) (rest : List Label) → low ≤ k + 1 → AreLabelsOf table (unpriced_labels (k + 1) ps) rest → AscendsFrom label_key low rest) → (low : ℕ) → low ≤ k → AscendsFrom label_key low ls
+  raised : (b : Bool) (k : ℕ) (p : PlacedInstr) (ps : List PlacedInstr) (ls : List Label)
+      → AreLabelsOf table (if b then unpriced_label k p ∷ unpriced_labels (k + 1) ps else unpriced_labels (k + 1) ps) ls
+      → ((low : ℕ) (rest : List Label) → low ≤ k + 1 → AreLabelsOf table (unpriced_labels (k + 1) ps) rest
+      → AscendsFrom label_key low rest) → (low : ℕ) → low ≤ k → AscendsFrom label_key low ls
   raised true k p ps [] are ih low le = absurd are
-  raised true k p ps (l ∷ ls) are ih low le = let at = are.0.place in (omega (arith, at, le), ih (l.pc + 1) ls (omega (arith, at)) are.1)
+  raised true k p ps (l ∷ ls) are ih low le = let at = are.0.place in
+      (omega (arith, at, le), ih (l.pc + 1) ls (omega (arith, at)) are.1)
   raised false k p ps ls are ih low le = ih low ls (omega (arith, le)) are
 
-  ascends_marks : (ps : List PlacedInstr) (k low : ℕ) (ls : List Label) → low ≤ k → AreLabelsOf table (unpriced_labels k ps) ls → AscendsFrom label_key low ls
+  ascends_marks : (ps : List PlacedInstr) (k low : ℕ) (ls : List Label) → low ≤ k
+      → AreLabelsOf table (unpriced_labels k ps) ls → AscendsFrom label_key low ls
   ascends_marks [] k low ls le are = subst (λ (xs : List Label). AscendsFrom label_key low xs) (sym are) tt
-  ascends_marks (p ∷ ps) k low ls le are = raised p.point.labelled k p ps ls are (λ low' rest le' a. ascends_marks ps (k + 1) low' rest le' a) low le
+  ascends_marks (p ∷ ps) k low ls le are =
+      raised p.point.labelled k p ps ls are (λ low' rest le' a. ascends_marks ps (k + 1) low' rest le' a) low le
 
   counters_few : (r : ℕ) → r ≤ 8 → (first_counters r).0 < 256
   counters_few zero le = omega arith
@@ -46,17 +60,24 @@ module _ (table : List Configuration) where
   counters_few (suc (suc (suc (suc (suc (suc (suc (suc zero)))))))) le = omega arith
   counters_few (suc (suc (suc (suc (suc (suc (suc (suc (suc r))))))))) le = absurd (omega (arith, le))
 
-  counters_within : (ms : List UnpricedLabel) (ls : List Label) → AreLabelsOf table ms ls → IsDeepAtMost 8 ms → AllByRecursion (λ (l : Label). l.counters.0 < 256) ls
-  counters_within [] ls are deep = subst (λ (xs : List Label). AllByRecursion (λ (l : Label). l.counters.0 < 256) xs) (sym are) tt
+  counters_within : (ms : List UnpricedLabel) (ls : List Label) → AreLabelsOf table ms ls → IsDeepAtMost 8 ms
+      → AllByRecursion (λ (l : Label). l.counters.0 < 256) ls
+  counters_within [] ls are deep =
+      subst (λ (xs : List Label). AllByRecursion (λ (l : Label). l.counters.0 < 256) xs) (sym are) tt
   counters_within (m ∷ ms) [] are deep = absurd are
-  counters_within (m ∷ ms) (l ∷ ls) are deep =
-      (subst (λ (c : Counters). c.0 < 256) (sym are.0.counters) (counters_few m.repeats deep.0), counters_within ms ls are.1 deep.1)
+  counters_within (m ∷ ms) (l ∷ ls) are deep = (
+    subst (λ (c : Counters). c.0 < 256) (sym are.0.counters) (counters_few m.repeats deep.0),
+    counters_within ms ls are.1 deep.1,
+  )
 
 -- ---- counts
 
-some_marks : (p : PlacedInstr) (ps qs : List PlacedInstr) → qs ≡ p ∷ ps → p.point.labelled ≡ true → 1 ≤ length (unpriced_labels 0 qs)
+some_marks : (p : PlacedInstr) (ps qs : List PlacedInstr) → qs ≡ p ∷ ps → p.point.labelled ≡ true
+    → 1 ≤ length (unpriced_labels 0 qs)
 some_marks p ps qs e l =
-    let there : unpriced_labels 0 qs ≡ unpriced_label 0 p ∷ unpriced_labels 1 ps = ap (λ xs. unpriced_labels 0 xs) e ∙ ap (λ b. if b then unpriced_label 0 p ∷ unpriced_labels 1 ps else unpriced_labels 1 ps) l in
+    let there : unpriced_labels 0 qs ≡ unpriced_label 0 p ∷ unpriced_labels 1 ps =
+    ap (λ xs. unpriced_labels 0 xs) e
+    ∙ ap (λ b. if b then unpriced_label 0 p ∷ unpriced_labels 1 ps else unpriced_labels 1 ps) l in
     let n = ap length there in
     omega (arith, n)
 
@@ -77,7 +98,9 @@ pub record IsKept (s : Tree) (configs : List Configuration) : Type 0 where
   pub labels : length (unpriced_labels 0 (placed_instrs s)) ≤ 1024
   pub configurations : length configs ≤ 256
 
-module _ {s : Tree} {plan : Plan} {config : Configuration} {lines : List Line} {unpriced : List UnpricedLabel} {needs : List ℕ} {configs : List Configuration} {labels : List Label} (p : Parts s plan config lines unpriced needs configs labels) (script : IsScript s) (kept : IsKept s configs) where
+module _ {s : Tree} {plan : Plan} {config : Configuration} {lines : List Line} {unpriced : List UnpricedLabel}
+    {needs : List ℕ} {configs : List Configuration} {labels : List Label}
+    (p : Parts s plan config lines unpriced needs configs labels) (script : IsScript s) (kept : IsKept s configs) where
   abbrev all : List PlacedInstr
   all = placed_instrs s
 
@@ -88,9 +111,11 @@ module _ {s : Tree} {plan : Plan} {config : Configuration} {lines : List Line} {
   labels_of_all = subst (λ (ms : List UnpricedLabel). AreLabelsOf configs ms labels) (marks_are p) p.labelled
 
   budget_most : plan.budget ≤ 255
-  budget_most = let h = script.headed.budget_to in let e = ap (λ (q : Plan). q.budget) p.made_from.plan_is in omega (arith, h, e)
+  budget_most = let h = script.headed.budget_to in let e = ap (λ (q : Plan). q.budget) p.made_from.plan_is in
+      omega (arith, h, e)
 
-  label_cost : (l : Label) → Contains labels l → (i : Instr) → slice_get (instrs_of lines) l.pc ≡ Some i → (1 ≤ l.cost) × (l.cost ≤ 255)
+  label_cost : (l : Label) → Contains labels l → (i : Instr) → slice_get (instrs_of lines) l.pc ≡ Some i → (1 ≤ l.cost)
+      × (l.cost ≤ 255)
   label_cost l has i there =
       let cost : l.cost ≡ longest (instrs_of lines) (plan.budget + 1) l.pc = p.priced l has ∙ p.each l.pc in
       let least = one_least (instrs_of lines) plan.budget l.pc i there in
@@ -100,8 +125,11 @@ module _ {s : Tree} {plan : Plan} {config : Configuration} {lines : List Line} {
 
   instr_there : (k : ℕ) (q : PlacedInstr) → slice_get all k ≡ Some q → slice_get (instrs_of lines) k ≡ Some q.instr
   instr_there k q e =
-      ap (λ (ls : List Line). slice_get (instrs_of ls) k) lines_of_all ∙ slice_get-map (λ (l : Line). l.instr) (lines_of_placed all) k
-      ∙ ap (λ x. option_map (λ (l : Line). l.instr) x) (slice_get-map (λ (x : PlacedInstr). record { number = x.line; instr = x.instr }) all k ∙ ap (λ x. option_map (λ (x : PlacedInstr). record { number = x.line; instr = x.instr }) x) e)
+      ap (λ (ls : List Line). slice_get (instrs_of ls) k) lines_of_all
+      ∙ slice_get-map (λ (l : Line). l.instr) (lines_of_placed all) k
+      ∙ ap (λ x. option_map (λ (l : Line). l.instr) x)
+      (slice_get-map (λ (x : PlacedInstr). record { number = x.line; instr = x.instr }) all k
+      ∙ ap (λ x. option_map (λ (x : PlacedInstr). record { number = x.line; instr = x.instr }) x) e)
 
   label_formed : AllByRecursion IsLine lines → (l : Label) → Contains labels l → IsLabel (length configs) l
   label_formed formed l has =
@@ -109,21 +137,28 @@ module _ {s : Tree} {plan : Plan} {config : Configuration} {lines : List Line} {
       let within = slice_get_within all at.index at.place at.there in
       let few = kept.instructions in
       let pc = at.is.place in
-      let bounds = all_bounds s.header (let n = script.headed.notice_from in omega (arith, n)) script.headed.notice_to s.last_line (body_of s) (beginning (opening_of s)) kept.judged (subst (λ (ls : List Line). AllByRecursion IsLine ls) lines_of_all formed) tt in
+      let bounds = all_bounds s.header (let n = script.headed.notice_from in omega (arith, n)) script.headed.notice_to
+      s.last_line (body_of s) (beginning (opening_of s)) kept.judged
+      (subst (λ (ls : List Line). AllByRecursion IsLine ls) lines_of_all formed) tt in
       let pc_is : at.index ≡ l.pc = omega (arith, pc) in
-      let cost = label_cost l has at.place.instr (subst (λ k. slice_get (instrs_of lines) k ≡ Some at.place.instr) pc_is (instr_there at.index at.place at.there)) in
+      let cost = label_cost l has at.place.instr
+      (subst (λ k. slice_get (instrs_of lines) k ≡ Some at.place.instr) pc_is
+      (instr_there at.index at.place at.there)) in
       record {
         place = omega (arith, pc, within, few);
         current = slice_get_within configs l.cur at.place.point.flow.current at.is.current;
         following = slice_get_within configs l.next at.place.point.flow.next at.is.following;
         bounds = subst AreBounds (sym at.is.pending) (bounds_at all at.index at.place bounds at.there);
-        set = each_at (λ (x : Label). x.counters.0 < 256) labels has.0 l l (counters_within configs (unpriced_labels 0 all) labels labels_of_all (nested_deep s.header s.last_line (body_of s) (beginning (opening_of s)) kept.repeats)) has.1 has.2;
+        set = each_at (λ (x : Label). x.counters.0 < 256) labels has.0 l l
+            (counters_within configs (unpriced_labels 0 all) labels labels_of_all
+            (nested_deep s.header s.last_line (body_of s) (beginning (opening_of s)) kept.repeats)) has.1 has.2;
         cost_from = cost.0;
         cost_to = cost.1;
       }
 
   -- given that configurations and lines are in range
-  pub parts_formed : AllByRecursion IsConfiguration configs → AllByRecursion IsLine lines → IsProgram (code_from plan configs labels lines)
+  pub parts_formed : AllByRecursion IsConfiguration configs → AllByRecursion IsLine lines
+      → IsProgram (code_from plan configs labels lines)
   parts_formed made formed =
       let first = first_of_all s.header s.last_line (body_of s) (beginning (opening_of s)) in
       let labels_are = each_from (IsLabel (length configs)) labels (label_formed formed) in
@@ -143,7 +178,8 @@ module _ {s : Tree} {plan : Plan} {config : Configuration} {lines : List Line} {
         labels_from = some_labels;
         labels_to = omega (arith, count, few_labels);
         labels_formed = labels_are;
-        labels_ascend = from_ascends label_key 0 labels (ascends_marks configs all 0 0 labels (omega arith) labels_of_all);
+        labels_ascend = from_ascends label_key 0 labels
+            (ascends_marks configs all 0 0 labels (omega arith) labels_of_all);
         lines_from = omega (arith, emitted, counted, some_lines);
         lines_to = omega (arith, emitted, counted, few_lines);
         lines_formed = formed;

@@ -1,11 +1,16 @@
 -- One step of emission.
-use Rattle.script_compiler.proofs.Words.{[], ◌++◌, ◌∙◌, ◌∷◌, ◌≡◌, Emits, Err, Instr, List, Ok, OnOk, ProgramPoint, Result, Work, alone, ap, append_cancel_left, arith, length, length-append, line_of_instr, refl, sym, unpriced_labels, ℕ}
+use Rattle.script_compiler.proofs.Words.{[], ◌++◌, ◌∙◌, ◌∷◌, ◌≡◌, Emits, Err, Instr, List, Ok, OnOk, ProgramPoint}
+use Rattle.script_compiler.proofs.Words.{Result, Work, alone, ap, append_cancel_left, arith, length, length-append}
+use Rattle.script_compiler.proofs.Words.{line_of_instr, refl, sym, unpriced_labels, ℕ}
 
 pub on_ok_map : {A E : Type 0} (x : Result A E) {P Q : Type 0} → (P → Q) → OnOk x P → OnOk x Q
 on_ok_map (Ok a) m h = m h
 on_ok_map (Err e) m h = h
 
-pub put_lays : (line r : ℕ) (i : Instr) (w v u : Work) → v.lines ≡ w.lines → v.saved ≡ w.saved → v.unpriced.items ≡ w.unpriced.items ++ unpriced_labels (length w.lines.items) (alone line i r w.now) → u.saved ≡ v.saved → u.unpriced ≡ v.unpriced → u.lines.items ≡ v.lines.items ++ line_of_instr line i ∷ [] → Emits w u (alone line i r w.now)
+pub put_lays : (line r : ℕ) (i : Instr) (w v u : Work) → v.lines ≡ w.lines → v.saved ≡ w.saved
+    → v.unpriced.items ≡ w.unpriced.items ++ unpriced_labels (length w.lines.items) (alone line i r w.now)
+    → u.saved ≡ v.saved → u.unpriced ≡ v.unpriced → u.lines.items ≡ v.lines.items ++ line_of_instr line i ∷ []
+    → Emits w u (alone line i r w.now)
 put_lays line r i w v u lines saved unpriced saved' marks' lines' = record {
   lines = lines' ∙ ap (λ x. x.items ++ line_of_instr line i ∷ []) lines;
   unpriced = ap (λ x. x.items) marks' ∙ unpriced;

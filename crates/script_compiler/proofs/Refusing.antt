@@ -1,5 +1,8 @@
 -- A script that is refused is not accepted; why, and at which line.
-use Rattle.script_compiler.proofs.Words.{◌<◌, ◌≡◌, ◌≢◌, Before, Block, Cause, CompileFault, Configuration, Err, IfErr, IfRefused, IsDone, IsOpeningRefused, Limit, List, Memory, None, Ok, Option, Plan, Refused, Result, Round, Some, Statement, Statement-F, Where, WhereSome, before, first_fault, nat_lt, pages_alone, statement_step, subst, sym, ℕ}
+use Rattle.script_compiler.proofs.Words.{◌<◌, ◌≡◌, ◌≢◌, Before, Block, Cause, CompileFault, Configuration, Err, IfErr}
+use Rattle.script_compiler.proofs.Words.{IfRefused, IsDone, IsOpeningRefused, Limit, List, Memory, None, Ok, Option}
+use Rattle.script_compiler.proofs.Words.{Plan, Refused, Result, Round, Some, Statement, Statement-F, Where, WhereSome}
+use Rattle.script_compiler.proofs.Words.{before, first_fault, nat_lt, pages_alone, statement_step, subst, sym, ℕ}
 use Rattle.plan_verifier.specs.Tests.{unless, cause_of, cause_if, start_cause}
 use Rattle.plan_verifier.proofs.DecidingFlows.{Computes, computes_some, computes_where, computes_orelse, decides_lt}
 use Rattle.plan_verifier.specs.declared.cause.Cause.TheVariants.{Config as OfConfig}
@@ -23,34 +26,42 @@ not_done table s rest = by_step table (λ f. IsDone (f rest) → ⊥) (λ x. ste
 -- ---- why a script is refused, and at which line
 
 -- two facts about a fault
-pub err_two : {T : Type 0} (x : Result T CompileFault) {P Q R : CompileFault → Type 0} → ((y : CompileFault) → P y → Q y → R y) → IfErr x P → IfErr x Q → IfErr x R
+pub err_two : {T : Type 0} (x : Result T CompileFault) {P Q R : CompileFault → Type 0}
+    → ((y : CompileFault) → P y → Q y → R y) → IfErr x P → IfErr x Q → IfErr x R
 err_two (Ok f) m h k = h
 err_two (Err y) m h k = m y h k
 
-pub refused_map : (e : CompileFault) {P Q : ℕ → Cause → Type 0} → ((at : ℕ) (given : Cause) → P at given → Q at given) → IfRefused e P → IfRefused e Q
+pub refused_map : (e : CompileFault) {P Q : ℕ → Cause → Type 0} → ((at : ℕ) (given : Cause) → P at given → Q at given)
+    → IfRefused e P → IfRefused e Q
 refused_map (Refused at given) m h = m at given h
 refused_map (Limit line limit) m h = tt
 refused_map Memory m h = tt
 
 -- a refusal is not `Memory`
-pub refused_but_memory : (e : CompileFault) {P Q : ℕ → Cause → Type 0} → ((at : ℕ) (given : Cause) → e ≢ Memory → P at given → Q at given) → IfRefused e P → IfRefused e Q
+pub refused_but_memory : (e : CompileFault) {P Q : ℕ → Cause → Type 0}
+    → ((at : ℕ) (given : Cause) → e ≢ Memory → P at given → Q at given) → IfRefused e P → IfRefused e Q
 refused_but_memory (Refused at given) m h = m at given (λ is. cc) h
 refused_but_memory (Limit line limit) m h = tt
 refused_but_memory Memory m h = tt
 
-pub refused_here : (e : CompileFault) (line : ℕ) (cause : Cause) (P : ℕ → Cause → Type 0) → e ≡ Refused line cause → P line cause → IfRefused e P
+pub refused_here : (e : CompileFault) (line : ℕ) (cause : Cause) (P : ℕ → Cause → Type 0) → e ≡ Refused line cause
+    → P line cause → IfRefused e P
 refused_here e line cause P is h = subst (λ (x : CompileFault). IfRefused x P) (sym is) h
 
 -- ---- why the opening of a script is refused, from the cause found
 
 opening_computes : (plan : Plan) (c : Configuration) → Computes (start_cause plan c) (IsOpeningRefused plan c)
 opening_computes plan c =
-    computes_orelse (cause_of (first_fault c) OfConfig) (cause_if (nat_lt plan.period (pages_alone plan c)) Round) (WhereSome (first_fault c) OfConfig) (Where (plan.period < pages_alone plan c) Round)
-    (computes_some (first_fault c) OfConfig) (computes_where (nat_lt plan.period (pages_alone plan c)) (plan.period < pages_alone plan c) Round (decides_lt plan.period (pages_alone plan c)))
+    computes_orelse (cause_of (first_fault c) OfConfig) (cause_if (nat_lt plan.period (pages_alone plan c)) Round)
+    (WhereSome (first_fault c) OfConfig) (Where (plan.period < pages_alone plan c) Round)
+    (computes_some (first_fault c) OfConfig)
+    (computes_where (nat_lt plan.period (pages_alone plan c)) (plan.period < pages_alone plan c) Round
+    (decides_lt plan.period (pages_alone plan c)))
 
 found_by : (o : Option Cause) (cause : Cause) → unless o ≡ Err cause → o ≡ Some cause
 found_by None cause e = absurd cc
 found_by (Some other) cause e = cc
 
-pub opening_why : (plan : Plan) (c : Configuration) (cause : Cause) → unless (start_cause plan c) ≡ Err cause → IsOpeningRefused plan c cause
+pub opening_why : (plan : Plan) (c : Configuration) (cause : Cause) → unless (start_cause plan c) ≡ Err cause
+    → IsOpeningRefused plan c cause
 opening_why plan c cause e = (opening_computes plan c).told cause (found_by (start_cause plan c) cause e)

@@ -1,6 +1,11 @@
 -- The scene after an instruction or a frame depends on the scene before alone.
-use Rattle.script_compiler.proofs.Words.{◌+◌, ◌∙◌, ◌≡◌, Act, Bool, Ended, Hold, IsAllowed, None, Option, Plan, Program, Running, ScenesSuffice, Some, State, Waits, WaitsAny, WaitsContact, WaitsDay, WaitsSwap, acts, after_burst, ap, effect, false, if◌then◌else◌, instr_of_act, is_due, is_first_noticed, is_here, opens, ready, refl, scene_of, settle, shown, state_of_scene, sym, true, with_due_swap, with_hold_ended, with_swap, ℕ}
-use Rattle.script_front.specs.declared.tree.Act.TheVariants.{Edit, Wait, WaitContact, Until, WaitAny, CommitIn, CommitAt, Join, Settle}
+use Rattle.script_compiler.proofs.Words.{◌+◌, ◌∙◌, ◌≡◌, Act, Bool, Ended, Hold, IsAllowed, None, Option, Plan, Program}
+use Rattle.script_compiler.proofs.Words.{Running, ScenesSuffice, Some, State, Waits, WaitsAny, WaitsContact, WaitsDay}
+use Rattle.script_compiler.proofs.Words.{WaitsSwap, acts, after_burst, ap, effect, false, if◌then◌else◌, instr_of_act}
+use Rattle.script_compiler.proofs.Words.{is_due, is_first_noticed, is_here, opens, ready, refl, scene_of, settle, shown}
+use Rattle.script_compiler.proofs.Words.{state_of_scene, sym, true, with_due_swap, with_hold_ended, with_swap, ℕ}
+use Rattle.script_front.specs.declared.tree.Act.TheVariants.{Edit, Wait, WaitContact, Until, WaitAny, CommitIn}
+use Rattle.script_front.specs.declared.tree.Act.TheVariants.{CommitAt, Join, Settle}
 
 -- a state with the same scene, the rest of which is fixed
 abbrev plain : State → State
@@ -21,14 +26,17 @@ here_same s (WaitsAny closed opened until left) = refl
 here_same s WaitsSwap = refl
 here_same s Ended = refl
 
-ends_by : (b : Bool) (s : State) → scene_of (if b then record s { hold = Running } else s) ≡ scene_of (if b then record (plain s) { hold = Running } else plain s)
+ends_by : (b : Bool) (s : State) → scene_of (if b then record s { hold = Running } else s)
+    ≡ scene_of (if b then record (plain s) { hold = Running } else plain s)
 ends_by true s = refl
 ends_by false s = refl
 
 hold_ends : (s : State) → scene_of (with_hold_ended s) ≡ scene_of (with_hold_ended (plain s))
-hold_ends s = ends_by (is_here s s.hold) s ∙ ap (λ b. scene_of (if b then record (plain s) { hold = Running } else plain s)) (here_same s s.hold)
+hold_ends s = ends_by (is_here s s.hold) s
+    ∙ ap (λ b. scene_of (if b then record (plain s) { hold = Running } else plain s)) (here_same s s.hold)
 
-swaps_by : (b : Bool) (s : State) → scene_of (if b then with_swap s else s) ≡ scene_of (if b then with_swap (plain s) else plain s)
+swaps_by : (b : Bool) (s : State) → scene_of (if b then with_swap s else s)
+    ≡ scene_of (if b then with_swap (plain s) else plain s)
 swaps_by true s = refl
 swaps_by false s = refl
 
@@ -37,7 +45,8 @@ swap_falls s = swaps_by (is_due s.left) s
 
 pub ready_scene : (s : State) → scene_of (ready s) ≡ opens (scene_of s)
 ready_scene s =
-    hold_ends (with_due_swap s) ∙ ap (λ x. scene_of (with_hold_ended (state_of_scene x))) (swap_falls s) ∙ sym (hold_ends (with_due_swap (plain s)))
+    hold_ends (with_due_swap s) ∙ ap (λ x. scene_of (with_hold_ended (state_of_scene x))) (swap_falls s)
+    ∙ sym (hold_ends (with_due_swap (plain s)))
 
 swap_place : (b : Bool) (s : State) → SamePlace s (if b then with_swap s else s)
 swap_place true s = (refl, refl)
@@ -54,11 +63,13 @@ ready_place s =
     let second : SamePlace t (with_hold_ended t) = hold_place (is_here t t.hold) t in
     (second.0 ∙ first.0, second.1 ∙ first.1)
 
-turned : (b : Bool) (s : State) → (scene_of (if b then record s { page_index = 0 } else s) ≡ scene_of s) × SamePlace s (if b then record s { page_index = 0 } else s)
+turned : (b : Bool) (s : State) → (scene_of (if b then record s { page_index = 0 } else s) ≡ scene_of s)
+    × SamePlace s (if b then record s { page_index = 0 } else s)
 turned true s = (refl, (refl, refl))
 turned false s = (refl, (refl, refl))
 
-pub shown_scene : (p : Program) (s : State) → (scene_of (shown p s) ≡ scene_of (after_burst p s)) × SamePlace (after_burst p s) (shown p s)
+pub shown_scene : (p : Program) (s : State) → (scene_of (shown p s) ≡ scene_of (after_burst p s))
+    × SamePlace (after_burst p s) (shown p s)
 shown_scene p s = turned (is_first_noticed p.plan.notice (after_burst p s).left) (after_burst p s)
 
 -- ---- a statement that is one instruction
@@ -71,7 +82,8 @@ settles_at : (o : Option ℕ) (s : State) → ((settle o s).pc ≡ s.pc + 1) × 
 settles_at None s = (refl, refl)
 settles_at (Some left) s = (refl, refl)
 
-pub act_scene : (plan : Plan) (a : Act) (s : State) → scene_of (effect plan (instr_of_act a) s) ≡ acts plan (instr_of_act a) (scene_of s)
+pub act_scene : (plan : Plan) (a : Act) (s : State) → scene_of (effect plan (instr_of_act a) s)
+    ≡ acts plan (instr_of_act a) (scene_of s)
 act_scene plan (Edit edit) s = refl
 act_scene plan (Wait frames) s = refl
 act_scene plan (WaitContact contact closed) s = refl
@@ -82,7 +94,8 @@ act_scene plan (CommitAt count) s = refl
 act_scene plan Join s = refl
 act_scene plan Settle s = settles_by s.left s
 
-pub act_place : (plan : Plan) (a : Act) (s : State) → ((effect plan (instr_of_act a) s).pc ≡ s.pc + 1) × ((effect plan (instr_of_act a) s).counters ≡ s.counters)
+pub act_place : (plan : Plan) (a : Act) (s : State) → ((effect plan (instr_of_act a) s).pc ≡ s.pc + 1)
+    × ((effect plan (instr_of_act a) s).counters ≡ s.counters)
 act_place plan (Edit edit) s = (refl, refl)
 act_place plan (Wait frames) s = (refl, refl)
 act_place plan (WaitContact contact closed) s = (refl, refl)
@@ -93,14 +106,22 @@ act_place plan (CommitAt count) s = (refl, refl)
 act_place plan Join s = (refl, refl)
 act_place plan Settle s = settles_at s.left s
 
-pub act_fine : (plan : Plan) (a : Act) (s : State) → (IsAllowed plan (instr_of_act a) s → IsAllowed plan (instr_of_act a) (plain s)) × (IsAllowed plan (instr_of_act a) (plain s) → IsAllowed plan (instr_of_act a) s)
+pub act_fine : (plan : Plan) (a : Act) (s : State)
+    → (IsAllowed plan (instr_of_act a) s → IsAllowed plan (instr_of_act a) (plain s))
+    × (IsAllowed plan (instr_of_act a) (plain s) → IsAllowed plan (instr_of_act a) s)
 act_fine plan (Edit edit) s = (λ h. h, λ h. h)
 act_fine plan (Wait frames) s = (λ h. tt, λ h. tt)
 act_fine plan (WaitContact contact closed) s = (λ h. tt, λ h. tt)
 act_fine plan (Until moment) s = (λ h. tt, λ h. tt)
 act_fine plan (WaitAny all) s = (λ h. tt, λ h. tt)
-act_fine plan (CommitIn delay) s = (λ h. (record { idle = h.0.idle; sound = h.0.sound; changes = h.0.changes }, h.1), λ h. (record { idle = h.0.idle; sound = h.0.sound; changes = h.0.changes }, h.1))
-act_fine plan (CommitAt count) s = (λ h. (record { idle = h.0.idle; sound = h.0.sound; changes = h.0.changes }, h.1), λ h. (record { idle = h.0.idle; sound = h.0.sound; changes = h.0.changes }, h.1))
+act_fine plan (CommitIn delay) s = (
+  λ h. (record { idle = h.0.idle; sound = h.0.sound; changes = h.0.changes }, h.1),
+  λ h. (record { idle = h.0.idle; sound = h.0.sound; changes = h.0.changes }, h.1),
+)
+act_fine plan (CommitAt count) s = (
+  λ h. (record { idle = h.0.idle; sound = h.0.sound; changes = h.0.changes }, h.1),
+  λ h. (record { idle = h.0.idle; sound = h.0.sound; changes = h.0.changes }, h.1),
+)
 act_fine plan Join s = (λ h. h, λ h. h)
 act_fine plan Settle s = (λ h. tt, λ h. tt)
 

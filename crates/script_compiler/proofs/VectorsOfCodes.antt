@@ -1,5 +1,15 @@
 -- Test vectors: small scripts for which each definition holds, and for which it fails.
-use Rattle.script_compiler.proofs.Words.{[], ◌++◌, ◌+◌, ◌∙◌, ◌∷◌, ◌≡◌, ◌≢◌, ◌≤◌, AddSub, Added, Alternative, AreFine, AreLabelsOf, Block, Bool, BranchesAgree, Configuration, CostsItsNeeds, End, FitsEntry, FitsFlow, Flow, IdUsed, Idle, Instr, IsAccepted, IsCodeOf, IsDone, IsInTable, IsJudged, IsLabelOf, IsNeed, IsWithinBudget, Item, Label, List, Loop, None, Perhaps, Program, ProgramPoint, Reached, Set, Some, StepsTo, Swap, Tabled, Test, Tree, UnpricedLabel, Wait, WaitAny, WaysAgree, Within, all_places, ap, arith, at_label, basic, beginning, falls_out, false, forever, inl, inr, instrs_of, length, length-append, lines_of_placed, map, nested, nothing, one_sub, placed_instrs, plan, point_after, refl, repeat, rules, stop, sub, subst, suc, suspends, sym, true, unpriced_labels, widest, without_label, zero, ℕ}
+use Rattle.script_compiler.proofs.Words.{[], ◌++◌, ◌+◌, ◌∙◌, ◌∷◌, ◌≡◌, ◌≢◌, ◌≤◌, AddSub, Added, Alternative, AreFine}
+use Rattle.script_compiler.proofs.Words.{AreLabelsOf, Block, Bool, BranchesAgree, Configuration, CostsItsNeeds, End}
+use Rattle.script_compiler.proofs.Words.{FitsEntry, FitsFlow, Flow, IdUsed, Idle, Instr, IsAccepted, IsCodeOf, IsDone}
+use Rattle.script_compiler.proofs.Words.{IsInTable, IsJudged, IsLabelOf, IsNeed, IsWithinBudget, Item, Label, List}
+use Rattle.script_compiler.proofs.Words.{Loop, None, Perhaps, Program, ProgramPoint, Reached, Set, Some, StepsTo, Swap}
+use Rattle.script_compiler.proofs.Words.{Tabled, Test, Tree, UnpricedLabel, Wait, WaitAny, WaysAgree, Within}
+use Rattle.script_compiler.proofs.Words.{all_places, ap, arith, at_label, basic, beginning, falls_out, false, forever}
+use Rattle.script_compiler.proofs.Words.{inl, inr, instrs_of, length, length-append, lines_of_placed, map, nested}
+use Rattle.script_compiler.proofs.Words.{nothing, one_sub, placed_instrs, plan, point_after, refl, repeat, rules, stop}
+use Rattle.script_compiler.proofs.Words.{sub, subst, suc, suspends, sym, true, unpriced_labels, widest, without_label}
+use Rattle.script_compiler.proofs.Words.{zero, ℕ}
 use Rattle.mux_config.proofs.Sounding.{sound_told}
 use Rattle.plan_code.specs.declared.limits.TheConstants.{MOST_CONFIGURATIONS}
 use Rattle.script_front.specs.declared.moment.MomentForm.TheVariants.{Early}
@@ -110,10 +120,12 @@ falls_not = refl
 -- `repeat 3 { wait 1 }`, in a text of five lines
 the_lines_of_a_loop :
     lines_of_placed (all_places plan 5 (repeat 2 3 (waits nothing) nothing) start)
-    ≡ record { number = 2; instr = Set 0 3 } ∷ record { number = 3; instr = Wait 1 } ∷ record { number = 2; instr = Loop 0 1 } ∷ record { number = 5; instr = End } ∷ []
+    ≡ record { number = 2; instr = Set 0 3 } ∷ record { number = 3; instr = Wait 1 }
+    ∷ record { number = 2; instr = Loop 0 1 } ∷ record { number = 5; instr = End } ∷ []
 the_lines_of_a_loop = refl
 
-the_labels_of_a_loop : map (λ m. m.pc) (unpriced_labels 0 (all_places plan 5 (repeat 2 3 (waits nothing) nothing) start)) ≡ 0 ∷ 1 ∷ []
+the_labels_of_a_loop : map (λ m. m.pc)
+    (unpriced_labels 0 (all_places plan 5 (repeat 2 3 (waits nothing) nothing) start)) ≡ 0 ∷ 1 ∷ []
 the_labels_of_a_loop = refl
 
 -- `contact 3 closed`, `contact 3 open` and `contact 0 open`
@@ -122,7 +134,9 @@ third closed = OfContact 3 closed
 
 -- the same contact several times is in each set once; 250 frames before ten in the evening
 the_same_contact_again :
-    instrs_of (lines_of_placed (all_places plan 3 (basic 3 (WaitsAny (third true ∷ OfMoment (Early 79200 250) ∷ third true ∷ third false ∷ [])) nothing) start))
+    instrs_of (lines_of_placed
+    (all_places plan 3 (basic 3 (WaitsAny (third true ∷ OfMoment (Early 79200 250) ∷ third true ∷ third false ∷ []))
+    nothing) start))
     ≡ WaitAny (record { 0 = 8 }) (record { 0 = 8 }) (Some 3299750) None ∷ End ∷ []
 the_same_contact_again = refl
 
@@ -142,11 +156,25 @@ added : Added one_sub (no_configuration ∷ []) (no_configuration ∷ one_sub �
 added = inr (stands_not, refl)
 
 added_once : Added one_sub (one_sub ∷ []) (one_sub ∷ one_sub ∷ []) → ⊥
-added_once h = elim h [ inl same ↦ let e : length (one_sub ∷ one_sub ∷ []) ≡ 1 = ap length same.1 in omega (arith, e) | inr new ↦ new.0 (0, refl) ]
+added_once h = elim h [
+  | inl same ↦ let e : length (one_sub ∷ one_sub ∷ []) ≡ 1 = ap length same.1 in omega (arith, e)
+  | inr new ↦ new.0 (0, refl)
+]
 
 tabled : Tabled [] (mark 0 (knows one_sub Idle) ∷ mark 3 (knows one_sub Idle) ∷ []) (no_configuration ∷ one_sub ∷ [])
-tabled =
-    (no_configuration ∷ [], no_configuration ∷ one_sub ∷ [], inr (none, refl), inr (stands_not, refl), (no_configuration ∷ one_sub ∷ [], no_configuration ∷ one_sub ∷ [], inl ((0, refl), refl), inl ((1, refl), refl), refl))
+tabled = (
+  no_configuration ∷ [],
+  no_configuration ∷ one_sub ∷ [],
+  inr (none, refl),
+  inr (stands_not, refl),
+  (
+    no_configuration ∷ one_sub ∷ [],
+    no_configuration ∷ one_sub ∷ [],
+    inl ((0, refl), refl),
+    inl ((1, refl), refl),
+    refl,
+  ),
+)
   where
     none : IsInTable no_configuration [] → ⊥
     none h = let e : None ≡ Some no_configuration = h.1 in absurd cc
@@ -154,8 +182,11 @@ tabled =
 -- the current configuration is before the next one
 tabled_in_order : Tabled [] (mark 0 (knows one_sub Idle) ∷ []) [] → ⊥
 tabled_in_order h = let last : [] ≡ h.1 = h.4 in elim h.3 [
-  | inl same ↦ let there : IsInTable one_sub h.0 = same.0 in let e : h.1 ≡ h.0 = same.1 in let none : IsInTable one_sub [] = subst (λ t. IsInTable one_sub t) (sym (last ∙ e)) there in let f : None ≡ Some one_sub = none.1 in absurd cc
-  | inr new ↦ let e : 0 ≡ length (h.0 ++ one_sub ∷ []) = ap length last ∙ ap length new.1 in let n = length-append h.0 (one_sub ∷ []) in omega (arith, e, n)
+  | inl same ↦ let there : IsInTable one_sub h.0 = same.0 in let e : h.1 ≡ h.0 = same.1 in
+      let none : IsInTable one_sub [] = subst (λ t. IsInTable one_sub t) (sym (last ∙ e)) there in
+      let f : None ≡ Some one_sub = none.1 in absurd cc
+  | inr new ↦ let e : 0 ≡ length (h.0 ++ one_sub ∷ []) = ap length last ∙ ap length new.1 in let n =
+      length-append h.0 (one_sub ∷ []) in omega (arith, e, n)
 ]
 
 abbrev label : ℕ → ℕ → Label
@@ -165,7 +196,8 @@ is_label : IsLabelOf (no_configuration ∷ one_sub ∷ []) (mark 3 (knows one_su
 is_label = record { place = refl; current = refl; following = refl; pending = refl; counters = refl }
 
 names_another : IsLabelOf (no_configuration ∷ one_sub ∷ []) (mark 3 (knows one_sub Idle)) (label 0 7) → ⊥
-names_another h = let e : Some no_configuration ≡ Some one_sub = h.following in let same : no_configuration ≡ one_sub = cc in not_the_empty (sym same)
+names_another h = let e : Some no_configuration ≡ Some one_sub = h.following in let same : no_configuration ≡ one_sub =
+    cc in not_the_empty (sym same)
 
 each_has_its_label : AreLabelsOf (no_configuration ∷ one_sub ∷ []) (mark 3 (knows one_sub Idle) ∷ []) (label 1 7 ∷ [])
 each_has_its_label = (is_label, refl)
@@ -210,7 +242,13 @@ is_code : IsCodeOf (ends [] 20) (ending 1)
 is_code = record {
   plan = refl;
   lines = refl;
-  table = (no_configuration ∷ [], no_configuration ∷ [], inr ((λ h. let e : None ≡ Some no_configuration = h.1 in absurd cc), refl), inl ((0, refl), refl), refl);
+  table = (
+    no_configuration ∷ [],
+    no_configuration ∷ [],
+    inr ((λ h. let e : None ≡ Some no_configuration = h.1 in absurd cc), refl),
+    inl ((0, refl), refl),
+    refl,
+  );
   labels = (record { place = refl; current = refl; following = refl; pending = refl; counters = refl }, refl);
 }
 
@@ -218,20 +256,29 @@ is_no_code : IsCodeOf (ends [] 20) (record (ending 1) { lines = [] }) → ⊥
 is_no_code h = let e : [] ≡ record { number = 2; instr = End } ∷ [] = h.lines in absurd cc
 
 costs_its_needs : CostsItsNeeds (ending 1)
-costs_its_needs l (zero, lt, same) = subst (λ (x : Label). IsNeed (End ∷ []) x.pc x.cost) same (record { path = search rules; longest = λ n h. stays_within_one 0 n h })
+costs_its_needs l (zero, lt, same) =
+    subst (λ (x : Label). IsNeed (End ∷ []) x.pc x.cost) same
+    (record { path = search rules; longest = λ n h. stays_within_one 0 n h })
 costs_its_needs l (suc n, lt, same) = absurd (omega (arith, lt))
 
 costs_more : CostsItsNeeds (ending 2) → ⊥
 costs_more h =
-    let need : IsNeed (End ∷ []) 0 2 = h (record { pc = 0; cur = 0; next = 0; pending = Idle; counters = record { 0 = 0 }; cost = 2 }) (0, omega arith, refl) in
+    let need : IsNeed (End ∷ []) 0 2 =
+    h (record { pc = 0; cur = 0; next = 0; pending = Idle; counters = record { 0 = 0 }; cost = 2 })
+    (0, omega arith, refl) in
     let e : 2 ≤ 1 = stays_within_one 0 2 need.path in
     omega (arith, e)
 
-few_configurations : (table : List Configuration) → Tabled [] (unpriced_labels 0 (placed_instrs (ends [] 20))) table → length table ≤ MOST_CONFIGURATIONS
-few_configurations table h = let last : table ≡ h.1 = h.4 in let a = most no_configuration [] h.0 h.2 in let b = most no_configuration h.0 h.1 h.3 in let n = ap length last in omega (arith, a, b, n)
+few_configurations : (table : List Configuration) → Tabled [] (unpriced_labels 0 (placed_instrs (ends [] 20))) table
+    → length table ≤ MOST_CONFIGURATIONS
+few_configurations table h = let last : table ≡ h.1 = h.4 in let a = most no_configuration [] h.0 h.2 in let b =
+    most no_configuration h.0 h.1 h.3 in let n = ap length last in omega (arith, a, b, n)
   where
     most : (c : Configuration) (table new : List Configuration) → Added c table new → length new ≤ length table + 1
-    most c table new h = elim h [ inl same ↦ let e = ap length same.1 in omega (arith, e) | inr more ↦ let e = ap length more.1 in let n = length-append table (c ∷ []) in omega (arith, e, n) ]
+    most c table new h = elim h [
+      | inl same ↦ let e = ap length same.1 in omega (arith, e)
+      | inr more ↦ let e = ap length more.1 in let n = length-append table (c ∷ []) in omega (arith, e, n)
+    ]
 
 is_accepted : IsAccepted (ends [] 20)
 is_accepted = record {

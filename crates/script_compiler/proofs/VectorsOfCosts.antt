@@ -1,5 +1,8 @@
 -- Test vectors of costs: codes and scripts that are refused for theirs, and what can run in one frame.
-use Rattle.script_compiler.proofs.Words.{[], ◌+◌, ◌<◌, ◌∙◌, ◌∷◌, ◌≡◌, ◌≤◌, CanRevisit, ClosesCycle, End, HasCostAt, Instr, IsFrameCost, IsOver, Jump, Line, List, None, Settle, Some, Wait, ap, arith, false, inl, inr, instrs_of, longest, refl, rules, slice_get, subst, suc, suspends, target_of, true, zero, ℕ}
+use Rattle.script_compiler.proofs.Words.{[], ◌+◌, ◌<◌, ◌∙◌, ◌∷◌, ◌≡◌, ◌≤◌, CanRevisit, ClosesCycle, End, HasCostAt}
+use Rattle.script_compiler.proofs.Words.{Instr, IsFrameCost, IsOver, Jump, Line, List, None, Settle, Some, Wait, ap}
+use Rattle.script_compiler.proofs.Words.{arith, false, inl, inr, instrs_of, longest, refl, rules, slice_get, subst, suc}
+use Rattle.script_compiler.proofs.Words.{suspends, target_of, true, zero, ℕ}
 use Rattle.script_compiler.specs.declared.longest_path.LongestPath.{LongestPath}
 use Rattle.script_compiler.specs.declared.frame_costs.FrameCost.TheVariants.{Most}
 use Rattle.script_compiler.proofs.Paths.{within_from}
@@ -15,7 +18,8 @@ settling_first : (k : ℕ) → k < 1 → ClosesCycle settling k → ⊥
 settling_first zero lt c = by c.instr c.target c.there c.jumps
   where
     by : (i : Instr) (target : ℕ) → slice_get settling 0 ≡ Some i → target_of i ≡ Some target → ⊥
-    by i target e j = (let same : i ≡ Settle = cc in let none : None ≡ Some target = subst (λ (x : Instr). target_of x ≡ Some target) same j in cc)
+    by i target e j = (let same : i ≡ Settle = cc in let none : None
+        ≡ Some target = subst (λ (x : Instr). target_of x ≡ Some target) same j in cc)
 settling_first (suc k) lt c = absurd (omega (arith, lt))
 
 -- with a wait in it, the machine cannot come back in the same frame
@@ -26,7 +30,8 @@ waiting_fine : CanRevisit waiting 0 → ⊥
 waiting_fine h = by h.1.0 h.1.2 h.1.3.0
   where
     by : (i : Instr) → slice_get waiting 0 ≡ Some i → suspends i ≡ false → ⊥
-    by i e s = (let same : i ≡ Wait 1 = cc in let h : true ≡ false = subst (λ (x : Instr). suspends x ≡ false) same s in cc)
+    by i e s = (let same : i ≡ Wait 1 = cc in let h : true ≡ false = subst (λ (x : Instr). suspends x ≡ false) same s in
+        cc)
 
 abbrev line : ℕ → Instr → Line
 line number instr = record { number = number; instr = instr }
@@ -44,7 +49,14 @@ abbrev lines : List Line
 lines = line 7 (Jump 0) ∷ []
 
 jump_closes : ClosesCycle (Jump 0 ∷ []) 0
-jump_closes = record { instr = Jump 0; target = 0; there = refl; jumps = refl; back = omega arith; comes = (0, (Jump 0, 0, refl, (refl, inr refl), refl)) }
+jump_closes = record {
+  instr = Jump 0;
+  target = 0;
+  there = refl;
+  jumps = refl;
+  back = omega arith;
+  comes = (0, (Jump 0, 0, refl, (refl, inr refl), refl));
+}
 
 line_seven : HasCostAt 20 lines 7
 line_seven = record {
@@ -59,7 +71,8 @@ not_line_eight : HasCostAt 20 lines 8 → ⊥
 not_line_eight h = by h.pc h.line h.there h.number
   where
     by : (pc : ℕ) (l : Line) → slice_get lines pc ≡ Some l → 8 ≡ l.number → ⊥
-    by zero l e n = (let same : l ≡ line 7 (Jump 0) = cc in let x : 8 ≡ 7 = n ∙ ap (λ (y : Line). y.number) same in omega (arith, x))
+    by zero l e n = (let same : l ≡ line 7 (Jump 0) = cc in let x : 8 ≡ 7 = n ∙ ap (λ (y : Line). y.number) same in
+        omega (arith, x))
     by (suc pc) l e n = cc
 
 -- ---- what can run in one frame of a code, and what is not so

@@ -1,5 +1,12 @@
 -- Test vectors of refusals, and of the result of compiling the block without statements.
-use Rattle.script_compiler.proofs.Words.{[], ◌+◌, ◌∷◌, ◌≡◌, ◌≢◌, ◌≤◌, AddSub, CanCompile, Cause, Compiles, Configuration, Context, Cost, Counters, FitsEntry, HasTable, IdUsed, IfLimitAt, IfMismatchAt, Instr, Instructions, IsInLimits, IsItemRefused, IsLimitAt, IsMismatch, IsOpeningRefused, IsRefused, IsRefusedAfter, IsRefusedIn, Item, JoinIdle, Labels, LacksSpace, Limit, List, Mismatch, None, Ok, ProgramPoint, Refused, Some, Table, Tree, Work, ap, arith, basic, beginning, block_in, false, forever, inl, inr, length, nothing, one_sub, placed_instr, plan, point_after, refl, stop, sub, true, ℕ}
+use Rattle.script_compiler.proofs.Words.{[], ◌+◌, ◌∷◌, ◌≡◌, ◌≢◌, ◌≤◌, AddSub, CanCompile, Cause, Compiles}
+use Rattle.script_compiler.proofs.Words.{Configuration, Context, Cost, Counters, FitsEntry, HasTable, IdUsed, IfLimitAt}
+use Rattle.script_compiler.proofs.Words.{IfMismatchAt, Instr, Instructions, IsInLimits, IsItemRefused, IsLimitAt}
+use Rattle.script_compiler.proofs.Words.{IsMismatch, IsOpeningRefused, IsRefused, IsRefusedAfter, IsRefusedIn, Item}
+use Rattle.script_compiler.proofs.Words.{JoinIdle, Labels, LacksSpace, Limit, List, Mismatch, None, Ok, ProgramPoint}
+use Rattle.script_compiler.proofs.Words.{Refused, Some, Table, Tree, Work, ap, arith, basic, beginning, block_in, false}
+use Rattle.script_compiler.proofs.Words.{forever, inl, inr, length, nothing, one_sub, placed_instr, plan, point_after}
+use Rattle.script_compiler.proofs.Words.{refl, stop, sub, true, ℕ}
 use Rattle.mux_config.specs.declared.fault.ConfigFault.TheVariants.{Overlap}
 use Rattle.mux_types.specs.declared.parts.Sub.{Sub}
 use Rattle.mux_config.specs.Configuration.{nothing as no_configuration}
@@ -53,7 +60,8 @@ no_item line cause (inr h) = h.1
 abbrev other : Sub
 other = record sub { id = 2 }
 
-they_overlap : IsOpeningRefused plan (record { subs = sub ∷ other ∷ []; services = []; packets = [] }) (OfConfig (Overlap 1 2))
+they_overlap : IsOpeningRefused plan (record { subs = sub ∷ other ∷ []; services = []; packets = [] })
+    (OfConfig (Overlap 1 2))
 they_overlap = inl refl
 
 an_opening_of_nothing : (cause : Cause) → IsOpeningRefused plan no_configuration cause → ⊥
@@ -111,7 +119,8 @@ module _ (c : Context) (w : Work) where
   one_too_many many h = let room = h.room in omega (arith, many, room)
 
   no_space : length w.lines.items ≡ 4096 → LacksSpace Instructions w
-  no_space full p ps at space = let more : length w.lines.items + length (p ∷ ps) ≤ 4096 = space in omega (arith, full, more)
+  no_space full p ps at space = let more : length w.lines.items + length (p ∷ ps) ≤ 4096 = space in
+      omega (arith, full, more)
 
   -- repeats need no space
   space_for_counters : (i : Instr) → LacksSpace Counters w → ⊥

@@ -5,13 +5,17 @@ use Rattle.std.specs.Prelude.{◌≡◌, ℕ, ◌<◌, Bool, true, false, ◌==�
 use Rattle.std.specs.List.{AllByRecursion, list_any}
 use Rattle.plan_code.specs.declared.flags.Contacts.{Contacts}
 use Rattle.plan_code.specs.declared.instr.Instr.{Instr}
-use Rattle.plan_code.specs.declared.instr.Instr.TheVariants.{Wait, Until as UntilFrame, WaitContact, WaitAny, CommitIn, CommitAt, Join, Settle, Edit, Test, TestTime}
+use Rattle.plan_code.specs.declared.instr.Instr.TheVariants.{Wait, Until as UntilFrame, WaitContact, WaitAny, CommitIn}
+use Rattle.plan_code.specs.declared.instr.Instr.TheVariants.{CommitAt, Join, Settle, Edit, Test, TestTime}
 use Rattle.plan_code.specs.declared.limits.TheConstants.{CONTACTS}
 use Rattle.plan_code.specs.Flags.{with_contact, is_in}
 use Rattle.script_front.specs.declared.alternatives.Alternative.{Alternative}
 use Rattle.script_front.specs.declared.alternatives.Alternative.TheVariants.{Contact, Until, Frames}
 use Rattle.script_front.specs.declared.tree.Act.{Act}
-use Rattle.script_front.specs.declared.tree.Act.TheVariants.{Edit as Edits, Wait as Waits, WaitContact as WaitsContact, Until as WaitsUntil, WaitAny as WaitsAny, CommitIn as CommitsIn, CommitAt as CommitsAt, Join as Joins, Settle as Settles}
+use Rattle.script_front.specs.declared.tree.Act.TheVariants.{Edit as Edits, Wait as Waits, WaitContact as WaitsContact}
+use Rattle.script_front.specs.declared.tree.Act.TheVariants.{Until as WaitsUntil, WaitAny as WaitsAny}
+use Rattle.script_front.specs.declared.tree.Act.TheVariants.{CommitIn as CommitsIn, CommitAt as CommitsAt}
+use Rattle.script_front.specs.declared.tree.Act.TheVariants.{Join as Joins, Settle as Settles}
 use Rattle.script_front.specs.declared.tree.Condition.{Condition}
 use Rattle.script_front.specs.declared.tree.Condition.TheVariants.{Contact as IfContact, Time as IfTime}
 use Rattle.script_front.specs.Times.{frame_at}
@@ -89,5 +93,6 @@ test_of (IfTime from to) target = TestTime (frame_at from) (frame_at to) target
 -- a contact is in a set exactly if one of the alternatives is for it, closed or open
 abbrev pub AlternativesAreKept : Type 0
 AlternativesAreKept =
-    (alternatives : List Alternative) (contact : ℕ) (closed : Bool) → AllByRecursion IsAlternative alternatives → contact < CONTACTS
+    (alternatives : List Alternative) (contact : ℕ) (closed : Bool) → AllByRecursion IsAlternative alternatives
+    → contact < CONTACTS
     → is_in (contacts_in closed alternatives) contact ≡ list_any (is_for contact closed) alternatives

@@ -1,5 +1,6 @@
 -- The code of a script, and which scripts are accepted.
-use Rattle.std.specs.Prelude.{◌≡◌, ℕ, zero, suc, ◌+◌, ◌≤◌, ◌⊎◌, List, [], ◌∷◌, ◌++◌, length, map, max, slice_get, Contains, Some, None}
+use Rattle.std.specs.Prelude.{◌≡◌, ℕ, zero, suc, ◌+◌, ◌≤◌, ◌⊎◌, List, [], ◌∷◌, ◌++◌, length, map, max, slice_get}
+use Rattle.std.specs.Prelude.{Contains, Some, None}
 use Rattle.mux_config.specs.Configuration.{Configuration, nothing as no_configuration}
 use Rattle.mux_config.specs.Edits.{edit_fault, changed}
 use Rattle.mux_config.specs.Sound.{IsSound}
@@ -13,7 +14,8 @@ use Rattle.plan_code.specs.Flags.{with_counter}
 use Rattle.plan_code.specs.Program.{Program}
 use Rattle.plan_verifier.specs.Rules.{pages_alone}
 use Rattle.script_front.specs.declared.tree.Item.{Item}
-use Rattle.script_front.specs.Block.{Block, nothing, basic, stop, when, either, repeat, forever, apply, table_of, block_of}
+use Rattle.script_front.specs.Block.{Block, nothing, basic, stop, when, either, repeat, forever, apply, table_of}
+use Rattle.script_front.specs.Block.{block_of}
 use Rattle.script_front.specs.Tree.{Tree}
 use Rattle.script_compiler.specs.declared.flow.UnpricedLabel.{UnpricedLabel}
 use Rattle.script_compiler.specs.declared.flow.ProgramPoint.{ProgramPoint}
@@ -98,7 +100,8 @@ CostsItsNeeds code = (l : Label) → Contains code.labels l → IsNeed (instrs_o
 
 -- the law of codes: a script has at most one code whose labels cost their needs
 abbrev pub ScriptsHaveOneCode : Type 0
-ScriptsHaveOneCode = (s : Tree) (a b : Program) → IsCodeOf s a → IsCodeOf s b → CostsItsNeeds a → CostsItsNeeds b → a ≡ b
+ScriptsHaveOneCode = (s : Tree) (a b : Program) → IsCodeOf s a → IsCodeOf s b → CostsItsNeeds a → CostsItsNeeds b
+    → a ≡ b
 
 -- ---- scripts that can be compiled
 
@@ -121,6 +124,7 @@ pub record IsAccepted (s : Tree) : Type 0 where
   pub instructions : length (placed_instrs s) ≤ MOST_INSTRUCTIONS
   pub labels : length (unpriced_labels 0 (placed_instrs s)) ≤ MOST_LABELS
   pub configurations :
-      (table : List Configuration) → Tabled [] (unpriced_labels 0 (placed_instrs s)) table → length table ≤ MOST_CONFIGURATIONS
+      (table : List Configuration) → Tabled [] (unpriced_labels 0 (placed_instrs s)) table
+      → length table ≤ MOST_CONFIGURATIONS
   pub repeats : nested (body_of s) ≤ COUNTERS
   pub within : IsWithinBudget s.header.budget (instrs_of (lines_of_placed (placed_instrs s)))

@@ -10,7 +10,8 @@ use Rattle.script_compiler.specs.Compiled.{placed_instrs, lines_of_placed, instr
 -- the machine can go from one pc to another in this many steps of one frame
 abbrev pub CanReach : List Instr → ℕ → ℕ → ℕ → Type 0
 CanReach code zero pc to = pc ≡ to
-CanReach code (suc n) pc to = (i : Instr) × (next : ℕ) × (slice_get code pc ≡ Some i) × StepsTo i pc next × CanReach code n next to
+CanReach code (suc n) pc to = (i : Instr) × (next : ℕ) × (slice_get code pc ≡ Some i) × StepsTo i pc next
+    × CanReach code n next to
 
 -- the machine can come back here in the same frame
 abbrev pub CanRevisit : List Instr → ℕ → Type 0

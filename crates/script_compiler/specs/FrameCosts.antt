@@ -1,4 +1,5 @@
--- How many instructions of a code can run in one frame, and on which lines of its script the longest path begins and ends.
+-- How many instructions of a code can run in one frame, and on which lines of its script the longest path begins and
+-- ends.
 use Rattle.std.specs.Prelude.{◌≡◌, ◌↔◌, ℕ, zero, suc, ◌≤◌, List, slice_get, Some, IsSome}
 use Rattle.mux_config.specs.Configuration.{nothing}
 use Rattle.mux_config.specs.Sound.{IsSound}
@@ -40,8 +41,8 @@ pub record IsLongestPath (lines : List Line) (p : LongestPath) : Type 0 where
 abbrev pub IsRepeated : List Line → ℕ → Type 0
 IsRepeated lines line = (pc : ℕ) × IsLineAt lines pc line × IsFirst (ClosesCycle (instrs_of lines)) pc
 
--- more than 255 instructions can run in one frame from an instruction of this line, and yet no loop can repeat without a
--- suspension
+-- more than 255 instructions can run in one frame from an instruction of this line, and yet no loop can repeat without
+-- a suspension
 pub record IsBeyond (lines : List Line) (line : ℕ) : Type 0 where
   pub pc : ℕ
   pub place : IsLineAt lines pc line
@@ -56,7 +57,8 @@ IsFrameCost lines (Beyond line) = IsBeyond lines line
 -- the law of budgets: the budgets within which all paths are are those from the length of the longest one on
 abbrev pub LongestPathIsLeastBudget : Type 0
 LongestPathIsLeastBudget =
-    (lines : List Line) (p : LongestPath) → IsLongestPath lines p → (budget : ℕ) → IsWithinBudget budget (instrs_of lines) ↔ p.instructions ≤ budget
+    (lines : List Line) (p : LongestPath) → IsLongestPath lines p → (budget : ℕ)
+    → IsWithinBudget budget (instrs_of lines) ↔ p.instructions ≤ budget
 
 -- a script that is accepted, if its costs are within its budget
 pub record IsAcceptedButForCosts (s : Tree) : Type 0 where

@@ -36,11 +36,13 @@ Reached (Some s) rest judged = judged s
 abbrev pub IsJudged : Plan → Block → ProgramPoint → Type 0
 IsJudged plan nothing s = Unit {0}
 IsJudged plan (basic line act rest) s =
-    IsFine plan (instr_of_act act) (known_at s.flow) × IsJudged plan rest (without_label (after_instr plan (instr_of_act act) s.flow))
+    IsFine plan (instr_of_act act) (known_at s.flow) × IsJudged plan rest
+    (without_label (after_instr plan (instr_of_act act) s.flow))
 IsJudged plan (stop line rest) s = IsDone rest
 IsJudged plan (when line condition first rest) s =
     let a = point_after plan first (without_label s.flow) in
-    IsJudged plan first (without_label s.flow) × WaysAgree a (Some s) × Reached (meet a (Some s)) rest (λ u. IsJudged plan rest u)
+    IsJudged plan first (without_label s.flow) × WaysAgree a (Some s)
+    × Reached (meet a (Some s)) rest (λ u. IsJudged plan rest u)
 IsJudged plan (either line condition first second rest) s =
     let a = point_after plan first (without_label s.flow) in
     let b = point_after plan second (at_label s.flow) in

@@ -14,7 +14,8 @@ abbrev pub IsWithin : CodeLimit → Tree → Type 0
 IsWithin Instructions s = length (placed_instrs s) ≤ MOST_INSTRUCTIONS
 IsWithin Labels s = length (unpriced_labels 0 (placed_instrs s)) ≤ MOST_LABELS
 IsWithin Configurations s =
-    (table : List Configuration) → Tabled [] (unpriced_labels 0 (placed_instrs s)) table → length table ≤ MOST_CONFIGURATIONS
+    (table : List Configuration) → Tabled [] (unpriced_labels 0 (placed_instrs s)) table
+    → length table ≤ MOST_CONFIGURATIONS
 IsWithin Counters s = nested (body_of s) ≤ COUNTERS
 
 -- if each statement of the script is valid where it is, its code exceeds this limit

@@ -1,5 +1,6 @@
 -- The lengths of the longest paths of at most `n` instructions, by recursion on `n`. Not used in public contracts.
-use Rattle.std.specs.Prelude.{◌≡◌, ℕ, zero, suc, ◌+◌, max, if◌then◌else◌, List, slice_get, slice_index, Contains, Option, Some, None}
+use Rattle.std.specs.Prelude.{◌≡◌, ℕ, zero, suc, ◌+◌, max, if◌then◌else◌, List, slice_get, slice_index, Contains}
+use Rattle.std.specs.Prelude.{Option, Some, None}
 use Rattle.plan_code.specs.declared.instr.Instr.{Instr}
 use Rattle.plan_code.specs.declared.label.Label.{Label}
 use Rattle.plan_verifier.specs.Rules.{continues, target_of, suspends}

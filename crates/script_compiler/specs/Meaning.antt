@@ -167,7 +167,8 @@ pub record SceneSuffices (plan : Plan) (s : State) : Type 0 where
   pub closed : scene_of (with_next_counts plan s) ≡ closes plan (scene_of s)
   pub ended : scene_of (effect plan End s) ≡ acts plan End (scene_of s)
   pub acted : (a : Act) → scene_of (effect plan (instr_of_act a) s) ≡ acts plan (instr_of_act a) (scene_of s)
-  pub allowed : (a : Act) → IsAllowed plan (instr_of_act a) s ↔ IsAllowed plan (instr_of_act a) (state_of_scene (scene_of s))
+  pub allowed : (a : Act) → IsAllowed plan (instr_of_act a) s
+      ↔ IsAllowed plan (instr_of_act a) (state_of_scene (scene_of s))
 
 abbrev pub ScenesSuffice : Type 0
 ScenesSuffice = (plan : Plan) (s : State) → SceneSuffices plan s

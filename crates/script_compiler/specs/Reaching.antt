@@ -1,5 +1,6 @@
 -- The search for the pcs that can be reached in a frame. Not used in public contracts.
-use Rattle.std.specs.Prelude.{◌≡◌, ℕ, suc, ◌+◌, ◌<◌, ◌⊎◌, Bool, true, if◌then◌else◌, List, [], ◌∷◌, length, slice_get, Some}
+use Rattle.std.specs.Prelude.{◌≡◌, ℕ, suc, ◌+◌, ◌<◌, ◌⊎◌, Bool, true, if◌then◌else◌, List, [], ◌∷◌, length, slice_get}
+use Rattle.std.specs.Prelude.{Some}
 use Rattle.plan_code.specs.declared.instr.Instr.{Instr}
 use Rattle.script_compiler.specs.Need.{StepsTo}
 use Rattle.script_compiler.specs.Costs.{CanReach}
@@ -32,7 +33,8 @@ pub record GrowsBy (ps qs : List Bool) (ws vs : List ℕ) (wanted : ℕ → Type
 
 -- the pcs to which the machine can go from here are reached
 abbrev pub IsExpanded : List Instr → List Bool → ℕ → Type 0
-IsExpanded code places k = (i : Instr) (to : ℕ) → slice_get code k ≡ Some i → StepsTo i k to → to < length code → IsAt places to
+IsExpanded code places k = (i : Instr) (to : ℕ) → slice_get code k ≡ Some i → StepsTo i k to → to < length code
+    → IsAt places to
 
 -- the state of the search after `n` pcs have been expanded
 pub record Searched (code : List Instr) (pc n : ℕ) (places : List Bool) (waiting : List ℕ) : Type 0 where

@@ -5,7 +5,8 @@ use Rattle.mux_config.specs.Edits.{edit_fault, changed}
 use Rattle.mux_config.specs.Sound.{IsSound, first_fault}
 use Rattle.plan_code.specs.declared.plan.Plan.{Plan}
 use Rattle.plan_verifier.specs.declared.cause.Cause.{Cause}
-use Rattle.plan_verifier.specs.declared.cause.Cause.TheVariants.{Edit as OfEdit, Config as OfConfig, Table, Mismatch, Round, Cost}
+use Rattle.plan_verifier.specs.declared.cause.Cause.TheVariants.{Edit as OfEdit, Config as OfConfig, Table, Mismatch}
+use Rattle.plan_verifier.specs.declared.cause.Cause.TheVariants.{Round, Cost}
 use Rattle.plan_verifier.specs.Rules.{IsFine, pages_alone}
 use Rattle.plan_verifier.specs.Flows.{known_at, after_instr}
 use Rattle.plan_verifier.specs.Causes.{Where, WhereSome, ◌orelse◌, FlowRefused}
@@ -17,7 +18,8 @@ use Rattle.script_compiler.specs.Alternatives.{instr_of_act}
 use Rattle.script_compiler.specs.Scheme.{at_label, without_label, meet, join, head, point_after}
 use Rattle.script_compiler.specs.Judged.{IsJudged, WaysAgree, BranchesAgree, FitsEntry}
 use Rattle.script_compiler.specs.Need.{IsWithinBudget}
-use Rattle.script_compiler.specs.Compiled.{AreFine, opening_of, body_of, beginning, placed_instrs, lines_of_placed, instrs_of}
+use Rattle.script_compiler.specs.Compiled.{AreFine, opening_of, body_of, beginning, placed_instrs, lines_of_placed}
+use Rattle.script_compiler.specs.Compiled.{instrs_of}
 
 -- ---- statements
 
@@ -76,7 +78,8 @@ IsRefusedIn plan (repeat line times body rest) s at given =
     ⊎ (IsJudged plan body start
     × (IsMismatch line (FitsEntry (point_after plan body start) start) at given
     ⊎ (FitsEntry (point_after plan body start) start
-    × IsRefusedAfter (point_after plan body start) rest (λ u. IsRefusedIn plan rest (without_label u.flow) at given) at given)))
+    × IsRefusedAfter (point_after plan body start) rest (λ u. IsRefusedIn plan rest (without_label u.flow) at given) at
+    given)))
 IsRefusedIn plan (forever line body rest) s at given =
     let start = head body s in
     IsRefusedIn plan body start at given

@@ -1,5 +1,6 @@
 -- The code of a block of statements: its instructions, with what is known at each and where labels are.
-use Rattle.std.specs.Prelude.{ℕ, ◌+◌, Bool, true, false, if◌then◌else◌, ◌&&◌, ◌||◌, List, [], ◌∷◌, ◌++◌, length, Option, Some, None}
+use Rattle.std.specs.Prelude.{ℕ, ◌+◌, Bool, true, false, if◌then◌else◌, ◌&&◌, ◌||◌, List, [], ◌∷◌, ◌++◌, length, Option}
+use Rattle.std.specs.Prelude.{Some, None}
 use Rattle.plan_code.specs.declared.plan.Plan.{Plan}
 use Rattle.plan_code.specs.declared.instr.Instr.{Instr}
 use Rattle.plan_code.specs.declared.instr.Instr.TheVariants.{End, Jump, Set, Loop}
@@ -57,16 +58,20 @@ head body s = record { flow = s.flow; labelled = if falls_out body then true els
 -- the point after a block: None if it doesn't fall out
 abbrev pub point_after : Plan → Block → ProgramPoint → Option ProgramPoint
 point_after plan nothing s = Some s
-point_after plan (basic line act rest) s = point_after plan rest (without_label (after_instr plan (instr_of_act act) s.flow))
+point_after plan (basic line act rest) s =
+    point_after plan rest (without_label (after_instr plan (instr_of_act act) s.flow))
 point_after plan (stop line rest) s = None
 point_after plan (when line condition first rest) s =
     onward (meet (point_after plan first (without_label s.flow)) (Some s)) None (λ u. point_after plan rest u)
 point_after plan (either line condition first second rest) s =
-    onward (join (point_after plan first (without_label s.flow)) (point_after plan second (at_label s.flow))) None (λ u. point_after plan rest u)
+    onward (join (point_after plan first (without_label s.flow)) (point_after plan second (at_label s.flow))) None
+    (λ u. point_after plan rest u)
 point_after plan (repeat line times body rest) s =
-    onward (point_after plan body (head body (without_label s.flow))) None (λ u. point_after plan rest (without_label u.flow))
+    onward (point_after plan body (head body (without_label s.flow))) None
+    (λ u. point_after plan rest (without_label u.flow))
 point_after plan (forever line body rest) s = None
-point_after plan (apply line number named rest) s = onward (point_after plan named s) None (λ u. point_after plan rest u)
+point_after plan (apply line number named rest) s =
+    onward (point_after plan named s) None (λ u. point_after plan rest u)
 
 -- an instruction, with the point before it and the number of enclosing repeats
 pub record PlacedInstr : Type 0 where
@@ -85,13 +90,15 @@ alone line i r s = placed_instr line i r s ∷ []
 abbrev pub places : Plan → ℕ → ℕ → Block → ProgramPoint → List PlacedInstr
 places plan r pc nothing s = []
 places plan r pc (basic line act rest) s =
-    placed_instr line (instr_of_act act) r s ∷ places plan r (pc + 1) rest (without_label (after_instr plan (instr_of_act act) s.flow))
+    placed_instr line (instr_of_act act) r s ∷ places plan r (pc + 1) rest
+    (without_label (after_instr plan (instr_of_act act) s.flow))
 places plan r pc (stop line rest) s = placed_instr line End r s ∷ []
 places plan r pc (when line condition first rest) s =
     let firsts = places plan r (pc + 1) first (without_label s.flow) in
     let end = pc + 1 + length firsts in
     placed_instr line (test_of condition end) r s
-    ∷ (firsts ++ onward (meet (point_after plan first (without_label s.flow)) (Some s)) [] (λ u. places plan r end rest u))
+    ∷ (firsts ++ onward (meet (point_after plan first (without_label s.flow)) (Some s)) []
+    (λ u. places plan r end rest u))
 places plan r pc (either line condition first second rest) s =
     let firsts = places plan r (pc + 1) first (without_label s.flow) in
     let leaving = point_after plan first (without_label s.flow) in
@@ -127,4 +134,5 @@ unpriced_label pc p = record { pc = pc; flow = p.point.flow; repeats = p.repeats
 -- of instructions from this pc on
 abbrev pub unpriced_labels : ℕ → List PlacedInstr → List UnpricedLabel
 unpriced_labels pc [] = []
-unpriced_labels pc (p ∷ ps) = if p.point.labelled then unpriced_label pc p ∷ unpriced_labels (pc + 1) ps else unpriced_labels (pc + 1) ps
+unpriced_labels pc (p ∷ ps) = if p.point.labelled then unpriced_label pc p
+    ∷ unpriced_labels (pc + 1) ps else unpriced_labels (pc + 1) ps

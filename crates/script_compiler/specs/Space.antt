@@ -61,7 +61,8 @@ pub record IsCovered (t : Flow) (ps : List PlacedInstr) : Type 0 where
   pub rest : List PlacedInstr
   pub is : ps ≡ place ∷ rest
   pub labelled : place.point.labelled ≡ true
-  pub names : (c : Configuration) → IsInTable c (t.current ∷ t.next ∷ []) → IsInTable c (place.point.flow.current ∷ place.point.flow.next ∷ [])
+  pub names : (c : Configuration) → IsInTable c (t.current ∷ t.next ∷ [])
+      → IsInTable c (place.point.flow.current ∷ place.point.flow.next ∷ [])
 
 abbrev pub Covers : ProgramPoint → List PlacedInstr → Type 0
 Covers s ps = s.labelled ≡ true → IsCovered s.flow ps

@@ -17,7 +17,11 @@ abbrev pub unpriced_in : List Configuration → IndexedLabel → UnpricedLabel
 unpriced_in table m =
     record {
       pc = m.pc;
-      flow = record { current = configuration_at table m.cur; next = configuration_at table m.next; pending = m.pending };
+      flow = record {
+        current = configuration_at table m.cur;
+        next = configuration_at table m.next;
+        pending = m.pending;
+      };
       repeats = m.repeats;
     }
 

@@ -1,16 +1,21 @@
-//! The beginnings and ends of branches and loops: what is saved, and what must agree where paths merge.
+//! The beginnings and ends of branches and loops: what is saved, and what must agree where paths
+//! merge.
 
-ghost use Rattle.std.specs.Prelude.{◌≡◌, ℕ, ◌+◌, ◌<◌, true, if◌then◌else◌, [], ◌∷◌, ◌++◌, length, List, Option, Some, is_some, OnOk, IfOk, IfErr};
+ghost use Rattle.std.specs.Prelude.{◌≡◌, ℕ, ◌+◌, ◌<◌, true, if◌then◌else◌, [], ◌∷◌, ◌++◌, length};
+ghost use Rattle.std.specs.Prelude.{List, Option, Some, is_some, OnOk, IfOk, IfErr};
 ghost use Rattle.plan_code.specs.declared.instr.Instr.{Instr};
 ghost use Rattle.script_compiler.specs.declared.flow.ProgramPoint.{ProgramPoint};
-ghost use Rattle.script_compiler.specs.Scheme.{PlacedInstr, alone, onward, meet, join, unpriced_labels};
+ghost use Rattle.script_compiler.specs.Scheme.{PlacedInstr, alone, onward, meet, join};
+ghost use Rattle.script_compiler.specs.Scheme.{unpriced_labels};
 ghost use Rattle.script_compiler.specs.Alternatives.{test_of};
 ghost use Rattle.script_compiler.specs.Judged.{WaysAgree, BranchesAgree, FitsEntry};
 ghost use Rattle.script_compiler.specs.Compiled.{lines_of_placed};
 ghost use Rattle.script_compiler.specs.Pool.{Extends, IsInPool, point_in};
 ghost use Rattle.script_compiler.specs.Refusals.{IsLimitAt, IfMismatchAt, IfLimitAt};
-ghost use Rattle.script_compiler.specs.Space.{HasSpace, LacksSpace, IsInLimits, HasTable, IsCovered, Covers};
-ghost use Rattle.script_compiler.specs.Emission.{Forks, ClosesIf, StartsElse, ClosesLoop, IsAfterBranches, jumping, way, points_of};
+ghost use Rattle.script_compiler.specs.Space.{HasSpace, LacksSpace, IsInLimits, HasTable};
+ghost use Rattle.script_compiler.specs.Space.{IsCovered, Covers};
+ghost use Rattle.script_compiler.specs.Emission.{Forks, ClosesIf, StartsElse, ClosesLoop};
+ghost use Rattle.script_compiler.specs.Emission.{IsAfterBranches, jumping, way, points_of};
 
 use crate::fault::CompileFault;
 use crate::instructions::test_of;
@@ -38,7 +43,8 @@ impl Work {
         self.put(line, counters, instr)
     }
 
-    /// Emits the test of a condition, which jumps where it does not hold, and saves what is known before it.
+    /// Emits the test of a condition, which jumps where it does not hold, and saves what is known
+    /// before it.
     #[inline(never)]
     pub(crate) fn fork_if(
         &mut self,
@@ -56,7 +62,8 @@ impl Work {
         self.fork(line, counters, test_of(condition, 0))
     }
 
-    /// Starts a loop: saves what is known at its head, which gets a label if control reaches the end of the body.
+    /// Starts a loop: saves what is known at its head, which gets a label if control reaches the
+    /// end of the body.
     #[inline(never)]
     pub(crate) fn enter(&mut self, falls: bool, line: u16) -> Result<(), CompileFault>
         requires table { HasTable self.old }
@@ -81,8 +88,8 @@ impl Work {
         self.save()
     }
 
-    /// Ends a loop: if control reaches the end of the body, what is known must fit what was saved, and the jump back is
-    /// emitted.
+    /// Ends a loop: if control reaches the end of the body, what is known must fit what was saved,
+    /// and the jump back is emitted.
     #[inline(never)]
     pub(crate) fn close_loop(
         &mut self,
@@ -143,7 +150,8 @@ impl Work {
         self.unpriced_label(line)
     }
 
-    /// Ends an `if` without `else`: the path through its block, if it continues, merges with the one past it.
+    /// Ends an `if` without `else`: the path through its block, if it continues, merges with the
+    /// one past it.
     #[inline(never)]
     pub(crate) fn close_if(
         &mut self,
@@ -177,7 +185,8 @@ impl Work {
         Ok(true)
     }
 
-    /// Leaves a first branch, if control reaches its end: saves what is known and emits a jump over the second.
+    /// Leaves a first branch, if control reaches its end: saves what is known and emits a jump over
+    /// the second.
     fn jump_past(&mut self, falls: bool, line: u16, counters: u8) -> Result<(), CompileFault>
         requires limits { IsInLimits self.old }
         ensures lines { OnOk result (self.new.lines.items ≡ self.old.lines.items
@@ -199,8 +208,8 @@ impl Work {
         self.fork(line, counters, Instr::Jump(0))
     }
 
-    /// Ends a first branch: if control reaches its end, saves what is known and emits a jump over the second branch.
-    /// The second begins with what is known before both.
+    /// Ends a first branch: if control reaches its end, saves what is known and emits a jump over
+    /// the second branch. The second begins with what is known before both.
     #[inline(never)]
     pub(crate) fn start_else(
         &mut self,
@@ -233,7 +242,8 @@ impl Work {
         self.unpriced_label(line)
     }
 
-    /// Ends a second branch and merges it with the first, if that one continues; returns whether either does.
+    /// Ends a second branch and merges it with the first, if that one continues; returns whether
+    /// either does.
     #[inline(never)]
     pub(crate) fn close_else(
         &mut self,

@@ -1,11 +1,14 @@
 //! Compiles a script: opening, statements, costs, then labels and the table of configurations.
 
-ghost use Rattle.std.specs.Prelude.{◌≡◌, ◌≢◌, ℕ, ◌+◌, ◌<◌, ◌≤◌, [], length, map, slice_get, slice_index, Some, IsOk, IfOk, IfErr};
+ghost use Rattle.std.specs.Prelude.{◌≡◌, ◌≢◌, ℕ, ◌+◌, ◌<◌, ◌≤◌, [], length, map, slice_get};
+ghost use Rattle.std.specs.Prelude.{slice_index, Some, IsOk, IfOk, IfErr};
 ghost use Rattle.script_compiler.specs.Costs.{HasCostAt, IsCostRefused};
 ghost use Rattle.script_compiler.specs.Longest.{longest};
 ghost use Rattle.plan_verifier.specs.Rules.{pages_alone};
 ghost use Rattle.script_compiler.specs.Scheme.{all_places, unpriced_labels};
-ghost use Rattle.script_compiler.specs.Compiled.{lines_of_placed, body_of, beginning, opening_of, placed_instrs, instrs_of, nested, AreFine, Tabled, IsCodeOf, CostsItsNeeds, IsAccepted};
+ghost use Rattle.script_compiler.specs.Compiled.{lines_of_placed, body_of, beginning, opening_of};
+ghost use Rattle.script_compiler.specs.Compiled.{placed_instrs, instrs_of, nested, AreFine, Tabled};
+ghost use Rattle.script_compiler.specs.Compiled.{IsCodeOf, CostsItsNeeds, IsAccepted};
 ghost use Rattle.script_compiler.specs.Judged.{IsJudged};
 ghost use Rattle.script_compiler.specs.Need.{IsWithinBudget};
 ghost use Rattle.mux_config.specs.Configuration.{nothing};
@@ -52,7 +55,8 @@ fn facts_of(alloc: Global, blocks: &[Vec<Statement>]) -> Result<Vec<BlockFacts>,
     Ok(facts)
 }
 
-/// Compiles the statements of a script that begins with this configuration; the labels are still unpriced.
+/// Compiles the statements of a script that begins with this configuration; the labels are still
+/// unpriced.
 pub(crate) fn emit(
     alloc: Global,
     plan: &Plan,
@@ -102,8 +106,9 @@ pub(crate) fn line_at(lines: &[Line], pc: usize) -> u16
     }
 }
 
-/// Checks that every need is within the budget. Otherwise refuses with `Cost` at the first instruction that closes a
-/// loop that can iterate without a suspension, or, if there is none, at the first whose need exceeds the budget.
+/// Checks that every need is within the budget. Otherwise refuses with `Cost` at the first
+/// instruction that closes a loop that can iterate without a suspension, or, if there is none, at
+/// the first whose need exceeds the budget.
 fn test_costs(alloc: Global, lines: &[Line], needs: &[u16], budget: u8) -> Result<(), CompileFault>
     requires few { length lines.now ≤ 4096 }
     requires needs { (pc : ℕ) → slice_index needs.now pc ≡ longest (instrs_of lines.now)
@@ -122,7 +127,8 @@ fn test_costs(alloc: Global, lines: &[Line], needs: &[u16], budget: u8) -> Resul
     Err(refused(line_at(lines, pc), Cause::Cost))
 }
 
-/// The law of scripts, applied to the code of an accepted script: it is typed and plays as the script reads.
+/// The law of scripts, applied to the code of an accepted script: it is typed and plays as the
+/// script reads.
 fn promise(script: &Script, code: &Code)
     requires formed { IsProgram code.now }
     requires code { IsCodeOf script.now code.now }
@@ -137,23 +143,25 @@ fn promise(script: &Script, code: &Code)
     laws::scripts();
 }
 
-/// Compiles a script. The instructions, lines, labels and table of configurations of the code are those of `IsCodeOf`;
-/// each label costs what the code needs from there, the most instructions that can run in one frame; and the code is
-/// typed, so the verifier accepts it. It plays as the script reads: from every start in range, over every list of
-/// contact changes and frames, the current and the next configuration, the frames until the swap and the CIF count are
-/// those that the script's statements result in. Only accepted scripts compile: the items have no fault, the opening
-/// that they make is sound and goes out within the period, each statement is valid for what is known before it, repeats
-/// are nested at most eight deep, the code is within the limits on instructions, labels and configurations, and no path
-/// in it has more instructions than the budget.
+/// Compiles a script. The instructions, lines, labels and table of configurations of the code are
+/// those of `IsCodeOf`; each label costs what the code needs from there, the most instructions that
+/// can run in one frame; and the code is typed, so the verifier accepts it. It plays as the script
+/// reads: from every start in range, over every list of contact changes and frames, the current and
+/// the next configuration, the frames until the swap and the CIF count are those that the script's
+/// statements result in. Only accepted scripts compile: the items have no fault, the opening that
+/// they make is sound and goes out within the period, each statement is valid for what is known
+/// before it, repeats are nested at most eight deep, the code is within the limits on instructions,
+/// labels and configurations, and no path in it has more instructions than the budget.
 ///
 /// # Errors
 ///
-/// `Refused` with the first fault found in text order: of an item, of the opening (at the line of `begin`), or of a
-/// statement; `Table` means that a statement is unreachable. `Limit` names the first limit exceeded while compiling: if
-/// every statement is valid, the whole code exceeds that limit. `Memory` if out of memory. Costs are checked last:
-/// `Cost` is at the line of the first instruction that closes a loop that can iterate without a suspension, or else of
-/// the first instruction from which more instructions than the budget can run in one frame. An accepted script fails
-/// only if out of memory.
+/// `Refused` with the first fault found in text order: of an item, of the opening (at the line of
+/// `begin`), or of a statement; `Table` means that a statement is unreachable. `Limit` names the
+/// first limit exceeded while compiling: if every statement is valid, the whole code exceeds that
+/// limit. `Memory` if out of memory. Costs are checked last: `Cost` is at the line of the first
+/// instruction that closes a loop that can iterate without a suspension, or else of the first
+/// instruction from which more instructions than the budget can run in one frame. An accepted
+/// script fails only if out of memory.
 pub fn compile(alloc: Global, script: &Script) -> Result<Code, CompileFault>
     ensures code { IfOk result (λ c. IsCodeOf script.now c) }
     ensures costs { IfOk result (λ c. CostsItsNeeds c) }

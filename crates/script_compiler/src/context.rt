@@ -1,4 +1,5 @@
-//! The context in which statements are compiled: the plan, the blocks that they may apply, and the enclosing repeats.
+//! The context in which statements are compiled: the plan, the blocks that they may apply, and the
+//! enclosing repeats.
 
 use plan_code::Plan;
 use script_front::Statement;

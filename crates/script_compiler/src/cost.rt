@@ -1,6 +1,7 @@
 //! Finds the instruction at which a code is refused for its cost.
 
-ghost use Rattle.std.specs.Prelude.{◌≡◌, ◌↔◌, ◌+◌, ◌<◌, ◌≤◌, ℕ, [], true, false, length, slice_get, Some, None, IsTrue, IfOk, IfSome, OnOk};
+ghost use Rattle.std.specs.Prelude.{◌≡◌, ◌↔◌, ◌+◌, ◌<◌, ◌≤◌, ℕ, [], true, false, length, slice_get};
+ghost use Rattle.std.specs.Prelude.{Some, None, IsTrue, IfOk, IfSome, OnOk};
 ghost use Rattle.plan_verifier.specs.Rules.{continues, target_of};
 ghost use Rattle.script_compiler.specs.Compiled.{instrs_of};
 ghost use Rattle.script_compiler.specs.Need.{StepsTo};
@@ -189,8 +190,8 @@ pub(crate) fn first_round(alloc: Global, lines: &[Line]) -> Result<Option<usize>
     Ok(None)
 }
 
-/// The instruction at which a code is refused, given the first whose need is over the budget: the first that closes a
-/// loop that can iterate without a suspension, or else the one given.
+/// The instruction at which a code is refused, given the first whose need is over the budget: the
+/// first that closes a loop that can iterate without a suspension, or else the one given.
 pub(crate) fn costly(alloc: Global, lines: &[Line], over: usize) -> Result<usize, AllocError>
     requires few { length lines.now ≤ 4096 }
     ensures { IfOk result (λ pc. (budget : ℕ) → budget

@@ -1,16 +1,19 @@
 //! Emits instructions and their labels.
 
-ghost use Rattle.std.specs.Prelude.{◌≡◌, ℕ, ◌+◌, ◌<◌, ◌≤◌, true, false, [], ◌∷◌, ◌++◌, length, slice_set, List, OnOk, IfOk, IfErr};
+ghost use Rattle.std.specs.Prelude.{◌≡◌, ℕ, ◌+◌, ◌<◌, ◌≤◌, true, false, [], ◌∷◌, ◌++◌, length};
+ghost use Rattle.std.specs.Prelude.{slice_set, List, OnOk, IfOk, IfErr};
 ghost use Rattle.plan_code.specs.declared.instr.Instr.{Instr};
 ghost use Rattle.plan_code.specs.declared.instr.Instr.TheVariants.{End};
 ghost use Rattle.plan_verifier.specs.Flows.{known_at, after_instr};
 ghost use Rattle.plan_verifier.specs.Rules.{IsFine};
 ghost use Rattle.script_compiler.specs.Alternatives.{instr_of_act};
-ghost use Rattle.script_compiler.specs.Scheme.{PlacedInstr, without_label, at_label, alone, onward, unpriced_labels};
+ghost use Rattle.script_compiler.specs.Scheme.{PlacedInstr, without_label, at_label, alone, onward};
+ghost use Rattle.script_compiler.specs.Scheme.{unpriced_labels};
 ghost use Rattle.plan_verifier.specs.Causes.{FlowRefused};
 ghost use Rattle.script_compiler.specs.Pool.{Extends, IsInPool, point_in};
 ghost use Rattle.script_compiler.specs.Refusals.{IsLimitAt, IfRefused, IfLimitAt};
-ghost use Rattle.script_compiler.specs.Space.{HasSpace, LacksSpace, IsInLimits, HasTable, IsCovered, Covers};
+ghost use Rattle.script_compiler.specs.Space.{HasSpace, LacksSpace, IsInLimits, HasTable};
+ghost use Rattle.script_compiler.specs.Space.{IsCovered, Covers};
 ghost use Rattle.script_compiler.specs.declared.fault.CodeLimit.TheVariants.{Instructions};
 ghost use Rattle.script_compiler.specs.Emission.{Emits, line_of_instr, way};
 
@@ -176,7 +179,8 @@ impl Work {
         Ok(true)
     }
 
-    /// Makes a label pending here, if there is room for it and for the configurations that it names.
+    /// Makes a label pending here, if there is room for it and for the configurations that it
+    /// names.
     pub(crate) fn unpriced_label(&mut self, line: u16) -> Result<(), CompileFault>
         requires table { HasTable self.old }
         ensures lines { self.new.lines ≡ self.old.lines }

@@ -1,4 +1,5 @@
-//! Facts of statements before they are compiled: whether control reaches their end, and whether they emit nothing.
+//! Facts of statements before they are compiled: whether control reaches their end, and whether
+//! they emit nothing.
 
 ghost use Rattle.std.specs.Prelude.{◌≡◌, map, List};
 ghost use Rattle.script_front.specs.Block.{Block, nothing, block_of, before};
@@ -8,7 +9,8 @@ ghost use Rattle.script_compiler.specs.Emission.{has_no_instr, facts_of};
 use crate::context::BlockFacts;
 use script_front::Statement;
 
-/// Whether control reaches the end of these statements, given the facts of the blocks that they apply.
+/// Whether control reaches the end of these statements, given the facts of the blocks that they
+/// apply.
 #[cycle(falls)]
 pub(crate) fn all_fall(facts: &[BlockFacts], statements: &[Statement]) -> bool
     ensures { (table : List Block) → facts.now ≡ map facts_of table → result

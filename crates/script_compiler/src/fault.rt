@@ -17,16 +17,17 @@ pub enum CodeLimit {
     Counters,
 }
 
-/// Why a script does not compile. `Display` writes the line that `dabplan compile` prints: `refused line L: CAUSE`,
-/// `refused: Limit` or `no memory`.
+/// Why a script does not compile. `Display` writes the line that `dabplan compile` prints: `refused
+/// line L: CAUSE`, `refused: Limit` or `no memory`.
 #[derive(Clone, Copy, Debug, PartialEq, Eq, Error)]
 pub enum CompileFault {
-    /// A statement, an item or the opening is refused. The line is that of the first token of the item or the
-    /// statement, also inside a defined block, or that of `begin` for the opening as a whole.
+    /// A statement, an item or the opening is refused. The line is that of the first token of the
+    /// item or the statement, also inside a defined block, or that of `begin` for the opening as a
+    /// whole.
     #[error("refused line {line}: {cause}")]
     Refused { line: u16, cause: Cause },
-    /// The code would exceed this limit. The line is that of the first token of the statement whose code exceeds it, or
-    /// that of the last token of the text for the `End` after the statements.
+    /// The code would exceed this limit. The line is that of the first token of the statement whose
+    /// code exceeds it, or that of the last token of the text for the `End` after the statements.
     #[error("refused: Limit")]
     Limit { line: u16, limit: CodeLimit },
     /// Out of memory.

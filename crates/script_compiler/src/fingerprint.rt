@@ -1,14 +1,15 @@
 //! Fingerprints, which distinguish most configurations without comparing their parts.
 
 ghost use Rattle.std.specs.Prelude.{◌≡◌};
-ghost use Rattle.script_compiler.specs.Fingerprint.{mix, mix_all, sub_bits, service_bits, component_number, packet_bits, print_of};
+ghost use Rattle.script_compiler.specs.Fingerprint.{mix, mix_all, sub_bits, service_bits};
+ghost use Rattle.script_compiler.specs.Fingerprint.{component_number, packet_bits, print_of};
 
 use mux_config::{Component, Keyed, Packet, Service, Store, Sub};
 use mux_eep::EepSet;
 use mux_tables::Tables;
 
-/// Odd, so that different fingerprints still differ after the same `u64`: 2 to the power of 64, divided by the golden
-/// ratio.
+/// Odd, so that different fingerprints still differ after the same `u64`: 2 to the power of 64,
+/// divided by the golden ratio.
 const MULTIPLIER: u64 = 0x9E37_79B9_7F4A_7C15;
 
 /// Extends a fingerprint by a `u64`.

@@ -23,11 +23,11 @@ const MOST_BUDGET: u8 = 255;
 pub enum FrameCost {
     /// At most those of this path.
     Most(LongestPath),
-    /// Without a bound: a loop can repeat without a suspension. The line is that of the first instruction that closes
-    /// such a loop.
+    /// Without a bound: a loop can repeat without a suspension. The line is that of the first
+    /// instruction that closes such a loop.
     Repeats { line: u16 },
-    /// More than 255, so that no budget suffices, though no loop can repeat without a suspension. The line is that of
-    /// the first instruction from which so many can run.
+    /// More than 255, so that no budget suffices, though no loop can repeat without a suspension.
+    /// The line is that of the first instruction from which so many can run.
     Beyond { line: u16 },
 }
 
@@ -51,11 +51,13 @@ fn cost_of(alloc: Global, lines: &[Line]) -> Result<FrameCost, AllocError>
     }
 }
 
-/// How many instructions of a script's code can run in one frame: what the budget of its header would have to allow.
+/// How many instructions of a script's code can run in one frame: what the budget of its header
+/// would have to allow.
 ///
 /// # Errors
 ///
-/// `Memory` if out of memory; else the fault with which [`compile`](crate::compile) refuses the script before its costs.
+/// `Memory` if out of memory; else the fault with which [`compile`](crate::compile) refuses the
+/// script before its costs.
 pub fn frame_cost(alloc: Global, script: &Script) -> Result<FrameCost, CompileFault>
     ensures cost { IfOk result (IsFrameCost (lines_of_placed (placed_instrs script.now))) }
     ensures refused { IfErr result (λ e. e ≢ Memory → IsAcceptedButForCosts script.now → ⊥) }

@@ -1,7 +1,8 @@
 //! The instructions of waits with alternatives and of conditions.
 
 ghost use Rattle.std.specs.Prelude.{◌≡◌, true, false};
-ghost use Rattle.script_compiler.specs.Alternatives.{with_level, with_alternative, contacts_in, moment_in, frames_in, test_of};
+ghost use Rattle.script_compiler.specs.Alternatives.{with_level, with_alternative, contacts_in};
+ghost use Rattle.script_compiler.specs.Alternatives.{moment_in, frames_in, test_of};
 ghost use Rattle.plan_code.specs.declared.instr.Instr.TheVariants.{WaitAny};
 
 use plan_code::{ContactId, Contacts, DayFrame, Frames, Instr};

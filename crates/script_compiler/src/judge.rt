@@ -33,12 +33,13 @@ pub fn instr_of(act: Act) -> Instr
     }
 }
 
-/// Checks a statement and updates the flow. The statement is valid exactly if what is known satisfies what its
-/// instruction needs.
+/// Checks a statement and updates the flow. The statement is valid exactly if what is known
+/// satisfies what its instruction needs.
 ///
 /// # Errors
 ///
-/// `Refused` at the statement's line, with the first cause that [`TrackedFlow::apply`] names. The flow is unchanged then.
+/// `Refused` at the statement's line, with the first cause that [`TrackedFlow::apply`] names. The
+/// flow is unchanged then.
 pub(crate) fn judge(
     plan: &Plan,
     line: u16,

@@ -1,6 +1,7 @@
 //! Prices labels: the labels of a code, with their counters and costs.
 
-ghost use Rattle.std.specs.Prelude.{◌≡◌, ℕ, ◌<◌, ◌≤◌, None, [], ◌∷◌, ◌++◌, map, slice_index, OnOk, IfOk, IfErr, IfSome};
+ghost use Rattle.std.specs.Prelude.{◌≡◌, ℕ, ◌<◌, ◌≤◌, None, [], ◌∷◌, ◌++◌, map, slice_index, OnOk};
+ghost use Rattle.std.specs.Prelude.{IfOk, IfErr, IfSome};
 ghost use Rattle.script_compiler.specs.Compiled.{first_counters};
 ghost use Rattle.script_compiler.specs.Unpriced.{priced_label, AreShallow};
 ghost use Rattle.script_compiler.specs.declared.fault.CompileFault.TheVariants.{Memory};

@@ -13,7 +13,8 @@ use plan_verifier::properties::target_of;
 /// A path that can run in one frame, of the most instructions.
 #[derive(Clone, Copy, Debug, PartialEq, Eq)]
 pub struct LongestPath {
-    /// Its number of instructions, 1 to 255: the least budget with which the code is not refused for its costs.
+    /// Its number of instructions, 1 to 255: the least budget with which the code is not refused
+    /// for its costs.
     pub instructions: u16,
     /// The line of its first instruction.
     pub first: u16,
@@ -36,7 +37,8 @@ fn greatest(needs: &[u16], count: usize) -> usize
     greatest
 }
 
-/// The pc after an instruction on a longest path from it, given the needs of the pcs that can follow.
+/// The pc after an instruction on a longest path from it, given the needs of the pcs that can
+/// follow.
 fn following(instr: &Instr, pc: usize, needs: &[u16]) -> usize
     requires bound { (to : ℕ) → slice_index needs.now to ≤ 256 }
     requires place { pc < 4096 }

@@ -1,6 +1,7 @@
 //! The needs of a code: the most instructions that can run from each pc in one frame.
 
-ghost use Rattle.std.specs.Prelude.{◌≡◌, ◌+◌, ◌≤◌, ◌<◌, ℕ, length, slice_get, slice_index, if◌then◌else◌, true, Some, None, IfOk, IfSome, max};
+ghost use Rattle.std.specs.Prelude.{◌≡◌, ◌+◌, ◌≤◌, ◌<◌, ℕ, length, slice_get, slice_index};
+ghost use Rattle.std.specs.Prelude.{if◌then◌else◌, true, Some, None, IfOk, IfSome, max};
 ghost use Rattle.script_compiler.specs.Compiled.{instrs_of};
 ghost use Rattle.script_compiler.specs.Longest.{need_at, need_to, longest};
 ghost use Rattle.plan_verifier.specs.Rules.{continues, target_of};
@@ -84,8 +85,8 @@ fn are_same(numbers: &[u16], others: &[u16]) -> bool
     numbers == others
 }
 
-/// The lengths of the longest paths of at most `budget + 1` instructions. If none is over the budget, they are the
-/// needs. Once an iteration changes nothing, later ones do not either.
+/// The lengths of the longest paths of at most `budget + 1` instructions. If none is over the
+/// budget, they are the needs. Once an iteration changes nothing, later ones do not either.
 pub(crate) fn needs(alloc: Global, lines: &[Line], budget: u8) -> Result<Vec<u16>, AllocError>
     requires room { length lines.now ≤ 4096 }
     ensures { IfOk result (λ v. (pc : ℕ) → slice_index v.items pc

@@ -11,7 +11,8 @@ use mux_tables::Tables;
 use plan_verifier::flow::is_same;
 use plan_verifier::{IndexedFlow, TrackedFlow};
 
-/// The known number of the current configuration, or else its number in the pool, to which it is added if absent.
+/// The known number of the current configuration, or else its number in the pool, to which it is
+/// added if absent.
 fn current_number(
     unpriced: &mut UnpricedLabels,
     current: &Tables,
@@ -30,8 +31,8 @@ fn current_number(
     }
 }
 
-/// The known number of the next configuration, or else that of the current one if they are the same, as after a swap;
-/// or else its number in the pool, to which it is added if absent.
+/// The known number of the next configuration, or else that of the current one if they are the
+/// same, as after a swap; or else its number in the pool, to which it is added if absent.
 fn next_number(
     unpriced: &mut UnpricedLabels,
     next: &Tables,

@@ -1,6 +1,7 @@
 //! A pool of numbered configurations, each configuration once.
 
-ghost use Rattle.std.specs.Prelude.{◌≡◌, ◌≢◌, ◌<◌, ℕ, [], ◌∷◌, ◌++◌, length, map, slice_get, Some, None, OnOk, IfOk, IfErr, IfSome};
+ghost use Rattle.std.specs.Prelude.{◌≡◌, ◌≢◌, ◌<◌, ℕ, [], ◌∷◌, ◌++◌, length, map, slice_get, Some};
+ghost use Rattle.std.specs.Prelude.{None, OnOk, IfOk, IfErr, IfSome};
 ghost use Rattle.script_compiler.specs.Fingerprint.{print_of};
 ghost use Rattle.script_compiler.specs.Pool.{Extends, IsDistinct};
 ghost use Rattle.script_compiler.specs.declared.fault.CompileFault.TheVariants.{Memory};
@@ -13,8 +14,8 @@ use plan_verifier::flow::is_same;
 use std::alloc::Global;
 use std::marker::Model;
 
-/// Configurations, each once, numbered from 0 in the order in which they are added. A number keeps its configuration.
-/// Contracts see the list of them.
+/// Configurations, each once, numbered from 0 in the order in which they are added. A number keeps
+/// its configuration. Contracts see the list of them.
 #[derive(Drop)]
 pub(crate) struct Pool {
     configs: Vec<Config>,
@@ -107,8 +108,8 @@ impl Pool {
     }
 }
 
-/// The index of a configuration among others, found by fingerprint; None if absent. Configurations that differ in their
-/// last sub-channel alone would be told apart only after 63 comparisons.
+/// The index of a configuration among others, found by fingerprint; None if absent. Configurations
+/// that differ in their last sub-channel alone would be told apart only after 63 comparisons.
 fn find(prints: &[u64], configs: &[Config], print: u64, config: &Tables) -> Option<usize>
     requires prints { prints.now ≡ map print_of configs.now }
     requires print { print ≡ print_of config.now }

@@ -1,4 +1,5 @@
-//! Unpriced labels and program points in the form in which the compiler stores them: with indices of configurations.
+//! Unpriced labels and program points in the form in which the compiler stores them: with indices
+//! of configurations.
 
 use plan_code::Swap;
 use plan_verifier::IndexedFlow;

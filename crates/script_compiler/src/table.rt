@@ -1,6 +1,7 @@
 //! The table of configurations that labels name, each configuration once.
 
-ghost use Rattle.std.specs.Prelude.{◌≡◌, ◌≢◌, ◌≤◌, ◌<◌, ℕ, [], ◌∷◌, ◌++◌, length, map, slice_get, false, true, Some, None, OnOk, IfOk, IfErr, IfSome};
+ghost use Rattle.std.specs.Prelude.{◌≡◌, ◌≢◌, ◌≤◌, ◌<◌, ℕ, [], ◌∷◌, ◌++◌, length, map, slice_get};
+ghost use Rattle.std.specs.Prelude.{false, true, Some, None, OnOk, IfOk, IfErr, IfSome};
 ghost use Rattle.script_compiler.specs.Compiled.{Added};
 ghost use Rattle.script_compiler.specs.Refusals.{IsLimitAt};
 ghost use Rattle.script_compiler.specs.Unpriced.{configuration_at};
@@ -114,8 +115,8 @@ impl ConfigTable {
         Ok(())
     }
 
-    /// The index in the table of the configuration with a number, which is added if absent. A `Limit` is reported at
-    /// this line.
+    /// The index in the table of the configuration with a number, which is added if absent. A
+    /// `Limit` is reported at this line.
     ///
     /// # Errors
     ///

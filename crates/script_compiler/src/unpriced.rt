@@ -1,6 +1,7 @@
 //! Labels without their costs, and the table of the configurations that they name.
 
-ghost use Rattle.std.specs.Prelude.{◌≡◌, ℕ, ◌<◌, ◌≤◌, [], ◌∷◌, ◌++◌, length, slice_get, slice_index, false, Some, OnOk, IfOk, IfErr};
+ghost use Rattle.std.specs.Prelude.{◌≡◌, ℕ, ◌<◌, ◌≤◌, [], ◌∷◌, ◌++◌, length, slice_get};
+ghost use Rattle.std.specs.Prelude.{slice_index, false, Some, OnOk, IfOk, IfErr};
 ghost use Rattle.script_compiler.specs.Compiled.{Added, AreLabelsOf};
 ghost use Rattle.script_compiler.specs.Refusals.{IsLimitAt};
 ghost use Rattle.script_compiler.specs.Longest.{Priced};
@@ -20,8 +21,8 @@ use plan_code::Label;
 use std::alloc::Global;
 use std::marker::Model;
 
-/// Unpriced labels, and the configurations of these and of the compiler's flows. Contracts see the labels with the
-/// configurations that they name.
+/// Unpriced labels, and the configurations of these and of the compiler's flows. Contracts see the
+/// labels with the configurations that they name.
 #[derive(Drop)]
 pub(crate) struct UnpricedLabels {
     short: Vec<IndexedLabel>,
@@ -86,8 +87,8 @@ impl UnpricedLabels {
         self.table.pool()
     }
 
-    /// The index in the table of the configuration with a number, which is added if absent. A `Limit` is reported at
-    /// this line.
+    /// The index in the table of the configuration with a number, which is added if absent. A
+    /// `Limit` is reported at this line.
     ///
     /// # Errors
     ///

@@ -1,6 +1,7 @@
 //! The compiler's state: the code emitted so far, and what is known at its end.
 
-ghost use Rattle.std.specs.Prelude.{◌≡◌, ◌↔◌, ◌+◌, ◌<◌, true, false, [], ◌∷◌, ◌++◌, length, Some, IsOk, IsTrue, OnOk, IfOk, IfErr};
+ghost use Rattle.std.specs.Prelude.{◌≡◌, ◌↔◌, ◌+◌, ◌<◌, true, false, [], ◌∷◌, ◌++◌, length, Some};
+ghost use Rattle.std.specs.Prelude.{IsOk, IsTrue, OnOk, IfOk, IfErr};
 ghost use Rattle.plan_verifier.specs.Flows.{known_at, merged, after_instr, FitsFlow};
 ghost use Rattle.plan_verifier.specs.Rules.{IsFine};
 ghost use Rattle.script_compiler.specs.declared.flow.ProgramPoint.{ProgramPoint};
@@ -27,8 +28,8 @@ use script_front::Act;
 use std::alloc::Global;
 use std::marker::Model;
 
-/// The code emitted so far, and what is known at its end. Contracts see program points with their configurations
-/// rather than numbers.
+/// The code emitted so far, and what is known at its end. Contracts see program points with their
+/// configurations rather than numbers.
 #[derive(Drop)]
 pub(crate) struct Work {
     pub(crate) lines: Vec<Line>,
@@ -107,7 +108,8 @@ impl Work {
         self.lines.len()
     }
 
-    /// The current program point with its configurations by number. Configurations without a number get one.
+    /// The current program point with its configurations by number. Configurations without a number
+    /// get one.
     ///
     /// # Errors
     ///
@@ -209,8 +211,8 @@ impl Work {
         self.labelled = false;
     }
 
-    /// Merges the current path with that of a saved program point. False if either does not fit the result, and then
-    /// nothing changes.
+    /// Merges the current path with that of a saved program point. False if either does not fit the
+    /// result, and then nothing changes.
     pub(crate) fn meet(&mut self, point: &IndexedPoint) -> bool
         requires within { IsInPool (length self.old.pool) point.now }
         ensures lines { self.new.lines ≡ self.old.lines }

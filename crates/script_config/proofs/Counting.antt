@@ -1,16 +1,5 @@
 -- Upper bounds on the number of edits.
-use Rattle.std.proofs.Common.{◌≡◌, ℕ, ◌+◌, ◌*◌, ◌≤◌, Bool, true, false, cond, List, [], ◌∷◌, ◌++◌, length, refl, arith, length-append}
-use Rattle.std.specs.List.{AllByRecursion, flat_map}
-use Rattle.mux_config.specs.declared.edit.Edit.{Edit}
-use Rattle.mux_config.specs.declared.edit.Edit.TheVariants.{DropComponent}
-use Rattle.mux_types.specs.declared.numbers.Sid.{Sid}
-use Rattle.mux_types.specs.declared.numbers.Sid.TheVariants.{Short, Long}
-use Rattle.mux_types.specs.declared.parts.Service.{Service}
-use Rattle.mux_types.specs.declared.parts.Component.{Component}
-use Rattle.mux_types.specs.Configuration.{Configuration, IsConfiguration, IsService, carrier_of, component_limit}
-use Rattle.mux_types.specs.Sameness.{is_same_component}
-use Rattle.script_config.specs.Making.{sub_added, components_added, service_added, packet_added, edits_that_make}
-use Rattle.script_config.specs.Differences.{after_common, components_dropped}
+use Rattle.script_config.proofs.Words.{[], ◌*◌, ◌++◌, ◌+◌, ◌∷◌, ◌≡◌, ◌≤◌, AllByRecursion, Bool, Component, Configuration, DropComponent, Edit, IsConfiguration, IsService, List, Long, Service, Short, Sid, after_common, arith, carrier_of, component_limit, components_added, components_dropped, cond, edits_that_make, false, flat_map, is_same_component, length, length-append, packet_added, refl, service_added, sub_added, true, ℕ}
 
 -- ---- a bound for each member
 

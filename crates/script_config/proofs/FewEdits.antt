@@ -1,15 +1,5 @@
 -- There are few edits between two configurations: a plan has room for them, and a wait after each.
-use Rattle.std.proofs.Common.{◌≡◌, ℕ, ◌+◌, ◌*◌, ◌≤◌, ◌==◌, nat_lt, Bool, true, false, cond, List, [], ◌∷◌, ◌++◌, length, Option, Some, None, arith, length-append}
-use Rattle.std.specs.List.{AllByRecursion, flat_map}
-use Rattle.mux_config.specs.declared.edit.Edit.{Edit}
-use Rattle.mux_config.specs.declared.edit.Edit.TheVariants.{DropSub}
-use Rattle.mux_types.specs.declared.parts.Sub.{Sub}
-use Rattle.mux_types.specs.declared.parts.Service.{Service}
-use Rattle.mux_types.specs.declared.parts.Packet.{Packet}
-use Rattle.mux_types.specs.Configuration.{Configuration, IsConfiguration, IsService}
-use Rattle.mux_types.specs.Sameness.{is_same_packet}
-use Rattle.mux_config.specs.Edits.{sub_at, service_at, packet_at}
-use Rattle.script_config.specs.Differences.{is_same_profile, after_common, service_gone, service_cut, packet_gone, sub_gone, start_altered, rate_altered, alterations, sub_altered, sub_new, packet_new, service_grown, edits_between}
+use Rattle.script_config.proofs.Words.{[], ◌*◌, ◌++◌, ◌+◌, ◌==◌, ◌∷◌, ◌≡◌, ◌≤◌, AllByRecursion, Bool, Configuration, DropSub, Edit, IsConfiguration, IsService, List, None, Option, Packet, Service, Some, Sub, after_common, alterations, arith, cond, edits_between, false, flat_map, is_same_packet, is_same_profile, length, length-append, nat_lt, packet_at, packet_gone, packet_new, rate_altered, service_at, service_cut, service_gone, service_grown, start_altered, sub_altered, sub_at, sub_gone, sub_new, true, ℕ}
 use Rattle.script_config.proofs.Counting.{few_each, each_any, chosen, behind_few, dropped_length, added_length, added_few, service_few}
 
 -- two kinds of edits for each member
@@ -105,13 +95,7 @@ few_between from to f t =
     let l5 = length-append e5 (e6 ++ (e7 ++ e8)) in
     let l6 = length-append e6 (e7 ++ e8) in
     let l7 = length-append e7 e8 in
-    let n1 = f.services_few in
-    let n2 = f.packets_few in
-    let n3 = f.subs_few in
-    let n4 = t.services_few in
-    let n5 = t.packets_few in
-    let n6 = t.subs_few in
-    omega (arith, b1, b3, b4, b6, b7, b8, l1, l2, l3, l4, l5, l6, l7, n1, n2, n3, n4, n5, n6)
+    omega (arith, b1, b3, b4, b6, b7, b8, l1, l2, l3, l4, l5, l6, l7)
 
 pub between_few : (from to : Configuration) → IsConfiguration from → IsConfiguration to → length (edits_between from to) ≤ 2048
 between_few from to f t = omega (arith, few_between from to f t)

@@ -1,24 +1,10 @@
 -- A listener hears the pages of a configuration one after another.
-use Rattle.std.proofs.Common.{◌≡◌, ℕ, zero, suc, ◌+◌, ◌/◌, ◌%◌, ◌<◌, ◌≤◌, Bool, true, false, cond, [], Some, None, inl, inr, refl, sym, ap, subst, arith}
-use Rattle.std.proofs.lemmas.Bool.{cases_lt, eq-eqb}
-use Rattle.mux_config.specs.Configuration.{Configuration, IsConfiguration}
+use Rattle.script_config.proofs.Words.{[], ◌%◌, ◌+◌, ◌/◌, ◌<◌, ◌≡◌, ◌≤◌, Bool, Configuration, EachInAPage, EnsembleInformation, Entry, FrameLayout, IsConfiguration, Listening, None, PageIsFibs, PagesAreHeardAgain, Plan, Raw, Shows, Some, ap, arith, at_ensemble, cases_lt, cond, eq-eqb, false, frame_fibs, inl, inr, last_number, layout_mode, marked, packing, page_frames, page_set, raw_entry, refl, rounds, subst, suc, sym, true, untuned, used_fibs, zero, ℕ}
 use Rattle.mux_config.specs.Sound.{IsSound}
-use Rattle.mux_types.specs.Entries.{EnsembleInformation}
-use Rattle.mux_types.specs.Facts.{marked}
-use Rattle.mux_types.specs.declared.entry.Entry.{Entry}
-use Rattle.fib_codec.specs.Layouts.{layout_mode, frame_fibs, used_fibs}
 use Rattle.fib_codec.specs.Modes.{count_step}
-use Rattle.fib_codec.specs.declared.frame_layout.FrameLayout.{FrameLayout}
 use Rattle.fib_carousel.specs.Carried.{PageSetsArePageable, PagesAreValid, PagesAreHeard, EnsembleIsCarried}
-use Rattle.fib_carousel.specs.Greedy.{packing}
-use Rattle.fib_carousel.specs.Packing.{last_number}
-use Rattle.fib_carousel.specs.Pages.{page_set, rounds, EachInAPage, PageIsFibs}
 use Rattle.fib_reader.specs.Laws.{EnsembleIsHeard}
-use Rattle.fib_reader.specs.Listening.{Listening, untuned, at_ensemble}
-use Rattle.fib_reader.specs.Picture.{Shows}
-use Rattle.fib_reader.specs.Raw.{Raw, raw_entry}
 use Rattle.plan_code.specs.declared.hold.Hold.TheVariants.{Ended}
-use Rattle.plan_code.specs.declared.plan.Plan.{Plan}
 use Rattle.plan_code.specs.Machine.{State}
 use Rattle.plan_runs.specs.Frames.{shown_bytes, ensemble_of, ensemble_sent}
 use Rattle.plan_runs.specs.Listening.{HearsAll, fibs_from, fibs_of}
@@ -32,7 +18,6 @@ use Rattle.plan_runs.proofs.Parts.{In}
 use Rattle.plan_runs.proofs.Pictures.{entries_of, in_fact, in_contains, all_shown}
 use Rattle.plan_runs.proofs.Tuned.{Tuned, Or}
 use Rattle.plan_runs.proofs.HeardFrames.{hears_join}
-use Rattle.script_config.specs.HeardAgain.{page_frames, PagesAreHeardAgain}
 
 -- a plan that does nothing, and its state before the frame of a page
 abbrev idle_plan : FrameLayout → ℕ → Configuration → Plan

@@ -1,14 +1,7 @@
 -- Items applied in order: the loop's invariant and result.
-use Rattle.std.proofs.Common.{◌≡◌, ℕ, ◌+◌, ◌<◌, ◌≤◌, List, [], ◌∷◌, length, get_or, drop, Option, Some, None, Result, Ok, Err, refl, sym, ap, ◌∙◌}
-use Rattle.std.proofs.lemmas.List.{drop_more, drop_all}
-use Rattle.mux_types.specs.Configuration.{Configuration}
+use Rattle.script_config.proofs.Words.{[], ◌+◌, ◌<◌, ◌∙◌, ◌∷◌, ◌≡◌, ◌≤◌, Configuration, Err, Item, List, None, Ok, Option, Result, Some, Transform, added_by, ap, changed, drop, drop_all, drop_more, edit_fault, get_or, length, made_by, refl, sym, unless_fault, ℕ}
 use Rattle.mux_config.specs.declared.fault.EditFault.{EditFault}
-use Rattle.mux_config.specs.Edits.{edit_fault, changed}
-use Rattle.script_config.specs.Sequences.{Transform}
-use Rattle.script_front.specs.declared.tree.Item.{Item}
-use Rattle.script_front.specs.Alike.{added_by}
 use Rattle.script_config.specs.declared.items.ItemFault.{ItemFault}
-use Rattle.script_config.specs.Items.{made_by, unless_fault}
 
 ok_is_err : {P : Type 0} (c : Configuration) (f : ItemFault) → Err f ≡ Ok c → P
 ok_is_err c f e = absurd (cc)

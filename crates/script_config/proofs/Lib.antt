@@ -19,3 +19,4 @@ mod Ranged
 mod Scriptable
 mod VectorsOfPlans
 mod VectorsOfStreams
+mod Words

@@ -1,11 +1,6 @@
 -- Lookups in ordered sets: how edits change them, that they determine the set, and the number of members of a set whose
 -- keys are among those of another.
-use Rattle.std.proofs.Common.{◌≡◌, ◌≢◌, ℕ, ◌<◌, ◌≤◌, false, eqb, List, [], ◌∷◌, length, Some, None, refl, sym, ap, ◌∙◌, inl, inr, arith}
-use Rattle.std.specs.List.{AllByRecursion}
-use Rattle.std.proofs.lemmas.Bool.{cases_lt, cases_eq, lt-ltb, le-ltb, eq-eqb, ne_eqb}
-use Rattle.mux_types.specs.Configuration.{IsAscending}
-use Rattle.mux_types.specs.Tables.{entry_at, with_entry, without_entry, changed_at}
-use Rattle.mux_types.proofs.Tables.{each_weaker}
+use Rattle.script_config.proofs.Words.{[], ◌<◌, ◌∙◌, ◌∷◌, ◌≡◌, ◌≢◌, ◌≤◌, AllByRecursion, IsAscending, List, None, Some, ap, arith, cases_eq, cases_lt, changed_at, each_weaker, entry_at, eq-eqb, eqb, false, inl, inr, le-ltb, length, lt-ltb, ne_eqb, refl, sym, with_entry, without_entry, ℕ}
 
 some_is_none : {T : Type 0} {P : Type 0} (x : T) → Some x ≡ None → P
 some_is_none x e = absurd (cc)

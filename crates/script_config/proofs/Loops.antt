@@ -1,13 +1,5 @@
 -- Loop invariants.
-use Rattle.std.proofs.Common.{◌≡◌, ℕ, ◌+◌, ◌<◌, ◌≤◌, List, [], ◌∷◌, ◌++◌, length, get_or, drop, refl, sym, ap, ◌∙◌, subst}
-use Rattle.std.proofs.lemmas.List.{append_assoc, drop_more, drop_all}
-use Rattle.mux_config.specs.declared.edit.Edit.{Edit}
-use Rattle.mux_types.specs.declared.numbers.Sid.{Sid}
-use Rattle.mux_types.specs.declared.parts.Component.{Component}
-use Rattle.mux_types.specs.Configuration.{Configuration}
-use Rattle.mux_config.specs.Edits.{changed}
-use Rattle.script_config.specs.Sequences.{HaveNoFault, after}
-use Rattle.script_config.specs.Differences.{after_common, components_dropped}
+use Rattle.script_config.proofs.Words.{[], ◌++◌, ◌+◌, ◌<◌, ◌∙◌, ◌∷◌, ◌≡◌, ◌≤◌, Component, Configuration, Edit, HaveNoFault, List, Sid, after, after_common, ap, append_assoc, changed, components_dropped, drop, drop_all, drop_more, get_or, length, refl, subst, sym, ℕ}
 
 -- ---- applying edits
 

@@ -1,6 +1,5 @@
 -- What holds of each element of a list.
-use Rattle.std.proofs.Common.{zero, suc, List, [], ◌∷◌, ◌++◌, arith}
-use Rattle.std.specs.List.{All, AllByRecursion, flat_map}
+use Rattle.script_config.proofs.Words.{[], ◌++◌, ◌∷◌, All, AllByRecursion, List, arith, flat_map, suc, zero}
 
 pub both : {T : Type 0} (P : T → Type 0) (xs ys : List T) → AllByRecursion P xs → AllByRecursion P ys → AllByRecursion P (xs ++ ys)
 both P [] ys h k = k

@@ -1,16 +1,6 @@
 -- A page set that begins with another one takes no fewer pages.
-use Rattle.std.proofs.Common.{◌≡◌, ℕ, ◌/◌, ◌<◌, ◌≤◌, false, true, List, [], ◌∷◌, ◌++◌, Some, None, inl, inr, ap, arith}
-use Rattle.std.proofs.Math.Nat.{div-mul-le_self}
+use Rattle.script_config.proofs.Words.{[], ◌++◌, ◌/◌, ◌<◌, ◌∷◌, ◌≡◌, ◌≤◌, Configuration, FrameLayout, I, II, III, IV, List, Marked, None, ReserveOne, ReserveTwo, Some, Whole, ap, arith, div-mul-le_self, extended, facts_of, false, inl, inr, last_number, numbers_from, opened, packing, page_set, placed, rounds, start, true, used_fibs, ℕ}
 use Rattle.std.proofs.lemmas.Nat.{le-div}
-use Rattle.mux_types.specs.Facts.{Marked, facts_of}
-use Rattle.mux_types.specs.Configuration.{Configuration}
-use Rattle.fib_codec.specs.Layouts.{used_fibs}
-use Rattle.fib_codec.specs.declared.frame_layout.FrameLayout.{FrameLayout}
-use Rattle.fib_codec.specs.declared.frame_layout.FrameLayout.TheVariants.{Whole, ReserveOne, ReserveTwo}
-use Rattle.fib_codec.specs.declared.modes.Mode.TheVariants.{I, II, III, IV}
-use Rattle.fib_carousel.specs.Packing.{last_number}
-use Rattle.fib_carousel.specs.Greedy.{start, extended, opened, placed, numbers_from, packing}
-use Rattle.fib_carousel.specs.Pages.{page_set, rounds}
 use Rattle.fib_carousel.specs.declared.pack_state.PackState.{PackState}
 use Rattle.fib_carousel.proofs.Least.{placed_cases}
 

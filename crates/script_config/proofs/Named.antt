@@ -1,9 +1,8 @@
 -- The EId that FIBs signal, FIB by FIB.
-use Rattle.std.proofs.Common.{◌≡◌, ℕ, ◌+◌, ◌<◌, List, [], ◌∷◌, length, drop, drop-cons, add-one, get_or, Option, inl, inr, refl, sym, subst}
+use Rattle.script_config.proofs.Words.{[], ◌+◌, ◌<◌, ◌∷◌, ◌≡◌, List, NamesAfter, Option, add-one, drop, drop-cons, get_or, inl, inr, length, named_by_figs, refl, subst, sym, ℕ}
 use Rattle.fib_codec.specs.Grammar.{Fig, IsFib}
 use Rattle.fib_reader.specs.declared.fault.FibFault.{FibFault}
 use Rattle.fib_reader.specs.Faults.{IsFibFault}
-use Rattle.script_config.specs.Ensembles.{NamesAfter, named_by_figs}
 
 fib_by_fib : (fibs : List (List ℕ)) (i : ℕ) → i < length fibs → drop i fibs ≡ get_or fibs i [] ∷ drop (i + 1) fibs
 fib_by_fib fibs i lt = rw (add-one, drop-cons fibs i [] lt) refl

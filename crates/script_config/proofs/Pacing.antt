@@ -1,25 +1,10 @@
 -- The paced edits of a plan.
-use Rattle.std.proofs.Common.{◌≡◌, ℕ, suc, ◌+◌, ◌-◌, ◌*◌, ◌%◌, ◌<◌, ◌≤◌, ◌==◌, Bool, true, false, if◌then◌else◌, List, [], ◌∷◌, ◌++◌, length, get_or, take, inl, inr, refl, sym, ap, ◌∙◌, subst, arith, append_assoc, length-take-le}
-use Rattle.std.specs.List.{All, AllByRecursion}
-use Rattle.std.proofs.lemmas.List.{take_more, length-append, append-nil}
-use Rattle.std.proofs.lemmas.Bool.{cases_eq, eq-eqb, eqb-true}
-use Rattle.std.proofs.Math.Nat.{suc-mod, mod-lt, mod-eq_of_lt, mod_self}
+use Rattle.script_config.proofs.Words.{[], ◌%◌, ◌*◌, ◌++◌, ◌+◌, ◌-◌, ◌<◌, ◌==◌, ◌∙◌, ◌∷◌, ◌≡◌, ◌≤◌, Act, All, AllByRecursion, Bool, Configuration, Edit, FitFrames, IsAct, IsConfiguration, IsEdit, IsPlan, List, Plan, Transform, Wait, ap, append-nil, append_assoc, arith, cases_eq, committed, edits_between, edits_in, eq-eqb, eqb-true, false, get_or, if◌then◌else◌, inl, inr, length, length-append, length-take-le, mod-eq_of_lt, mod-lt, mod_self, paced, pause_after, plan_acts, refl, subst, suc, suc-mod, sym, take, take_more, true, ℕ}
 use Rattle.std.proofs.Math.Numerals.{suc-eq-add-one}
-use Rattle.mux_config.specs.declared.edit.Edit.{Edit}
-use Rattle.plan_code.specs.Program.{IsEdit}
-use Rattle.script_front.specs.declared.tree.Act.{Act}
-use Rattle.script_front.specs.declared.tree.Act.TheVariants.{Edit as Edits, Wait}
-use Rattle.plan_code.specs.declared.plan.Plan.{Plan}
-use Rattle.script_front.specs.Tree.{IsAct}
-use Rattle.plan_code.specs.Program.{IsPlan}
-use Rattle.mux_types.specs.Configuration.{Configuration, IsConfiguration}
-use Rattle.script_config.specs.Differences.{edits_between}
-use Rattle.script_config.specs.Sequences.{Transform}
+use Rattle.script_front.specs.declared.tree.Act.TheVariants.{Edit as Edits}
 use Rattle.script_config.proofs.FewEdits.{between_few}
 use Rattle.script_config.proofs.Members.{both, each_at}
 use Rattle.script_config.proofs.Ranged.{between_formed}
-use Rattle.script_config.specs.Plan.{pause_after, paced, committed, plan_acts}
-use Rattle.script_config.specs.Frames.{edits_in, FitFrames}
 
 -- ---- appending one
 

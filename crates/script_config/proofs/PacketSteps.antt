@@ -1,18 +1,5 @@
 -- The packet components after the edits for one of them.
-use Rattle.std.proofs.Common.{◌≡◌, ◌≢◌, ℕ, ◌<◌, ◌≤◌, Bool, true, false, cond, leb, List, [], ◌∷◌, length, Option, Some, None, refl, sym, ap, ◌∙◌, inl, inr, arith}
-use Rattle.std.proofs.lemmas.Bool.{cases_eq, le-ltb, lt-leb, ne_eqb}
-use Rattle.mux_config.specs.declared.edit.Edit.TheVariants.{AddPacket, DropPacket}
-use Rattle.mux_types.specs.declared.parts.Sub.{Sub}
-use Rattle.mux_types.specs.declared.parts.Service.{Service}
-use Rattle.mux_types.specs.declared.parts.Packet.{Packet}
-use Rattle.mux_types.specs.Configuration.{Configuration, IsConfiguration, IsAscending, IsAddressed, packet_key}
-use Rattle.mux_types.specs.Tables.{entry_at, with_entry}
-use Rattle.mux_types.specs.Sameness.{is_same_packet}
-use Rattle.mux_types.proofs.Tables.{ascends_with}
-use Rattle.mux_config.specs.Edits.{packet_at, absent_or, has_bad_address, add_packet_fault}
-use Rattle.mux_config.proofs.Keeping.{absent_found, length_with, add_packet_keeps, drop_packet_keeps}
-use Rattle.mux_config.proofs.Same.{packet_same}
-use Rattle.script_config.specs.Differences.{packet_gone, packet_new}
+use Rattle.script_config.proofs.Words.{[], ◌<◌, ◌∙◌, ◌∷◌, ◌≡◌, ◌≢◌, ◌≤◌, AddPacket, Bool, Configuration, DropPacket, IsAddressed, IsAscending, IsConfiguration, List, None, Option, Packet, Service, Some, Sub, absent_found, absent_or, add_packet_fault, add_packet_keeps, ap, arith, ascends_with, cases_eq, cond, drop_packet_keeps, entry_at, false, has_bad_address, inl, inr, is_same_packet, le-ltb, leb, length, length_with, lt-leb, ne_eqb, packet_at, packet_gone, packet_key, packet_new, packet_same, refl, sym, true, with_entry, ℕ}
 use Rattle.script_config.proofs.Lookups.{with_here, with_others, without_here, without_others, AreAmong, among_shorter}
 use Rattle.script_config.proofs.Walks.{Turns, turns_nothing}
 use Rattle.script_config.proofs.Passage.{Fits, all_left, turned_among}

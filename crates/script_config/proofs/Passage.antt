@@ -1,15 +1,8 @@
 -- How one set changes from the members of one list to those of another: drops and alterations for each member of the
 -- first list, then additions for each member of the second.
-use Rattle.std.proofs.Common.{◌≡◌, ℕ, ◌<◌, List, [], ◌∷◌, Option, Some, None, refl, sym, ap, ◌∙◌, inl, inr, arith}
-use Rattle.std.specs.List.{AllByRecursion}
-use Rattle.std.proofs.lemmas.Bool.{cases_eq}
-use Rattle.mux_config.specs.declared.edit.Edit.{Edit}
-use Rattle.mux_types.specs.Configuration.{Configuration, IsAscending}
-use Rattle.mux_types.specs.Tables.{entry_at}
-use Rattle.mux_config.proofs.Keeping.{entry_key}
+use Rattle.script_config.proofs.Words.{[], ◌<◌, ◌∙◌, ◌∷◌, ◌≡◌, AllByRecursion, Configuration, Edit, IsAscending, List, None, Option, Some, after, ap, arith, cases_eq, entry_at, entry_key, inl, inr, refl, sym, ℕ}
 use Rattle.script_config.proofs.Lookups.{found_first, found_later, AreAmong}
 use Rattle.script_config.proofs.Walks.{stepped, Awaits, Turns}
-use Rattle.script_config.specs.Sequences.{after}
 
 -- ---- each member is found by its key
 

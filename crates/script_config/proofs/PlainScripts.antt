@@ -1,30 +1,8 @@
 -- Scripts without blocks: their items and statements one by one, and that they are scripts.
-use Rattle.std.proofs.Common.{◌≡◌, ℕ, zero, suc, ◌+◌, ◌*◌, ◌/◌, ◌%◌, ◌<◌, ◌≤◌, ◌==◌, Bool, true, false, cond, List, [], ◌∷◌, ◌++◌, length, get_or, take, refl, sym, ap, ◌∙◌, subst, arith, length-take-le}
-use Rattle.std.specs.List.{All, AllByRecursion, flat_map}
-use Rattle.std.proofs.lemmas.List.{take_more, take_all}
-use Rattle.mux_eep.specs.declared.sizes.EepSet.{EepSet}
-use Rattle.mux_eep.specs.declared.sizes.EepSet.TheVariants.{A, B}
-use Rattle.mux_eep.specs.Sizes.{units_of_step, rate_step}
-use Rattle.mux_config.specs.declared.edit.Edit.{Edit}
-use Rattle.mux_config.specs.declared.edit.Edit.TheVariants.{AddSub, AddPacket}
-use Rattle.mux_types.specs.declared.numbers.Sid.{Sid}
-use Rattle.mux_types.specs.declared.parts.Sub.{Sub}
-use Rattle.mux_types.specs.declared.parts.Service.{Service}
-use Rattle.mux_types.specs.declared.parts.Component.{Component}
-use Rattle.mux_types.specs.declared.parts.Packet.{Packet}
-use Rattle.mux_types.specs.Configuration.{Configuration, IsConfiguration, IsPlaced, IsService, IsAddressed, IsComponent, IsSid}
-use Rattle.script_config.specs.Making.{sub_added, components_added, service_added, packet_added, edits_that_make}
-use Rattle.plan_code.specs.Program.{IsEdit}
-use Rattle.script_front.specs.declared.tree.Act.{Act}
-use Rattle.script_front.specs.declared.tree.Item.{Item}
-use Rattle.plan_code.specs.declared.plan.Plan.{Plan}
+use Rattle.script_config.proofs.Words.{[], ◌%◌, ◌*◌, ◌++◌, ◌+◌, ◌/◌, ◌<◌, ◌==◌, ◌∙◌, ◌∷◌, ◌≡◌, ◌≤◌, A, Act, AddPacket, AddSub, Adds, All, AllByRecursion, AllFit, AreNamedApart, B, Bool, Component, Configuration, Edit, EepSet, IsAct, IsAddressed, IsComponent, IsConfiguration, IsEdit, IsInBounds, IsItem, IsPlaced, IsPlan, IsScript, IsService, IsSid, Item, List, Packet, Plan, Service, Sid, Sub, Tree, acts_from, added_by, ap, arith, components_added, cond, counted, counted_in, edits_that_make, false, flat_map, get_or, items_from, length, length-take-le, packet_added, rate_step, refl, service_added, sub_added, subst, suc, sym, take, take_all, take_more, true, units_of_step, zero, ℕ}
 use Rattle.script_front.specs.declared.tree.Statement.{Statement}
 use Rattle.script_front.specs.Block.{Block, nothing, basic, before, and_then, block_of}
-use Rattle.script_front.specs.Alike.{added_by}
-use Rattle.script_front.specs.Tree.{Tree, IsScript, IsAct, IsItem, Adds, IsInBounds, AllFit, AreNamedApart, counted, counted_in}
-use Rattle.plan_code.specs.Program.{IsPlan}
 use Rattle.script_front.specs.Keywords.{IsName}
-use Rattle.script_config.specs.Plain.{items_from, acts_from}
 use Rattle.script_config.proofs.Members.{both, each_of}
 
 -- ---- appending one

@@ -1,23 +1,7 @@
 -- The edits between two configurations are in range.
-use Rattle.std.proofs.Common.{◌≡◌, ℕ, ◌==◌, Bool, true, false, if◌then◌else◌, nat_lt, List, [], ◌∷◌, ◌++◌, Option, Some, None, inl, inr, refl, sym, ◌∙◌, subst, arith}
-use Rattle.std.specs.List.{AllByRecursion, flat_map}
-use Rattle.std.proofs.lemmas.Bool.{cases_eq}
-use Rattle.mux_config.specs.declared.edit.Edit.{Edit}
-use Rattle.mux_config.specs.declared.edit.Edit.TheVariants.{DropSub, MoveSub, RateSub, DropComponent, DropPacket}
-use Rattle.mux_types.specs.declared.numbers.Sid.{Sid}
-use Rattle.mux_types.specs.declared.parts.Sub.{Sub}
-use Rattle.mux_types.specs.declared.parts.Service.{Service}
-use Rattle.mux_types.specs.declared.parts.Component.{Component}
+use Rattle.script_config.proofs.Words.{[], ◌++◌, ◌==◌, ◌∙◌, ◌∷◌, ◌≡◌, AllByRecursion, Bool, Component, Configuration, DropComponent, DropPacket, DropSub, Edit, IsAddressed, IsCarrier, IsComponent, IsConfiguration, IsEdit, IsPlaced, IsService, IsSid, List, MoveSub, None, Option, Packet, RateSub, Service, Sid, Some, Sub, after_common, alterations, arith, carrier_of, cases_eq, components_added, components_dropped, edits_between, entry_at, false, flat_map, if◌then◌else◌, inl, inr, is_same_component, is_same_packet, is_same_profile, nat_lt, packet_added, packet_at, packet_gone, packet_new, rate_altered, refl, service_at, service_cut, service_gone, service_grown, start_altered, sub_added, sub_altered, sub_at, sub_gone, sub_key, sub_new, subst, sym, true, ℕ}
 use Rattle.mux_types.specs.declared.parts.Component.TheVariants.{Sound, Stream, Packet as InPackets}
-use Rattle.mux_types.specs.declared.parts.Packet.{Packet}
-use Rattle.mux_types.specs.Configuration.{Configuration, IsConfiguration, IsPlaced, IsService, IsAddressed, IsComponent, IsSid, carrier_of, sub_key}
-use Rattle.mux_types.specs.Sameness.{is_same_component, is_same_packet}
-use Rattle.mux_types.specs.Tables.{entry_at}
-use Rattle.mux_config.specs.Edits.{sub_at, service_at, packet_at}
-use Rattle.script_config.specs.Making.{sub_added, components_added, packet_added}
-use Rattle.script_config.specs.Differences.{after_common, components_dropped, service_gone, service_cut, packet_gone, sub_gone, is_same_profile, start_altered, rate_altered, alterations, sub_altered, sub_new, packet_new, service_grown, edits_between}
 use Rattle.script_config.proofs.Lookups.{found_first, found_cases}
-use Rattle.plan_code.specs.Program.{IsEdit, IsCarrier}
 use Rattle.script_config.proofs.Members.{both, each_as, each_of}
 use Rattle.script_config.proofs.PlainScripts.{IsAdding, components_adding, packet_adding, rate_short, sub_adding}
 

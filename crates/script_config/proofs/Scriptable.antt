@@ -1,29 +1,15 @@
 -- The entries that configurations have; a picture of such entries shows a configuration.
-use Rattle.std.proofs.Common.{◌≡◌, ℕ, zero, suc, ◌++◌, List, [], ◌∷◌, map, append_assoc, inl, inr, refl, sym, ap, ◌∙◌, subst, arith}
+use Rattle.script_config.proofs.Words.{[], ◌++◌, ◌∙◌, ◌∷◌, ◌≡◌, AllByRecursion, AreSaid, Configuration, EnsembleInformation, Entry, IsAddressed, IsConfiguration, IsFirstUnsaid, IsKept, IsPlaced, IsSaid, IsService, IsSubOf, IsWithin, List, Packet, Pictured, Raw, Service, Shows, Sub, all_entries, ap, append_assoc, arith, inl, inr, map, map-append, packet_entry, raw_entry, refl, service_entry, sub_entry, subst, suc, sym, zero, ℕ}
 use Rattle.std.specs.Prelude.{◌⊎◌, Contains}
-use Rattle.std.specs.List.{AllByRecursion}
-use Rattle.std.proofs.lemmas.List.{map-append}
 use Rattle.std.proofs.lemmas.List.Elements.{Contains-append_cases}
-use Rattle.mux_types.specs.declared.parts.Sub.{Sub}
-use Rattle.mux_types.specs.declared.parts.Service.{Service}
-use Rattle.mux_types.specs.declared.parts.Packet.{Packet}
-use Rattle.mux_types.specs.declared.entry.Entry.{Entry}
-use Rattle.mux_types.specs.declared.entry.Entry.TheVariants.{Ensemble as EnsembleOf, Sub as SubOf, Short as ShortOf, Service as ServiceOf, Packet as PacketOf}
 use Rattle.mux_types.specs.declared.entry.SubEntry.{SubEntry}
 use Rattle.mux_types.specs.declared.entry.ShortEntry.{ShortEntry}
 use Rattle.mux_types.specs.declared.entry.ServiceEntry.{ServiceEntry}
 use Rattle.mux_types.specs.declared.entry.PacketEntry.{PacketEntry}
-use Rattle.mux_types.specs.Entries.{EnsembleInformation}
-use Rattle.mux_config.specs.Configuration.{Configuration, IsConfiguration, IsPlaced, IsService, IsAddressed}
-use Rattle.mux_types.specs.Facts.{sub_entry, service_entry, packet_entry}
-use Rattle.fib_codec.specs.Ranges.{IsWithin}
 use Rattle.fib_codec.specs.Spelling.{SpellingIdentifies}
-use Rattle.fib_reader.specs.Raw.{Raw, raw_entry}
-use Rattle.fib_reader.specs.Listening.{Pictured, all_entries}
-use Rattle.fib_reader.specs.Picture.{IsSubOf, IsKept, Shows}
 use Rattle.fib_reader.proofs.FromEntries.{sub_within, service_within, packet_within}
 use Rattle.fib_reader.proofs.Shown.{ShowsEach, each_shows, makes_configuration}
-use Rattle.script_config.specs.Unsaid.{IsSaid, AreSaid, IsFirstUnsaid}
+use Rattle.mux_types.specs.declared.entry.Entry.TheVariants.{Ensemble as EnsembleOf, Sub as SubOf, Short as ShortOf, Service as ServiceOf, Packet as PacketOf}
 
 -- ---- the member that an entry describes
 

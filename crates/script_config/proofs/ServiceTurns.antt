@@ -1,28 +1,7 @@
 -- The services after the edits for one of them and its components.
-use Rattle.std.proofs.Common.{◌≡◌, ◌≢◌, ℕ, ◌<◌, ◌≤◌, ◌||◌, Bool, true, false, not, cond, leb, List, [], ◌∷◌, ◌++◌, length, Option, Some, None, refl, sym, ap, ◌∙◌, subst, arith, length-append}
-use Rattle.std.specs.List.{AllByRecursion, list_any, filter}
-use Rattle.std.proofs.lemmas.Bool.{false≢true, lt-leb, eq-eqb}
-use Rattle.std.proofs.lemmas.List.{append-nil, append_assoc}
-use Rattle.mux_config.specs.declared.edit.Edit.{Edit}
-use Rattle.mux_config.specs.declared.edit.Edit.TheVariants.{AddService, DropService, AddComponent, DropComponent}
-use Rattle.mux_config.specs.declared.fault.EditFault.TheVariants.{IdAbsent}
-use Rattle.mux_types.specs.declared.parts.Sub.{Sub}
-use Rattle.mux_types.specs.declared.parts.Service.{Service}
-use Rattle.mux_types.specs.declared.parts.Packet.{Packet}
-use Rattle.mux_types.specs.declared.parts.Component.{Component}
+use Rattle.script_config.proofs.Words.{[], ◌++◌, ◌<◌, ◌||◌, ◌∙◌, ◌∷◌, ◌≡◌, ◌≢◌, ◌≤◌, AddComponent, AddService, AllByRecursion, AreDifferent, Bool, Component, Configuration, DropComponent, DropService, Edit, IdAbsent, IsAscending, IsComponent, IsConfiguration, IsService, IsSid, List, Long, None, Option, Packet, Service, Short, Sid, Some, Sub, absent_found, absent_or, add_component_fault, add_component_keeps, add_service_fault, add_service_keeps, after, after_common, ap, append-nil, append_assoc, arith, carrier_of, carrier_same, component_fault, component_itself, component_limit, component_same, components_added, components_dropped, cond, drop_component_fault, drop_component_keeps, drop_service_keeps, entry_at, entry_holds, eq-eqb, false, false≢true, filter, is_same_carrier, is_same_component, leb, length, length-append, list_any, lt-leb, names, not, refl, service_added, service_cut, service_gone, service_grown, service_key, sid_key, subst, sym, true, with_component, without_carrier, ℕ}
 use Rattle.mux_types.specs.declared.parts.Carrier.{Carrier}
 use Rattle.mux_types.specs.declared.parts.Carrier.TheVariants.{Sub as BySub, Packet as ByPacket}
-use Rattle.mux_types.specs.declared.numbers.Sid.{Sid}
-use Rattle.mux_types.specs.declared.numbers.Sid.TheVariants.{Short, Long}
-use Rattle.mux_types.specs.Configuration.{Configuration, IsConfiguration, IsAscending, IsService, IsSid, IsComponent, AreDifferent, service_key, sid_key, carrier_of, component_limit}
-use Rattle.mux_types.specs.Tables.{entry_at}
-use Rattle.mux_types.specs.Sameness.{names, is_same_carrier, is_same_component}
-use Rattle.mux_config.specs.Edits.{absent_or, with_component, without_carrier, component_fault, add_service_fault, add_component_fault, drop_component_fault}
-use Rattle.mux_config.proofs.Keeping.{absent_found, entry_holds, carrier_same, add_service_keeps, drop_service_keeps, add_component_keeps, drop_component_keeps}
-use Rattle.mux_config.proofs.Same.{component_same, component_itself}
-use Rattle.script_config.specs.Making.{components_added, service_added}
-use Rattle.script_config.specs.Differences.{after_common, components_dropped, service_gone, service_cut, service_grown}
-use Rattle.script_config.specs.Sequences.{after}
 use Rattle.script_config.proofs.Lookups.{with_here, with_others, without_here, without_others, changed_found, changed_others, AreAmong}
 use Rattle.script_config.proofs.Walks.{Turns, turns_both, turns_nothing}
 use Rattle.script_config.proofs.Passage.{Fits, all_left, turned_among}

@@ -1,21 +1,6 @@
 -- The sub-channels after the edits for one of them.
-use Rattle.std.proofs.Common.{◌≡◌, ◌≢◌, ℕ, ◌+◌, ◌%◌, ◌≤◌, ◌==◌, ◌&&◌, Bool, true, false, cond, ltb, List, [], ◌∷◌, ◌++◌, Option, Some, None, Ok, refl, sym, ap, ◌∙◌, subst, inl, inr, arith}
+use Rattle.script_config.proofs.Words.{[], ◌%◌, ◌&&◌, ◌++◌, ◌+◌, ◌==◌, ◌∙◌, ◌∷◌, ◌≡◌, ◌≢◌, ◌≤◌, A, AddSub, B, Bool, Configuration, DropSub, EepSet, IsConfiguration, IsPlaced, IsSize, List, MoveSub, None, Ok, Option, Packet, PastEnd, Profile, RateSub, Service, SizesGrow, Some, Sub, absent_found, absent_or, add_sub_fault, add_sub_keeps, after, alterations, ap, arith, at_rate, at_start, cases_lt, cond, drop_sub_keeps, eqb-true, false, false≢true, has_bad_rate, inl, inr, is_past_end, is_same_profile, is_same_set, le-ltb, lt-ltb, ltb, move_sub_fault, move_sub_keeps, ne_eqb, placing_fault, rate_altered, rate_step, rate_sub_fault, rate_sub_keeps, refl, size_of_sub, size_or_fault, start_altered, sub_altered, sub_at, sub_gone, sub_key, sub_new, subst, sym, table_size, true, ℕ}
 use Rattle.std.specs.Result.{is_err}
-use Rattle.std.proofs.lemmas.Bool.{false≢true, cases_lt, lt-ltb, le-ltb, ne_eqb, eqb-true}
-use Rattle.mux_eep.specs.declared.sizes.EepSet.{EepSet}
-use Rattle.mux_eep.specs.declared.sizes.EepSet.TheVariants.{A, B}
-use Rattle.mux_eep.specs.Sizes.{Profile, IsSize, SizesGrow, size_or_fault, table_size, rate_step}
-use Rattle.mux_config.specs.declared.edit.Edit.TheVariants.{AddSub, DropSub, MoveSub, RateSub}
-use Rattle.mux_config.specs.declared.fault.EditFault.TheVariants.{PastEnd}
-use Rattle.mux_types.specs.declared.parts.Sub.{Sub}
-use Rattle.mux_types.specs.declared.parts.Service.{Service}
-use Rattle.mux_types.specs.declared.parts.Packet.{Packet}
-use Rattle.mux_types.specs.Configuration.{Configuration, IsConfiguration, IsPlaced, sub_key, size_of_sub}
-use Rattle.mux_types.specs.Sameness.{is_same_set}
-use Rattle.mux_config.specs.Edits.{sub_at, absent_or, at_start, at_rate, has_bad_rate, is_past_end, placing_fault, add_sub_fault, move_sub_fault, rate_sub_fault}
-use Rattle.mux_config.proofs.Keeping.{absent_found, add_sub_keeps, drop_sub_keeps, move_sub_keeps, rate_sub_keeps}
-use Rattle.script_config.specs.Differences.{is_same_profile, start_altered, rate_altered, alterations, sub_gone, sub_altered, sub_new}
-use Rattle.script_config.specs.Sequences.{after}
 use Rattle.script_config.proofs.Lookups.{with_here, with_others, without_here, without_others, changed_found, changed_others}
 use Rattle.script_config.proofs.Walks.{Turns, turns_both, turns_nothing}
 use Rattle.script_config.proofs.Passage.{Fits, all_left}

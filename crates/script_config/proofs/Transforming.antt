@@ -1,51 +1,46 @@
 -- The edits that turn one configuration into another, walk by walk.
-use Rattle.std.proofs.Common.{◌≡◌, List, ◌++◌, Option, Some, refl, sym, ap, ◌∙◌, arith}
-use Rattle.std.specs.List.{flat_map}
-use Rattle.mux_eep.specs.Sizes.{SizesGrow}
-use Rattle.mux_config.specs.declared.edit.Edit.{Edit}
-use Rattle.mux_types.specs.declared.parts.Sub.{Sub}
-use Rattle.mux_types.specs.declared.parts.Service.{Service}
-use Rattle.mux_types.specs.declared.parts.Packet.{Packet}
-use Rattle.mux_types.specs.Configuration.{Configuration, IsConfiguration, IsPlaced, IsService, IsAddressed, nothing, sub_key, service_key, packet_key, sid_key}
-use Rattle.mux_types.specs.Tables.{entry_at}
-use Rattle.mux_config.specs.Edits.{sub_at, service_at, packet_at}
-use Rattle.mux_config.proofs.Keeping.{entry_holds, entry_key}
-use Rattle.script_config.specs.Making.{edits_that_make}
-use Rattle.script_config.specs.Differences.{service_gone, service_cut, packet_gone, sub_gone, sub_altered, sub_new, packet_new, service_grown, edits_between}
-use Rattle.script_config.specs.Sequences.{after, HaveNoFault, Transform}
-use Rattle.script_config.proofs.Counting.{each_any}
-use Rattle.script_config.proofs.Lookups.{same_found}
-use Rattle.script_config.proofs.Walks.{after_both, fine_both, walk}
-use Rattle.script_config.proofs.Passage.{all_left, is_all_left, left_awaited, less_left, new_awaited, arrived, left_among, IsLeft}
+use Rattle.script_config.proofs.Words.{◌++◌, ◌∙◌, ◌≡◌, AllByRecursion, Configuration, Edit, HaveNoFault, IsAddressed, IsAscending, IsConfiguration, IsPlaced, IsService, List, Option, Packet, Service, SizesGrow, Some, Sub, Transform, after, ap, arith, edits_between, edits_that_make, entry_at, entry_holds, entry_key, flat_map, nothing, packet_at, packet_gone, packet_key, packet_new, refl, service_at, service_cut, service_gone, service_grown, service_key, sid_key, sub_altered, sub_at, sub_gone, sub_key, sub_new, sym, ℕ}
 use Rattle.script_config.proofs.SubTurns as subs
 use Rattle.script_config.proofs.PacketSteps as packets
 use Rattle.script_config.proofs.ServiceTurns as services
+use Rattle.script_config.proofs.Counting.{each_any}
+use Rattle.script_config.proofs.Lookups.{same_found}
+use Rattle.script_config.proofs.Walks.{Turns, after_both, fine_both, walk}
+use Rattle.script_config.proofs.Passage.{all_left, is_all_left, left_awaited, less_left, new_awaited, arrived, left_among, IsLeft}
+
+-- ---- one set of a configuration
+
+-- what is left of the set, and the other sets unchanged
+pub record SetLeft {T : Type 0} (Keeps : Configuration → Type 0) (key : T → ℕ) (xs ys : List T) (left : Option T → T → Option T) (at : ℕ → Configuration → Option T) (c : Configuration) : Type 0 where
+  pub kept : Keeps c
+  pub is : IsLeft key xs ys left at c
+
+-- edits of each member leave less of it
+walk_left : {T : Type 0} (key : T → ℕ) (at : ℕ → Configuration → Option T) (Keeps : Configuration → Type 0) (Member : T → Type 0) (xs ys : List T) (left less : Option T → T → Option T) (es : T → List Edit) (c : Configuration)
+    → ((x : T) (d : Configuration) → Member x → Keeps d → at (key x) d ≡ left (entry_at key (key x) ys) x → Turns at Keeps (es x) (key x) (less (entry_at key (key x) ys) x) d)
+    → IsAscending key xs → AllByRecursion Member xs → SetLeft Keeps key xs ys left at c → HaveNoFault (flat_map es xs) c × SetLeft Keeps key xs ys less at (after (flat_map es xs) c)
+walk_left key at Keeps Member xs ys left less es c turn up each h =
+    let walked = walk key at Keeps Member es (λ x. left (entry_at key (key x) ys) x) (λ x. less (entry_at key (key x) ys) x) turn xs c up h.kept (left_awaited key xs ys Member left at c up each h.is) in
+    (walked.fine, record { kept = walked.keeps; is = less_left key xs ys left less at c (after (flat_map es xs) c) h.is walked.found })
 
 -- ---- sub-channels
 
--- a configuration with the sub-channels that are left, and the other sets unchanged
-pub record SubsLeft (left : Option Sub → Sub → Option Sub) (from to c d : Configuration) : Type 0 where
-  pub kept : subs.SubsKept c.services c.packets d
-  pub is : IsLeft sub_key from.subs to.subs left sub_at d
+-- what is left of the sub-channels
+abbrev SubsLeft : (Option Sub → Sub → Option Sub) → (from to c d : Configuration) → Type 0
+SubsLeft left from to c d = SetLeft (subs.SubsKept c.services c.packets) sub_key from.subs to.subs left sub_at d
 
 subs_go : (from to c d : Configuration) → IsConfiguration from → SubsLeft all_left from to c d
     → let es = flat_map (λ s. sub_gone (sub_at s.id to) s) from.subs in HaveNoFault es d × SubsLeft subs.sub_kept from to c (after es d)
 subs_go from to c d f h =
-    let es : Sub → List Edit = λ s. sub_gone (sub_at s.id to) s in
-    let walked = walk sub_key sub_at (subs.SubsKept c.services c.packets) (λ s. Unit {0}) es (λ s. all_left (entry_at sub_key (sub_key s) to.subs) s) (λ s. subs.sub_kept (entry_at sub_key (sub_key s) to.subs) s)
-    (λ s e member keeps is. subs.goes c.services c.packets (sub_at s.id to) s e keeps is)
-    from.subs d f.subs_ascend h.kept (left_awaited sub_key from.subs to.subs (λ s. Unit {0}) all_left sub_at d f.subs_ascend (each_any from.subs) h.is) in
-    (walked.fine, record { kept = walked.keeps; is = less_left sub_key from.subs to.subs all_left subs.sub_kept sub_at d (after (flat_map es from.subs) d) h.is walked.found })
+    walk_left sub_key sub_at (subs.SubsKept c.services c.packets) (λ s. Unit {0}) from.subs to.subs all_left subs.sub_kept (λ s. sub_gone (sub_at s.id to) s) d
+    (λ s e member keeps is. subs.goes c.services c.packets (sub_at s.id to) s e keeps is) f.subs_ascend (each_any from.subs) h
 
 subs_stay : SizesGrow → (from to c d : Configuration) → IsConfiguration from → IsConfiguration to → SubsLeft subs.sub_kept from to c d
     → let es = flat_map (λ s. sub_altered (sub_at s.id to) s) from.subs in HaveNoFault es d × SubsLeft subs.sub_turned from to c (after es d)
 subs_stay grow from to c d f t h =
-    let es : Sub → List Edit = λ s. sub_altered (sub_at s.id to) s in
-    let walked = walk sub_key sub_at (subs.SubsKept c.services c.packets) IsPlaced es (λ s. subs.sub_kept (entry_at sub_key (sub_key s) to.subs) s) (λ s. subs.sub_turned (entry_at sub_key (sub_key s) to.subs) s)
-    (λ s e member keeps is. subs.stays grow c.services c.packets (sub_at s.id to) s e member
-    (λ x found. (entry_holds IsPlaced sub_key s.id to.subs x t.subs_placed found, sym (entry_key sub_key s.id to.subs x found))) keeps is)
-    from.subs d f.subs_ascend h.kept (left_awaited sub_key from.subs to.subs IsPlaced subs.sub_kept sub_at d f.subs_ascend f.subs_placed h.is) in
-    (walked.fine, record { kept = walked.keeps; is = less_left sub_key from.subs to.subs subs.sub_kept subs.sub_turned sub_at d (after (flat_map es from.subs) d) h.is walked.found })
+    walk_left sub_key sub_at (subs.SubsKept c.services c.packets) IsPlaced from.subs to.subs subs.sub_kept subs.sub_turned (λ s. sub_altered (sub_at s.id to) s) d
+    (λ s e member keeps is. subs.stays grow c.services c.packets (sub_at s.id to) s e member (λ x found. (entry_holds IsPlaced sub_key s.id to.subs x t.subs_placed found, sym (entry_key sub_key s.id to.subs x found))) keeps is)
+    f.subs_ascend f.subs_placed h
 
 -- the configuration with the sub-channels of another
 abbrev pub with_subs : Configuration → Configuration → Configuration
@@ -65,18 +60,14 @@ subs_come from to c d t h =
 
 -- ---- packet components
 
-pub record PacketsLeft (left : Option Packet → Packet → Option Packet) (from to c d : Configuration) : Type 0 where
-  pub kept : packets.PacketsKept c.subs c.services d
-  pub is : IsLeft packet_key from.packets to.packets left packet_at d
+abbrev PacketsLeft : (Option Packet → Packet → Option Packet) → (from to c d : Configuration) → Type 0
+PacketsLeft left from to c d = SetLeft (packets.PacketsKept c.subs c.services) packet_key from.packets to.packets left packet_at d
 
 packets_go : (from to c d : Configuration) → IsConfiguration from → PacketsLeft all_left from to c d
     → let es = flat_map (λ p. packet_gone (packet_at p.scid to) p) from.packets in HaveNoFault es d × PacketsLeft packets.packet_kept from to c (after es d)
 packets_go from to c d f h =
-    let es : Packet → List Edit = λ p. packet_gone (packet_at p.scid to) p in
-    let walked = walk packet_key packet_at (packets.PacketsKept c.subs c.services) (λ p. Unit {0}) es (λ p. all_left (entry_at packet_key (packet_key p) to.packets) p) (λ p. packets.packet_kept (entry_at packet_key (packet_key p) to.packets) p)
-    (λ p e member keeps is. packets.goes c.subs c.services (packet_at p.scid to) p e keeps is)
-    from.packets d f.packets_ascend h.kept (left_awaited packet_key from.packets to.packets (λ p. Unit {0}) all_left packet_at d f.packets_ascend (each_any from.packets) h.is) in
-    (walked.fine, record { kept = walked.keeps; is = less_left packet_key from.packets to.packets all_left packets.packet_kept packet_at d (after (flat_map es from.packets) d) h.is walked.found })
+    walk_left packet_key packet_at (packets.PacketsKept c.subs c.services) (λ p. Unit {0}) from.packets to.packets all_left packets.packet_kept (λ p. packet_gone (packet_at p.scid to) p) d
+    (λ p e member keeps is. packets.goes c.subs c.services (packet_at p.scid to) p e keeps is) f.packets_ascend (each_any from.packets) h
 
 abbrev pub with_packets : Configuration → Configuration → Configuration
 with_packets to c = record { subs = c.subs; services = c.services; packets = to.packets }
@@ -100,27 +91,20 @@ packets_come from to c d t h =
 
 -- ---- services
 
-pub record ServicesLeft (left : Option Service → Service → Option Service) (from to c d : Configuration) : Type 0 where
-  pub kept : services.ServicesKept c.subs c.packets d
-  pub is : IsLeft service_key from.services to.services left services.at_key d
+abbrev ServicesLeft : (Option Service → Service → Option Service) → (from to c d : Configuration) → Type 0
+ServicesLeft left from to c d = SetLeft (services.ServicesKept c.subs c.packets) service_key from.services to.services left services.at_key d
 
 services_go : (from to c d : Configuration) → IsConfiguration from → ServicesLeft all_left from to c d
     → let es = flat_map (λ s. service_gone (service_at s.sid to) s) from.services in HaveNoFault es d × ServicesLeft services.service_kept from to c (after es d)
 services_go from to c d f h =
-    let es : Service → List Edit = λ s. service_gone (service_at s.sid to) s in
-    let walked = walk service_key services.at_key (services.ServicesKept c.subs c.packets) (λ s. Unit {0}) es (λ s. all_left (entry_at service_key (service_key s) to.services) s) (λ s. services.service_kept (entry_at service_key (service_key s) to.services) s)
-    (λ s e member keeps is. services.goes c.subs c.packets (service_at s.sid to) s e keeps is)
-    from.services d f.services_ascend h.kept (left_awaited service_key from.services to.services (λ s. Unit {0}) all_left services.at_key d f.services_ascend (each_any from.services) h.is) in
-    (walked.fine, record { kept = walked.keeps; is = less_left service_key from.services to.services all_left services.service_kept services.at_key d (after (flat_map es from.services) d) h.is walked.found })
+    walk_left service_key services.at_key (services.ServicesKept c.subs c.packets) (λ s. Unit {0}) from.services to.services all_left services.service_kept (λ s. service_gone (service_at s.sid to) s) d
+    (λ s e member keeps is. services.goes c.subs c.packets (service_at s.sid to) s e keeps is) f.services_ascend (each_any from.services) h
 
 services_stay : (from to c d : Configuration) → IsConfiguration from → ServicesLeft services.service_kept from to c d
     → let es = flat_map (λ s. service_cut (service_at s.sid to) s) from.services in HaveNoFault es d × ServicesLeft services.service_short from to c (after es d)
 services_stay from to c d f h =
-    let es : Service → List Edit = λ s. service_cut (service_at s.sid to) s in
-    let walked = walk service_key services.at_key (services.ServicesKept c.subs c.packets) (λ s. Unit {0}) es (λ s. services.service_kept (entry_at service_key (service_key s) to.services) s) (λ s. services.service_short (entry_at service_key (service_key s) to.services) s)
-    (λ s e member keeps is. services.stays c.subs c.packets (service_at s.sid to) s e keeps is)
-    from.services d f.services_ascend h.kept (left_awaited service_key from.services to.services (λ s. Unit {0}) services.service_kept services.at_key d f.services_ascend (each_any from.services) h.is) in
-    (walked.fine, record { kept = walked.keeps; is = less_left service_key from.services to.services services.service_kept services.service_short services.at_key d (after (flat_map es from.services) d) h.is walked.found })
+    walk_left service_key services.at_key (services.ServicesKept c.subs c.packets) (λ s. Unit {0}) from.services to.services services.service_kept services.service_short (λ s. service_cut (service_at s.sid to) s) d
+    (λ s e member keeps is. services.stays c.subs c.packets (service_at s.sid to) s e keeps is) f.services_ascend (each_any from.services) h
 
 abbrev pub with_services : Configuration → Configuration → Configuration
 with_services to c = record { subs = c.subs; services = to.services; packets = c.packets }

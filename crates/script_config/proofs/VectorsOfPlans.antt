@@ -1,19 +1,9 @@
 -- Test vectors: small plans for which each definition holds, and for which it fails.
-use Rattle.std.proofs.Common.{◌≡◌, ◌≢◌, ℕ, [], ◌∷◌, refl, arith}
-use Rattle.mux_config.specs.declared.edit.Edit.{Edit}
-use Rattle.mux_config.specs.declared.edit.Edit.TheVariants.{DropSub}
-use Rattle.mux_types.specs.Configuration.{nothing}
-use Rattle.fib_codec.specs.declared.frame_layout.FrameLayout.{FrameLayout}
-use Rattle.fib_codec.specs.declared.frame_layout.FrameLayout.TheVariants.{Whole, ReserveOne}
-use Rattle.fib_codec.specs.declared.modes.Mode.TheVariants.{I, II}
-use Rattle.script_front.specs.declared.tree.Act.TheVariants.{Edit as Edits, Wait, CommitIn, Join}
-use Rattle.plan_code.specs.declared.plan.Plan.{Plan}
+use Rattle.script_config.proofs.Words.{[], ◌∷◌, ◌≡◌, ◌≢◌, CommitIn, DropSub, Edit, FitFrames, FrameLayout, I, II, IsOpening, Join, Plan, ReserveOne, Wait, Whole, arith, edits_in, nothing, paced, pause_after, refl, ℕ}
 use Rattle.script_config.specs.declared.opening.Opening.{Opening}
 use Rattle.script_config.specs.declared.refusal.DiffFault.TheVariants.{AnotherEnsemble}
-use Rattle.script_config.specs.Frames.{edits_in, FitFrames}
-use Rattle.script_config.specs.Openings.{IsOpening}
-use Rattle.script_config.specs.Plan.{pause_after, paced}
 use Rattle.script_config.specs.Refusals.{IsOneEnsemble, CanBePlanned, IsInTheWay}
+use Rattle.script_front.specs.declared.tree.Act.TheVariants.{Edit as Edits}
 
 abbrev one : Edit
 one = DropSub 1

@@ -1,16 +1,8 @@
 -- Test vectors: small streams for which each definition holds, and for which it fails.
-use Rattle.std.proofs.Common.{◌≡◌, ◌≢◌, ℕ, false, [], ◌∷◌, length, Some, None, refl, ap, arith, inr}
-use Rattle.fib_codec.specs.declared.frame_layout.FrameLayout.TheVariants.{Whole}
-use Rattle.fib_codec.specs.declared.modes.Mode.TheVariants.{I}
-use Rattle.fib_reader.specs.Raw.{Raw}
-use Rattle.mux_config.specs.Configuration.{Configuration}
+use Rattle.script_config.proofs.Words.{[], ◌∷◌, ◌≡◌, ◌≢◌, Configuration, I, IsFirstUnsaid, IsOpeningReason, IsSaid, NamesAfter, None, Raw, Some, Whole, ap, arith, false, inr, length, named_by_entries, page_frames, refl, steady, ℕ}
 use Rattle.script_tokens.specs.declared.fault.ScriptFault.TheVariants.{Expected}
 use Rattle.script_config.specs.declared.opening.OpeningFault.TheVariants.{Script, Memory}
-use Rattle.script_config.specs.Ensembles.{named_by_entries, NamesAfter}
-use Rattle.script_config.specs.HeardAgain.{steady, page_frames}
-use Rattle.script_config.specs.Openings.{IsOpeningReason}
 use Rattle.script_config.specs.Texts.{usual_period}
-use Rattle.script_config.specs.Unsaid.{IsFirstUnsaid, IsSaid}
 
 abbrev ensemble : ℕ → Raw
 ensemble low = record { ext = 0; long = false; bytes = 0 ∷ low ∷ 0 ∷ 0 ∷ [] }

@@ -1,14 +1,6 @@
 -- A walk over members in ascending order of keys: the edits for each change only the entry with its key.
-use Rattle.std.proofs.Common.{◌≡◌, ◌≢◌, ℕ, ◌<◌, List, [], ◌∷◌, ◌++◌, Option, Some, None, refl, sym, ap, ◌∙◌, subst, inl, inr, arith}
-use Rattle.std.specs.List.{AllByRecursion, flat_map}
-use Rattle.std.proofs.lemmas.Bool.{cases_eq}
-use Rattle.mux_config.specs.declared.edit.Edit.{Edit}
-use Rattle.mux_types.specs.Configuration.{Configuration, IsAscending}
-use Rattle.mux_types.specs.Tables.{entry_at}
-use Rattle.mux_config.specs.Edits.{changed}
-use Rattle.script_config.specs.Sequences.{after, HaveNoFault}
+use Rattle.script_config.proofs.Words.{[], ◌++◌, ◌<◌, ◌∙◌, ◌∷◌, ◌≡◌, ◌≢◌, AllByRecursion, Configuration, Edit, HaveNoFault, IsAscending, List, None, Option, Some, after, ap, arith, cases_eq, changed, each_weaker, entry_at, flat_map, inl, inr, refl, subst, sym, ℕ}
 use Rattle.script_config.proofs.Lookups.{found_first, found_later, found_never}
-use Rattle.mux_types.proofs.Tables.{each_weaker}
 
 -- ---- concatenated edits
 

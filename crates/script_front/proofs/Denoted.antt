@@ -1,45 +1,30 @@
 -- The printed lines of a script have its tokens.
-use Rattle.std.proofs.Common.{◌≡◌, ℕ, suc, ◌+◌, ◌-◌, ◌<◌, ◌≤◌, Bool, true, false, List, [], ◌∷◌, ◌++◌, length, refl, sym, ap, ◌∙◌, append_assoc, subst, arith}
-use Rattle.std.specs.Fmt.{decimal}
-use Rattle.std.specs.List.{All, AllByRecursion}
-use Rattle.mux_config.specs.declared.edit.Edit.{Edit}
-use Rattle.mux_config.specs.declared.edit.Edit.TheVariants.{AddSub, DropSub, MoveSub, RateSub, AddService, DropService, AddComponent, DropComponent, AddPacket, DropPacket}
-use Rattle.mux_types.specs.declared.parts.Carrier.{Carrier}
+use Rattle.script_front.proofs.Words.{[], ◌++◌, ◌+◌, ◌-◌, ◌<◌, ◌∙◌, ◌∷◌, ◌≡◌, ◌≤◌, Act, AddComponent, AddPacket}
+use Rattle.script_front.proofs.Words.{AddService, AddSub, All, AllByRecursion, AllFit, Alternative, AreWords, At, Block}
+use Rattle.script_front.proofs.Words.{Bool, Carrier, CommitAt, CommitIn, Component, Condition, Contact, Denotes}
+use Rattle.script_front.proofs.Words.{DropComponent, DropPacket, DropService, DropSub, Early, Edit, FrameLayout}
+use Rattle.script_front.proofs.Words.{HasLexemes, I, II, III, IV, IsAct, IsAlternative, IsCarrier, IsComponent}
+use Rattle.script_front.proofs.Words.{IsCondition, IsEdit, IsInBounds, IsItem, IsMoment, IsName, IsPlan, IsScript}
+use Rattle.script_front.proofs.Words.{IsSid, IsWord, Item, Join, Line, List, Mode, MoveSub, Plan, RateSub, ReserveOne}
+use Rattle.script_front.proofs.Words.{ReserveTwo, Settle, Sid, Sound, Spelled, Statement, Stream, Time, Tree, Until}
+use Rattle.script_front.proofs.Words.{Wait, WaitAny, WaitContact, Whole, act_lexemes, alternative_lexemes}
+use Rattle.script_front.proofs.Words.{alternatives_lexemes, ap, append_assoc, apply, arith, basic, block_lexemes}
+use Rattle.script_front.proofs.Words.{block_lines, block_of, carrier_lexemes, closing, condition_lexemes, decimal}
+use Rattle.script_front.proofs.Words.{decimal_word, defined_lexemes, defined_lines, edit_lexemes, either, false}
+use Rattle.script_front.proofs.Words.{forever, groups_text, header_lexemes, header_lines, hex_text, hex_word_word}
+use Rattle.script_front.proofs.Words.{if_lexemes, items_lexemes, items_lines, keyword_text, layout_mode, length}
+use Rattle.script_front.proofs.Words.{letters, level_text, limits_lexemes, line, mode_lexemes, moment_lexemes, name_at}
+use Rattle.script_front.proofs.Words.{name_word, nothing, or_lexemes, profile_word_word, refl, repeat, reserve_lexemes}
+use Rattle.script_front.proofs.Words.{sid_word_word, stop, subst, suc, sym, text_of_lines, time_word_word, tree_lexemes}
+use Rattle.script_front.proofs.Words.{tree_lines, true, when, within_lexemes, ℕ}
 use Rattle.mux_types.specs.declared.parts.Carrier.TheVariants.{Sub as BySub, Packet as ByPacket}
-use Rattle.mux_types.specs.declared.parts.Component.{Component}
-use Rattle.mux_types.specs.declared.parts.Component.TheVariants.{Sound, Stream, Packet as InPackets}
-use Rattle.mux_types.specs.declared.numbers.Sid.{Sid}
-use Rattle.mux_config.specs.Configuration.{IsSid, IsComponent}
-use Rattle.fib_codec.specs.Layouts.{layout_mode}
-use Rattle.fib_codec.specs.declared.frame_layout.FrameLayout.{FrameLayout}
-use Rattle.fib_codec.specs.declared.frame_layout.FrameLayout.TheVariants.{Whole, ReserveOne, ReserveTwo}
-use Rattle.fib_codec.specs.declared.modes.Mode.{Mode}
-use Rattle.fib_codec.specs.declared.modes.Mode.TheVariants.{I, II, III, IV}
-use Rattle.plan_code.specs.Program.{IsEdit, IsCarrier}
-use Rattle.script_front.specs.declared.tree.Act.{Act}
-use Rattle.script_front.specs.declared.tree.Condition.{Condition}
-use Rattle.script_front.specs.declared.tree.Condition.TheVariants.{Contact, Time}
+use Rattle.mux_types.specs.declared.parts.Component.TheVariants.{Packet as InPackets}
 use Rattle.script_front.specs.declared.moment.MomentForm.{MomentForm as Moment}
-use Rattle.script_front.specs.declared.moment.MomentForm.TheVariants.{At, Early}
-use Rattle.script_front.specs.declared.alternatives.Alternative.{Alternative}
-use Rattle.script_front.specs.declared.alternatives.Alternative.TheVariants.{Contact as OfContact, Until as OfMoment, Frames as OfFrames}
-use Rattle.script_front.specs.Waits.{IsMoment, IsAlternative}
-use Rattle.script_front.specs.declared.tree.Act.TheVariants.{Edit as Edits, Wait, WaitContact, Until, WaitAny, CommitIn, CommitAt, Join, Settle}
-use Rattle.plan_code.specs.declared.plan.Plan.{Plan}
-use Rattle.script_front.specs.declared.tree.Item.{Item}
-use Rattle.script_front.specs.declared.tree.Statement.{Statement}
+use Rattle.script_front.specs.declared.alternatives.Alternative.TheVariants.{Contact as OfContact, Until as OfMoment}
+use Rattle.script_front.specs.declared.alternatives.Alternative.TheVariants.{Frames as OfFrames}
+use Rattle.script_front.specs.declared.tree.Act.TheVariants.{Edit as Edits}
 use Rattle.script_tokens.specs.declared.keyword.Keyword.TheVariants as the
-use Rattle.script_tokens.specs.Keywords.{letters, IsName}
-use Rattle.script_front.specs.Block.{Block, nothing, basic, stop, when, either, repeat, forever, apply, block_of}
-use Rattle.script_front.specs.Tree.{Tree, IsAct, IsCondition, IsItem, IsScript, IsInBounds, AllFit}
-use Rattle.plan_code.specs.Program.{IsPlan}
-use Rattle.script_tokens.specs.Spelling.{hex_text, level_text}
-use Rattle.script_front.specs.Spelled.{carrier_lexemes, within_lexemes, groups_text, edit_lexemes, moment_lexemes, alternative_lexemes, or_lexemes, alternatives_lexemes, act_lexemes, condition_lexemes, name_at, block_lexemes, mode_lexemes, reserve_lexemes, limits_lexemes, header_lexemes, items_lexemes, defined_lexemes, tree_lexemes}
-use Rattle.script_front.specs.Printing.{Line, line, text_of_lines, closing, if_lexemes, block_lines, header_lines, items_lines, defined_lines, tree_lines}
-use Rattle.script_front.specs.Denoting.{HasLexemes, Denotes}
 use Rattle.script_front.proofs.Lined.{IsLine, AreLines, all_words, lines_have}
-use Rattle.script_tokens.proofs.Wording.{IsWord, AreWords, decimal_word, hex_word_word, sid_word_word, profile_word_word, time_word_word, keyword_text, name_word}
-use Rattle.script_tokens.specs.Reading.{Spelled}
 
 -- ---- edits and acts
 
@@ -59,21 +44,91 @@ carrier_are (BySub id) h = (keyword_text the.Sub, (decimal_word id (omega (arith
 carrier_are (ByPacket scid) h = (keyword_text the.Packet, (decimal_word scid (omega (arith, h)), tt))
 
 component_are : (sid : Sid) (m : Component) → IsSid sid → IsComponent m → IsLine (edit_lexemes (AddComponent sid m))
-component_are sid (Sound ty sub) s h = (keyword_text the.Audio, (decimal_word ty (omega (arith, h.0)), (keyword_text the.Sub, (decimal_word sub (omega (arith, h.1)), in_are sid s))))
-component_are sid (Stream ty sub) s h = (keyword_text the.Data, (decimal_word ty (omega (arith, h.0)), (keyword_text the.Sub, (decimal_word sub (omega (arith, h.1)), in_are sid s))))
+component_are sid (Sound ty sub) s h = (
+  keyword_text the.Audio,
+  (
+    decimal_word ty (omega (arith, h.0)),
+    (keyword_text the.Sub, (decimal_word sub (omega (arith, h.1)), in_are sid s)),
+  ),
+)
+component_are sid (Stream ty sub) s h = (
+  keyword_text the.Data,
+  (
+    decimal_word ty (omega (arith, h.0)),
+    (keyword_text the.Sub, (decimal_word sub (omega (arith, h.1)), in_are sid s)),
+  ),
+)
 component_are sid (InPackets scid) s h = (keyword_text the.Carry, (decimal_word scid (omega (arith, h)), in_are sid s))
 
 edit_are : (e : Edit) → IsEdit e → IsLine (edit_lexemes e)
-edit_are (AddSub s) h = (keyword_text the.Sub, (decimal_word s.id (let x = h.named in omega (arith, x)), (keyword_text the.At, (decimal_word s.start (let x = h.start in omega (arith, x)), (keyword_text the.Eep, (profile_word_word s.protection h.to_four, (decimal_word s.kbits (let x = h.rate in omega (arith, x)), tt)))))))
+edit_are (AddSub s) h = (
+  keyword_text the.Sub,
+  (
+    decimal_word s.id (let x = h.named in omega (arith, x)),
+    (
+      keyword_text the.At,
+      (
+        decimal_word s.start (let x = h.start in omega (arith, x)),
+        (
+          keyword_text the.Eep,
+          (
+            profile_word_word s.protection h.to_four,
+            (decimal_word s.kbits (let x = h.rate in omega (arith, x)), tt),
+          ),
+        ),
+      ),
+    ),
+  ),
+)
 edit_are (DropSub id) h = (keyword_text the.Drop, (keyword_text the.Sub, (decimal_word id (omega (arith, h)), tt)))
-edit_are (MoveSub id start) h = (keyword_text the.Move, (keyword_text the.Sub, (decimal_word id (omega (arith, h.0)), (keyword_text the.At, (decimal_word start (omega (arith, h.1)), tt)))))
-edit_are (RateSub id kbits) h = (keyword_text the.Rate, (keyword_text the.Sub, (decimal_word id (omega (arith, h.0)), (decimal_word kbits (omega (arith, h.1)), tt))))
+edit_are (MoveSub id start) h = (
+  keyword_text the.Move,
+  (
+    keyword_text the.Sub,
+    (decimal_word id (omega (arith, h.0)), (keyword_text the.At, (decimal_word start (omega (arith, h.1)), tt))),
+  ),
+)
+edit_are (RateSub id kbits) h = (
+  keyword_text the.Rate,
+  (
+    keyword_text the.Sub,
+    (decimal_word id (omega (arith, h.0)), (decimal_word kbits (omega (arith, h.1)), tt)),
+  ),
+)
 edit_are (AddService sid) h = (keyword_text the.Service, (sid_word_word sid h, tt))
 edit_are (DropService sid) h = (keyword_text the.Drop, (keyword_text the.Service, (sid_word_word sid h, tt)))
 edit_are (AddComponent sid m) h = component_are sid m h.0 h.1
-edit_are (DropComponent sid c) h = (keyword_text the.Drop, (keyword_text the.Component, both_words (carrier_lexemes c) (within_lexemes sid) (carrier_are c h.1) (in_are sid h.0)))
-edit_are (AddPacket p) h = (keyword_text the.Packet, (decimal_word p.scid (let x = h.named in omega (arith, x)), (groups_are p.dg, (keyword_text the.TypeWord, (decimal_word p.ty (let x = h.typed in omega (arith, x)), (keyword_text the.Sub, (decimal_word p.sub (let x = h.carried in omega (arith, x)), (keyword_text the.Address, (decimal_word p.address (let x = h.to_last in omega (arith, x)), tt)))))))))
-edit_are (DropPacket scid) h = (keyword_text the.Drop, (keyword_text the.Packet, (decimal_word scid (omega (arith, h)), tt)))
+edit_are (DropComponent sid c) h = (
+  keyword_text the.Drop,
+  (
+    keyword_text the.Component,
+    both_words (carrier_lexemes c) (within_lexemes sid) (carrier_are c h.1) (in_are sid h.0),
+  ),
+)
+edit_are (AddPacket p) h = (
+  keyword_text the.Packet,
+  (
+    decimal_word p.scid (let x = h.named in omega (arith, x)),
+    (
+      groups_are p.dg,
+      (
+        keyword_text the.TypeWord,
+        (
+          decimal_word p.ty (let x = h.typed in omega (arith, x)),
+          (
+            keyword_text the.Sub,
+            (
+              decimal_word p.sub (let x = h.carried in omega (arith, x)),
+              (keyword_text the.Address, (decimal_word p.address (let x = h.to_last in omega (arith, x)), tt)),
+            ),
+          ),
+        ),
+      ),
+    ),
+  ),
+)
+edit_are (DropPacket scid) h =
+    (keyword_text the.Drop, (keyword_text the.Packet, (decimal_word scid (omega (arith, h)), tt)))
 
 level_are : (closed : Bool) → IsWord (level_text closed)
 level_are true = keyword_text the.Closed
@@ -81,33 +136,53 @@ level_are false = keyword_text the.Open
 
 moment_are : (m : Moment) → IsMoment m → AreWords (moment_lexemes m)
 moment_are (At time) h = (time_word_word time h, tt)
-moment_are (Early time frames) h = (time_word_word time h.0, (keyword_text the.Early, (decimal_word frames (omega (arith, h.2)), tt)))
+moment_are (Early time frames) h =
+    (time_word_word time h.0, (keyword_text the.Early, (decimal_word frames (omega (arith, h.2)), tt)))
 
 alternative_are : (a : Alternative) → IsAlternative a → AreWords (alternative_lexemes a)
-alternative_are (OfContact contact closed) h = (keyword_text the.Contact, (decimal_word contact (omega (arith, h)), (level_are closed, tt)))
+alternative_are (OfContact contact closed) h =
+    (keyword_text the.Contact, (decimal_word contact (omega (arith, h)), (level_are closed, tt)))
 alternative_are (OfMoment moment) h = (keyword_text the.Until, moment_are moment h)
 alternative_are (OfFrames frames) h = (decimal_word frames (omega (arith, h.1)), tt)
 
 or_are : (all : List Alternative) → AllByRecursion IsAlternative all → AreWords (or_lexemes all)
 or_are [] h = tt
-or_are (a ∷ others) h = (keyword_text the.Or, both_words (alternative_lexemes a) (or_lexemes others) (alternative_are a h.0) (or_are others h.1))
+or_are (a ∷ others) h = (
+  keyword_text the.Or,
+  both_words (alternative_lexemes a) (or_lexemes others)
+      (alternative_are a h.0) (or_are others h.1),
+)
 
 alternatives_are : (all : List Alternative) → AllByRecursion IsAlternative all → AreWords (alternatives_lexemes all)
 alternatives_are [] h = tt
-alternatives_are (a ∷ others) h = both_words (alternative_lexemes a) (or_lexemes others) (alternative_are a h.0) (or_are others h.1)
+alternatives_are (a ∷ others) h =
+    both_words (alternative_lexemes a) (or_lexemes others) (alternative_are a h.0) (or_are others h.1)
 
 condition_are : (c : Condition) → IsCondition c → AreWords (condition_lexemes c)
 condition_are (Contact contact) h = (keyword_text the.Contact, (decimal_word contact (omega (arith, h)), tt))
-condition_are (Time from to) h = (keyword_text the.Time, (time_word_word from h.0, (keyword_text the.To, (time_word_word to h.1, tt))))
+condition_are (Time from to) h =
+    (keyword_text the.Time, (time_word_word from h.0, (keyword_text the.To, (time_word_word to h.1, tt))))
 
 act_are : (a : Act) → IsAct a → IsLine (act_lexemes a)
 act_are (Edits e) h = edit_are e h
 act_are (Wait frames) h = (keyword_text the.Wait, (decimal_word frames (omega (arith, h.1)), tt))
-act_are (WaitContact contact closed) h = (keyword_text the.Wait, (keyword_text the.Contact, (decimal_word contact (omega (arith, h)), (level_are closed, tt))))
+act_are (WaitContact contact closed) h = (
+  keyword_text the.Wait,
+  (
+    keyword_text the.Contact,
+    (decimal_word contact (omega (arith, h)), (level_are closed, tt)),
+  ),
+)
 act_are (Until moment) h = (keyword_text the.Until, moment_are moment h)
 act_are (WaitAny all) h = (keyword_text the.Wait, alternatives_are all h.each)
-act_are (CommitIn delay) h = (keyword_text the.Commit, (keyword_text the.In, (decimal_word delay (omega (arith, h.1)), tt)))
-act_are (CommitAt count) h = (keyword_text the.Commit, (keyword_text the.At, (decimal_word count (omega (arith, h)), tt)))
+act_are (CommitIn delay) h = (
+  keyword_text the.Commit,
+  (keyword_text the.In, (decimal_word delay (omega (arith, h.1)), tt)),
+)
+act_are (CommitAt count) h = (
+  keyword_text the.Commit,
+  (keyword_text the.At, (decimal_word count (omega (arith, h)), tt)),
+)
 act_are Join h = (keyword_text the.Join, tt)
 act_are Settle h = (keyword_text the.Settle, tt)
 
@@ -123,43 +198,66 @@ AreNamed names = (n : ℕ) → n < length names → IsWord (name_at names n)
 closing_are : (d : ℕ) → IsLine (closing d).lexemes
 closing_are d = (keyword_text the.CloseBrace, tt)
 
-block_are : (names : List (List ℕ)) (known depth d : ℕ) → known ≤ length names → AreNamed names → (b : Block) → IsInBounds known depth b → AreLines (block_lines names d b)
+block_are : (names : List (List ℕ)) (known depth d : ℕ) → known ≤ length names → AreNamed names → (b : Block)
+    → IsInBounds known depth b → AreLines (block_lines names d b)
 block_are names known depth d le are nothing h = tt
-block_are names known depth d le are (basic n act rest) h = (act_are act h.0, block_are names known depth d le are rest h.1)
-block_are names known depth d le are (stop n rest) h = ((keyword_text the.End, tt), block_are names known depth d le are rest h)
+block_are names known depth d le are (basic n act rest) h =
+    (act_are act h.0, block_are names known depth d le are rest h.1)
+block_are names known depth d le are (stop n rest) h =
+    ((keyword_text the.End, tt), block_are names known depth d le are rest h)
 block_are names known depth d le are (when n condition first rest) h = (
-  (keyword_text the.If, both_words (condition_lexemes condition) _ (condition_are condition h.1) (keyword_text the.OpenBrace, tt)),
-  lines_both (block_lines names (d + 1) first) _ (block_are names known (depth - 1) (d + 1) le are first h.2) (closing_are d, block_are names known depth d le are rest h.3),
+  (
+    keyword_text the.If,
+    both_words (condition_lexemes condition) _ (condition_are condition h.1)
+        (keyword_text the.OpenBrace, tt),
+  ),
+  lines_both (block_lines names (d + 1) first) _ (block_are names known (depth - 1) (d + 1) le are first h.2)
+      (closing_are d, block_are names known depth d le are rest h.3),
 )
 block_are names known depth d le are (either n condition first second rest) h = (
-  (keyword_text the.If, both_words (condition_lexemes condition) _ (condition_are condition h.1) (keyword_text the.OpenBrace, tt)),
+  (
+    keyword_text the.If,
+    both_words (condition_lexemes condition) _ (condition_are condition h.1)
+        (keyword_text the.OpenBrace, tt),
+  ),
   lines_both (block_lines names (d + 1) first) _ (block_are names known (depth - 1) (d + 1) le are first h.2) (
     (keyword_text the.CloseBrace, (keyword_text the.Else, (keyword_text the.OpenBrace, tt))),
-    lines_both (block_lines names (d + 1) second) _ (block_are names known (depth - 1) (d + 1) le are second h.3) (closing_are d, block_are names known depth d le are rest h.4),
+    lines_both (block_lines names (d + 1) second) _ (block_are names known (depth - 1) (d + 1) le are second h.3)
+        (closing_are d, block_are names known depth d le are rest h.4),
   ),
 )
 block_are names known depth d le are (repeat n times body rest) h = (
   (keyword_text the.Repeat, (decimal_word times (omega (arith, h.2)), (keyword_text the.OpenBrace, tt))),
-  lines_both (block_lines names (d + 1) body) _ (block_are names known (depth - 1) (d + 1) le are body h.3) (closing_are d, block_are names known depth d le are rest h.4),
+  lines_both (block_lines names (d + 1) body) _ (block_are names known (depth - 1) (d + 1) le are body h.3)
+      (closing_are d, block_are names known depth d le are rest h.4),
 )
 block_are names known depth d le are (forever n body rest) h = (
   (keyword_text the.Forever, (keyword_text the.OpenBrace, tt)),
-  lines_both (block_lines names (d + 1) body) _ (block_are names known (depth - 1) (d + 1) le are body h.1) (closing_are d, block_are names known depth d le are rest h.2),
+  lines_both (block_lines names (d + 1) body) _ (block_are names known (depth - 1) (d + 1) le are body h.1)
+      (closing_are d, block_are names known depth d le are rest h.2),
 )
-block_are names known depth d le are (apply n number named rest) h = ((keyword_text the.Apply, (are number (omega (arith, h.0, le)), tt)), block_are names known depth d le are rest h.1)
+block_are names known depth d le are (apply n number named rest) h =
+    ((keyword_text the.Apply, (are number (omega (arith, h.0, le)), tt)), block_are names known depth d le are rest h.1)
 
 -- the tokens of two lists of lines
 all_both : (xs ys : List Line) → all_words (xs ++ ys) ≡ all_words xs ++ all_words ys
 all_both [] ys = refl
-all_both (x ∷ xs) ys = ap (λ (ws : Spelled). x.lexemes ++ ws) (all_both xs ys) ∙ sym (append_assoc x.lexemes (all_words xs) (all_words ys))
+all_both (x ∷ xs) ys = ap (λ (ws : Spelled). x.lexemes ++ ws) (all_both xs ys)
+    ∙ sym (append_assoc x.lexemes (all_words xs) (all_words ys))
 
-body_all : (body rest : List Line) (b r : Spelled) (d : ℕ) → all_words body ≡ b → all_words rest ≡ r → all_words (body ++ closing d ∷ rest) ≡ b ++ letters the.CloseBrace ∷ r
-body_all body rest b r d e f = all_both body (closing d ∷ rest) ∙ ap (λ (ws : Spelled). ws ++ letters the.CloseBrace ∷ all_words rest) e ∙ ap (λ (ws : Spelled). b ++ letters the.CloseBrace ∷ ws) f
+body_all : (body rest : List Line) (b r : Spelled) (d : ℕ) → all_words body ≡ b → all_words rest ≡ r
+    → all_words (body ++ closing d ∷ rest) ≡ b ++ letters the.CloseBrace ∷ r
+body_all body rest b r d e f = all_both body (closing d ∷ rest)
+    ∙ ap (λ (ws : Spelled). ws ++ letters the.CloseBrace ∷ all_words rest) e
+    ∙ ap (λ (ws : Spelled). b ++ letters the.CloseBrace ∷ ws) f
 
 -- the first line of `if`, and what follows it
-tested : (condition : Condition) (us ws : Spelled) → us ≡ ws → if_lexemes condition ++ us ≡ letters the.If ∷ (condition_lexemes condition ++ letters the.OpenBrace ∷ ws)
+tested : (condition : Condition) (us ws : Spelled) → us ≡ ws → if_lexemes condition
+    ++ us ≡ letters the.If ∷ (condition_lexemes condition ++ letters the.OpenBrace ∷ ws)
 tested condition us ws e =
-    ap (λ (ts : Spelled). letters the.If ∷ ts) (append_assoc (condition_lexemes condition) (letters the.OpenBrace ∷ []) us ∙ ap (λ (ts : Spelled). condition_lexemes condition ++ letters the.OpenBrace ∷ ts) e)
+    ap (λ (ts : Spelled). letters the.If ∷ ts)
+    (append_assoc (condition_lexemes condition) (letters the.OpenBrace ∷ []) us
+    ∙ ap (λ (ts : Spelled). condition_lexemes condition ++ letters the.OpenBrace ∷ ts) e)
 
 block_all : (names : List (List ℕ)) (d : ℕ) (b : Block) → all_words (block_lines names d b) ≡ block_lexemes names b
 block_all names d nothing = refl
@@ -167,19 +265,28 @@ block_all names d (basic n act rest) = ap (λ (ws : Spelled). act_lexemes act ++
 block_all names d (stop n rest) = ap (λ (ws : Spelled). letters the.End ∷ ws) (block_all names d rest)
 block_all names d (when n condition first rest) =
     tested condition _ _
-    (body_all (block_lines names (d + 1) first) (block_lines names d rest) _ _ d (block_all names (d + 1) first) (block_all names d rest))
+    (body_all (block_lines names (d + 1) first) (block_lines names d rest) _ _ d (block_all names (d + 1) first)
+    (block_all names d rest))
 block_all names d (either n condition first second rest) =
     tested condition _ _
-    (all_both (block_lines names (d + 1) first) _ ∙ ap (λ (ws : Spelled). ws ++ letters the.CloseBrace ∷ letters the.Else ∷ letters the.OpenBrace ∷ all_words (block_lines names (d + 1) second ++ closing d ∷ block_lines names d rest)) (block_all names (d + 1) first)
-    ∙ ap (λ (ws : Spelled). block_lexemes names first ++ letters the.CloseBrace ∷ letters the.Else ∷ letters the.OpenBrace ∷ ws)
-    (body_all (block_lines names (d + 1) second) (block_lines names d rest) _ _ d (block_all names (d + 1) second) (block_all names d rest)))
+    (all_both (block_lines names (d + 1) first) _ ∙ ap
+    (λ (ws : Spelled). ws ++ letters the.CloseBrace ∷ letters the.Else ∷ letters the.OpenBrace
+    ∷ all_words (block_lines names (d + 1) second ++ closing d ∷ block_lines names d rest))
+    (block_all names (d + 1) first)
+    ∙ ap (λ (ws : Spelled). block_lexemes names first ++ letters the.CloseBrace ∷ letters the.Else
+    ∷ letters the.OpenBrace ∷ ws)
+    (body_all (block_lines names (d + 1) second) (block_lines names d rest) _ _ d (block_all names (d + 1) second)
+    (block_all names d rest)))
 block_all names d (repeat n times body rest) =
     ap (λ (ws : Spelled). letters the.Repeat ∷ decimal times ∷ letters the.OpenBrace ∷ ws)
-    (body_all (block_lines names (d + 1) body) (block_lines names d rest) _ _ d (block_all names (d + 1) body) (block_all names d rest))
+    (body_all (block_lines names (d + 1) body) (block_lines names d rest) _ _ d (block_all names (d + 1) body)
+    (block_all names d rest))
 block_all names d (forever n body rest) =
     ap (λ (ws : Spelled). letters the.Forever ∷ letters the.OpenBrace ∷ ws)
-    (body_all (block_lines names (d + 1) body) (block_lines names d rest) _ _ d (block_all names (d + 1) body) (block_all names d rest))
-block_all names d (apply n number named rest) = ap (λ (ws : Spelled). letters the.Apply ∷ name_at names number ∷ ws) (block_all names d rest)
+    (body_all (block_lines names (d + 1) body) (block_lines names d rest) _ _ d (block_all names (d + 1) body)
+    (block_all names d rest))
+block_all names d (apply n number named rest) =
+    ap (λ (ws : Spelled). letters the.Apply ∷ name_at names number ∷ ws) (block_all names d rest)
 
 -- ---- a script
 
@@ -198,7 +305,31 @@ reserve_are (ReserveOne mode) = (keyword_text the.Reserve, (decimal_word 1 (omeg
 reserve_are ReserveTwo = (keyword_text the.Reserve, (decimal_word 2 (omega arith), tt))
 
 header_are : (h : Plan) → IsPlan h → AreLines (header_lines h)
-header_are h is = ((keyword_text the.Ensemble, (hex_word_word h.eid is.ensemble, mode_are (layout_mode h.layout))), ((keyword_text the.Period, (decimal_word h.period (let x = is.period_to in omega (arith, x)), (keyword_text the.Notice, (decimal_word h.notice (let x = is.notice_to in omega (arith, x)), (keyword_text the.Budget, (decimal_word h.budget (let x = is.budget_to in omega (arith, x)), reserve_are h.layout)))))), tt))
+header_are h is = (
+  (keyword_text the.Ensemble, (hex_word_word h.eid is.ensemble, mode_are (layout_mode h.layout))),
+  (
+    (
+      keyword_text the.Period,
+      (
+        decimal_word h.period (let x = is.period_to in omega (arith, x)),
+        (
+          keyword_text the.Notice,
+          (
+            decimal_word h.notice (let x = is.notice_to in omega (arith, x)),
+            (
+              keyword_text the.Budget,
+              (
+                decimal_word h.budget (let x = is.budget_to in omega (arith, x)),
+                reserve_are h.layout,
+              ),
+            ),
+          ),
+        ),
+      ),
+    ),
+    tt,
+  ),
+)
 
 all_rest : (x : Item) (xs : List Item) → All IsItem (x ∷ xs) → All IsItem xs
 all_rest x xs h k d lt = h (suc k) d (omega arith)
@@ -211,18 +342,23 @@ items_all : (is : List Item) → all_words (items_lines is) ≡ items_lexemes is
 items_all [] = refl
 items_all (i ∷ is) = ap (λ (ws : Spelled). edit_lexemes i.edit ++ ws) (items_all is)
 
-defined_are : (names : List (List ℕ)) (n : ℕ) (bs : List (List Statement)) → n + length bs ≤ length names → AreNamed names → AllFit n bs → AreLines (defined_lines names n bs)
+defined_are : (names : List (List ℕ)) (n : ℕ) (bs : List (List Statement)) → n + length bs ≤ length names
+    → AreNamed names → AllFit n bs → AreLines (defined_lines names n bs)
 defined_are names n [] le are h = tt
 defined_are names n (b ∷ bs) le are h = (
   (keyword_text the.Define, (are n (omega (arith, le)), (keyword_text the.OpenBrace, tt))),
-  lines_both (block_lines names 1 (block_of [] b)) _ (block_are names n 15 1 (omega (arith, le)) are (block_of [] b) h.0) (closing_are 0, defined_are names (n + 1) bs (omega (arith, le)) are h.1),
+  lines_both (block_lines names 1 (block_of [] b)) _
+      (block_are names n 15 1 (omega (arith, le)) are (block_of [] b) h.0)
+      (closing_are 0, defined_are names (n + 1) bs (omega (arith, le)) are h.1),
 )
 
-defined_all : (names : List (List ℕ)) (n : ℕ) (bs : List (List Statement)) → all_words (defined_lines names n bs) ≡ defined_lexemes names n bs
+defined_all : (names : List (List ℕ)) (n : ℕ) (bs : List (List Statement))
+    → all_words (defined_lines names n bs) ≡ defined_lexemes names n bs
 defined_all names n [] = refl
 defined_all names n (b ∷ bs) =
     ap (λ (ws : Spelled). letters the.Define ∷ name_at names n ∷ letters the.OpenBrace ∷ ws)
-    (body_all (block_lines names 1 (block_of [] b)) (defined_lines names (n + 1) bs) _ _ 0 (block_all names 1 (block_of [] b)) (defined_all names (n + 1) bs))
+    (body_all (block_lines names 1 (block_of [] b)) (defined_lines names (n + 1) bs) _ _ 0
+    (block_all names 1 (block_of [] b)) (defined_all names (n + 1) bs))
 
 reserve_all : (l : FrameLayout) → reserve_lexemes l ++ [] ≡ reserve_lexemes l
 reserve_all (Whole mode) = refl
@@ -230,25 +366,30 @@ reserve_all (ReserveOne mode) = refl
 reserve_all ReserveTwo = refl
 
 header_all : (h : Plan) → all_words (header_lines h) ≡ header_lexemes h
-header_all h = ap (λ (ws : Spelled). letters the.Ensemble ∷ hex_text h.eid ∷ (mode_lexemes (layout_mode h.layout) ++ limits_lexemes h ws)) (reserve_all h.layout)
+header_all h = ap (λ (ws : Spelled). letters the.Ensemble ∷ hex_text h.eid
+    ∷ (mode_lexemes (layout_mode h.layout) ++ limits_lexemes h ws)) (reserve_all h.layout)
 
 tree_all : (t : Tree) → all_words (tree_lines t) ≡ tree_lexemes t
 tree_all t =
     let body : List Line = line 0 (letters the.Begin ∷ []) ∷ block_lines t.names 0 (block_of [] t.statements) in
     let later : List Line = defined_lines t.names 0 t.blocks ++ body in
-    all_both (header_lines t.header) (items_lines t.items ++ later) ∙ ap (λ (ws : Spelled). ws ++ all_words (items_lines t.items ++ later)) (header_all t.header)
+    all_both (header_lines t.header) (items_lines t.items ++ later)
+    ∙ ap (λ (ws : Spelled). ws ++ all_words (items_lines t.items ++ later)) (header_all t.header)
     ∙ ap (λ (ws : Spelled). header_lexemes t.header ++ ws) (
     all_both (items_lines t.items) later ∙ ap (λ (ws : Spelled). ws ++ all_words later) (items_all t.items)
     ∙ ap (λ (ws : Spelled). items_lexemes t.items ++ ws) (
-    all_both (defined_lines t.names 0 t.blocks) body ∙ ap (λ (ws : Spelled). ws ++ all_words body) (defined_all t.names 0 t.blocks)
-    ∙ ap (λ (ws : Spelled). defined_lexemes t.names 0 t.blocks ++ letters the.Begin ∷ ws) (block_all t.names 0 (block_of [] t.statements))))
+    all_both (defined_lines t.names 0 t.blocks) body ∙ ap (λ (ws : Spelled). ws ++ all_words body)
+    (defined_all t.names 0 t.blocks)
+    ∙ ap (λ (ws : Spelled). defined_lexemes t.names 0 t.blocks ++ letters the.Begin ∷ ws)
+    (block_all t.names 0 (block_of [] t.statements))))
 
 tree_are : (t : Tree) → IsScript t → AreLines (tree_lines t)
 tree_are t s =
     let are = name_among t.names s.named in
     let le : 0 + length t.blocks ≤ length t.names = (let e = s.defined in omega (arith, e)) in
     let known : length t.blocks ≤ length t.names = omega (arith, le) in
-    lines_both (header_lines t.header) _ (header_are t.header s.headed) (lines_both (items_lines t.items) _ (items_are t.items s.adding) (
+    lines_both (header_lines t.header) _ (header_are t.header s.headed)
+    (lines_both (items_lines t.items) _ (items_are t.items s.adding) (
     lines_both (defined_lines t.names 0 t.blocks) _ (defined_are t.names 0 t.blocks le are s.blocks_fit) (
       (keyword_text the.Begin, tt),
       block_are t.names (length t.blocks) 16 0 known are (block_of [] t.statements) s.fits,
@@ -257,4 +398,5 @@ tree_are t s =
 pub printed_denotes : (text : List ℕ) (t : Tree) → IsScript t → text ≡ text_of_lines (tree_lines t) → Denotes text t
 printed_denotes text t s e =
     let h = lines_have (tree_lines t) (tree_are t s) in
-    subst (λ (b : List ℕ). Denotes b t) (sym e) (subst (λ (ws : Spelled). HasLexemes (text_of_lines (tree_lines t)) ws) (tree_all t) h)
+    subst (λ (b : List ℕ). Denotes b t) (sym e)
+    (subst (λ (ws : Spelled). HasLexemes (text_of_lines (tree_lines t)) ws) (tree_all t) h)

@@ -1,17 +1,12 @@
 -- The tokens of a text are those among its pieces.
-use Rattle.std.proofs.Common.{◌≡◌, ℕ, ◌+◌, ◌-◌, List, [], ◌∷◌, ◌++◌, length, length-append, slice_range, refl, sym, ap, ◌∙◌, subst, append_assoc, arith}
-use Rattle.std.proofs.Math.Seq.{drop-append_seam, take-append_seam}
-use Rattle.script_tokens.specs.declared.token.Token.{Token}
+use Rattle.script_front.proofs.Words.{[], ◌++◌, ◌+◌, ◌-◌, ◌∙◌, ◌∷◌, ◌≡◌, AreTokens, HasLines, IsScriptOf, LineEnd, List}
+use Rattle.script_front.proofs.Words.{Ok, Piece, Result, Token, TokensFit, Tree, ap, append_assoc, arith, atom, blank}
+use Rattle.script_front.proofs.Words.{brace, comment, drop-append_seam, first_position, kind_of, length, length-append}
+use Rattle.script_front.proofs.Words.{lexemes_in, lexemes_of, lines_of, position_after, position_past, refl}
+use Rattle.script_front.proofs.Words.{script_limits, slice_range, subst, sym, take-append_seam, text_of, tokens_of}
+use Rattle.script_front.proofs.Words.{tree_lexemes, ℕ}
 use Rattle.script_tokens.specs.declared.token.Kind.{Kind}
-use Rattle.script_tokens.specs.declared.token.Kind.TheVariants.{LineEnd}
 use Rattle.script_tokens.specs.declared.token.Place.{Place}
-use Rattle.script_tokens.specs.Bytes.{kind_of, position_after, position_past, first_position}
-use Rattle.script_tokens.specs.Texts.{Piece, blank, comment, brace, atom, text_of, tokens_of, AreTokens, TokensFit, script_limits}
-use Rattle.script_tokens.specs.Reading.{lexemes_of, lines_of}
-use Rattle.script_front.specs.Tree.{Tree}
-use Rattle.script_front.specs.Spelled.{tree_lexemes, HasLines}
-use Rattle.script_front.specs.Denoting.{lexemes_in, IsScriptOf}
-use Rattle.std.specs.Prelude.{Result, Ok}
 use Rattle.script_tokens.specs.declared.fault.ScriptFault.{ScriptFault}
 use Rattle.script_tokens.specs.declared.token.Inside.TheVariants.{Nothing}
 use Rattle.script_tokens.specs.Lexing.{lexed}
@@ -23,7 +18,8 @@ after_byte p k = refl
 
 pub past_bytes : (p : Place) (bs : List ℕ) → (position_past p bs).at ≡ p.at + length bs
 past_bytes p [] = omega arith
-past_bytes p (b ∷ bs) = let later = past_bytes (position_after p (kind_of b)) bs in let step = after_byte p (kind_of b) in omega (arith, later, step)
+past_bytes p (b ∷ bs) = let later = past_bytes (position_after p (kind_of b)) bs in let step =
+    after_byte p (kind_of b) in omega (arith, later, step)
 
 seam : (front bs rest : List ℕ) (a : ℕ) → a ≡ length front → slice_range (front ++ (bs ++ rest)) a (a + length bs) ≡ bs
 seam front bs rest a e =
@@ -33,30 +29,44 @@ seam front bs rest a e =
 next_at : (p : Place) (front bs : List ℕ) → p.at ≡ length front → (position_past p bs).at ≡ length (front ++ bs)
 next_at p front bs e = let l = length-append front bs in let m = past_bytes p bs in omega (arith, l, m, e)
 
-not_stopped : (front bs : List ℕ) (ts : List Token) (ps : List Piece) → lexemes_of ((front ++ bs) ++ text_of ps) ts ≡ lexemes_in ps → lexemes_of (front ++ (bs ++ text_of ps)) ts ≡ lexemes_in ps
+not_stopped : (front bs : List ℕ) (ts : List Token) (ps : List Piece)
+    → lexemes_of ((front ++ bs) ++ text_of ps) ts ≡ lexemes_in ps
+    → lexemes_of (front ++ (bs ++ text_of ps)) ts ≡ lexemes_in ps
 not_stopped front bs ts ps h = ap (λ (t : List ℕ). lexemes_of t ts) (sym (append_assoc front bs (text_of ps))) ∙ h
 
-slices : (front : List ℕ) (p : Place) (ps : List Piece) → p.at ≡ length front → lexemes_of (front ++ text_of ps) (tokens_of p ps) ≡ lexemes_in ps
+slices : (front : List ℕ) (p : Place) (ps : List Piece) → p.at ≡ length front
+    → lexemes_of (front ++ text_of ps) (tokens_of p ps) ≡ lexemes_in ps
 slices front p [] e = refl
 slices front p (blank b ∷ ps) e =
-    not_stopped front (b ∷ []) (tokens_of (position_past p (b ∷ [])) ps) ps (slices (front ++ b ∷ []) (position_past p (b ∷ [])) ps (next_at p front (b ∷ []) e))
+    not_stopped front (b ∷ []) (tokens_of (position_past p (b ∷ [])) ps) ps
+    (slices (front ++ b ∷ []) (position_past p (b ∷ [])) ps (next_at p front (b ∷ []) e))
 slices front p (comment bs ∷ ps) e =
-    not_stopped front (35 ∷ bs) (tokens_of (position_past p (35 ∷ bs)) ps) ps (slices (front ++ 35 ∷ bs) (position_past p (35 ∷ bs)) ps (next_at p front (35 ∷ bs) e))
+    not_stopped front (35 ∷ bs) (tokens_of (position_past p (35 ∷ bs)) ps) ps
+    (slices (front ++ 35 ∷ bs) (position_past p (35 ∷ bs)) ps (next_at p front (35 ∷ bs) e))
 slices front p (brace b ∷ ps) e =
-    let here : slice_range (front ++ (b ∷ text_of ps)) p.at (p.at + 1) ≡ b ∷ [] = seam front (b ∷ []) (text_of ps) p.at e in
+    let here : slice_range (front ++ (b ∷ text_of ps)) p.at (p.at + 1) ≡ b ∷ [] =
+    seam front (b ∷ []) (text_of ps) p.at e in
     ap (λ (w : List ℕ). w ∷ lexemes_of (front ++ (b ∷ text_of ps)) (tokens_of (position_past p (b ∷ [])) ps)) here
-    ∙ ap (λ (ws : List (List ℕ)). (b ∷ []) ∷ ws) (not_stopped front (b ∷ []) (tokens_of (position_past p (b ∷ [])) ps) ps (slices (front ++ b ∷ []) (position_past p (b ∷ [])) ps (next_at p front (b ∷ []) e)))
+    ∙ ap (λ (ws : List (List ℕ)). (b ∷ []) ∷ ws)
+    (not_stopped front (b ∷ []) (tokens_of (position_past p (b ∷ [])) ps) ps
+    (slices (front ++ b ∷ []) (position_past p (b ∷ [])) ps (next_at p front (b ∷ []) e)))
 slices front p (atom bs ∷ ps) e =
-    ap (λ (w : List ℕ). w ∷ lexemes_of (front ++ (bs ++ text_of ps)) (tokens_of (position_past p bs) ps)) (seam front bs (text_of ps) p.at e)
-    ∙ ap (λ (ws : List (List ℕ)). bs ∷ ws) (not_stopped front bs (tokens_of (position_past p bs) ps) ps (slices (front ++ bs) (position_past p bs) ps (next_at p front bs e)))
+    ap (λ (w : List ℕ). w ∷ lexemes_of (front ++ (bs ++ text_of ps)) (tokens_of (position_past p bs) ps))
+    (seam front bs (text_of ps) p.at e)
+    ∙ ap (λ (ws : List (List ℕ)). bs ∷ ws)
+    (not_stopped front bs (tokens_of (position_past p bs) ps) ps
+    (slices (front ++ bs) (position_past p bs) ps (next_at p front bs e)))
 
 -- a tree whose tokens the text has, on their lines, is that of the text
-pub is_script : (text : List ℕ) (tokens : List Token) (t : Tree) → AreTokens text tokens → lexemes_of text tokens ≡ tree_lexemes t → HasLines (lines_of tokens) t → IsScriptOf text t
+pub is_script : (text : List ℕ) (tokens : List Token) (t : Tree) → AreTokens text tokens
+    → lexemes_of text tokens ≡ tree_lexemes t → HasLines (lines_of tokens) t → IsScriptOf text t
 is_script text tokens t h spelled lined =
     let cut = h.1 in
-    let first : lexemes_of (text_of cut.pieces) (tokens_of first_position cut.pieces) ≡ lexemes_in cut.pieces = slices [] first_position cut.pieces refl in
+    let first : lexemes_of (text_of cut.pieces) (tokens_of first_position cut.pieces) ≡ lexemes_in cut.pieces =
+    slices [] first_position cut.pieces refl in
     let same : lexemes_of text tokens ≡ lexemes_in cut.pieces =
-    ap (λ (b : List ℕ). lexemes_of b tokens) (sym cut.whole) ∙ ap (λ (ts : List Token). lexemes_of (text_of cut.pieces) ts) (sym cut.are) ∙ first in
+    ap (λ (b : List ℕ). lexemes_of b tokens) (sym cut.whole)
+    ∙ ap (λ (ts : List Token). lexemes_of (text_of cut.pieces) ts) (sym cut.are) ∙ first in
     record {
       pieces = cut.pieces;
       formed = cut.formed;
@@ -68,22 +78,32 @@ is_script text tokens t h spelled lined =
     }
 
 -- the pieces of a script's text give its tokens
-pub are_tokens : (text : List ℕ) (t : Tree) → (s : IsScriptOf text t) → AreTokens text (tokens_of first_position s.pieces)
-are_tokens text t s = (s.short, record { pieces = s.pieces; formed = s.formed; whole = s.whole; are = refl; within = s.within })
+pub are_tokens : (text : List ℕ) (t : Tree) → (s : IsScriptOf text t)
+    → AreTokens text (tokens_of first_position s.pieces)
+are_tokens text t s = (
+  s.short,
+  record { pieces = s.pieces; formed = s.formed; whole = s.whole; are = refl; within = s.within },
+)
 
 ok_same : (x y : List Token) (r : Result (List Token) ScriptFault) → r ≡ Ok x → r ≡ Ok y → x ≡ y
 ok_same x y r e f = let g = sym e ∙ f in cc
 
 -- and it has no others
-pub are_its_tokens : (text : List ℕ) (tokens : List Token) (t : Tree) → AreTokens text tokens → (s : IsScriptOf text t) → tokens ≡ tokens_of first_position s.pieces
+pub are_its_tokens : (text : List ℕ) (tokens : List Token) (t : Tree) → AreTokens text tokens → (s : IsScriptOf text t)
+    → tokens ≡ tokens_of first_position s.pieces
 are_its_tokens text tokens t h s =
     let there = are_tokens text t s in
-    let one : lexed script_limits Nothing first_position text ≡ Ok tokens = (texts_are_cut script_limits text tokens).1 h.1 in
-    let other : lexed script_limits Nothing first_position text ≡ Ok (tokens_of first_position s.pieces) = (texts_are_cut script_limits text (tokens_of first_position s.pieces)).1 there.1 in
+    let one : lexed script_limits Nothing first_position text ≡ Ok tokens =
+    (texts_are_cut script_limits text tokens).1 h.1 in
+    let other : lexed script_limits Nothing first_position text ≡ Ok (tokens_of first_position s.pieces) =
+    (texts_are_cut script_limits text (tokens_of first_position s.pieces)).1 there.1 in
     ok_same _ _ _ one other
 
-pub denoted_words : (text : List ℕ) (tokens : List Token) (t : Tree) → AreTokens text tokens → IsScriptOf text t → lexemes_of text tokens ≡ tree_lexemes t
+pub denoted_words : (text : List ℕ) (tokens : List Token) (t : Tree) → AreTokens text tokens → IsScriptOf text t
+    → lexemes_of text tokens ≡ tree_lexemes t
 denoted_words text tokens t h s =
     let same = are_its_tokens text tokens t h s in
-    let first : lexemes_of (text_of s.pieces) (tokens_of first_position s.pieces) ≡ lexemes_in s.pieces = slices [] first_position s.pieces refl in
-    ap (λ (ts : List Token). lexemes_of text ts) same ∙ ap (λ (b : List ℕ). lexemes_of b (tokens_of first_position s.pieces)) (sym s.whole) ∙ first ∙ s.spelled
+    let first : lexemes_of (text_of s.pieces) (tokens_of first_position s.pieces) ≡ lexemes_in s.pieces =
+    slices [] first_position s.pieces refl in
+    ap (λ (ts : List Token). lexemes_of text ts) same ∙ ap
+    (λ (b : List ℕ). lexemes_of b (tokens_of first_position s.pieces)) (sym s.whole) ∙ first ∙ s.spelled

@@ -1,9 +1,14 @@
 -- The reading of items: what is read is spelled so, on its lines, and what is spelled so is read.
-use Rattle.std.proofs.Common.{◌≡◌, ◌≢◌, ℕ, zero, suc, ◌+◌, ◌-◌, ◌≤◌, List, [], ◌∷◌, ◌++◌, length, drop, refl, sym, ap, ◌∙◌, append_assoc, arith}
+use Rattle.script_front.proofs.Words.{[], ◌++◌, ◌+◌, ◌-◌, ◌>>=◌, ◌∙◌, ◌∷◌, ◌≡◌, ◌≢◌, ◌≤◌, AddComponent, AddPacket}
+use Rattle.script_front.proofs.Words.{AddService, AddSub, Adds, All, Edit, HasMore, Input, IsItem, Item, ItemKeyword}
+use Rattle.script_front.proofs.Words.{Items, ItemsOn, List, None, Option, ReadsItems, Some, Spelled, added_by}
+use Rattle.script_front.proofs.Words.{after_items, ap, append-nil, append_assoc, arith, bind_some, drop, edit_keyword}
+use Rattle.script_front.proofs.Words.{edit_lexemes, finish, first_item, item_again, item_found, item_from, item_given}
+use Rattle.script_front.proofs.Words.{item_keyword, item_of, item_on, items_from, items_if, items_lexemes, length}
+use Rattle.script_front.proofs.Words.{letters, line_of, refl, statement_of, suc, sym, zero, ℕ}
+use Rattle.script_front.specs.Readers.{items_at}
 use Rattle.script_tokens.specs.declared.first_keyword.ItemKeyword.TheVariants as item
 use Rattle.script_tokens.specs.declared.first_keyword.EditKeyword.TheVariants as edit
-use Rattle.script_front.specs.Readers.{item_from, items_at}
-use Rattle.script_front.proofs.Words.{Edit, AddComponent, AddPacket, AddService, AddSub, added_by, HasMore, ReadsItems, Items, after_items, item_on, items_from, items_if, ItemsOn, edit_lexemes, items_lexemes, Adds, IsItem, Item, finish, item_again, item_found, item_given, bind_some, edit_keyword, item_keyword, item_of, statement_of, letters, Input, Spelled, first_item, line_of, ◌>>=◌, ItemKeyword, append-nil, All, None, Option, Some}
 use Rattle.script_front.proofs.Readings.{component_first, edit_first, edit_rest, edit_begins, item_law}
 
 -- ---- what is read
@@ -22,8 +27,11 @@ all_cons : (i : Item) (is : List Item) → IsItem i → All IsItem is → All Is
 all_cons i is h k zero d lt = h
 all_cons i is h k (suc n) d lt = k n d (omega (arith, lt))
 
-none_read : (left : ℕ) (lines : List ℕ) (ws : Spelled) (p : Items) → first_item ws ≡ None → Some (let q : Items = record { items = []; left = left; rest = ws } in q) ≡ Some p → AreItemsRead left lines ws p
-none_read left lines ws p none e = finish (AreItemsRead left lines ws) _ p e (record { formed = all_nil; counts = omega arith; spelled = refl; lined = tt; stops = none })
+none_read : (left : ℕ) (lines : List ℕ) (ws : Spelled) (p : Items) → first_item ws ≡ None
+    → Some (let q : Items = record { items = []; left = left; rest = ws } in q) ≡ Some p → AreItemsRead left lines ws p
+none_read left lines ws p none e =
+    finish (AreItemsRead left lines ws) _ p e
+    (record { formed = all_nil; counts = omega arith; spelled = refl; lined = tt; stops = none })
 
 record Later (i : Item) (r : Option Items) (p : Items) : Type 0 where
   more : Items
@@ -34,21 +42,28 @@ later_some : (i : Item) (r : Option Items) (p : Items) → after_items (i ∷ []
 later_some i None p e = absurd cc
 later_some i (Some q) p e = record { more = q; read = refl; is = e }
 
-item_spelled : (ws vs : Spelled) (k : ItemKeyword) (e : Edit) (later : Spelled) → ws ≡ letters (item_keyword k) ∷ vs → edit_first e ≡ edit.Item k → vs ≡ edit_rest e ++ later → ws ≡ edit_lexemes e ++ later
+item_spelled : (ws vs : Spelled) (k : ItemKeyword) (e : Edit) (later : Spelled) → ws ≡ letters (item_keyword k) ∷ vs
+    → edit_first e ≡ edit.Item k → vs ≡ edit_rest e ++ later → ws ≡ edit_lexemes e ++ later
 item_spelled ws vs k e later begins first spelled =
-    begins ∙ ap (λ j. letters (edit_keyword j) ∷ vs) (sym first) ∙ ap (λ (us : Spelled). letters (edit_keyword (edit_first e)) ∷ us) spelled ∙ sym (ap (λ (us : Spelled). us ++ later) (edit_begins e))
+    begins ∙ ap (λ j. letters (edit_keyword j) ∷ vs) (sym first)
+    ∙ ap (λ (us : Spelled). letters (edit_keyword (edit_first e)) ∷ us) spelled
+    ∙ sym (ap (λ (us : Spelled). us ++ later) (edit_begins e))
 
-pub items_given : (left : ℕ) (lines : List ℕ) (ws : Spelled) (p : Items) → items_at left lines ws ≡ Some p → AreItemsRead left lines ws p
+pub items_given : (left : ℕ) (lines : List ℕ) (ws : Spelled) (p : Items) → items_at left lines ws ≡ Some p
+    → AreItemsRead left lines ws p
 unfolding items_at
 items_given zero lines ws p e = chosen (first_item ws) refl e
   where
-    chosen : (r : Option ItemKeyword) → first_item ws ≡ r → items_if 0 ws (λ k. None) r ≡ Some p → AreItemsRead 0 lines ws p
+    chosen : (r : Option ItemKeyword) → first_item ws ≡ r → items_if 0 ws (λ k. None) r ≡ Some p
+        → AreItemsRead 0 lines ws p
     chosen None is f = none_read 0 lines ws p is f
     chosen (Some k) is f = absurd cc
 items_given (suc left) lines ws p e = chosen (items_given left lines) (first_item ws) refl e
   where
-    chosen : ((vs : Spelled) (q : Items) → items_at left lines vs ≡ Some q → AreItemsRead left lines vs q) → (r : Option ItemKeyword) → first_item ws ≡ r
-        → items_if (suc left) ws (items_from (items_at left lines) lines ws) r ≡ Some p → AreItemsRead (suc left) lines ws p
+    chosen : ((vs : Spelled) (q : Items) → items_at left lines vs ≡ Some q → AreItemsRead left lines vs q)
+        → (r : Option ItemKeyword) → first_item ws ≡ r
+        → items_if (suc left) ws (items_from (items_at left lines) lines ws) r ≡ Some p
+        → AreItemsRead (suc left) lines ws p
     chosen given None is f = none_read (suc left) lines ws p is f
     chosen given (Some k) is f = (
         let a = bind_some (item_from k _) _ p f in
@@ -57,7 +72,8 @@ items_given (suc left) lines ws p e = chosen (items_given left lines) (first_ite
         let h = given a.x.1 l.more l.read in
         let here : ws ≡ edit_lexemes a.x.0 ++ a.x.1 = item_spelled ws _ k a.x.0 a.x.1 (item_given ws k is) g.0.2 g.1 in
         let whole : ws ≡ items_lexemes (item_on lines ws a.x.0 ∷ l.more.items) ++ l.more.rest =
-        here ∙ ap (λ (us : Spelled). edit_lexemes a.x.0 ++ us) h.spelled ∙ sym (append_assoc (edit_lexemes a.x.0) (items_lexemes l.more.items) l.more.rest) in
+        here ∙ ap (λ (us : Spelled). edit_lexemes a.x.0 ++ us) h.spelled
+        ∙ sym (append_assoc (edit_lexemes a.x.0) (items_lexemes l.more.items) l.more.rest) in
         finish (AreItemsRead (suc left) lines ws) _ p l.is (record {
           formed = all_cons (item_on lines ws a.x.0) l.more.items (g.0.0, g.0.1) h.formed;
           counts = (let c = h.counts in omega (arith, c));
@@ -74,16 +90,19 @@ abbrev pub items_on : List ℕ → List Item → Spelled → List Item
 items_on lines [] after = []
 items_on lines (i ∷ is) after = item_on lines (items_lexemes (i ∷ is) ++ after) i.edit ∷ items_on lines is after
 
-pub on_same : (lines : List ℕ) (is : List Item) (after : Spelled) → ItemsOn lines is after → items_on lines is after ≡ is
+pub on_same : (lines : List ℕ) (is : List Item) (after : Spelled) → ItemsOn lines is after
+    → items_on lines is after ≡ is
 on_same lines [] after h = refl
 on_same lines (i ∷ is) after h =
-    ap (λ l. (let j : Item = record { line = l; edit = i.edit } in j) ∷ items_on lines is after) (sym h.0) ∙ ap (λ (js : List Item). i ∷ js) (on_same lines is after h.1)
+    ap (λ l. (let j : Item = record { line = l; edit = i.edit } in j) ∷ items_on lines is after) (sym h.0)
+    ∙ ap (λ (js : List Item). i ∷ js) (on_same lines is after h.1)
 
 pub on_added : (lines : List ℕ) (is : List Item) (after : Spelled) → added_by (items_on lines is after) ≡ added_by is
 on_added lines [] after = refl
 on_added lines (i ∷ is) after = ap (λ (es : List Edit). i.edit ∷ es) (on_added lines is after)
 
-pub begins_none : (left : ℕ) (lines : List ℕ) (ws : Spelled) → first_item ws ≡ None → items_at left lines ws ≡ Some (record { items = []; left = left; rest = ws })
+pub begins_none : (left : ℕ) (lines : List ℕ) (ws : Spelled) → first_item ws ≡ None
+    → items_at left lines ws ≡ Some (record { items = []; left = left; rest = ws })
 unfolding items_at
 begins_none zero lines ws none = rw (none) refl
 begins_none (suc left) lines ws none = rw (none) refl
@@ -109,10 +128,13 @@ all_first i is h = h 0 i (omega arith)
 all_later : (i : Item) (is : List Item) → All IsItem (i ∷ is) → All IsItem is
 all_later i is h k d lt = h (suc k) d (omega (arith, lt))
 
-pub items_found : (is : List Item) (left new : ℕ) (lines : List ℕ) (rest : Spelled) → All IsItem is → length is + new ≡ left → first_item rest ≡ None
-    → items_at left lines (items_lexemes is ++ rest) ≡ Some (record { items = items_on lines is rest; left = new; rest = rest })
+pub items_found : (is : List Item) (left new : ℕ) (lines : List ℕ) (rest : Spelled) → All IsItem is
+    → length is + new ≡ left → first_item rest ≡ None
+    → items_at left lines (items_lexemes is ++ rest) ≡ Some
+    (record { items = items_on lines is rest; left = new; rest = rest })
 unfolding items_at
-items_found [] left new lines rest h c none = let e : left ≡ new = omega (arith, c) in rw (e) (begins_none new lines rest none)
+items_found [] left new lines rest h c none = let e : left ≡ new = omega (arith, c) in
+    rw (e) (begins_none new lines rest none)
 items_found (i ∷ is) zero new lines rest h c none = absurd (omega (arith, c))
 items_found (i ∷ is) (suc left) new lines rest h c none =
     let good = all_first i is h in
@@ -120,8 +142,10 @@ items_found (i ∷ is) (suc left) new lines rest h c none =
     let ws : Spelled = items_lexemes (i ∷ is) ++ rest in
     let later : Spelled = items_lexemes is ++ rest in
     let spelled : ws ≡ letters (item_keyword b.key) ∷ (edit_rest i.edit ++ later) =
-    append_assoc (edit_lexemes i.edit) (items_lexemes is) rest ∙ ap (λ (us : Spelled). us ++ later) (edit_begins i.edit) ∙ ap (λ k. letters (edit_keyword k) ∷ (edit_rest i.edit ++ later)) b.first in
-    let first : first_item ws ≡ Some b.key = ap first_item spelled ∙ item_found (item_keyword b.key) (edit_rest i.edit ++ later) ∙ found_again b.key in
+    append_assoc (edit_lexemes i.edit) (items_lexemes is) rest ∙ ap (λ (us : Spelled). us ++ later) (edit_begins i.edit)
+    ∙ ap (λ k. letters (edit_keyword k) ∷ (edit_rest i.edit ++ later)) b.first in
+    let first : first_item ws ≡ Some b.key = ap first_item spelled
+    ∙ item_found (item_keyword b.key) (edit_rest i.edit ++ later) ∙ found_again b.key in
     let edit = (item_law b.key).found i.edit later (good.0, good.1, b.first) in
     let others = items_found is left new lines rest (all_later i is h) (omega (arith, c)) none in
     rw (first, ap (drop 1) spelled, edit, others) refl
@@ -133,21 +157,30 @@ pub record GoesOn (items : List Item) (old left : ℕ) (before now : Input) : Ty
   pub read : items_at old before.lines before.lexemes ≡ after_items items (items_at left before.lines now.lexemes)
   pub same : now.lines ≡ before.lines
 
-after_both : (is : List Item) (x : Item) (r : Option Items) → after_items is (after_items (x ∷ []) r) ≡ after_items (is ++ x ∷ []) r
+after_both : (is : List Item) (x : Item) (r : Option Items)
+    → after_items is (after_items (x ∷ []) r) ≡ after_items (is ++ x ∷ []) r
 after_both is x None = refl
-after_both is x (Some p) = ap (λ (xs : List Item). Some (let q : Items = record { items = xs; left = p.left; rest = p.rest } in q)) (sym (append_assoc is (x ∷ []) p.items))
+after_both is x (Some p) = ap (λ (xs : List Item). Some
+    (let q : Items = record { items = xs; left = p.left; rest = p.rest } in q)) (sym (append_assoc is (x ∷ []) p.items))
 
-pub goes_on : (is js : List Item) (old left : ℕ) (i j k : Input) → GoesOn is old left i j → HasMore is js j k → 1 ≤ left → GoesOn js old (left - 1) i k
+pub goes_on : (is js : List Item) (old left : ℕ) (i j k : Input) → GoesOn is old left i j → HasMore is js j k → 1 ≤ left
+    → GoesOn js old (left - 1) i k
 goes_on is js old zero i j k h m some = absurd (omega (arith, some))
-goes_on is js old (suc left) i j k h m some = let less : suc left - 1 ≡ left = omega arith in rw (m.more, less) (record {
-  read = h.read ∙ ap (λ (ls : List ℕ). after_items is (items_at (suc left) ls j.lexemes)) (sym h.same) ∙ ap (after_items is) (m.read left)
-      ∙ ap (λ (ls : List ℕ). after_items is (after_items (m.item ∷ []) (items_at left ls k.lexemes))) h.same ∙ after_both is m.item (items_at left i.lines k.lexemes);
-  same = m.same ∙ h.same;
-})
+goes_on is js old (suc left) i j k h m some = let less : suc left - 1 ≡ left = omega arith in
+    rw (m.more, less) (record {
+      read = h.read ∙ ap (λ (ls : List ℕ). after_items is (items_at (suc left) ls j.lexemes)) (sym h.same)
+          ∙ ap (after_items is) (m.read left)
+          ∙ ap (λ (ls : List ℕ). after_items is (after_items (m.item ∷ []) (items_at left ls k.lexemes))) h.same
+          ∙ after_both is m.item (items_at left i.lines k.lexemes);
+      same = m.same ∙ h.same;
+    })
 
-pub all_read : (is : List Item) (old left : ℕ) (i j : Input) → GoesOn is old left i j → first_item j.lexemes ≡ None → ReadsItems is old left i j
+pub all_read : (is : List Item) (old left : ℕ) (i j : Input) → GoesOn is old left i j → first_item j.lexemes ≡ None
+    → ReadsItems is old left i j
 all_read is old left i j h none = record {
-  read = h.read ∙ ap (after_items is) (begins_none left i.lines j.lexemes none) ∙ ap (λ (xs : List Item). Some (let q : Items = record { items = xs; left = left; rest = j.lexemes } in q)) (append-nil is);
+  read = h.read ∙ ap (after_items is) (begins_none left i.lines j.lexemes none)
+      ∙ ap (λ (xs : List Item). Some (let q : Items = record { items = xs; left = left; rest = j.lexemes } in q))
+      (append-nil is);
   same = h.same;
 }
 
@@ -155,10 +188,13 @@ some_first : (r : Option ItemKeyword) (lines : List ℕ) (ws : Spelled) → r �
 some_first None lines ws h = absurd (h refl)
 some_first (Some k) lines ws h = refl
 
-pub none_left : (is : List Item) (old left : ℕ) (i j : Input) → GoesOn is old left i j → left ≡ 0 → first_item j.lexemes ≢ None → items_at old i.lines i.lexemes ≡ None
+pub none_left : (is : List Item) (old left : ℕ) (i j : Input) → GoesOn is old left i j → left ≡ 0
+    → first_item j.lexemes ≢ None → items_at old i.lines i.lexemes ≡ None
 unfolding items_at
-none_left is old left i j h none begins = h.read ∙ rw (none, some_first (first_item j.lexemes) i.lines j.lexemes begins) refl
+none_left is old left i j h none begins =
+    h.read ∙ rw (none, some_first (first_item j.lexemes) i.lines j.lexemes begins) refl
 
-pub none_next : (is : List Item) (old left : ℕ) (i j : Input) → GoesOn is old left i j → 1 ≤ left → ((n : ℕ) → items_at (suc n) j.lines j.lexemes ≡ None) → items_at old i.lines i.lexemes ≡ None
+pub none_next : (is : List Item) (old left : ℕ) (i j : Input) → GoesOn is old left i j → 1 ≤ left
+    → ((n : ℕ) → items_at (suc n) j.lines j.lexemes ≡ None) → items_at old i.lines i.lexemes ≡ None
 none_next is old zero i j h some none = absurd (omega (arith, some))
 none_next is old (suc left) i j h some none = h.read ∙ rw (← h.same, none left) refl

@@ -1,25 +1,35 @@
 -- The readings of edits and of statements without a block: what is read is spelled so, and what is spelled so is read.
-use Rattle.std.proofs.Common.{◌≡◌, inl, inr, ℕ, ◌<◌, ◌≤◌, Bool, true, false, [], ◌∷◌, ◌++◌, drop, refl, ap, ◌∙◌, subst, arith}
+use Rattle.script_front.proofs.Words.{[], ◌++◌, ◌<◌, ◌∙◌, ◌∷◌, ◌≡◌, ◌≤◌, Act, ActKeyword, AddComponent, AddPacket}
+use Rattle.script_front.proofs.Words.{AddService, AddSub, Adds, Bool, Carrier, CommitAt, CommitIn, Component}
+use Rattle.script_front.proofs.Words.{DropComponent, DropPacket, DropService, DropSub, Edit, IsAct, IsCarrier}
+use Rattle.script_front.proofs.Words.{IsComponent, IsEdit, IsNewPacket, IsNewSub, IsSid, ItemKeyword, Join, MoveSub}
+use Rattle.script_front.proofs.Words.{RateSub, ReadsAsSpelled, Settle, Some, Sound, Spelled, Stream, Until, Wait}
+use Rattle.script_front.proofs.Words.{WaitAny, WaitContact, act_keyword, act_lexemes, after_itself, ap, arith, below}
+use Rattle.script_front.proofs.Words.{bind_some, both, both_law, built, carried_lexemes, carrier_lexemes}
+use Rattle.script_front.proofs.Words.{component_keyword, decimal, drop, dropping, edit_keyword, edit_lexemes}
+use Rattle.script_front.proofs.Words.{either_given, false, finish, from_one, giving, groups_text, inl, inr, keyed}
+use Rattle.script_front.proofs.Words.{keyed_given, keyed_law, letters, made_found, made_given, moment_at, next_itself}
+use Rattle.script_front.proofs.Words.{number_at, other_next, packet_of, profile_at, profile_text, refl, sid_at}
+use Rattle.script_front.proofs.Words.{sid_text, sub_of, subst, true, values_are_read, within_lexemes, ℕ}
 use Rattle.mux_eep.specs.Sizes.{Profile}
 use Rattle.mux_types.specs.declared.parts.Sub.{Sub}
 use Rattle.mux_types.specs.declared.parts.Packet.{Packet}
-use Rattle.mux_types.specs.declared.parts.Carrier.{Carrier}
-use Rattle.mux_types.specs.declared.parts.Carrier.TheVariants.{Sub as BySub, Packet as ByPacket}
-use Rattle.mux_types.specs.declared.parts.Component.{Component}
-use Rattle.mux_types.specs.declared.parts.Component.TheVariants.{Sound, Stream, Packet as InPackets}
-use Rattle.mux_config.specs.Configuration.{IsSid, IsComponent}
-use Rattle.script_tokens.specs.declared.keyword.Keyword.TheVariants as the
 use Rattle.script_tokens.specs.declared.first_keyword.ComponentKeyword.{ComponentKeyword}
+use Rattle.script_tokens.specs.declared.first_keyword.EditKeyword.{EditKeyword}
+use Rattle.script_tokens.specs.Reading.{either}
+use Rattle.mux_types.specs.declared.parts.Carrier.TheVariants.{Sub as BySub, Packet as ByPacket}
+use Rattle.mux_types.specs.declared.parts.Component.TheVariants.{Packet as InPackets}
+use Rattle.script_front.specs.declared.tree.Act.TheVariants.{Edit as Edits}
+use Rattle.script_front.specs.Readers.{sub_at, service_at, groups_at, new_sub_at, new_packet_at, typed_sub_at}
+use Rattle.script_front.specs.Readers.{component_from, item_from, carrier_at, dropped_at, moved_at, rated_at, edit_from}
+use Rattle.script_front.specs.Readers.{committing_at, act_from}
+use Rattle.script_tokens.specs.declared.keyword.Keyword.TheVariants as the
 use Rattle.script_tokens.specs.declared.first_keyword.ComponentKeyword.TheVariants as component
 use Rattle.script_tokens.specs.declared.first_keyword.ItemKeyword.TheVariants as item
-use Rattle.script_tokens.specs.declared.first_keyword.EditKeyword.{EditKeyword}
 use Rattle.script_tokens.specs.declared.first_keyword.EditKeyword.TheVariants as edit
 use Rattle.script_tokens.specs.declared.first_keyword.ActKeyword.TheVariants as act
-use Rattle.script_front.specs.declared.tree.Act.TheVariants.{Edit as Edits, Wait, WaitContact, Until, WaitAny, CommitIn, CommitAt, Join, Settle}
-use Rattle.script_front.specs.Readers.{sub_at, service_at, groups_at, new_sub_at, new_packet_at, typed_sub_at, component_from, item_from, carrier_at, dropped_at, moved_at, rated_at, edit_from, moment_at, committing_at, act_from}
-use Rattle.script_tokens.specs.Reading.{either, giving}
-use Rattle.script_front.proofs.ReadingWaits.{IsPast, IsWait, wait_rest, moment_given, moment_found, wait_given, wait_found, contact_found, any_found}
-use Rattle.script_front.proofs.Words.{Edit, AddComponent, AddPacket, AddService, AddSub, DropComponent, DropPacket, DropService, DropSub, MoveSub, RateSub, IsCarrier, IsEdit, IsNewPacket, IsNewSub, dropping, packet_of, sub_of, act_lexemes, carried_lexemes, carrier_lexemes, edit_lexemes, groups_text, within_lexemes, Adds, IsAct, Act, below, both_law, either_given, finish, from_one, keyed_given, keyed_law, made_found, made_given, other_next, after_itself, next_itself, bind_some, values_are_read, act_keyword, component_keyword, edit_keyword, letters, ReadsAsSpelled, Spelled, both, keyed, built, level_text, profile_text, sid_text, level_at, number_at, profile_at, sid_at, ActKeyword, ItemKeyword, decimal, Some}
+use Rattle.script_front.proofs.ReadingWaits.{IsPast, IsWait, wait_rest, moment_given, moment_found, wait_given}
+use Rattle.script_front.proofs.ReadingWaits.{wait_found, contact_found, any_found}
 
 -- ---- fields
 
@@ -43,17 +53,21 @@ service_law : ReadsAsSpelled service_at IsSid within_lexemes
 unfolding service_at
 service_law = keyed_law the.In sid_at IsSid (λ s. sid_text s ∷ []) values_are_read.sids
 
-typed_sub_law : ReadsAsSpelled typed_sub_at (λ p. (p.0 < 64) × (p.1 < 64)) (λ p. decimal p.0 ∷ letters the.Sub ∷ decimal p.1 ∷ [])
+typed_sub_law : ReadsAsSpelled typed_sub_at (λ p. (p.0 < 64) × (p.1 < 64))
+    (λ p. decimal p.0 ∷ letters the.Sub ∷ decimal p.1 ∷ [])
 unfolding typed_sub_at
-typed_sub_law = both_law (number_at 0 63) (λ n. n < 64) (λ n. decimal n ∷ []) sub_at (λ n. n < 64) (λ n. letters the.Sub ∷ decimal n ∷ []) six sub_law
+typed_sub_law = both_law (number_at 0 63) (λ n. n < 64) (λ n. decimal n ∷ []) sub_at (λ n. n < 64)
+    (λ n. letters the.Sub ∷ decimal n ∷ []) six sub_law
 
 groups_law : ReadsAsSpelled groups_at (λ dg. Unit {0}) (λ dg. groups_text dg ∷ [])
 unfolding groups_at
 groups_law = record {
-  given = λ ws x e. elim (either_given the.Groups (λ vs. Some (false, vs)) (keyed the.Raw (λ vs. Some (true, vs))) ws x e) [
-    | inl h ↦ finish (λ y. Unit {0} × (ws ≡ groups_text y.0 ∷ y.1)) (false, drop 1 ws) x h.1 (tt, h.0)
-    | inr h ↦ (let k = keyed_given the.Raw (λ vs. Some (true, vs)) ws x h.1 in finish (λ y. Unit {0} × (ws ≡ groups_text y.0 ∷ y.1)) (true, k.rest) x k.read_is (tt, k.begins))
-  ];
+  given = λ ws x e. elim (either_given the.Groups (λ vs. Some (false, vs)) (keyed the.Raw (λ vs. Some (true, vs))) ws x
+      e) [
+        | inl h ↦ finish (λ y. Unit {0} × (ws ≡ groups_text y.0 ∷ y.1)) (false, drop 1 ws) x h.1 (tt, h.0)
+        | inr h ↦ (let k = keyed_given the.Raw (λ vs. Some (true, vs)) ws x h.1 in
+            finish (λ y. Unit {0} × (ws ≡ groups_text y.0 ∷ y.1)) (true, k.rest) x k.read_is (tt, k.begins))
+      ];
   found = groups_found;
 }
   where
@@ -64,41 +78,53 @@ groups_law = record {
 -- ---- records
 
 abbrev Text : Sub → Spelled
-Text s = decimal s.id ∷ letters the.At ∷ decimal s.start ∷ letters the.Eep ∷ profile_text s.protection ∷ decimal s.kbits ∷ []
+Text s = decimal s.id ∷ letters the.At ∷ decimal s.start ∷ letters the.Eep ∷ profile_text s.protection ∷ decimal s.kbits
+    ∷ []
 
 abbrev IsFields : ℕ × (ℕ × (Profile × ℕ)) → Type 0
 IsFields p = (p.0 < 64) × ((p.1.0 < 1024) × (((1 ≤ p.1.1.0.level) × (p.1.1.0.level ≤ 4)) × (p.1.1.1 < 65536)))
 
-fields_law : ReadsAsSpelled (both (number_at 0 63) (both (keyed the.At (number_at 0 1023)) (both (keyed the.Eep profile_at) (number_at 0 65535)))) IsFields (λ p. Text (sub_of p))
+fields_law : ReadsAsSpelled (both (number_at 0 63) (both (keyed the.At (number_at 0 1023))
+    (both (keyed the.Eep profile_at) (number_at 0 65535)))) IsFields (λ p. Text (sub_of p))
 fields_law =
     let start = keyed_law the.At (number_at 0 1023) (λ n. n < 1024) (λ n. decimal n ∷ []) ten in
-    let profile = keyed_law the.Eep profile_at (λ (p : Profile). (1 ≤ p.level) × (p.level ≤ 4)) (λ p. profile_text p ∷ []) values_are_read.profiles in
+    let profile = keyed_law the.Eep profile_at (λ (p : Profile). (1 ≤ p.level) × (p.level ≤ 4))
+    (λ p. profile_text p ∷ []) values_are_read.profiles in
     both_law _ _ _ _ _ _ six (both_law _ _ _ _ _ _ start (both_law _ _ _ _ _ _ profile sixteen))
 
 new_sub_law : ReadsAsSpelled new_sub_at IsNewSub Text
 unfolding new_sub_at
 new_sub_law = record {
-  given = made_given _ _ _ fields_law sub_of IsNewSub Text [] (λ p h. record { named = h.0; start = h.1.0; from_one = h.1.1.0.0; to_four = h.1.1.0.1; rate = h.1.1.1 }) (λ p h. refl);
-  found = λ s rest is. made_found _ _ _ fields_law sub_of (s.id, (s.start, (s.protection, s.kbits))) rest (is.named, (is.start, ((is.from_one, is.to_four), is.rate)));
+  given = made_given _ _ _ fields_law sub_of IsNewSub Text []
+      (λ p h. record { named = h.0; start = h.1.0; from_one = h.1.1.0.0; to_four = h.1.1.0.1; rate = h.1.1.1 })
+      (λ p h. refl);
+  found = λ s rest is. made_found _ _ _ fields_law sub_of (s.id, (s.start, (s.protection, s.kbits))) rest
+      (is.named, (is.start, ((is.from_one, is.to_four), is.rate)));
 }
 
 abbrev PacketText : Packet → Spelled
-PacketText p = decimal p.scid ∷ groups_text p.dg ∷ letters the.TypeWord ∷ decimal p.ty ∷ letters the.Sub ∷ decimal p.sub ∷ letters the.Address ∷ decimal p.address ∷ []
+PacketText p = decimal p.scid ∷ groups_text p.dg ∷ letters the.TypeWord ∷ decimal p.ty ∷ letters the.Sub ∷ decimal p.sub
+    ∷ letters the.Address ∷ decimal p.address ∷ []
 
 abbrev ArePacketFields : ℕ × (Bool × (ℕ × (ℕ × ℕ))) → Type 0
 ArePacketFields p = (p.0 < 4096) × (Unit {0} × ((p.1.1.0 < 64) × ((p.1.1.1.0 < 64) × (p.1.1.1.1 < 65536))))
 
-packet_fields_law : ReadsAsSpelled (both (number_at 0 4095) (both groups_at (both (keyed the.TypeWord (number_at 0 63)) (both sub_at (keyed the.Address (number_at 0 65535)))))) ArePacketFields (λ p. PacketText (packet_of p))
+packet_fields_law : ReadsAsSpelled
+    (both (number_at 0 4095) (both groups_at (both (keyed the.TypeWord (number_at 0 63))
+    (both sub_at (keyed the.Address (number_at 0 65535)))))) ArePacketFields (λ p. PacketText (packet_of p))
 packet_fields_law =
     let type = keyed_law the.TypeWord (number_at 0 63) (λ n. n < 64) (λ n. decimal n ∷ []) six in
     let address = keyed_law the.Address (number_at 0 65535) (λ n. n < 65536) (λ n. decimal n ∷ []) sixteen in
-    both_law _ _ _ _ _ _ twelve (both_law _ _ _ _ _ _ groups_law (both_law _ _ _ _ _ _ type (both_law _ _ _ _ _ _ sub_law address)))
+    both_law _ _ _ _ _ _ twelve
+    (both_law _ _ _ _ _ _ groups_law (both_law _ _ _ _ _ _ type (both_law _ _ _ _ _ _ sub_law address)))
 
 new_packet_law : ReadsAsSpelled new_packet_at IsNewPacket PacketText
 unfolding new_packet_at
 new_packet_law = record {
-  given = made_given _ _ _ packet_fields_law packet_of IsNewPacket PacketText [] (λ p h. record { named = h.0; typed = h.1.1.0; carried = h.1.1.1.0; to_last = h.1.1.1.1 }) (λ p h. refl);
-  found = λ p rest is. made_found _ _ _ packet_fields_law packet_of (p.scid, (p.dg, (p.ty, (p.sub, p.address)))) rest (is.named, (tt, (is.typed, (is.carried, is.to_last))));
+  given = made_given _ _ _ packet_fields_law packet_of IsNewPacket PacketText []
+      (λ p h. record { named = h.0; typed = h.1.1.0; carried = h.1.1.1.0; to_last = h.1.1.1.1 }) (λ p h. refl);
+  found = λ p rest is. made_found _ _ _ packet_fields_law packet_of (p.scid, (p.dg, (p.ty, (p.sub, p.address)))) rest
+      (is.named, (tt, (is.typed, (is.carried, is.to_last))));
 }
 
 -- ---- components and carriers
@@ -115,13 +141,20 @@ carried_rest m = drop 1 (carried_lexemes m)
 abbrev IsBegun : ComponentKeyword → Component → Type 0
 IsBegun k m = IsComponent m × (component_first m ≡ k)
 
-component_given : (k : ComponentKeyword) (ws : Spelled) (x : Component × Spelled) → component_from k ws ≡ Some x → IsBegun k x.0 × (ws ≡ carried_rest x.0 ++ x.1)
+component_given : (k : ComponentKeyword) (ws : Spelled) (x : Component × Spelled) → component_from k ws ≡ Some x
+    → IsBegun k x.0 × (ws ≡ carried_rest x.0 ++ x.1)
 unfolding component_from
-component_given component.Audio ws x e = made_given _ _ _ typed_sub_law (λ p. Sound p.0 p.1) (IsBegun component.Audio) carried_rest [] (λ p h. (h, refl)) (λ p h. refl) ws x e
-component_given component.Data ws x e = made_given _ _ _ typed_sub_law (λ p. Stream p.0 p.1) (IsBegun component.Data) carried_rest [] (λ p h. (h, refl)) (λ p h. refl) ws x e
-component_given component.Carry ws x e = made_given _ _ _ twelve InPackets (IsBegun component.Carry) carried_rest [] (λ p h. (h, refl)) (λ p h. refl) ws x e
+component_given component.Audio ws x e =
+    made_given _ _ _ typed_sub_law (λ p. Sound p.0 p.1) (IsBegun component.Audio) carried_rest [] (λ p h. (h, refl))
+    (λ p h. refl) ws x e
+component_given component.Data ws x e =
+    made_given _ _ _ typed_sub_law (λ p. Stream p.0 p.1) (IsBegun component.Data) carried_rest [] (λ p h. (h, refl))
+    (λ p h. refl) ws x e
+component_given component.Carry ws x e =
+    made_given _ _ _ twelve InPackets (IsBegun component.Carry) carried_rest [] (λ p h. (h, refl)) (λ p h. refl) ws x e
 
-component_found : (m : Component) (rest : Spelled) → IsComponent m → component_from (component_first m) (carried_rest m ++ rest) ≡ Some (m, rest)
+component_found : (m : Component) (rest : Spelled) → IsComponent m
+    → component_from (component_first m) (carried_rest m ++ rest) ≡ Some (m, rest)
 unfolding component_from
 component_found (Sound ty sub) rest is = made_found _ _ _ typed_sub_law (λ p. Sound p.0 p.1) (ty, sub) rest is
 component_found (Stream ty sub) rest is = made_found _ _ _ typed_sub_law (λ p. Stream p.0 p.1) (ty, sub) rest is
@@ -130,26 +163,36 @@ component_found (InPackets scid) rest is = made_found _ _ _ twelve InPackets sci
 component_law : (k : ComponentKeyword) → ReadsAsSpelled (component_from k) (IsBegun k) carried_rest
 component_law k = record {
   given = component_given k;
-  found = λ m rest is. subst (λ j. component_from j (carried_rest m ++ rest) ≡ Some (m, rest)) is.1 (component_found m rest is.0);
+  found = λ m rest is. subst (λ j. component_from j (carried_rest m ++ rest) ≡ Some (m, rest)) is.1
+      (component_found m rest is.0);
 }
 
 carrier_law : ReadsAsSpelled carrier_at IsCarrier carrier_lexemes
 unfolding carrier_at
 carrier_law = record {
-  given = λ ws x e. elim (either_given the.Sub (built BySub (number_at 0 63)) (keyed the.Packet (built ByPacket (number_at 0 4095))) ws x e) [
-    | inl h ↦ (let g = made_given _ _ _ six BySub IsCarrier carrier_lexemes (letters the.Sub ∷ []) (λ a is. is) (λ a h. refl) _ x h.1 in (g.0, h.0 ∙ g.1))
-    | inr h ↦ (
-        let k = keyed_given the.Packet (built ByPacket (number_at 0 4095)) ws x h.1 in
-        let g = made_given _ _ _ twelve ByPacket IsCarrier carrier_lexemes (letters the.Packet ∷ []) (λ a is. is) (λ a h. refl) k.rest x k.read_is in (g.0, k.begins ∙ g.1)
-        )
-  ];
+  given = λ ws x e. elim (either_given the.Sub (built BySub (number_at 0 63))
+      (keyed the.Packet (built ByPacket (number_at 0 4095))) ws x e) [
+        | inl h ↦ (let g = made_given _ _ _ six BySub IsCarrier carrier_lexemes (letters the.Sub ∷ []) (λ a is. is)
+            (λ a h. refl) _ x h.1 in (g.0, h.0 ∙ g.1))
+        | inr h ↦ (
+            let k = keyed_given the.Packet (built ByPacket (number_at 0 4095)) ws x h.1 in
+            let g = made_given _ _ _ twelve ByPacket IsCarrier carrier_lexemes (letters the.Packet ∷ []) (λ a is. is)
+            (λ a h. refl) k.rest x k.read_is in (g.0, k.begins ∙ g.1)
+            )
+      ];
   found = carrier_found;
 }
   where
-    carrier_found : (m : Carrier) (rest : Spelled) → IsCarrier m → carrier_at (carrier_lexemes m ++ rest) ≡ Some (m, rest)
-    carrier_found (BySub id) rest is = rw (next_itself the.Sub (decimal id ∷ rest)) (made_found (number_at 0 63) (λ n. n < 64) (λ n. decimal n ∷ []) six BySub id rest is)
+    carrier_found : (m : Carrier) (rest : Spelled) → IsCarrier m
+        → carrier_at (carrier_lexemes m ++ rest) ≡ Some (m, rest)
+    carrier_found (BySub id) rest is =
+        rw (next_itself the.Sub (decimal id ∷ rest))
+        (made_found (number_at 0 63) (λ n. n < 64) (λ n. decimal n ∷ []) six BySub id rest is)
     carrier_found (ByPacket scid) rest is =
-        rw (other_next the.Packet the.Sub (decimal scid ∷ rest) (λ e. cc), after_itself the.Packet (decimal scid ∷ rest))
+        rw (
+          other_next the.Packet the.Sub (decimal scid ∷ rest) (λ e. cc),
+          after_itself the.Packet (decimal scid ∷ rest),
+        )
         (made_found (number_at 0 4095) (λ n. n < 4096) (λ n. decimal n ∷ []) twelve ByPacket scid rest is)
 
 -- ---- edits
@@ -183,22 +226,33 @@ IsEditOf k e = IsEdit e × (edit_first e ≡ k)
 abbrev pub IsItemOf : ItemKeyword → Edit → Type 0
 IsItemOf k e = IsEdit e × Adds e × (edit_first e ≡ edit.Item k)
 
-pub item_given : (k : ItemKeyword) (ws : Spelled) (x : Edit × Spelled) → item_from k ws ≡ Some x → IsItemOf k x.0 × (ws ≡ edit_rest x.0 ++ x.1)
+pub item_given : (k : ItemKeyword) (ws : Spelled) (x : Edit × Spelled) → item_from k ws ≡ Some x → IsItemOf k x.0
+    × (ws ≡ edit_rest x.0 ++ x.1)
 unfolding item_from
-item_given item.Sub ws x e = made_given _ _ _ new_sub_law AddSub (IsItemOf item.Sub) edit_rest [] (λ a h. (h, tt, refl)) (λ a h. refl) ws x e
-item_given item.Service ws x e = made_given _ _ _ values_are_read.sids AddService (IsItemOf item.Service) edit_rest [] (λ a h. (h, tt, refl)) (λ a h. refl) ws x e
-item_given item.Packet ws x e = made_given _ _ _ new_packet_law AddPacket (IsItemOf item.Packet) edit_rest [] (λ a h. (h, tt, refl)) (λ a h. refl) ws x e
+item_given item.Sub ws x e = made_given _ _ _ new_sub_law AddSub (IsItemOf item.Sub) edit_rest [] (λ a h. (h, tt, refl))
+    (λ a h. refl) ws x e
+item_given item.Service ws x e =
+    made_given _ _ _ values_are_read.sids AddService (IsItemOf item.Service) edit_rest [] (λ a h. (h, tt, refl))
+    (λ a h. refl) ws x e
+item_given item.Packet ws x e =
+    made_given _ _ _ new_packet_law AddPacket (IsItemOf item.Packet) edit_rest [] (λ a h. (h, tt, refl)) (λ a h. refl)
+    ws x e
 item_given (item.Component k) ws x e =
-    made_given _ _ _ (both_law _ _ _ _ _ _ (component_law k) service_law) (λ p. AddComponent p.1 p.0) (IsItemOf (item.Component k)) edit_rest []
+    made_given _ _ _ (both_law _ _ _ _ _ _ (component_law k) service_law) (λ p. AddComponent p.1 p.0)
+    (IsItemOf (item.Component k)) edit_rest []
     (λ a h. ((h.1, h.0.0), tt, ap (λ j. edit.Item (item.Component j)) h.0.1)) (λ a h. refl) ws x e
 
-placed_law : ReadsAsSpelled (both carrier_at service_at) (λ p. IsCarrier p.0 × IsSid p.1) (λ p. carrier_lexemes p.0 ++ within_lexemes p.1)
+placed_law : ReadsAsSpelled (both carrier_at service_at) (λ p. IsCarrier p.0 × IsSid p.1)
+    (λ p. carrier_lexemes p.0 ++ within_lexemes p.1)
 placed_law = both_law _ _ _ _ _ _ carrier_law service_law
 
-moving_law : ReadsAsSpelled (both sub_at (keyed the.At (number_at 0 1023))) (λ p. (p.0 < 64) × (p.1 < 1024)) (λ p. letters the.Sub ∷ decimal p.0 ∷ letters the.At ∷ decimal p.1 ∷ [])
-moving_law = both_law _ _ _ _ _ _ sub_law (keyed_law the.At (number_at 0 1023) (λ n. n < 1024) (λ n. decimal n ∷ []) ten)
+moving_law : ReadsAsSpelled (both sub_at (keyed the.At (number_at 0 1023))) (λ p. (p.0 < 64) × (p.1 < 1024))
+    (λ p. letters the.Sub ∷ decimal p.0 ∷ letters the.At ∷ decimal p.1 ∷ [])
+moving_law = both_law _ _ _ _ _ _ sub_law
+    (keyed_law the.At (number_at 0 1023) (λ n. n < 1024) (λ n. decimal n ∷ []) ten)
 
-rating_law : ReadsAsSpelled (both sub_at (number_at 0 65535)) (λ p. (p.0 < 64) × (p.1 < 65536)) (λ p. letters the.Sub ∷ decimal p.0 ∷ decimal p.1 ∷ [])
+rating_law : ReadsAsSpelled (both sub_at (number_at 0 65535)) (λ p. (p.0 < 64) × (p.1 < 65536))
+    (λ p. letters the.Sub ∷ decimal p.0 ∷ decimal p.1 ∷ [])
 rating_law = both_law _ _ _ _ _ _ sub_law sixteen
 
 dropping_is : (c : Carrier) → IsCarrier c → IsEditOf edit.Drop (dropping c)
@@ -209,33 +263,52 @@ dropping_rest : (c : Carrier) → IsCarrier c → edit_rest (dropping c) ≡ car
 dropping_rest (BySub id) h = refl
 dropping_rest (ByPacket scid) h = refl
 
-dropped_given : (ws : Spelled) (x : Edit × Spelled) → dropped_at ws ≡ Some x → IsEditOf edit.Drop x.0 × (ws ≡ edit_rest x.0 ++ x.1)
+dropped_given : (ws : Spelled) (x : Edit × Spelled) → dropped_at ws ≡ Some x → IsEditOf edit.Drop x.0
+    × (ws ≡ edit_rest x.0 ++ x.1)
 unfolding dropped_at
-dropped_given ws x e = elim (either_given the.Service (built DropService sid_at) (either the.Component (built (λ p. DropComponent p.1 p.0) (both carrier_at service_at)) (built dropping carrier_at)) ws x e) [
-  | inl h ↦ (let g = made_given _ _ _ values_are_read.sids DropService (IsEditOf edit.Drop) edit_rest (letters the.Service ∷ []) (λ a is. (is, refl)) (λ a h. refl) _ x h.1 in (g.0, h.0 ∙ g.1))
-  | inr h ↦ elim (either_given the.Component (built (λ p. DropComponent p.1 p.0) (both carrier_at service_at)) (built dropping carrier_at) ws x h.1) [
-    | inl k ↦ (
-        let g = made_given _ _ _ placed_law (λ p. DropComponent p.1 p.0) (IsEditOf edit.Drop) edit_rest (letters the.Component ∷ []) (λ a is. ((is.1, is.0), refl)) (λ a h. refl) _ x k.1 in
-        (g.0, k.0 ∙ g.1)
-        )
-    | inr k ↦ made_given _ _ _ carrier_law dropping (IsEditOf edit.Drop) edit_rest [] dropping_is dropping_rest ws x k.1
-  ]
-]
+dropped_given ws x e = elim (either_given the.Service (built DropService sid_at)
+    (either the.Component (built (λ p. DropComponent p.1 p.0) (both carrier_at service_at)) (built dropping carrier_at))
+    ws x e) [
+      | inl h ↦ (let g = made_given _ _ _ values_are_read.sids DropService (IsEditOf edit.Drop) edit_rest
+          (letters the.Service ∷ []) (λ a is. (is, refl)) (λ a h. refl) _ x h.1 in (g.0, h.0 ∙ g.1))
+      | inr h ↦ elim (either_given the.Component (built (λ p. DropComponent p.1 p.0) (both carrier_at service_at))
+          (built dropping carrier_at) ws x h.1) [
+            | inl k ↦ (
+                let g = made_given _ _ _ placed_law (λ p. DropComponent p.1 p.0) (IsEditOf edit.Drop) edit_rest
+                (letters the.Component ∷ []) (λ a is. ((is.1, is.0), refl)) (λ a h. refl) _ x k.1 in
+                (g.0, k.0 ∙ g.1)
+                )
+            | inr k ↦ made_given _ _ _ carrier_law dropping (IsEditOf edit.Drop) edit_rest [] dropping_is dropping_rest
+                ws x k.1
+          ]
+    ]
 
-edit_given : (k : EditKeyword) (ws : Spelled) (x : Edit × Spelled) → edit_from k ws ≡ Some x → IsEditOf k x.0 × (ws ≡ edit_rest x.0 ++ x.1)
+edit_given : (k : EditKeyword) (ws : Spelled) (x : Edit × Spelled) → edit_from k ws ≡ Some x → IsEditOf k x.0
+    × (ws ≡ edit_rest x.0 ++ x.1)
 unfolding edit_from moved_at rated_at
 edit_given edit.Drop ws x e = dropped_given ws x e
-edit_given edit.Move ws x e = made_given _ _ _ moving_law (λ p. MoveSub p.0 p.1) (IsEditOf edit.Move) edit_rest [] (λ a h. (h, refl)) (λ a h. refl) ws x e
-edit_given edit.Rate ws x e = made_given _ _ _ rating_law (λ p. RateSub p.0 p.1) (IsEditOf edit.Rate) edit_rest [] (λ a h. (h, refl)) (λ a h. refl) ws x e
+edit_given edit.Move ws x e = made_given _ _ _ moving_law (λ p. MoveSub p.0 p.1) (IsEditOf edit.Move) edit_rest []
+    (λ a h. (h, refl)) (λ a h. refl) ws x e
+edit_given edit.Rate ws x e = made_given _ _ _ rating_law (λ p. RateSub p.0 p.1) (IsEditOf edit.Rate) edit_rest []
+    (λ a h. (h, refl)) (λ a h. refl) ws x e
 edit_given (edit.Item k) ws x e = let g = item_given k ws x e in ((g.0.0, g.0.2), g.1)
 
 -- `drop`, and then a carrier
-carrier_dropped : (c : Carrier) (rest : Spelled) → IsCarrier c → dropped_at (carrier_lexemes c ++ rest) ≡ Some (dropping c, rest)
+carrier_dropped : (c : Carrier) (rest : Spelled) → IsCarrier c
+    → dropped_at (carrier_lexemes c ++ rest) ≡ Some (dropping c, rest)
 unfolding dropped_at
 carrier_dropped (BySub id) rest is =
-    rw (other_next the.Sub the.Service (decimal id ∷ rest) (λ e. cc), other_next the.Sub the.Component (decimal id ∷ rest) (λ e. cc)) (made_found _ _ _ carrier_law dropping (BySub id) rest is)
+    rw (
+      other_next the.Sub the.Service (decimal id ∷ rest) (λ e. cc),
+      other_next the.Sub the.Component (decimal id ∷ rest) (λ e. cc),
+    )
+    (made_found _ _ _ carrier_law dropping (BySub id) rest is)
 carrier_dropped (ByPacket scid) rest is =
-    rw (other_next the.Packet the.Service (decimal scid ∷ rest) (λ e. cc), other_next the.Packet the.Component (decimal scid ∷ rest) (λ e. cc)) (made_found _ _ _ carrier_law dropping (ByPacket scid) rest is)
+    rw (
+      other_next the.Packet the.Service (decimal scid ∷ rest) (λ e. cc),
+      other_next the.Packet the.Component (decimal scid ∷ rest) (λ e. cc),
+    )
+    (made_found _ _ _ carrier_law dropping (ByPacket scid) rest is)
 
 edit_found : (e : Edit) (rest : Spelled) → IsEdit e → edit_from (edit_first e) (edit_rest e ++ rest) ≡ Some (e, rest)
 unfolding edit_from item_from dropped_at moved_at rated_at
@@ -243,18 +316,25 @@ edit_found (AddSub s) rest is = made_found _ _ _ new_sub_law AddSub s rest is
 edit_found (AddService sid) rest is = made_found _ _ _ values_are_read.sids AddService sid rest is
 edit_found (AddPacket p) rest is = made_found _ _ _ new_packet_law AddPacket p rest is
 edit_found (AddComponent sid m) rest is =
-    made_found _ _ _ (both_law _ _ _ _ _ _ (component_law (component_first m)) service_law) (λ p. AddComponent p.1 p.0) (m, sid) rest ((is.1, refl), is.0)
+    made_found _ _ _ (both_law _ _ _ _ _ _ (component_law (component_first m)) service_law) (λ p. AddComponent p.1 p.0)
+    (m, sid) rest ((is.1, refl), is.0)
 edit_found (MoveSub id start) rest is = made_found _ _ _ moving_law (λ p. MoveSub p.0 p.1) (id, start) rest is
 edit_found (RateSub id kbits) rest is = made_found _ _ _ rating_law (λ p. RateSub p.0 p.1) (id, kbits) rest is
-edit_found (DropService sid) rest is = rw (next_itself the.Service (sid_text sid ∷ rest)) (made_found _ _ _ values_are_read.sids DropService sid rest is)
+edit_found (DropService sid) rest is =
+    rw (next_itself the.Service (sid_text sid ∷ rest)) (made_found _ _ _ values_are_read.sids DropService sid rest is)
 edit_found (DropComponent sid c) rest is =
     let later : Spelled = (carrier_lexemes c ++ within_lexemes sid) ++ rest in
-    rw (other_next the.Component the.Service later (λ e. cc), next_itself the.Component later) (made_found _ _ _ placed_law (λ p. DropComponent p.1 p.0) (c, sid) rest (is.1, is.0))
+    rw (other_next the.Component the.Service later (λ e. cc), next_itself the.Component later)
+    (made_found _ _ _ placed_law (λ p. DropComponent p.1 p.0) (c, sid) rest (is.1, is.0))
 edit_found (DropSub id) rest is = carrier_dropped (BySub id) rest is
 edit_found (DropPacket scid) rest is = carrier_dropped (ByPacket scid) rest is
 
 pub edit_law : (k : EditKeyword) → ReadsAsSpelled (edit_from k) (IsEditOf k) edit_rest
-edit_law k = record { given = edit_given k; found = λ e rest is. subst (λ j. edit_from j (edit_rest e ++ rest) ≡ Some (e, rest)) is.1 (edit_found e rest is.0) }
+edit_law k = record {
+  given = edit_given k;
+  found = λ e rest is.
+      subst (λ j. edit_from j (edit_rest e ++ rest) ≡ Some (e, rest)) is.1 (edit_found e rest is.0);
+}
 
 pub item_law : (k : ItemKeyword) → ReadsAsSpelled (item_from k) (IsItemOf k) edit_rest
 unfolding edit_from
@@ -300,33 +380,48 @@ rests_so (WaitContact contact closed) h = refl
 rests_so (WaitAny all) h = refl
 rests_so a h = absurd h
 
-act_given : (k : ActKeyword) (ws : Spelled) (x : Act × Spelled) → act_from k ws ≡ Some x → IsActOf k x.0 × (ws ≡ act_rest x.0 ++ x.1)
+act_given : (k : ActKeyword) (ws : Spelled) (x : Act × Spelled) → act_from k ws ≡ Some x → IsActOf k x.0
+    × (ws ≡ act_rest x.0 ++ x.1)
 unfolding act_from committing_at
-act_given act.Wait ws x e = let g = wait_given ws x e in ((g.0, begins_so x.0 g.1), g.2 ∙ ap (λ (us : Spelled). us ++ x.1) (rests_so x.0 g.1))
+act_given act.Wait ws x e = let g = wait_given ws x e in
+    ((g.0, begins_so x.0 g.1), g.2 ∙ ap (λ (us : Spelled). us ++ x.1) (rests_so x.0 g.1))
 act_given act.Until ws x e =
     let m = bind_some (moment_at ws) (giving Until) x e in
-    let g = moment_given ws m.x m.first in finish (λ y. IsActOf act.Until y.0 × (ws ≡ act_rest y.0 ++ y.1)) (Until m.x.0, m.x.1) x m.second ((g.0, refl), g.1)
-act_given act.Commit ws x e = elim (either_given the.In (built CommitIn (number_at 1 60000)) (keyed the.At (built CommitAt (number_at 0 65535))) ws x e) [
-  | inl h ↦ (let g = made_given _ _ _ delay_law CommitIn (IsActOf act.Commit) act_rest (letters the.In ∷ []) (λ a is. (is, refl)) (λ a h. refl) _ x h.1 in (g.0, h.0 ∙ g.1))
-  | inr h ↦ (
-      let k = keyed_given the.At (built CommitAt (number_at 0 65535)) ws x h.1 in
-      let g = made_given _ _ _ sixteen CommitAt (IsActOf act.Commit) act_rest (letters the.At ∷ []) (λ a is. (is, refl)) (λ a h. refl) k.rest x k.read_is in (g.0, k.begins ∙ g.1)
-      )
-]
-act_given act.Join ws x e = finish (λ y. IsActOf act.Join y.0 × (ws ≡ act_rest y.0 ++ y.1)) (Join, ws) x e ((tt, refl), refl)
-act_given act.Settle ws x e = finish (λ y. IsActOf act.Settle y.0 × (ws ≡ act_rest y.0 ++ y.1)) (Settle, ws) x e ((tt, refl), refl)
-act_given (act.Edit k) ws x e = made_given _ _ _ (edit_law k) Edits (IsActOf (act.Edit k)) act_rest [] (λ a h. (h.0, ap (λ j. act.Edit j) h.1)) (λ a h. refl) ws x e
+    let g = moment_given ws m.x m.first in
+    finish (λ y. IsActOf act.Until y.0 × (ws ≡ act_rest y.0 ++ y.1)) (Until m.x.0, m.x.1) x m.second
+    ((g.0, refl), g.1)
+act_given act.Commit ws x e = elim (either_given the.In (built CommitIn (number_at 1 60000))
+    (keyed the.At (built CommitAt (number_at 0 65535))) ws x e) [
+      | inl h ↦ (let g = made_given _ _ _ delay_law CommitIn (IsActOf act.Commit) act_rest (letters the.In ∷ [])
+          (λ a is. (is, refl)) (λ a h. refl) _ x h.1 in (g.0, h.0 ∙ g.1))
+      | inr h ↦ (
+          let k = keyed_given the.At (built CommitAt (number_at 0 65535)) ws x h.1 in
+          let g = made_given _ _ _ sixteen CommitAt (IsActOf act.Commit) act_rest (letters the.At ∷ [])
+          (λ a is. (is, refl))
+          (λ a h. refl) k.rest x k.read_is in (g.0, k.begins ∙ g.1)
+          )
+    ]
+act_given act.Join ws x e = finish (λ y. IsActOf act.Join y.0 × (ws ≡ act_rest y.0 ++ y.1)) (Join, ws) x e
+    ((tt, refl), refl)
+act_given act.Settle ws x e = finish (λ y. IsActOf act.Settle y.0 × (ws ≡ act_rest y.0 ++ y.1)) (Settle, ws) x e
+    ((tt, refl), refl)
+act_given (act.Edit k) ws x e =
+    made_given _ _ _ (edit_law k) Edits (IsActOf (act.Edit k)) act_rest [] (λ a h. (h.0, ap (λ j. act.Edit j) h.1))
+    (λ a h. refl) ws x e
 
-act_found : (a : Act) (rest : Spelled) → IsAct a → IsPast rest → act_from (act_first a) (act_rest a ++ rest) ≡ Some (a, rest)
+act_found : (a : Act) (rest : Spelled) → IsAct a → IsPast rest
+    → act_from (act_first a) (act_rest a ++ rest) ≡ Some (a, rest)
 unfolding act_from committing_at
 act_found (Edits e) rest is past = made_found _ _ _ (edit_law (edit_first e)) Edits e rest (is, refl)
 act_found (Wait frames) rest is past = wait_found frames rest is past
 act_found (WaitContact contact closed) rest is past = contact_found contact closed rest is past
 act_found (Until moment) rest is past = rw (moment_found moment rest is past.0) refl
 act_found (WaitAny all) rest is past = any_found all rest is past
-act_found (CommitIn delay) rest is past = rw (next_itself the.In (decimal delay ∷ rest)) (made_found _ _ _ delay_law CommitIn delay rest is)
+act_found (CommitIn delay) rest is past =
+    rw (next_itself the.In (decimal delay ∷ rest)) (made_found _ _ _ delay_law CommitIn delay rest is)
 act_found (CommitAt count) rest is past =
-    rw (other_next the.At the.In (decimal count ∷ rest) (λ e. cc), after_itself the.At (decimal count ∷ rest)) (made_found _ _ _ sixteen CommitAt count rest is)
+    rw (other_next the.At the.In (decimal count ∷ rest) (λ e. cc), after_itself the.At (decimal count ∷ rest))
+    (made_found _ _ _ sixteen CommitAt count rest is)
 act_found Join rest is past = refl
 act_found Settle rest is past = refl
 
@@ -337,4 +432,8 @@ pub record ActsAreRead (k : ActKeyword) : Type 0 where
   pub found : (a : Act) (rest : Spelled) → IsActOf k a → IsPast rest → act_from k (act_rest a ++ rest) ≡ Some (a, rest)
 
 pub act_law : (k : ActKeyword) → ActsAreRead k
-act_law k = record { given = act_given k; found = λ a rest is past. subst (λ j. act_from j (act_rest a ++ rest) ≡ Some (a, rest)) is.1 (act_found a rest is.0 past) }
+act_law k = record {
+  given = act_given k;
+  found = λ a rest is past.
+      subst (λ j. act_from j (act_rest a ++ rest) ≡ Some (a, rest)) is.1 (act_found a rest is.0 past);
+}

@@ -1,27 +1,16 @@
 -- Short scripts that have the same tokens, and some that have not.
-use Rattle.std.proofs.Common.{◌≡◌, ◌≢◌, ℕ, ◌≤◌, true, false, List, [], ◌∷◌, ◌++◌, refl, ap, arith}
-use Rattle.std.specs.Prelude.{Some, None}
-use Rattle.std.specs.Fmt.{decimal}
-use Rattle.fib_codec.specs.declared.frame_layout.FrameLayout.{FrameLayout}
-use Rattle.fib_codec.specs.declared.frame_layout.FrameLayout.TheVariants.{Whole, ReserveOne, ReserveTwo}
-use Rattle.fib_codec.specs.declared.modes.Mode.TheVariants.{I}
-use Rattle.script_front.specs.declared.tree.Act.TheVariants.{WaitAny}
-use Rattle.script_front.specs.declared.tree.Condition.TheVariants.{Time}
-use Rattle.script_front.specs.declared.moment.MomentForm.TheVariants.{At, Early}
-use Rattle.script_front.specs.declared.alternatives.Alternative.{Alternative}
-use Rattle.script_front.specs.declared.alternatives.Alternative.TheVariants.{Contact as OfContact, Until as OfMoment, Frames as OfFrames}
-use Rattle.script_front.specs.Waits.{moment_frame, AreAlternatives, may_follow}
-use Rattle.plan_code.specs.declared.plan.Plan.{Plan}
-use Rattle.script_front.specs.Tree.{Tree, IsScript}
-use Rattle.plan_code.specs.Program.{IsPlan}
-use Rattle.script_tokens.specs.declared.keyword.Keyword.TheVariants as the
-use Rattle.script_tokens.specs.Keywords.{letters}
+use Rattle.script_front.proofs.Words.{[], ◌++◌, ◌∷◌, ◌≡◌, ◌≢◌, ◌≤◌, Alternative, AreAlternatives, At, Early}
+use Rattle.script_front.proofs.Words.{FrameLayout, I, IsPlan, IsScript, IsScriptOf, List, None, Plan, ReserveOne}
+use Rattle.script_front.proofs.Words.{ReserveTwo, Some, Time, Tree, WaitAny, Whole, alternative_lexemes}
+use Rattle.script_front.proofs.Words.{alternatives_lexemes, ap, arith, condition_at, condition_lexemes, content_of}
+use Rattle.script_front.proofs.Words.{decimal, false, header_lexemes, letters, may_follow, moment_frame, not_after}
+use Rattle.script_front.proofs.Words.{other_next, refl, reserve_lexemes, tree_lexemes, true, waiting_at, ℕ}
+use Rattle.script_front.specs.declared.alternatives.Alternative.TheVariants.{Contact as OfContact, Until as OfMoment}
+use Rattle.script_front.specs.declared.alternatives.Alternative.TheVariants.{Frames as OfFrames}
 use Rattle.script_tokens.specs.Reading.{is_next, after}
-use Rattle.script_tokens.proofs.Combining.{other_next, not_after}
-use Rattle.script_front.specs.Spelled.{alternative_lexemes, alternatives_lexemes, condition_lexemes, reserve_lexemes, header_lexemes, tree_lexemes}
-use Rattle.script_front.specs.Readers.{header_at, waiting_at, condition_at}
-use Rattle.script_front.specs.BlockReader.{stops, content_of, script_at}
-use Rattle.script_front.specs.Denoting.{IsScriptOf}
+use Rattle.script_front.specs.Readers.{header_at}
+use Rattle.script_front.specs.BlockReader.{stops, script_at}
+use Rattle.script_tokens.specs.declared.keyword.Keyword.TheVariants as the
 use Rattle.script_front.proofs.FoundBlocks.{closing_stops}
 use Rattle.script_front.proofs.ReadingWaits.{IsPast, one_found, any_found, condition_law}
 use Rattle.script_front.proofs.ReadingHeaders.{header_found}
@@ -57,7 +46,8 @@ headed_is layout period low high = record {
   budget_to = omega arith;
 }
 
-laid_out_is : (layout : FrameLayout) (period line : ℕ) → 1 ≤ period → period ≤ 60 → IsScript (laid_out layout period line)
+laid_out_is : (layout : FrameLayout) (period line : ℕ) → 1 ≤ period → period ≤ 60
+    → IsScript (laid_out layout period line)
 laid_out_is layout period line low high = record {
   headed = headed_is layout period low high;
   adding = λ k d lt. absurd (omega (arith, lt));
@@ -80,18 +70,22 @@ on_other_lines = refl
 -- another period does
 of_other_periods : tree_lexemes (brief 4 2) ≢ tree_lexemes (brief 5 2)
 of_other_periods e =
-    let a = scripts_alike (brief 4 2) (brief 5 2) (brief_is 4 2 (omega arith) (omega arith)) (brief_is 5 2 (omega arith) (omega arith)) e in
+    let a = scripts_alike (brief 4 2) (brief 5 2) (brief_is 4 2 (omega arith) (omega arith))
+    (brief_is 5 2 (omega arith) (omega arith)) e in
     let p : 4 ≡ 5 = ap (λ (h : Plan). h.period) a.header in omega (arith, p)
 
-reserved : header_lexemes (headed (ReserveOne I) 4) ≡ header_lexemes (headed (Whole I) 4) ++ letters the.Reserve ∷ decimal 1 ∷ []
+reserved : header_lexemes (headed (ReserveOne I) 4) ≡ header_lexemes (headed (Whole I) 4)
+    ++ letters the.Reserve ∷ decimal 1 ∷ []
 reserved = refl
 
 two_reserved : reserve_lexemes ReserveTwo ≡ letters the.Reserve ∷ decimal 2 ∷ []
 two_reserved = refl
 
 -- a header is read, and `begin` is not read as one
-header_read : header_at (header_lexemes (headed (Whole I) 4) ++ letters the.Begin ∷ []) ≡ Some (headed (Whole I) 4, letters the.Begin ∷ [])
-header_read = header_found (headed (Whole I) 4) (letters the.Begin ∷ []) (headed_is (Whole I) 4 (omega arith) (omega arith)) (other_next the.Begin the.Reserve [] (λ e. cc))
+header_read : header_at (header_lexemes (headed (Whole I) 4) ++ letters the.Begin ∷ [])
+    ≡ Some (headed (Whole I) 4, letters the.Begin ∷ [])
+header_read = header_found (headed (Whole I) 4) (letters the.Begin ∷ [])
+    (headed_is (Whole I) 4 (omega arith) (omega arith)) (other_next the.Begin the.Reserve [] (λ e. cc))
 
 no_header_read : header_at (letters the.Begin ∷ []) ≡ None
 unfolding header_at
@@ -107,7 +101,8 @@ goes_on_at_end = other_next the.End the.CloseBrace [] (λ e. cc)
 
 -- a script without statements is read, and nothing is no script
 script_is_read : script_at (record { lexemes = tree_lexemes (brief 4 0); lines = [] }) ≡ Some (content_of (brief 4 0))
-script_is_read = scripts_are_read.found _ (brief 4 0) (brief_is 4 0 (omega arith) (omega arith)) (record { spells = refl; lined = record { items = tt; blocks = tt; begin = refl; statements = tt; last = refl } })
+script_is_read = scripts_are_read.found _ (brief 4 0) (brief_is 4 0 (omega arith) (omega arith))
+    (record { spells = refl; lined = record { items = tt; blocks = tt; begin = refl; statements = tt; last = refl } })
 
 nothing_is_read : script_at (record { lexemes = []; lines = [] }) ≡ None
 unfolding script_at header_at after is_next
@@ -127,7 +122,13 @@ abbrev three : List Alternative
 three = OfContact 3 true ∷ OfMoment (At 1) ∷ OfFrames 750 ∷ []
 
 three_are : AreAlternatives three
-three_are = record { several = omega arith; few = omega arith; each = (omega arith, (omega arith, ((omega arith, omega arith), tt))); one_moment = omega arith; one_number = omega arith }
+three_are = record {
+  several = omega arith;
+  few = omega arith;
+  each = (omega arith, (omega arith, ((omega arith, omega arith), tt)));
+  one_moment = omega arith;
+  one_number = omega arith;
+}
 
 -- one alternative is too few, and two moments are too many
 one_is_not : AreAlternatives (OfFrames 5 ∷ []) → ⊥
@@ -137,7 +138,8 @@ no_more : IsPast (letters the.End ∷ [])
 no_more = (other_next the.End the.Early [] (λ e. cc), other_next the.End the.Or [] (λ e. cc))
 
 -- they are read in their order; a moment alone is not, and neither is a second number
-three_are_read : waiting_at (alternatives_lexemes three ++ letters the.End ∷ []) ≡ Some (WaitAny three, letters the.End ∷ [])
+three_are_read : waiting_at (alternatives_lexemes three ++ letters the.End ∷ [])
+    ≡ Some (WaitAny three, letters the.End ∷ [])
 three_are_read = any_found three (letters the.End ∷ []) three_are no_more
 
 alone_is_not_read : waiting_at (alternative_lexemes (OfMoment (At 1)) ++ letters the.End ∷ []) ≡ None
@@ -150,11 +152,13 @@ a_number_and_a_contact : may_follow (OfFrames 5 ∷ []) (OfContact 3 true) ≡ t
 a_number_and_a_contact = refl
 
 -- `time 22:00:00 to 06:00:00`
-a_window_is_read : condition_at (condition_lexemes (Time 79200 21600) ++ letters the.OpenBrace ∷ []) ≡ Some (Time 79200 21600, letters the.OpenBrace ∷ [])
+a_window_is_read : condition_at (condition_lexemes (Time 79200 21600) ++ letters the.OpenBrace ∷ [])
+    ≡ Some (Time 79200 21600, letters the.OpenBrace ∷ [])
 a_window_is_read = condition_law.found (Time 79200 21600) (letters the.OpenBrace ∷ []) (omega arith, omega arith)
 
 -- no text is that of the same script on two different lines
 on_one_line : (text : List ℕ) → IsScriptOf text (brief 4 2) → IsScriptOf text (brief 4 3) → ⊥
 on_one_line text d e =
-    let a = one_script text (brief 4 2) (brief 4 3) (brief_is 4 2 (omega arith) (omega arith)) (brief_is 4 3 (omega arith) (omega arith)) d e in
+    let a = one_script text (brief 4 2) (brief 4 3) (brief_is 4 2 (omega arith) (omega arith))
+    (brief_is 4 3 (omega arith) (omega arith)) d e in
     let line : 2 ≡ 3 = a.begin_line in omega (arith, line)

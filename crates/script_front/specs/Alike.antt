@@ -54,4 +54,5 @@ pub record AreTheSame (s t : Tree) : Type 0 where
 
 -- a text is that of at most one script
 abbrev pub TextsAreOfOneScript : Type 0
-TextsAreOfOneScript = (text : List ℕ) (s t : Tree) → IsScript s → IsScript t → IsScriptOf text s → IsScriptOf text t → AreTheSame s t
+TextsAreOfOneScript = (text : List ℕ) (s t : Tree) → IsScript s → IsScript t → IsScriptOf text s → IsScriptOf text t
+    → AreTheSame s t

@@ -1,13 +1,15 @@
 -- Reading statements, blocks, definitions and a whole script from the front of the remaining tokens. `lines` are the
 -- lines of all tokens of the text, `left` is how many more items and statements may follow, and `depth` how many more
 -- braces may be nested. The relation that these functions meet is `SpellsTree` of specs/Parsing.antt.
-use Rattle.std.specs.Prelude.{ℕ, zero, suc, ◌-◌, ◌==◌, Bool, true, if◌then◌else◌, List, [], ◌∷◌, ◌++◌, drop, map, position, Option, Some, None}
+use Rattle.std.specs.Prelude.{ℕ, zero, suc, ◌-◌, ◌==◌, Bool, true, if◌then◌else◌, List, [], ◌∷◌, ◌++◌, drop, map}
+use Rattle.std.specs.Prelude.{position, Option, Some, None}
 use Rattle.std.specs.Str.{bytes_eq}
 use Rattle.plan_code.specs.declared.plan.Plan.{Plan}
 use Rattle.script_tokens.specs.declared.keyword.Keyword.TheVariants as the
 use Rattle.script_tokens.specs.declared.first_keyword.StatementKeyword.{StatementKeyword}
 use Rattle.script_tokens.specs.declared.first_keyword.StatementKeyword.TheVariants as statement
-use Rattle.script_tokens.specs.Reading.{Spelled, Input, Reads, ◌>>=◌, is_next, first_statement, after, line_of, line_of_left}
+use Rattle.script_tokens.specs.Reading.{Spelled, Input, Reads, ◌>>=◌, is_next, first_statement, after, line_of}
+use Rattle.script_tokens.specs.Reading.{line_of_left}
 use Rattle.script_tokens.specs.Taking.{number_at, name_next}
 use Rattle.script_front.specs.declared.tree.Condition.{Condition}
 use Rattle.script_front.specs.declared.tree.Item.{Item}
@@ -56,16 +58,19 @@ applied_at names ws = name_next ws >>= λ name. (position (bytes_eq name.0) name
 -- after the first block of `if`
 unfoldable pub branch_at : Statements → (line depth : ℕ) → Condition → Passage → Option Passage
 branch_at go line depth condition first =
-    if is_next the.Else first.rest then (body_at go depth first.left (drop 1 first.rest) >>= λ second. put (either line condition first.block second.block) (go depth second.left second.rest))
+    if is_next the.Else first.rest then (body_at go depth first.left (drop 1 first.rest)
+    >>= λ second. put (either line condition first.block second.block) (go depth second.left second.rest))
     else put (when line condition first.block) (go depth first.left first.rest)
 
 -- a statement, after its first keyword, and those after it
-unfoldable pub statement_from : Statements → List (List ℕ) → (line depth left : ℕ) → StatementKeyword → Spelled → Option Passage
+unfoldable pub statement_from : Statements → List (List ℕ) → (line depth left : ℕ) → StatementKeyword → Spelled
+    → Option Passage
 statement_from go names line depth left statement.End ws = put (stop line) (go depth left ws)
 statement_from go names line depth left statement.If ws =
     condition_at ws >>= λ condition. (body_at go depth left condition.1 >>= branch_at go line depth condition.0)
 statement_from go names line depth left statement.Repeat ws =
-    number_at 1 65535 ws >>= λ times. (body_at go depth left times.1 >>= λ body. put (repeat line times.0 body.block) (go depth body.left body.rest))
+    number_at 1 65535 ws >>= λ times. (body_at go depth left times.1
+    >>= λ body. put (repeat line times.0 body.block) (go depth body.left body.rest))
 statement_from go names line depth left statement.Forever ws =
     body_at go depth left ws >>= λ body. put (forever line body.block) (go depth body.left body.rest)
 statement_from go names line depth left statement.Apply ws =
@@ -73,7 +78,8 @@ statement_from go names line depth left statement.Apply ws =
 statement_from go names line depth left (statement.Act k) ws =
     act_from k ws >>= λ act. put (basic line act.0) (go depth left act.1)
 
-unfoldable pub begun_at : Statements → List (List ℕ) → List ℕ → (depth left : ℕ) → Spelled → StatementKeyword → Option Passage
+unfoldable pub begun_at : Statements → List (List ℕ) → List ℕ → (depth left : ℕ) → Spelled → StatementKeyword
+    → Option Passage
 begun_at go names lines depth zero ws k = None
 begun_at go names lines depth (suc left) ws k = statement_from go names (line_of lines ws) depth left k (drop 1 ws)
 
@@ -108,11 +114,13 @@ new_name_at names ws = name_next ws >>= λ name. new_if (position (bytes_eq name
 -- a name and its block, after `define`
 unfoldable pub definition_at : List (List ℕ) → List ℕ → (left : ℕ) → Spelled → Option (List ℕ × Passage)
 definition_at names lines left ws =
-    new_name_at names ws >>= λ name. (body_at (block_at (suc left) names lines) 16 left name.1 >>= λ body. Some (name.0, body))
+    new_name_at names ws >>= λ name. (body_at (block_at (suc left) names lines) 16 left name.1
+    >>= λ body. Some (name.0, body))
 
 -- at most `room` definitions, where these names are defined
 unfoldable pub definitions_at : (room : ℕ) → List (List ℕ) → List ℕ → (left : ℕ) → Spelled → Option Defined
-definitions_at zero names lines left ws = if is_next the.Define ws then None else Some (record { names = names; blocks = []; left = left; rest = ws })
+definitions_at zero names lines left ws =
+    if is_next the.Define ws then None else Some (record { names = names; blocks = []; left = left; rest = ws })
 definitions_at (suc room) names lines left ws =
     if is_next the.Define ws then (definition_at names lines left (drop 1 ws) >>= λ d.
     after_blocks (d.1.block ∷ []) (definitions_at room (names ++ d.0 ∷ []) lines d.1.left d.1.rest))

@@ -1,7 +1,8 @@
 -- The script of a text: the tree that has the text's tokens, in order, with blanks and comments anywhere between them.
 use Rattle.std.specs.Prelude.{◌≡◌, ℕ, ◌≤◌, List, [], ◌∷◌, length}
 use Rattle.script_tokens.specs.Bytes.{first_position}
-use Rattle.script_tokens.specs.Texts.{Piece, blank, comment, brace, atom, text_of, AreText, tokens_of, TokensFit, script_limits, MOST_BYTES}
+use Rattle.script_tokens.specs.Texts.{Piece, blank, comment, brace, atom, text_of, AreText, tokens_of, TokensFit}
+use Rattle.script_tokens.specs.Texts.{script_limits, MOST_BYTES}
 use Rattle.script_tokens.specs.Reading.{Spelled, lines_of}
 use Rattle.script_front.specs.Tree.{Tree, IsScript}
 use Rattle.script_front.specs.Spelled.{tree_lexemes, HasLines}

@@ -8,7 +8,8 @@ use Rattle.script_front.specs.Block.{Block, Before, nothing, apply, block_of}
 use Rattle.script_tokens.specs.declared.first_keyword.StatementKeyword.{StatementKeyword}
 use Rattle.script_tokens.specs.Reading.{Spelled, Input}
 use Rattle.script_front.specs.Readers.{after_items, items_at}
-use Rattle.script_front.specs.BlockReader.{put, Passage, body_at, statement_from, block_at, applied_at, definition_at, definitions_at, content_of, script_at}
+use Rattle.script_front.specs.BlockReader.{put, Passage, body_at, statement_from, block_at, applied_at, definition_at}
+use Rattle.script_front.specs.BlockReader.{definitions_at, content_of, script_at}
 use Rattle.script_front.specs.Spelled.{tree_lexemes, HasLines}
 use Rattle.script_front.specs.Tree.{Tree, IsScript}
 
@@ -29,14 +30,16 @@ bodies blocks = map (λ b. b.items) blocks
 
 -- items
 pub record ReadsItems (items : List Item) (old new : ℕ) (before after : Input) : Type 0 where
-  pub read : items_at old before.lines before.lexemes ≡ Some (record { items = items; left = new; rest = after.lexemes })
+  pub read : items_at old before.lines before.lexemes ≡ Some
+      (record { items = items; left = new; rest = after.lexemes })
   pub same : after.lines ≡ before.lines
 
 -- one more item
 pub record HasMore (old new : List Item) (before after : Input) : Type 0 where
   pub item : Item
   pub more : new ≡ old ++ item ∷ []
-  pub read : (left : ℕ) → items_at (suc left) before.lines before.lexemes ≡ after_items (item ∷ []) (items_at left before.lines after.lexemes)
+  pub read : (left : ℕ) → items_at (suc left) before.lines before.lexemes
+      ≡ after_items (item ∷ []) (items_at left before.lines after.lexemes)
   pub same : after.lines ≡ before.lines
 
 abbrev pub passage : Block → ℕ → Spelled → Passage
@@ -44,7 +47,8 @@ passage b left rest = record { block = b; left = left; rest = rest }
 
 -- statements up to their end
 pub record ReadsBlock (names : List (List ℕ)) (depth old new : ℕ) (before after : Input) (b : Block) : Type 0 where
-  pub read : (fuel : ℕ) → old < fuel → block_at fuel names before.lines depth old before.lexemes ≡ Some (passage b new after.lexemes)
+  pub read : (fuel : ℕ) → old < fuel → block_at fuel names before.lines depth old before.lexemes
+      ≡ Some (passage b new after.lexemes)
   pub fewer : new ≤ old
   pub same : after.lines ≡ before.lines
 
@@ -53,28 +57,35 @@ ReadsNone names depth left i = (fuel : ℕ) → left < fuel → block_at fuel na
 
 -- a block in braces
 pub record ReadsBody (names : List (List ℕ)) (depth old new : ℕ) (before after : Input) (b : Block) : Type 0 where
-  pub read : (fuel : ℕ) → old < fuel → body_at (block_at fuel names before.lines) depth old before.lexemes ≡ Some (passage b new after.lexemes)
+  pub read : (fuel : ℕ) → old < fuel → body_at (block_at fuel names before.lines) depth old before.lexemes
+      ≡ Some (passage b new after.lexemes)
   pub fewer : new ≤ old
   pub same : after.lines ≡ before.lines
 
 abbrev pub ReadsNoBody : (names : List (List ℕ)) (depth left : ℕ) → Input → Type 0
-ReadsNoBody names depth left i = (fuel : ℕ) → left < fuel → body_at (block_at fuel names i.lines) depth left i.lexemes ≡ None
+ReadsNoBody names depth left i = (fuel : ℕ) → left < fuel
+    → body_at (block_at fuel names i.lines) depth left i.lexemes ≡ None
 
 -- a statement, in front of what is read after it
-pub record ReadsStatement (names : List (List ℕ)) (depth old new : ℕ) (before after : Input) (added : Before) : Type 0 where
-  pub read : (fuel : ℕ) → old ≤ fuel → block_at (suc fuel) names before.lines depth old before.lexemes ≡ put added (block_at fuel names before.lines depth new after.lexemes)
+pub record ReadsStatement (names : List (List ℕ)) (depth old new : ℕ) (before after : Input) (added : Before) : Type
+    0 where
+  pub read : (fuel : ℕ) → old ≤ fuel → block_at (suc fuel) names before.lines depth old before.lexemes
+      ≡ put added (block_at fuel names before.lines depth new after.lexemes)
   pub fewer : new < old
   pub same : after.lines ≡ before.lines
 
 -- the same after its first keyword
-pub record ReadsAfter (k : StatementKeyword) (names : List (List ℕ)) (line depth old new : ℕ) (before after : Input) (added : Before) : Type 0 where
+pub record ReadsAfter (k : StatementKeyword) (names : List (List ℕ)) (line depth old new : ℕ) (before after : Input)
+    (added : Before) : Type 0 where
   pub read : (fuel : ℕ) → old < fuel
-      → statement_from (block_at fuel names before.lines) names line depth old k before.lexemes ≡ put added (block_at fuel names before.lines depth new after.lexemes)
+      → statement_from (block_at fuel names before.lines) names line depth old k before.lexemes
+      ≡ put added (block_at fuel names before.lines depth new after.lexemes)
   pub fewer : new ≤ old
   pub same : after.lines ≡ before.lines
 
 abbrev pub ReadsNoneAfter : StatementKeyword → (names : List (List ℕ)) (line depth left : ℕ) → Input → Type 0
-ReadsNoneAfter k names line depth left i = (fuel : ℕ) → left < fuel → statement_from (block_at fuel names i.lines) names line depth left k i.lexemes ≡ None
+ReadsNoneAfter k names line depth left i = (fuel : ℕ) → left < fuel
+    → statement_from (block_at fuel names i.lines) names line depth left k i.lexemes ≡ None
 
 -- the name of a defined block
 pub record IsApplied (names : List (List ℕ)) (line : ℕ) (before after : Input) (added : Before) : Type 0 where
@@ -84,14 +95,16 @@ pub record IsApplied (names : List (List ℕ)) (line : ℕ) (before after : Inpu
   pub same : after.lines ≡ before.lines
 
 -- a definition of one more name, after `define`
-pub record ReadsDefinition (old new : List (List ℕ)) (left left_new : ℕ) (before after : Input) (b : Block) : Type 0 where
+pub record ReadsDefinition (old new : List (List ℕ)) (left left_new : ℕ) (before after : Input) (b : Block) : Type
+    0 where
   pub name : List ℕ
   pub more : new ≡ old ++ name ∷ []
   pub read : definition_at old before.lines left (drop 1 before.lexemes) ≡ Some (name, passage b left_new after.lexemes)
   pub same : after.lines ≡ before.lines
 
 -- definitions, where no name is defined before
-pub record ReadsDefinitions (names : List (List ℕ)) (old new : ℕ) (before after : Input) (blocks : List (Vec Statement Global)) : Type 0 where
+pub record ReadsDefinitions (names : List (List ℕ)) (old new : ℕ) (before after : Input)
+    (blocks : List (Vec Statement Global)) : Type 0 where
   pub read : definitions_at 64 [] before.lines old before.lexemes
       ≡ Some (record { names = names; blocks = map (block_of []) (bodies blocks); left = new; rest = after.lexemes })
   pub same : after.lines ≡ before.lines

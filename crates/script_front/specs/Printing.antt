@@ -9,9 +9,11 @@ use Rattle.script_front.specs.declared.tree.Statement.{Statement}
 use Rattle.script_tokens.specs.declared.keyword.Keyword.TheVariants as the
 use Rattle.script_tokens.specs.Keywords.{letters}
 use Rattle.script_tokens.specs.Spelling.{hex_text}
-use Rattle.script_front.specs.Block.{Block, Before, nothing, basic, stop, when, either, repeat, forever, apply, block_of}
+use Rattle.script_front.specs.Block.{Block, Before, nothing, basic, stop, when, either, repeat, forever, apply}
+use Rattle.script_front.specs.Block.{block_of}
 use Rattle.script_front.specs.Tree.{Tree}
-use Rattle.script_front.specs.Spelled.{edit_lexemes, act_lexemes, condition_lexemes, name_at, mode_lexemes, reserve_lexemes, limits_lexemes}
+use Rattle.script_front.specs.Spelled.{edit_lexemes, act_lexemes, condition_lexemes, name_at, mode_lexemes}
+use Rattle.script_front.specs.Spelled.{reserve_lexemes, limits_lexemes}
 use Rattle.script_tokens.specs.Reading.{Spelled}
 
 -- the tokens of a line, and the number of braces around it
@@ -58,19 +60,24 @@ block_lines names d (when n condition first rest) =
     line d (if_lexemes condition) ∷ (block_lines names (d + 1) first ++ closing d ∷ block_lines names d rest)
 block_lines names d (either n condition first second rest) =
     line d (if_lexemes condition)
-    ∷ (block_lines names (d + 1) first ++ line d (letters the.CloseBrace ∷ letters the.Else ∷ letters the.OpenBrace ∷ [])
+    ∷ (block_lines names (d + 1) first
+    ++ line d (letters the.CloseBrace ∷ letters the.Else ∷ letters the.OpenBrace ∷ [])
     ∷ (block_lines names (d + 1) second ++ closing d ∷ block_lines names d rest))
 block_lines names d (repeat n times body rest) =
-    line d (letters the.Repeat ∷ decimal times ∷ letters the.OpenBrace ∷ []) ∷ (block_lines names (d + 1) body ++ closing d ∷ block_lines names d rest)
+    line d (letters the.Repeat ∷ decimal times ∷ letters the.OpenBrace ∷ [])
+    ∷ (block_lines names (d + 1) body ++ closing d ∷ block_lines names d rest)
 block_lines names d (forever n body rest) =
-    line d (letters the.Forever ∷ letters the.OpenBrace ∷ []) ∷ (block_lines names (d + 1) body ++ closing d ∷ block_lines names d rest)
-block_lines names d (apply n number named rest) = line d (letters the.Apply ∷ name_at names number ∷ []) ∷ block_lines names d rest
+    line d (letters the.Forever ∷ letters the.OpenBrace ∷ [])
+    ∷ (block_lines names (d + 1) body ++ closing d ∷ block_lines names d rest)
+block_lines names d (apply n number named rest) = line d (letters the.Apply ∷ name_at names number ∷ [])
+    ∷ block_lines names d rest
 
 abbrev pub limits_line : Plan → Line
 limits_line h = line 0 (limits_lexemes h (reserve_lexemes h.layout))
 
 abbrev pub header_lines : Plan → List Line
-header_lines h = line 0 (letters the.Ensemble ∷ hex_text h.eid ∷ mode_lexemes (layout_mode h.layout)) ∷ limits_line h ∷ []
+header_lines h = line 0 (letters the.Ensemble ∷ hex_text h.eid ∷ mode_lexemes (layout_mode h.layout)) ∷ limits_line h
+    ∷ []
 
 abbrev pub items_lines : List Item → List Line
 items_lines [] = []
@@ -86,7 +93,8 @@ defined_lines names number (b ∷ bs) =
 -- one definition
 abbrev pub definition_lines : List (List ℕ) → ℕ → List Statement → List Line
 definition_lines names number b =
-    line 0 (letters the.Define ∷ name_at names number ∷ letters the.OpenBrace ∷ []) ∷ (block_lines names 1 (block_of [] b) ++ closing 0 ∷ [])
+    line 0 (letters the.Define ∷ name_at names number ∷ letters the.OpenBrace ∷ [])
+    ∷ (block_lines names 1 (block_of [] b) ++ closing 0 ∷ [])
 
 abbrev pub tree_lines : Tree → List Line
 tree_lines t =
@@ -95,4 +103,5 @@ tree_lines t =
 
 -- the text added is that of statements in front of a block
 pub record IsPut (names : List (List ℕ)) (d : ℕ) (added : Before) (old new : List ℕ) : Type 0 where
-  pub before : (b : Block) → new ++ text_of_lines (block_lines names d b) ≡ old ++ text_of_lines (block_lines names d (added b))
+  pub before : (b : Block) → new ++ text_of_lines (block_lines names d b) ≡ old
+      ++ text_of_lines (block_lines names d (added b))

@@ -1,8 +1,11 @@
 -- Reading the parts of a script from the front of the remaining tokens: what is read, and the tokens after it; None
--- where they do not begin with such a part. The relation that these functions meet is `SpellsTree` of specs/Parsing.antt.
-use Rattle.std.specs.Prelude.{ℕ, zero, suc, ◌-◌, ◌++◌, Bool, true, false, if◌then◌else◌, List, [], ◌∷◌, drop, Some, None, Option}
+-- where they do not begin with such a part. The relation that these functions meet is `SpellsTree` of
+-- specs/Parsing.antt.
+use Rattle.std.specs.Prelude.{ℕ, zero, suc, ◌-◌, ◌++◌, Bool, true, false, if◌then◌else◌, List, [], ◌∷◌, drop, Some}
+use Rattle.std.specs.Prelude.{None, Option}
 use Rattle.mux_config.specs.declared.edit.Edit.{Edit}
-use Rattle.mux_config.specs.declared.edit.Edit.TheVariants.{AddSub, DropSub, MoveSub, RateSub, AddService, DropService, AddComponent, DropComponent, AddPacket, DropPacket}
+use Rattle.mux_config.specs.declared.edit.Edit.TheVariants.{AddSub, DropSub, MoveSub, RateSub, AddService, DropService}
+use Rattle.mux_config.specs.declared.edit.Edit.TheVariants.{AddComponent, DropComponent, AddPacket, DropPacket}
 use Rattle.mux_eep.specs.Sizes.{Profile}
 use Rattle.mux_types.specs.declared.parts.Sub.{Sub}
 use Rattle.mux_types.specs.declared.parts.Packet.{Packet}
@@ -30,13 +33,15 @@ use Rattle.script_tokens.specs.declared.first_keyword.ActKeyword.TheVariants as 
 use Rattle.script_tokens.specs.Reading.{Spelled, Reads, ◌>>=◌, first_item, keyed, both, built, either, line_of}
 use Rattle.script_tokens.specs.Taking.{number_at, eid_at, sid_at, profile_at, time_at, level_at}
 use Rattle.script_front.specs.declared.tree.Act.{Act}
-use Rattle.script_front.specs.declared.tree.Act.TheVariants.{Edit as Edits, Wait, WaitContact, Until, WaitAny, CommitIn, CommitAt, Join, Settle}
+use Rattle.script_front.specs.declared.tree.Act.TheVariants.{Edit as Edits, Wait, WaitContact, Until, WaitAny, CommitIn}
+use Rattle.script_front.specs.declared.tree.Act.TheVariants.{CommitAt, Join, Settle}
 use Rattle.script_front.specs.declared.tree.Condition.{Condition}
 use Rattle.script_front.specs.declared.tree.Condition.TheVariants.{Contact, Time}
 use Rattle.script_front.specs.declared.moment.MomentForm.{MomentForm as Moment}
 use Rattle.script_front.specs.declared.moment.MomentForm.TheVariants.{At, Early}
 use Rattle.script_front.specs.declared.alternatives.Alternative.{Alternative}
-use Rattle.script_front.specs.declared.alternatives.Alternative.TheVariants.{Contact as OfContact, Until as OfMoment, Frames as OfFrames}
+use Rattle.script_front.specs.declared.alternatives.Alternative.TheVariants.{Contact as OfContact, Until as OfMoment}
+use Rattle.script_front.specs.declared.alternatives.Alternative.TheVariants.{Frames as OfFrames}
 use Rattle.script_front.specs.Waits.{may_follow}
 use Rattle.script_front.specs.declared.tree.Item.{Item}
 
@@ -58,7 +63,8 @@ sub_of p = record { id = p.0; start = p.1.0; protection = p.1.1.0; kbits = p.1.1
 
 unfoldable pub new_sub_at : Spelled → Reads Sub
 new_sub_at ws =
-    built sub_of (both (number_at 0 63) (both (keyed the.At (number_at 0 1023)) (both (keyed the.Eep profile_at) (number_at 0 65535)))) ws
+    built sub_of (both (number_at 0 63)
+    (both (keyed the.At (number_at 0 1023)) (both (keyed the.Eep profile_at) (number_at 0 65535)))) ws
 
 -- `SCID groups type TYPE sub ID address ADDR`
 abbrev pub packet_of : ℕ × (Bool × (ℕ × (ℕ × ℕ))) → Packet
@@ -66,7 +72,9 @@ packet_of p = record { scid = p.0; dg = p.1.0; ty = p.1.1.0; sub = p.1.1.1.0; ad
 
 unfoldable pub new_packet_at : Spelled → Reads Packet
 new_packet_at ws =
-    built packet_of (both (number_at 0 4095) (both groups_at (both (keyed the.TypeWord (number_at 0 63)) (both sub_at (keyed the.Address (number_at 0 65535)))))) ws
+    built packet_of (both (number_at 0 4095)
+    (both groups_at (both (keyed the.TypeWord (number_at 0 63))
+    (both sub_at (keyed the.Address (number_at 0 65535)))))) ws
 
 -- `TYPE sub ID`
 unfoldable pub typed_sub_at : Spelled → Reads (ℕ × ℕ)
@@ -93,7 +101,8 @@ dropping (ByPacket scid) = DropPacket scid
 unfoldable pub dropped_at : Spelled → Reads Edit
 dropped_at ws =
     either the.Service (built DropService sid_at)
-    (either the.Component (built (λ p. DropComponent p.1 p.0) (both carrier_at service_at)) (built dropping carrier_at)) ws
+    (either the.Component (built (λ p. DropComponent p.1 p.0) (both carrier_at service_at)) (built dropping carrier_at))
+    ws
 
 unfoldable pub moved_at : Spelled → Reads Edit
 moved_at ws = built (λ p. MoveSub p.0 p.1) (both sub_at (keyed the.At (number_at 0 1023))) ws
@@ -111,7 +120,8 @@ edit_from (edit.Item k) ws = item_from k ws
 
 -- `TIME`, or `TIME early N`
 unfoldable pub moment_at : Spelled → Reads Moment
-moment_at ws = time_at ws >>= λ time. either the.Early (built (Early time.0) (number_at 1 65535)) (λ vs. Some (At time.0, vs)) time.1
+moment_at ws = time_at ws >>= λ time. either the.Early (built (Early time.0) (number_at 1 65535))
+    (λ vs. Some (At time.0, vs)) time.1
 
 -- `contact C closed` or `open`, `until MOMENT`, or a number of frames
 unfoldable pub alternative_at : Spelled → Reads Alternative
@@ -130,7 +140,8 @@ allowed_at before ws = alternative_at ws >>= allowed before
 unfoldable pub alternatives_from : (room : ℕ) → List Alternative → Spelled → Reads (List Alternative)
 alternatives_from zero before ws = either the.Or (λ vs. None) (λ vs. Some (before, vs)) ws
 alternatives_from (suc room) before ws =
-    either the.Or (λ vs. allowed_at before vs >>= λ a. alternatives_from room (before ++ a.0 ∷ []) a.1) (λ vs. Some (before, vs)) ws
+    either the.Or (λ vs. allowed_at before vs >>= λ a. alternatives_from room (before ++ a.0 ∷ []) a.1)
+    (λ vs. Some (before, vs)) ws
 
 -- the `wait` for these alternatives; a moment alone has none
 abbrev pub wait_for : List Alternative → Option Act
@@ -146,7 +157,8 @@ unfoldable pub waiting_at : Spelled → Reads Act
 waiting_at ws = allowed_at [] ws >>= λ first. (alternatives_from 7 (first.0 ∷ []) first.1 >>= waiting)
 
 unfoldable pub committing_at : Spelled → Reads Act
-committing_at ws = either the.In (built CommitIn (number_at 1 60000)) (keyed the.At (built CommitAt (number_at 0 65535))) ws
+committing_at ws = either the.In (built CommitIn (number_at 1 60000))
+    (keyed the.At (built CommitAt (number_at 0 65535))) ws
 
 unfoldable pub act_from : ActKeyword → Spelled → Reads Act
 act_from act.Wait ws = waiting_at ws
@@ -161,7 +173,8 @@ act_from (act.Edit k) ws = built Edits (edit_from k) ws
 -- `contact C`, or `time A to B`
 unfoldable pub condition_at : Spelled → Reads Condition
 condition_at ws =
-    either the.Time (built (λ p. Time p.0 p.1) (both time_at (keyed the.To time_at))) (keyed the.Contact (built Contact (number_at 0 15))) ws
+    either the.Time (built (λ p. Time p.0 p.1) (both time_at (keyed the.To time_at)))
+    (keyed the.Contact (built Contact (number_at 0 15))) ws
 
 -- ---- the header
 
@@ -171,7 +184,8 @@ mode_at ws = either the.Mode (built mode_of (number_at 2 4)) (λ vs. Some (I, vs
 
 -- no reserved FIB where none is written
 unfoldable pub layout_at : Mode → Spelled → Reads FrameLayout
-layout_at mode ws = either the.Reserve (built (reserving mode) (number_at 1 (fib_count mode - 2))) (λ vs. Some (Whole mode, vs)) ws
+layout_at mode ws = either the.Reserve (built (reserving mode) (number_at 1 (fib_count mode - 2)))
+    (λ vs. Some (Whole mode, vs)) ws
 
 unfoldable pub header_at : Spelled → Reads Plan
 header_at ws = do
@@ -181,7 +195,13 @@ header_at ws = do
   notice ← keyed the.Notice (number_at 12 248) period.1
   budget ← keyed the.Budget (number_at 1 255) notice.1
   layout ← layout_at mode.0 budget.1
-  let plan : Plan = record { eid = eid.0; layout = layout.0; period = period.0; notice = notice.0; budget = budget.0 } in
+  let plan : Plan = record {
+    eid = eid.0;
+    layout = layout.0;
+    period = period.0;
+    notice = notice.0;
+    budget = budget.0;
+  } in
       Some (plan, layout.1)
 
 -- ---- items, with the lines of all tokens of the text

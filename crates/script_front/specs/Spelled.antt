@@ -2,7 +2,8 @@
 use Rattle.std.specs.Prelude.{◌≡◌, ℕ, ◌+◌, Bool, true, false, List, [], ◌∷◌, ◌++◌, slice_index_or}
 use Rattle.std.specs.Fmt.{decimal}
 use Rattle.mux_config.specs.declared.edit.Edit.{Edit}
-use Rattle.mux_config.specs.declared.edit.Edit.TheVariants.{AddSub, DropSub, MoveSub, RateSub, AddService, DropService, AddComponent, DropComponent, AddPacket, DropPacket}
+use Rattle.mux_config.specs.declared.edit.Edit.TheVariants.{AddSub, DropSub, MoveSub, RateSub, AddService, DropService}
+use Rattle.mux_config.specs.declared.edit.Edit.TheVariants.{AddComponent, DropComponent, AddPacket, DropPacket}
 use Rattle.mux_types.specs.declared.parts.Carrier.{Carrier}
 use Rattle.mux_types.specs.declared.parts.Carrier.TheVariants.{Sub as BySub, Packet as ByPacket}
 use Rattle.mux_types.specs.declared.parts.Component.{Component}
@@ -14,13 +15,15 @@ use Rattle.fib_codec.specs.Layouts.{layout_mode}
 use Rattle.fib_codec.specs.declared.modes.Mode.{Mode}
 use Rattle.fib_codec.specs.declared.modes.Mode.TheVariants.{I, II, III, IV}
 use Rattle.script_front.specs.declared.tree.Act.{Act}
-use Rattle.script_front.specs.declared.tree.Act.TheVariants.{Edit as Edits, Wait, WaitContact, Until, WaitAny, CommitIn, CommitAt, Join, Settle}
+use Rattle.script_front.specs.declared.tree.Act.TheVariants.{Edit as Edits, Wait, WaitContact, Until, WaitAny, CommitIn}
+use Rattle.script_front.specs.declared.tree.Act.TheVariants.{CommitAt, Join, Settle}
 use Rattle.script_front.specs.declared.tree.Condition.{Condition}
 use Rattle.script_front.specs.declared.tree.Condition.TheVariants.{Contact, Time}
 use Rattle.script_front.specs.declared.moment.MomentForm.{MomentForm as Moment}
 use Rattle.script_front.specs.declared.moment.MomentForm.TheVariants.{At, Early}
 use Rattle.script_front.specs.declared.alternatives.Alternative.{Alternative}
-use Rattle.script_front.specs.declared.alternatives.Alternative.TheVariants.{Contact as OfContact, Until as OfMoment, Frames as OfFrames}
+use Rattle.script_front.specs.declared.alternatives.Alternative.TheVariants.{Contact as OfContact, Until as OfMoment}
+use Rattle.script_front.specs.declared.alternatives.Alternative.TheVariants.{Frames as OfFrames}
 use Rattle.plan_code.specs.declared.plan.Plan.{Plan}
 use Rattle.script_front.specs.declared.tree.Item.{Item}
 use Rattle.script_front.specs.declared.tree.Statement.{Statement}
@@ -53,16 +56,19 @@ within_lexemes sid = letters the.In ∷ sid_text sid ∷ []
 
 abbrev pub edit_lexemes : Edit → Spelled
 edit_lexemes (AddSub s) =
-    letters the.Sub ∷ decimal s.id ∷ letters the.At ∷ decimal s.start ∷ letters the.Eep ∷ profile_text s.protection ∷ decimal s.kbits ∷ []
+    letters the.Sub ∷ decimal s.id ∷ letters the.At ∷ decimal s.start ∷ letters the.Eep ∷ profile_text s.protection
+    ∷ decimal s.kbits ∷ []
 edit_lexemes (DropSub id) = letters the.Drop ∷ letters the.Sub ∷ decimal id ∷ []
 edit_lexemes (MoveSub id start) = letters the.Move ∷ letters the.Sub ∷ decimal id ∷ letters the.At ∷ decimal start ∷ []
 edit_lexemes (RateSub id kbits) = letters the.Rate ∷ letters the.Sub ∷ decimal id ∷ decimal kbits ∷ []
 edit_lexemes (AddService sid) = letters the.Service ∷ sid_text sid ∷ []
 edit_lexemes (DropService sid) = letters the.Drop ∷ letters the.Service ∷ sid_text sid ∷ []
 edit_lexemes (AddComponent sid component) = carried_lexemes component ++ within_lexemes sid
-edit_lexemes (DropComponent sid carrier) = letters the.Drop ∷ letters the.Component ∷ (carrier_lexemes carrier ++ within_lexemes sid)
+edit_lexemes (DropComponent sid carrier) = letters the.Drop ∷ letters the.Component
+    ∷ (carrier_lexemes carrier ++ within_lexemes sid)
 edit_lexemes (AddPacket p) =
-    letters the.Packet ∷ decimal p.scid ∷ groups_text p.dg ∷ letters the.TypeWord ∷ decimal p.ty ∷ letters the.Sub ∷ decimal p.sub ∷ letters the.Address ∷ decimal p.address ∷ []
+    letters the.Packet ∷ decimal p.scid ∷ groups_text p.dg ∷ letters the.TypeWord ∷ decimal p.ty ∷ letters the.Sub
+    ∷ decimal p.sub ∷ letters the.Address ∷ decimal p.address ∷ []
 edit_lexemes (DropPacket scid) = letters the.Drop ∷ letters the.Packet ∷ decimal scid ∷ []
 
 -- ---- statements
@@ -89,7 +95,8 @@ alternatives_lexemes (a ∷ others) = alternative_lexemes a ++ or_lexemes others
 abbrev pub act_lexemes : Act → Spelled
 act_lexemes (Edits edit) = edit_lexemes edit
 act_lexemes (Wait frames) = letters the.Wait ∷ decimal frames ∷ []
-act_lexemes (WaitContact contact closed) = letters the.Wait ∷ letters the.Contact ∷ decimal contact ∷ level_text closed ∷ []
+act_lexemes (WaitContact contact closed) = letters the.Wait ∷ letters the.Contact ∷ decimal contact ∷ level_text closed
+    ∷ []
 act_lexemes (Until moment) = letters the.Until ∷ moment_lexemes moment
 act_lexemes (WaitAny alternatives) = letters the.Wait ∷ alternatives_lexemes alternatives
 act_lexemes (CommitIn delay) = letters the.Commit ∷ letters the.In ∷ decimal delay ∷ []
@@ -121,7 +128,8 @@ block_lexemes names (either line condition first second rest) =
     letters the.Else ∷ braced (block_lexemes names second) (block_lexemes names rest)))
 block_lexemes names (repeat line times body rest) =
     letters the.Repeat ∷ decimal times ∷ braced (block_lexemes names body) (block_lexemes names rest)
-block_lexemes names (forever line body rest) = letters the.Forever ∷ braced (block_lexemes names body) (block_lexemes names rest)
+block_lexemes names (forever line body rest) = letters the.Forever
+    ∷ braced (block_lexemes names body) (block_lexemes names rest)
 block_lexemes names (apply line number named rest) = letters the.Apply ∷ name_at names number ∷ block_lexemes names rest
 
 -- ---- a script
@@ -142,11 +150,13 @@ reserve_lexemes ReserveTwo = letters the.Reserve ∷ decimal 2 ∷ []
 -- the second line of a header, up to `reserve`
 abbrev pub limits_lexemes : Plan → Spelled → Spelled
 limits_lexemes h rest =
-    letters the.Period ∷ decimal h.period ∷ letters the.Notice ∷ decimal h.notice ∷ letters the.Budget ∷ decimal h.budget ∷ rest
+    letters the.Period ∷ decimal h.period ∷ letters the.Notice ∷ decimal h.notice ∷ letters the.Budget
+    ∷ decimal h.budget ∷ rest
 
 abbrev pub header_lexemes : Plan → Spelled
 header_lexemes h =
-    letters the.Ensemble ∷ hex_text h.eid ∷ (mode_lexemes (layout_mode h.layout) ++ limits_lexemes h (reserve_lexemes h.layout))
+    letters the.Ensemble ∷ hex_text h.eid ∷ (mode_lexemes (layout_mode h.layout)
+    ++ limits_lexemes h (reserve_lexemes h.layout))
 
 abbrev pub items_lexemes : List Item → Spelled
 items_lexemes [] = []
@@ -156,7 +166,8 @@ items_lexemes (i ∷ is) = edit_lexemes i.edit ++ items_lexemes is
 abbrev pub defined_lexemes : List (List ℕ) → ℕ → List (List Statement) → Spelled
 defined_lexemes names number [] = []
 defined_lexemes names number (b ∷ bs) =
-    letters the.Define ∷ name_at names number ∷ braced (block_lexemes names (block_of [] b)) (defined_lexemes names (number + 1) bs)
+    letters the.Define ∷ name_at names number ∷ braced (block_lexemes names (block_of [] b))
+    (defined_lexemes names (number + 1) bs)
 
 -- from `begin` on
 abbrev pub begin_lexemes : Tree → Spelled
@@ -179,22 +190,29 @@ abbrev pub BlockOn : List (List ℕ) → List ℕ → Block → Spelled → Type
 BlockOn names lines nothing after = Unit {0}
 BlockOn names lines (basic line act rest) after =
     (line ≡ line_of lines (block_lexemes names (basic line act rest) ++ after)) × BlockOn names lines rest after
-BlockOn names lines (stop line rest) after = (line ≡ line_of lines (block_lexemes names (stop line rest) ++ after)) × BlockOn names lines rest after
+BlockOn names lines (stop line rest) after = (line ≡ line_of lines (block_lexemes names (stop line rest) ++ after))
+    × BlockOn names lines rest after
 BlockOn names lines (when line condition first rest) after =
     (line ≡ line_of lines (block_lexemes names (when line condition first rest) ++ after))
-    × BlockOn names lines first (letters the.CloseBrace ∷ (block_lexemes names rest ++ after)) × BlockOn names lines rest after
+    × BlockOn names lines first (letters the.CloseBrace ∷ (block_lexemes names rest ++ after))
+    × BlockOn names lines rest after
 BlockOn names lines (either line condition first second rest) after =
     (line ≡ line_of lines (block_lexemes names (either line condition first second rest) ++ after))
-    × BlockOn names lines first (letters the.CloseBrace ∷ letters the.Else ∷ (braced (block_lexemes names second) (block_lexemes names rest) ++ after))
-    × BlockOn names lines second (letters the.CloseBrace ∷ (block_lexemes names rest ++ after)) × BlockOn names lines rest after
+    × BlockOn names lines first (letters the.CloseBrace ∷ letters the.Else
+    ∷ (braced (block_lexemes names second) (block_lexemes names rest) ++ after))
+    × BlockOn names lines second (letters the.CloseBrace ∷ (block_lexemes names rest ++ after))
+    × BlockOn names lines rest after
 BlockOn names lines (repeat line times body rest) after =
     (line ≡ line_of lines (block_lexemes names (repeat line times body rest) ++ after))
-    × BlockOn names lines body (letters the.CloseBrace ∷ (block_lexemes names rest ++ after)) × BlockOn names lines rest after
+    × BlockOn names lines body (letters the.CloseBrace ∷ (block_lexemes names rest ++ after))
+    × BlockOn names lines rest after
 BlockOn names lines (forever line body rest) after =
     (line ≡ line_of lines (block_lexemes names (forever line body rest) ++ after))
-    × BlockOn names lines body (letters the.CloseBrace ∷ (block_lexemes names rest ++ after)) × BlockOn names lines rest after
+    × BlockOn names lines body (letters the.CloseBrace ∷ (block_lexemes names rest ++ after))
+    × BlockOn names lines rest after
 BlockOn names lines (apply line number named rest) after =
-    (line ≡ line_of lines (block_lexemes names (apply line number named rest) ++ after)) × BlockOn names lines rest after
+    (line ≡ line_of lines (block_lexemes names (apply line number named rest) ++ after))
+    × BlockOn names lines rest after
 
 -- the same for the definitions of these blocks, numbered from `number`
 abbrev pub DefinedOn : List (List ℕ) → List ℕ → ℕ → List (List Statement) → Spelled → Type 0

@@ -5,7 +5,8 @@ use Rattle.mux_config.specs.declared.edit.Edit.{Edit}
 use Rattle.mux_config.specs.declared.edit.Edit.TheVariants.{AddSub, AddService, AddComponent, AddPacket}
 use Rattle.plan_code.specs.Program.{IsPlan, IsEdit}
 use Rattle.script_front.specs.declared.tree.Act.{Act}
-use Rattle.script_front.specs.declared.tree.Act.TheVariants.{Edit as Edits, Wait, WaitContact, Until, WaitAny, CommitIn, CommitAt, Join, Settle}
+use Rattle.script_front.specs.declared.tree.Act.TheVariants.{Edit as Edits, Wait, WaitContact, Until, WaitAny, CommitIn}
+use Rattle.script_front.specs.declared.tree.Act.TheVariants.{CommitAt, Join, Settle}
 use Rattle.script_front.specs.declared.tree.Condition.{Condition}
 use Rattle.script_front.specs.declared.tree.Condition.TheVariants.{Contact, Time}
 use Rattle.plan_code.specs.declared.plan.Plan.{Plan}
@@ -70,10 +71,12 @@ IsInBounds known depth (stop line rest) = IsInBounds known depth rest
 IsInBounds known depth (when line condition first rest) =
     (1 ≤ depth) × IsCondition condition × IsInBounds known (depth - 1) first × IsInBounds known depth rest
 IsInBounds known depth (either line condition first second rest) =
-    (1 ≤ depth) × IsCondition condition × IsInBounds known (depth - 1) first × IsInBounds known (depth - 1) second × IsInBounds known depth rest
+    (1 ≤ depth) × IsCondition condition × IsInBounds known (depth - 1) first × IsInBounds known (depth - 1) second
+    × IsInBounds known depth rest
 IsInBounds known depth (repeat line times body rest) =
     (1 ≤ depth) × (1 ≤ times) × (times < 65536) × IsInBounds known (depth - 1) body × IsInBounds known depth rest
-IsInBounds known depth (forever line body rest) = (1 ≤ depth) × IsInBounds known (depth - 1) body × IsInBounds known depth rest
+IsInBounds known depth (forever line body rest) = (1 ≤ depth) × IsInBounds known (depth - 1) body
+    × IsInBounds known depth rest
 IsInBounds known depth (apply line number named rest) = (number < known) × IsInBounds known depth rest
 
 -- each defined block applies only those before it; its own braces are the first level

@@ -22,8 +22,8 @@ pub enum Alternative {
 /// The most alternatives of a `wait`.
 pub const MOST_ALTERNATIVES: usize = 8;
 
-/// The alternatives of a `wait`, in the order of the text: 2 to 8, of which at most one is a moment, and at most one a
-/// number of frames. Contracts see them as a list.
+/// The alternatives of a `wait`, in the order of the text: 2 to 8, of which at most one is a
+/// moment, and at most one a number of frames. Contracts see them as a list.
 #[derive(Clone, Copy, Debug, PartialEq, Eq)]
 pub struct Alternatives {
     slots: [Alternative; MOST_ALTERNATIVES],
@@ -57,8 +57,8 @@ impl Alternatives {
         Alternatives { slots, len: 2 }
     }
 
-    /// Appends an alternative. There must be fewer than 8, and with a moment or a number of frames none of them may be
-    /// one.
+    /// Appends an alternative. There must be fewer than 8, and with a moment or a number of frames
+    /// none of them may be one.
     pub fn push(&mut self, next: Alternative)
         requires room { length self.old < 8 }
         requires fits { may_follow self.old next ≡ true }

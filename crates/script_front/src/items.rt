@@ -4,7 +4,10 @@ ghost use Rattle.std.specs.Prelude.{◌≡◌, ℕ, ◌≢◌, true, false, None
 ghost use Rattle.script_tokens.specs.declared.fault.ScriptFault.TheVariants.{Memory};
 ghost use Rattle.script_tokens.specs.declared.first_keyword.ItemKeyword.TheVariants as the;
 ghost use Rattle.script_tokens.specs.Reading.{Takes, first_item};
-ghost use Rattle.script_front.specs.Readers.{sub_at, service_at, new_sub_at, new_packet_at, groups_at, typed_sub_at, component_from, item_from, carrier_at, dropping, dropped_at, moved_at, rated_at, edit_from, committing_at, act_from, items_at};
+ghost use Rattle.script_front.specs.Readers.{sub_at, service_at, new_sub_at, new_packet_at};
+ghost use Rattle.script_front.specs.Readers.{groups_at, typed_sub_at, component_from, item_from};
+ghost use Rattle.script_front.specs.Readers.{carrier_at, dropping, dropped_at, moved_at, rated_at};
+ghost use Rattle.script_front.specs.Readers.{edit_from, committing_at, act_from, items_at};
 ghost use Rattle.script_front.specs.Parsing.{ReadsItems, HasMore};
 
 use crate::tree::{Act, Item};

@@ -5,8 +5,9 @@ ghost use Rattle.script_front.specs.Parsing.{ScriptsAreRead};
 
 pub use script_tokens::laws::texts;
 
-/// Two scripts have the same tokens only where they are alike: apart from lines, they have the same header, the same
-/// edits in their items, the same block names, and the same statements in each block and after `begin`.
+/// Two scripts have the same tokens only where they are alike: apart from lines, they have the same
+/// header, the same edits in their items, the same block names, and the same statements in each
+/// block and after `begin`.
 pub fn scripts()
     ensures { ScriptsHaveTheirOwnTokens }
 {}
@@ -16,8 +17,8 @@ pub fn texts_of_scripts()
     ensures { TextsAreOfOneScript }
 {}
 
-/// What is read from some tokens, by `script_at`, is the content of the script that they spell on its lines; and where
-/// they spell a script, its content is read.
+/// What is read from some tokens, by `script_at`, is the content of the script that they spell on
+/// its lines; and where they spell a script, its content is read.
 pub fn readings()
     ensures { ScriptsAreRead }
 {}

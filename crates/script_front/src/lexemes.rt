@@ -1,12 +1,17 @@
-//! Printing the header, items and statements without a block; items and statements without indentation and line end.
+//! Printing the header, items and statements without a block; items and statements without
+//! indentation and line end.
 
 ghost use Rattle.std.specs.Prelude.{◌≡◌, ◌++◌, [], OnOk, string_bytes};
 ghost use Rattle.std.specs.Fmt.{decimal};
-ghost use Rattle.mux_config.specs.declared.edit.Edit.TheVariants.{AddSub, AddPacket, AddComponent, DropComponent};
+ghost use Rattle.mux_config.specs.declared.edit.Edit.TheVariants.{AddSub, AddPacket, AddComponent};
+ghost use Rattle.mux_config.specs.declared.edit.Edit.TheVariants.{DropComponent};
 ghost use Rattle.script_front.specs.declared.tree.Act.TheVariants.{Until, WaitAny, WaitContact};
 ghost use Rattle.script_tokens.specs.Spelling.{hex_byte, hex_text, sid_text, profile_text};
-ghost use Rattle.script_front.specs.Spelled.{carried_lexemes, carrier_lexemes, within_lexemes, edit_lexemes, act_lexemes, mode_lexemes, reserve_lexemes, limits_lexemes};
-ghost use Rattle.script_front.specs.Printing.{spaced, each_after, limits_line, header_lines, line_text, text_of_lines};
+ghost use Rattle.script_front.specs.Spelled.{carried_lexemes, carrier_lexemes, within_lexemes};
+ghost use Rattle.script_front.specs.Spelled.{edit_lexemes, act_lexemes, mode_lexemes};
+ghost use Rattle.script_front.specs.Spelled.{reserve_lexemes, limits_lexemes};
+ghost use Rattle.script_front.specs.Printing.{spaced, each_after, limits_line, header_lines};
+ghost use Rattle.script_front.specs.Printing.{line_text, text_of_lines};
 
 use crate::alternatives::Alternatives;
 use crate::moment::Moment;

@@ -1,8 +1,9 @@
 //! The script language of reconfiguration plans: its tree, parser and printer.
 //!
-//! `parse` reads a text into a `Script`, `print` prints one, and `lex`, of `script_tokens`, returns a text's tokens.
-//! Begin with `Script` and `Statement`. The script of a text, which `parse` returns, is defined in
-//! `specs/Denoting.antt` (`IsScriptOf`); what a compiler takes a tree to mean, in `specs/Block.antt`.
+//! `parse` reads a text into a `Script`, `print` prints one, and `lex`, of `script_tokens`, returns
+//! a text's tokens. Begin with `Script` and `Statement`. The script of a text, which `parse`
+//! returns, is defined in `specs/Denoting.antt` (`IsScriptOf`); what a compiler takes a tree to
+//! mean, in `specs/Block.antt`.
 #![tactic(auto)]
 
 pub mod alternatives;

@@ -1,7 +1,8 @@
 //! Constructors of statements.
 
 ghost use Rattle.std.specs.Prelude.{◌≡◌, []};
-ghost use Rattle.script_front.specs.Block.{Block, basic, stop, when, either, repeat, forever, apply, before, block_of};
+ghost use Rattle.script_front.specs.Block.{Block, basic, stop, when, either, repeat, forever};
+ghost use Rattle.script_front.specs.Block.{apply, before, block_of};
 ghost use Rattle.script_front.specs.Block.{nothing};
 
 use crate::tree::{Act, BlockId, Condition, Statement};

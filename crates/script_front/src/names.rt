@@ -1,6 +1,7 @@
 //! The names of defined blocks.
 
-ghost use Rattle.std.specs.Prelude.{◌≡◌, ◌≢◌, ℕ, ◌<◌, ◌++◌, ◌∷◌, [], length, slice_get, Some, IfSome, OnOk, List, option_map, position};
+ghost use Rattle.std.specs.Prelude.{◌≡◌, ◌≢◌, ℕ, ◌<◌, ◌++◌, ◌∷◌, [], length, slice_get, Some};
+ghost use Rattle.std.specs.Prelude.{IfSome, OnOk, List, option_map, position};
 ghost use Rattle.std.specs.Str.{bytes_eq};
 
 use indexmap::IndexSet;

@@ -1,11 +1,13 @@
 //! Parsing a script.
 
-ghost use Rattle.std.specs.Prelude.{◌≡◌, ◌≢◌, ℕ, [], ◌<◌, length, drop, slice_get, true, Some, None, IfOk, OnOk, IfErr, OnErr};
+ghost use Rattle.std.specs.Prelude.{◌≡◌, ◌≢◌, ℕ, [], ◌<◌, length, drop, slice_get, true, Some};
+ghost use Rattle.std.specs.Prelude.{None, IfOk, OnOk, IfErr, OnErr};
 ghost use Rattle.script_tokens.specs.declared.fault.ScriptFault.TheVariants.{Memory};
 ghost use Rattle.script_tokens.specs.declared.keyword.Keyword.TheVariants as the;
 ghost use Rattle.script_tokens.specs.Reading.{is_next};
 ghost use Rattle.script_front.specs.Block.{block_of};
-ghost use Rattle.script_front.specs.BlockReader.{new_name_at, definition_at, definitions_at, content_of, script_at};
+ghost use Rattle.script_front.specs.BlockReader.{new_name_at, definition_at, definitions_at};
+ghost use Rattle.script_front.specs.BlockReader.{content_of, script_at};
 ghost use Rattle.script_front.specs.Parsing.{ReadsDefinition, ReadsDefinitions};
 ghost use Rattle.script_front.specs.Denoting.{IsScriptOf, IsNoScript};
 
@@ -131,18 +133,21 @@ fn script(alloc: Global, reader: &mut TokenReader) -> Result<Script, ScriptFault
     ))
 }
 
-/// Parses the script of a text, with the lines of its items, its statements, `begin` and its last token.
+/// Parses the script of a text, with the lines of its items, its statements, `begin` and its last
+/// token.
 ///
 /// # Errors
 ///
-/// The faults of `lex`; then the first in text order of: `Number` for an atom where a value is required that is not
-/// such a value in range, `Expected` for any other wrong token or the end of the text, `Depth` for a brace more than 16
-/// deep, `NameUsed` for a second definition of a name, `NameUnknown` for applying a name that was not defined before,
-/// `Limit` for a 65th definition, and for an item or statement past 8,192 in all. `Memory` if memory runs out. Each but
-/// `Memory` has the position of the token at fault, or just past the text.
+/// The faults of `lex`; then the first in text order of: `Number` for an atom where a value is
+/// required that is not such a value in range, `Expected` for any other wrong token or the end of
+/// the text, `Depth` for a brace more than 16 deep, `NameUsed` for a second definition of a name,
+/// `NameUnknown` for applying a name that was not defined before, `Limit` for a 65th definition,
+/// and for an item or statement past 8,192 in all. `Memory` if memory runs out. Each but `Memory`
+/// has the position of the token at fault, or just past the text.
 ///
-/// Barring allocation failure, a text is refused only if it is not a script: if no tree with every number in range,
-/// with names well formed and different, and within all limits has these tokens on these lines.
+/// Barring allocation failure, a text is refused only if it is not a script: if no tree with every
+/// number in range, with names well formed and different, and within all limits has these tokens on
+/// these lines.
 pub fn parse(alloc: Global, text: &str) -> Result<Script, ScriptFault>
     ensures script { IfOk result (λ s. IsScriptOf text.now s) }
     ensures none { IfErr result (λ e. e ≢ Memory → IsNoScript text.now) }

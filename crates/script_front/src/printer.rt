@@ -1,6 +1,7 @@
 //! Printing a script.
 
-ghost use Rattle.std.specs.Prelude.{◌≡◌, ◌+◌, ◌-◌, ◌<◌, ◌≤◌, ◌++◌, ◌∷◌, [], length, OnOk, IfOk, string_bytes};
+ghost use Rattle.std.specs.Prelude.{◌≡◌, ◌+◌, ◌-◌, ◌<◌, ◌≤◌, ◌++◌, ◌∷◌, [], length, OnOk, IfOk};
+ghost use Rattle.std.specs.Prelude.{string_bytes};
 ghost use Rattle.std.specs.Fmt.{decimal};
 ghost use Rattle.script_tokens.specs.declared.keyword.Keyword.TheVariants as the;
 ghost use Rattle.script_tokens.specs.Keywords.{letters};
@@ -8,7 +9,9 @@ ghost use Rattle.script_front.specs.Block.{before, nothing, block_of};
 ghost use Rattle.script_front.specs.Tree.{IsInBounds, AllFit};
 ghost use Rattle.script_front.specs.Parsing.{bodies};
 ghost use Rattle.script_front.specs.Spelled.{act_lexemes, edit_lexemes, name_at};
-ghost use Rattle.script_front.specs.Printing.{IsPut, line, indent, if_lexemes, line_text, text_of_lines, block_lines, items_lines, definition_lines, defined_lines, tree_lines};
+ghost use Rattle.script_front.specs.Printing.{IsPut, line, indent, if_lexemes, line_text};
+ghost use Rattle.script_front.specs.Printing.{text_of_lines, block_lines, items_lines};
+ghost use Rattle.script_front.specs.Printing.{definition_lines, defined_lines, tree_lines};
 ghost use Rattle.script_front.specs.Denoting.{Denotes};
 
 use crate::lexemes::{put_act, put_edit, put_header};
@@ -248,8 +251,9 @@ fn put_definitions(
     Ok(())
 }
 
-/// The text of a script: `ensemble` on one line, `period`, `notice` and `budget` on the next; then each item, `define`,
-/// `begin` and statement on its own line, indented by two spaces for each depth of braces.
+/// The text of a script: `ensemble` on one line, `period`, `notice` and `budget` on the next; then
+/// each item, `define`, `begin` and statement on its own line, indented by two spaces for each
+/// depth of braces.
 ///
 /// # Errors
 ///

@@ -7,8 +7,9 @@ use crate::tree::{Item, Statement};
 use plan_code::Plan;
 use std::marker::Model;
 
-/// A script. Every number is in range, every name is well formed and defined once, at most 64 blocks are defined, each
-/// applies only those before it, braces are at most 16 deep, and there are at most 8,192 items and statements.
+/// A script. Every number is in range, every name is well formed and defined once, at most 64
+/// blocks are defined, each applies only those before it, braces are at most 16 deep, and there are
+/// at most 8,192 items and statements.
 #[derive(Drop)]
 pub struct Script {
     header: Plan,
@@ -118,7 +119,8 @@ impl Script {
         &self.names
     }
 
-    /// Its defined blocks in the order of their definitions, which is that of their names and numbers.
+    /// Its defined blocks in the order of their definitions, which is that of their names and
+    /// numbers.
     pub fn blocks(&self) -> &[Vec<Statement>]
         ensures value { map (λ b. b.items) result.now ≡ self.now.blocks }
         ensures formed { IsScript self.now }

@@ -1,12 +1,14 @@
 //! Parsing statements.
 
-ghost use Rattle.std.specs.Prelude.{◌≡◌, ◌≢◌, ◌≤◌, [], length, true, false, None, IfOk, OnOk, IfErr, OnErr};
+ghost use Rattle.std.specs.Prelude.{◌≡◌, ◌≢◌, ◌≤◌, [], length, true, false, None, IfOk, OnOk};
+ghost use Rattle.std.specs.Prelude.{IfErr, OnErr};
 ghost use Rattle.script_tokens.specs.declared.fault.ScriptFault.TheVariants.{Memory};
 ghost use Rattle.script_tokens.specs.declared.first_keyword.StatementKeyword.TheVariants as the;
 ghost use Rattle.script_tokens.specs.Reading.{Leaves};
 ghost use Rattle.script_front.specs.Block.{before, block_of};
 ghost use Rattle.script_front.specs.BlockReader.{stops, open_at, applied_at};
-ghost use Rattle.script_front.specs.Parsing.{ReadsBlock, ReadsNone, ReadsBody, ReadsNoBody, ReadsStatement, ReadsAfter, ReadsNoneAfter, IsApplied};
+ghost use Rattle.script_front.specs.Parsing.{ReadsBlock, ReadsNone, ReadsBody, ReadsNoBody};
+ghost use Rattle.script_front.specs.Parsing.{ReadsStatement, ReadsAfter, ReadsNoneAfter, IsApplied};
 
 use crate::items::act;
 use crate::make::{acting, applying, choosing, conditional, ending, looping, repeating};
@@ -20,8 +22,8 @@ use script_tokens::token_reader::TokenReader;
 use script_tokens::values::{name, times};
 use std::alloc::Global;
 
-/// A statement; `left` is how many more items and statements the script may have, and `depth` how many more braces may
-/// be nested.
+/// A statement; `left` is how many more items and statements the script may have, and `depth` how
+/// many more braces may be nested.
 #[cycle(statements)]
 #[tactic(auto, unfolding(crate::specs::BlockReader::block_at, crate::specs::BlockReader::begun_at))]
 fn statement(

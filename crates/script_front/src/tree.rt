@@ -9,8 +9,8 @@ use plan_code::{ContactId, Delay, Frames, Times};
 use script_tokens::time::TimeOfDay;
 use std::marker::Model;
 
-/// An item: an edit of the opening configuration that, in a script, adds a sub-channel, a service, a component or a
-/// packet component.
+/// An item: an edit of the opening configuration that, in a script, adds a sub-channel, a service,
+/// a component or a packet component.
 #[derive(Clone, Copy, Debug, PartialEq, Eq)]
 pub struct Item {
     /// The line of its first token, 1 to 65,535.
@@ -55,25 +55,27 @@ impl BlockId {
     }
 }
 
-/// A statement without a block after which the next one follows, at once or after suspending; each is one instruction
-/// of a plan code.
+/// A statement without a block after which the next one follows, at once or after suspending; each
+/// is one instruction of a plan code.
 #[derive(Clone, Copy, Debug, PartialEq, Eq)]
 pub enum Act {
     /// One of the ten edits: edits the next configuration.
     Edit(Edit),
     /// `wait N`: suspends for this many frames.
     Wait(Frames),
-    /// `wait contact C closed` or `open`: suspends until the contact has this level in a later frame.
+    /// `wait contact C closed` or `open`: suspends until the contact has this level in a later
+    /// frame.
     WaitContact { contact: ContactId, closed: bool },
     /// `until MOMENT`: suspends until a later frame is the one of this moment of the day.
     Until(Moment),
-    /// `wait ALT or ALT ..`: suspends until the first later frame in which one of the alternatives is there.
+    /// `wait ALT or ALT ..`: suspends until the first later frame in which one of the alternatives
+    /// is there.
     WaitAny(Alternatives),
-    /// `commit in K`: commits the next configuration; the swap falls after this many frames, or in the first frame
-    /// after that whose CIF count is a multiple of the mode's step.
+    /// `commit in K`: commits the next configuration; the swap falls after this many frames, or in
+    /// the first frame after that whose CIF count is a multiple of the mode's step.
     CommitIn(Delay),
-    /// `commit at COUNT`: commits the next configuration; the swap falls in the first frame with this CIF count, 0 to
-    /// 65,535 in a script, that leaves a whole notice before it.
+    /// `commit at COUNT`: commits the next configuration; the swap falls in the first frame with
+    /// this CIF count, 0 to 65,535 in a script, that leaves a whole notice before it.
     CommitAt(u16),
     /// `join`: suspends until the pending swap has been made.
     Join,
@@ -86,12 +88,13 @@ pub enum Act {
 pub enum Condition {
     /// `contact C`: whether the contact is closed.
     Contact(ContactId),
-    /// `time A to B`: whether the frame of the day is at A or later, and before B; over midnight where B is before A,
-    /// and never where they are equal.
+    /// `time A to B`: whether the frame of the day is at A or later, and before B; over midnight
+    /// where B is before A, and never where they are equal.
     Time { from: TimeOfDay, to: TimeOfDay },
 }
 
-/// A statement, with the line of its first token, 1 to 65,535. Blocks in braces are lists of statements.
+/// A statement, with the line of its first token, 1 to 65,535. Blocks in braces are lists of
+/// statements.
 #[derive(Drop)]
 pub enum Statement {
     /// A statement without a block.
@@ -109,7 +112,8 @@ pub enum Statement {
         condition: Condition,
         first: Vec<Statement>,
     },
-    /// The same with `else { .. }`: the first block if the condition holds, the second if it does not.
+    /// The same with `else { .. }`: the first block if the condition holds, the second if it does
+    /// not.
     IfElse {
         line: u16,
         condition: Condition,

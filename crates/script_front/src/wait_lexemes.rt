@@ -4,7 +4,8 @@ ghost use Rattle.std.specs.Prelude.{◌≡◌, ◌++◌, ◌∷◌, ◌<◌, OnO
 ghost use Rattle.script_tokens.specs.Spelling.{two_digits, time_text};
 ghost use Rattle.script_front.specs.declared.alternatives.Alternative.TheVariants.{Contact as OfContact};
 ghost use Rattle.script_front.specs.declared.tree.Condition.TheVariants.{Time};
-ghost use Rattle.script_front.specs.Spelled.{moment_lexemes, alternative_lexemes, or_lexemes, alternatives_lexemes, condition_lexemes};
+ghost use Rattle.script_front.specs.Spelled.{moment_lexemes, alternative_lexemes, or_lexemes};
+ghost use Rattle.script_front.specs.Spelled.{alternatives_lexemes, condition_lexemes};
 ghost use Rattle.script_front.specs.Printing.{each_after};
 
 use crate::alternatives::{Alternative, Alternatives};

@@ -4,7 +4,8 @@ ghost use Rattle.std.specs.Prelude.{◌≡◌, ◌≤◌, ◌+◌, ◌∷◌, []
 ghost use Rattle.script_tokens.specs.Reading.{Takes, is_next};
 ghost use Rattle.script_tokens.specs.declared.keyword.Keyword.TheVariants as the;
 ghost use Rattle.script_front.specs.Waits.{may_follow};
-ghost use Rattle.script_front.specs.Readers.{moment_at, allowed_at, alternatives_from, waiting_at, condition_at};
+ghost use Rattle.script_front.specs.Readers.{moment_at, allowed_at, alternatives_from, waiting_at};
+ghost use Rattle.script_front.specs.Readers.{condition_at};
 
 use crate::alternatives::{Alternative, Alternatives, MOST_ALTERNATIVES, has_moment, has_number};
 use crate::moment::{Moment, MomentForm};
@@ -32,8 +33,8 @@ pub(crate) fn moment(reader: &mut TokenReader) -> Result<Moment, ScriptFault>
 ///
 /// # Errors
 ///
-/// `Expected` at a second `until`, and where any other atom follows that is not `contact`, if there was a number of
-/// frames already.
+/// `Expected` at a second `until`, and where any other atom follows that is not `contact`, if there
+/// was a number of frames already.
 #[tactic(auto, unfolding(crate::specs::Readers::allowed_at, crate::specs::Readers::alternative_at))]
 fn alternative(reader: &mut TokenReader, before: &[Alternative]) -> Result<Alternative, ScriptFault>
     ensures read { Takes (allowed_at before.now reader.old.lexemes) result reader.old reader.new }

@@ -1,4 +1,5 @@
-use Rattle.script_compiler.proofs.Words.{◌∙◌, ◌≡◌, ClosesCycle, arith, cases_lt, false≢true, inl, inr, instrs_of, slice_get_within, subst, sym}
+use Rattle.script_compiler.proofs.Words.{◌∙◌, ◌≡◌, ClosesCycle, arith, cases_lt, false≢true, inl, inr, instrs_of}
+use Rattle.script_compiler.proofs.Words.{slice_get_within, subst, sym}
 use Rattle.script_compiler.proofs.Paths.{instrs_length}
 use Rattle.script_compiler.proofs.cost.first_round.Goals as goal
 

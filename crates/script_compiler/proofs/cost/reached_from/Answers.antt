@@ -11,5 +11,9 @@ returns c =
     let ps = c.in_ok-no_flags.field-0.items in
     let r = c.add_following.new.self in
     let there = instr_at lines pc line c.index-lines-pc.is c.requires.within in
-    let grows = subst (λ (ws : List ℕ). GrowsBy ps r.places.items ws r.waiting.items (StepsTo line.instr pc)) c.new.ensures.items (subst (λ (l : Line). GrowsBy ps r.places.items c.new.result.items r.waiting.items (StepsTo l.instr pc)) (sym c.index-lines-pc.is) c.in_ok-add_following.ensures) in
-    search_begins (instrs_of lines) pc ps r.places.items r.waiting.items line.instr (c.in_ok-no_flags.ensures.long ∙ sym (instrs_length lines)) c.in_ok-no_flags.ensures.count there grows
+    let grows = subst (λ (ws : List ℕ). GrowsBy ps r.places.items ws r.waiting.items (StepsTo line.instr pc))
+    c.new.ensures.items (subst
+    (λ (l : Line). GrowsBy ps r.places.items c.new.result.items r.waiting.items (StepsTo l.instr pc))
+    (sym c.index-lines-pc.is) c.in_ok-add_following.ensures) in
+    search_begins (instrs_of lines) pc ps r.places.items r.waiting.items line.instr
+    (c.in_ok-no_flags.ensures.long ∙ sym (instrs_length lines)) c.in_ok-no_flags.ensures.count there grows

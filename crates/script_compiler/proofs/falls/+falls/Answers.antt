@@ -22,4 +22,5 @@ all_fall-loop-statement-preserved t c = λ table h.
 
 pub all_fall-returns : goal.all_fall-returns
 all_fall-returns t c = λ table h.
-    sym (c.loop-statement.invariant table h ∙ ap falls_out (none_left table c.args.statements.now c.loop-statement.statement-index c.loop-statement-test.false))
+    sym (c.loop-statement.invariant table h ∙ ap falls_out
+    (none_left table c.args.statements.now c.loop-statement.statement-index c.loop-statement-test.false))

@@ -22,4 +22,5 @@ loop-statement-preserved c = λ table h.
 
 pub returns : goal.returns
 returns c = λ table h.
-    sym (c.loop-statement.invariant table h ∙ ap has_no_instr (none_left table c.args.statements.now c.loop-statement.statement-index c.loop-statement-test.false))
+    sym (c.loop-statement.invariant table h ∙ ap has_no_instr
+    (none_left table c.args.statements.now c.loop-statement.statement-index c.loop-statement-test.false))

@@ -2,4 +2,5 @@ use Rattle.script_compiler.proofs.Words.{◌≡◌, component_number, drop, mix_
 use Rattle.script_compiler.proofs.fingerprint.service_bits.Given as goal
 
 abbrev pub invariant-loop-component : goal.invariant-loop-component
-invariant-loop-component l = mix_all component_number l.print (drop l.component-index l.service.components) ≡ service_bits l.service
+invariant-loop-component l = mix_all component_number l.print (drop l.component-index l.service.components)
+    ≡ service_bits l.service

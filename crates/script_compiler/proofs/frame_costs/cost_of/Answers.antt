@@ -1,4 +1,5 @@
-use Rattle.script_compiler.proofs.Words.{◌+◌, ◌≡◌, ClosesCycle, HasPath, IfSome, IsFirst, ap, arith, get_or, instrs_of, longest, subst}
+use Rattle.script_compiler.proofs.Words.{◌+◌, ◌≡◌, ClosesCycle, HasPath, IfSome, IsFirst, ap, arith, get_or, instrs_of}
+use Rattle.script_compiler.proofs.Words.{longest, subst}
 use Rattle.script_compiler.proofs.Paths.{has_longest, longest_bound}
 use Rattle.script_compiler.proofs.Uncosted.{line_there}
 use Rattle.script_compiler.proofs.frame_costs.cost_of.Goals as goal

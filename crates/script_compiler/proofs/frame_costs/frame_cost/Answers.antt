@@ -1,4 +1,5 @@
-use Rattle.script_compiler.proofs.Words.{◌≢◌, IsAcceptedButForCosts, Memory, ap, arith, beginning, body_of, length, lines_of_placed, rules}
+use Rattle.script_compiler.proofs.Words.{◌≢◌, IsAcceptedButForCosts, Memory, ap, arith, beginning, body_of, length}
+use Rattle.script_compiler.proofs.Words.{lines_of_placed, rules}
 use Rattle.script_compiler.proofs.Places.{first_of_all}
 use Rattle.script_compiler.proofs.Formed.{fault_either}
 use Rattle.script_compiler.proofs.Making.{opens, laid_few, laid_judged}
@@ -9,11 +10,13 @@ pub returns-in_err-work-clause-refused : goal.returns-in_err-work-clause-refused
 returns-in_err-work-clause-refused c =
     let s = c.args.script.now in
     let fault = c.in_err-work.field-0.0 in
-    let o = opens s c.header-plan.result c.in_ok-config.config c.items.result.now c.header-plan.ensures.value c.in_ok-config.ensures.made c.items.ensures.value in
+    let o = opens s c.header-plan.result c.in_ok-config.config c.items.result.now c.header-plan.ensures.value
+    c.in_ok-config.ensures.made c.items.ensures.value in
     let h : fault ≢ Memory → IsAcceptedButForCosts s → ⊥ = λ is accepted.
     let judged = laid_judged o accepted.judged in
     fault_either ⊥ fault (λ r. c.in_err-work.ensures.refused r judged)
-    (limit_map fault (λ at k without_label. without_label judged (laid_few o k (accepted.limits k))) c.in_err-work.ensures.limited) is in
+    (limit_map fault (λ at k without_label. without_label judged (laid_few o k (accepted.limits k)))
+    c.in_err-work.ensures.limited) is in
     search (rules, h)
 
 pub cost_of-requires-clause-some : goal.cost_of-requires-clause-some

@@ -1,20 +1,24 @@
-use Rattle.script_compiler.proofs.Words.{◌+◌, ◌<◌, ◌∙◌, ◌≡◌, ◌≤◌, IsWithinBudget, RunsTo, arith, get_or, instrs_of, length, longest, slice_get, subst, sym, ℕ}
+use Rattle.script_compiler.proofs.Words.{◌+◌, ◌<◌, ◌∙◌, ◌≡◌, ◌≤◌, IsWithinBudget, RunsTo, arith, get_or, instrs_of}
+use Rattle.script_compiler.proofs.Words.{length, longest, slice_get, subst, sym, ℕ}
 use Rattle.script_compiler.proofs.Paths.{instrs_length, need_same, needs_follow, none_longer}
 use Rattle.script_compiler.proofs.longest_path.longest_in.Goals as goal
 
 pub end_of-last-requires-clause-needs : goal.end_of-last-requires-clause-needs
 end_of-last-requires-clause-needs c =
     let code = instrs_of c.args.lines.now in
-    let within : (pc : ℕ) → longest code (255 + 1) pc ≤ 255 = λ pc. let e = c.requires.needs pc in let h = c.requires.within pc in omega (arith, e, h) in
+    let within : (pc : ℕ) → longest code (255 + 1) pc ≤ 255 = λ pc. let e = c.requires.needs pc in let h =
+    c.requires.within pc in omega (arith, e, h) in
     λ pc. c.requires.needs pc ∙ needs_follow code 255 within pc
-    ∙ need_same (slice_get code pc) pc (λ to. longest code (255 + 1) to) (λ to. get_or c.args.needs.now to 0) (λ to. sym (c.requires.needs to))
+    ∙ need_same (slice_get code pc) pc (λ to. longest code (255 + 1) to) (λ to. get_or c.args.needs.now to 0)
+    (λ to. sym (c.requires.needs to))
 
 pub returns : goal.returns
 returns c =
     let lines = c.args.lines.now in
     let code = instrs_of lines in
     let first = c.greatest-first.result in
-    let within : (pc : ℕ) → longest code (255 + 1) pc ≤ 255 = λ pc. let e = c.requires.needs pc in let h = c.requires.within pc in omega (arith, e, h) in
+    let within : (pc : ℕ) → longest code (255 + 1) pc ≤ 255 = λ pc. let e = c.requires.needs pc in let h =
+    c.requires.within pc in omega (arith, e, h) in
     let greatest : (k : ℕ) → k < length code → longest code (255 + 1) k ≤ longest code (255 + 1) first = λ k lt.
     let n = instrs_length lines in
     let h = c.greatest-first.ensures.most k (omega (arith, lt, n)) in

@@ -7,5 +7,6 @@ invariant-loop-item l = record {
   made : with_items (drop l.item-index l.items) l.config ≡ with_items l.items nothing;
   fine : AreFine (drop l.item-index l.items) l.config → AreFine l.items nothing;
   only : AreFine l.items nothing → AreFine (drop l.item-index l.items) l.config;
-  why : (at : ℕ) (given : Cause) → IsItemRefused (drop l.item-index l.items) l.config at given → IsItemRefused l.items nothing at given;
+  why : (at : ℕ) (given : Cause) → IsItemRefused (drop l.item-index l.items) l.config at given
+      → IsItemRefused l.items nothing at given;
 }

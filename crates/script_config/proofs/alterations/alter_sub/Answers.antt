@@ -1,6 +1,4 @@
-use Rattle.std.proofs.Common.{sym}
-use Rattle.mux_types.specs.Configuration.{IsPlaced, sub_key}
-use Rattle.mux_config.proofs.Keeping.{entry_holds}
+use Rattle.script_config.proofs.Words.{IsPlaced, entry_holds, sub_key, sym}
 use Rattle.script_config.proofs.alterations.alter_sub.Goals as goal
 
 pub alter-requires : goal.alter-requires

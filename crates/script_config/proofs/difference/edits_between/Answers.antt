@@ -1,7 +1,4 @@
-use Rattle.std.proofs.Common.{◌≡◌, ◌≤◌, List, length, sym, subst}
-use Rattle.mux_config.specs.declared.edit.Edit.{Edit}
-use Rattle.script_config.specs.Differences.{edits_between}
-use Rattle.script_config.specs.Sequences.{Transform}
+use Rattle.script_config.proofs.Words.{◌≡◌, ◌≤◌, Edit, List, Transform, edits_between, length, subst, sym}
 use Rattle.script_config.proofs.FewEdits.{between_few}
 use Rattle.script_config.proofs.Loops.{eight_joined}
 use Rattle.script_config.proofs.difference.edits_between.Goals as goal

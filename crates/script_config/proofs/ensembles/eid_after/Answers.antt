@@ -1,6 +1,6 @@
 use Rattle.script_config.proofs.Named.{whole_more, damaged_more}
-use Rattle.script_config.proofs.ensembles.eid_after.Goals as goal
 use Rattle.script_config.proofs.ensembles.eid_after.Goals.{in-Ok, in_default}
+use Rattle.script_config.proofs.ensembles.eid_after.Goals as goal
 
 pub loop-fib-preserved : goal.loop-fib-preserved
 loop-fib-preserved c =

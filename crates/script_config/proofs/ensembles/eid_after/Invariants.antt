@@ -1,4 +1,4 @@
-use Rattle.std.proofs.Common.{drop}
+use Rattle.script_config.proofs.Words.{drop}
 use Rattle.script_config.proofs.Named.{LeadsOn}
 use Rattle.script_config.proofs.ensembles.eid_after.Given as goal
 

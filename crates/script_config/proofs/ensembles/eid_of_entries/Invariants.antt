@@ -1,5 +1,4 @@
-use Rattle.std.proofs.Common.{◌≡◌, length}
-use Rattle.script_config.specs.Ensembles.{named_by_entries}
+use Rattle.script_config.proofs.Words.{◌≡◌, length, named_by_entries}
 use Rattle.script_config.proofs.ensembles.eid_of_entries.Given as goal
 
 abbrev pub invariant-loop-entry : goal.invariant-loop-entry

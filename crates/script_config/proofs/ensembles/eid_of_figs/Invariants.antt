@@ -1,5 +1,4 @@
-use Rattle.std.proofs.Common.{◌≡◌, length}
-use Rattle.script_config.specs.Ensembles.{named_by_figs}
+use Rattle.script_config.proofs.Words.{◌≡◌, length, named_by_figs}
 use Rattle.script_config.proofs.ensembles.eid_of_figs.Given as goal
 
 abbrev pub invariant-loop-fig : goal.invariant-loop-fig

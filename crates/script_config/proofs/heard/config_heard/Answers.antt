@@ -1,4 +1,4 @@
-use Rattle.std.proofs.Common.{refl}
+use Rattle.script_config.proofs.Words.{refl}
 use Rattle.script_config.proofs.Scriptable.{shows_one}
 use Rattle.script_config.proofs.heard.config_heard.Goals as goal
 

@@ -1,4 +1,4 @@
-use Rattle.std.proofs.Common.{length}
+use Rattle.script_config.proofs.Words.{length}
 use Rattle.script_config.proofs.Scriptable.{SoFarSaid}
 use Rattle.script_config.proofs.heard.first_unscriptable.Given as goal
 

@@ -1,9 +1,5 @@
-use Rattle.std.proofs.Common.{sym, subst}
-use Rattle.mux_types.specs.declared.entry.Entry.{Entry}
+use Rattle.script_config.proofs.Words.{Entry, IsSaid, IsWithin, raw_entry, subst, sym}
 use Rattle.mux_types.specs.declared.entry.Entry.TheVariants.{Sub as SubOf, Service as ServiceOf, Packet as PacketOf}
-use Rattle.fib_codec.specs.Ranges.{IsWithin}
-use Rattle.fib_reader.specs.Raw.{raw_entry}
-use Rattle.script_config.specs.Unsaid.{IsSaid}
 use Rattle.script_config.proofs.Scriptable.{sub_said, service_said, packet_said, unsaid, sub_is_no_service, sub_is_no_packet, service_is_no_sub, service_is_no_packet, packet_is_no_sub, packet_is_no_service, neither_said}
 use Rattle.script_config.proofs.heard.is_scriptable.Goals as goal
 

@@ -1,6 +1,5 @@
-use Rattle.mux_types.specs.Configuration.{nothing}
+use Rattle.script_config.proofs.Words.{nothing, sym}
 use Rattle.script_config.proofs.ItemByItem.{made_leads, all_made}
-use Rattle.std.proofs.Common.{sym}
 use Rattle.script_config.proofs.items.made_by.Goals as goal
 
 pub returns-clause-leads : goal.returns-clause-leads

@@ -1,6 +1,4 @@
-use Rattle.std.proofs.Common.{◌≡◌, drop}
-use Rattle.mux_types.specs.Configuration.{nothing}
-use Rattle.script_config.specs.Items.{made_by}
+use Rattle.script_config.proofs.Words.{◌≡◌, drop, made_by, nothing}
 use Rattle.script_config.proofs.items.made_by.Given as goal
 
 abbrev pub invariant-loop-item : goal.invariant-loop-item

@@ -1,4 +1,4 @@
-use Rattle.std.proofs.Common.{drop}
+use Rattle.script_config.proofs.Words.{drop}
 use Rattle.script_config.proofs.Loops.{IsUnderWay}
 use Rattle.script_config.proofs.laws.carry_out.Given as goal
 

@@ -1,5 +1,4 @@
-use Rattle.std.proofs.Common.{◌≡◌, ◌++◌, take}
-use Rattle.script_config.specs.Making.{components_added}
+use Rattle.script_config.proofs.Words.{◌++◌, ◌≡◌, components_added, take}
 use Rattle.script_config.proofs.making.add_components.Given as goal
 
 abbrev pub invariant-loop-component : goal.invariant-loop-component

@@ -1,6 +1,4 @@
-use Rattle.std.proofs.Common.{◌≡◌, ◌++◌, take}
-use Rattle.std.specs.List.{flat_map}
-use Rattle.script_config.specs.Making.{service_added}
+use Rattle.script_config.proofs.Words.{◌++◌, ◌≡◌, flat_map, service_added, take}
 use Rattle.script_config.proofs.making.add_services.Given as goal
 
 abbrev pub invariant-loop-service : goal.invariant-loop-service

@@ -1,6 +1,4 @@
-use Rattle.std.proofs.Common.{◌≡◌, ◌≤◌, List, length, sym, subst}
-use Rattle.mux_config.specs.declared.edit.Edit.{Edit}
-use Rattle.script_config.specs.Making.{edits_that_make}
+use Rattle.script_config.proofs.Words.{◌≡◌, ◌≤◌, Edit, List, edits_that_make, length, subst, sym}
 use Rattle.script_config.proofs.Loops.{three_joined}
 use Rattle.script_config.proofs.Counting.{made_few}
 use Rattle.script_config.proofs.making.edits_that_make.Goals as goal

@@ -1,4 +1,4 @@
-use Rattle.std.proofs.Common.{◌+◌, sym, subst}
+use Rattle.script_config.proofs.Words.{◌+◌, subst, sym}
 use Rattle.script_config.proofs.PlainScripts.{AreItemsFrom, item_on}
 use Rattle.script_config.proofs.plain.items_from.Goals as goal
 

@@ -1,12 +1,5 @@
-use Rattle.std.proofs.Common.{◌≡◌, ℕ, List, length, map, sym, ap, ◌∙◌, subst, refl, arith}
-use Rattle.std.specs.List.{AllByRecursion}
-use Rattle.mux_config.specs.declared.edit.Edit.{Edit}
-use Rattle.mux_types.specs.Configuration.{nothing}
-use Rattle.script_config.specs.Making.{edits_that_make}
-use Rattle.script_config.specs.Sequences.{Transform}
-use Rattle.script_front.specs.Alike.{added_by}
+use Rattle.script_config.proofs.Words.{◌∙◌, ◌≡◌, AllByRecursion, Edit, List, Transform, acts_from, added_by, ap, arith, edits_that_make, items_from, length, map, nothing, refl, subst, sym, ℕ}
 use Rattle.script_front.specs.Block.{nothing as no_block}
-use Rattle.script_config.specs.Plain.{items_from, acts_from}
 use Rattle.script_config.proofs.PlainScripts.{IsAdding, made_adding, is_script, added_again}
 use Rattle.script_config.proofs.plain.script_of.Goals as goal
 

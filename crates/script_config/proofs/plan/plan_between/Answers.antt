@@ -1,7 +1,4 @@
-use Rattle.std.proofs.Common.{◌≤◌, List, length, sym, ◌∙◌, subst}
-use Rattle.std.specs.List.{All}
-use Rattle.script_front.specs.declared.tree.Act.{Act}
-use Rattle.script_front.specs.Tree.{IsAct}
+use Rattle.script_config.proofs.Words.{◌∙◌, ◌≤◌, Act, All, IsAct, List, length, subst, sym}
 use Rattle.script_config.proofs.Pacing.{plan_formed, plan_few, plan_leads, plan_fits}
 use Rattle.script_config.proofs.plan.plan_between.Goals as goal
 

@@ -1,4 +1,4 @@
-use Rattle.std.proofs.Common.{◌-◌, length}
+use Rattle.script_config.proofs.Words.{◌-◌, length}
 use Rattle.script_config.proofs.Loops.{IsCommon}
 use Rattle.script_config.proofs.removals.common.Given as goal
 

@@ -1,7 +1,4 @@
-use Rattle.std.proofs.Common.{◌≡◌, ◌++◌, take}
-use Rattle.std.specs.List.{flat_map}
-use Rattle.script_config.specs.Differences.{service_cut}
-use Rattle.mux_config.specs.Edits.{service_at}
+use Rattle.script_config.proofs.Words.{◌++◌, ◌≡◌, flat_map, service_at, service_cut, take}
 use Rattle.script_config.proofs.removals.cut_services.Given as goal
 
 abbrev pub invariant-loop-service : goal.invariant-loop-service

@@ -1,7 +1,4 @@
-use Rattle.std.proofs.Common.{◌≡◌, ◌++◌, take}
-use Rattle.std.specs.List.{flat_map}
-use Rattle.script_config.specs.Differences.{packet_gone}
-use Rattle.mux_config.specs.Edits.{packet_at}
+use Rattle.script_config.proofs.Words.{◌++◌, ◌≡◌, flat_map, packet_at, packet_gone, take}
 use Rattle.script_config.proofs.removals.drop_packets.Given as goal
 
 abbrev pub invariant-loop-packet : goal.invariant-loop-packet

@@ -1,7 +1,4 @@
-use Rattle.std.proofs.Common.{◌≡◌, ◌++◌, take}
-use Rattle.std.specs.List.{flat_map}
-use Rattle.script_config.specs.Differences.{sub_gone}
-use Rattle.mux_config.specs.Edits.{sub_at}
+use Rattle.script_config.proofs.Words.{◌++◌, ◌≡◌, flat_map, sub_at, sub_gone, take}
 use Rattle.script_config.proofs.removals.drop_subs.Given as goal
 
 abbrev pub invariant-loop-sub : goal.invariant-loop-sub

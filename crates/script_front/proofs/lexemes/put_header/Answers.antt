@@ -1,12 +1,13 @@
-use Rattle.std.proofs.Common.{◌++◌, ap, ◌∙◌, string_bytes}
-use Rattle.fib_codec.specs.declared.modes.Mode.{Mode}
-use Rattle.script_front.specs.Spelled.{mode_lexemes}
-use Rattle.script_front.specs.Printing.{each_after}
+use Rattle.script_front.proofs.Words.{◌++◌, ◌∙◌, Mode, ap, each_after, mode_lexemes, string_bytes}
 use Rattle.script_front.proofs.Printed.{header_put}
 use Rattle.script_front.proofs.lexemes.put_header.Goals as goal
 
 pub returns : goal.returns
 returns c =
-    let mode = c.in_ok-put_mode.ensures ∙ ap (λ (m : Mode). string_bytes c.put_hex_u16.new.out ++ each_after (mode_lexemes m)) c.mode.ensures in
-    header_put (string_bytes c.args.out.now) (string_bytes c.push_str.new.self) (string_bytes c.put_hex_u16.new.out) (string_bytes c.put_mode.new.out) (string_bytes c.push_str-2.new.self) (string_bytes c.put_limits_line.new.out) c.args.header
-    c.in_ok-push_str.ensures.bytes c.in_ok-put_hex_u16.ensures mode c.in_ok-push_str-2.ensures.bytes c.in_ok-put_limits_line.ensures
+    let mode = c.in_ok-put_mode.ensures
+    ∙ ap (λ (m : Mode). string_bytes c.put_hex_u16.new.out ++ each_after (mode_lexemes m)) c.mode.ensures in
+    header_put (string_bytes c.args.out.now) (string_bytes c.push_str.new.self) (string_bytes c.put_hex_u16.new.out)
+    (string_bytes c.put_mode.new.out) (string_bytes c.push_str-2.new.self) (string_bytes c.put_limits_line.new.out)
+    c.args.header
+    c.in_ok-push_str.ensures.bytes c.in_ok-put_hex_u16.ensures mode c.in_ok-push_str-2.ensures.bytes
+    c.in_ok-put_limits_line.ensures

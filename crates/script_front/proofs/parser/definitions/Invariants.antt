@@ -1,4 +1,4 @@
-use Rattle.std.proofs.Common.{◌-◌, length}
+use Rattle.script_front.proofs.Words.{◌-◌, length}
 use Rattle.script_front.proofs.ReadingDefinitions.{GoesOn}
 use Rattle.script_front.proofs.parser.definitions.Given as goal
 

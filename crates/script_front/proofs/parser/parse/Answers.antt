@@ -1,35 +1,34 @@
-use Rattle.std.proofs.Common.{ℕ, List, sym, ap, ◌∙◌, subst}
-use Rattle.script_tokens.specs.declared.token.Token.{Token}
-use Rattle.script_tokens.specs.Reading.{Input, lexemes_of, lines_of, AreOnScriptLines}
-use Rattle.script_front.specs.Spelled.{HasLines}
-use Rattle.script_front.proofs.Denoting.{is_script}
-use Rattle.std.proofs.lemmas.Result.{err_from_is_err_and}
-use Rattle.script_tokens.specs.Bytes.{first_position}
-use Rattle.script_tokens.specs.Texts.{tokens_of}
-use Rattle.script_front.proofs.Denoting.{are_tokens}
+use Rattle.script_front.proofs.Words.{◌∙◌, AreOnScriptLines, HasLines, Input, List, Token, ap, err_from_is_err_and}
+use Rattle.script_front.proofs.Words.{first_position, lexemes_of, lines_of, subst, sym, tokens_of, ℕ}
+use Rattle.script_front.proofs.Denoting.{is_script, are_tokens}
 use Rattle.script_front.proofs.ReadingScripts.{script_given, none_spelled}
 use Rattle.script_front.proofs.parser.parse.Goals as goal
 
 pub returns-clause-script : goal.returns-clause-script
 returns-clause-script c =
-    let lexemes = ap (λ (i : Input). i.lexemes) c.new-reader.ensures.reads ∙ ap (λ (t : List ℕ). lexemes_of t c.deref.result.now) c.as_bytes.ensures.value
+    let lexemes = ap (λ (i : Input). i.lexemes) c.new-reader.ensures.reads
+    ∙ ap (λ (t : List ℕ). lexemes_of t c.deref.result.now) c.as_bytes.ensures.value
     ∙ ap (λ (ts : List Token). lexemes_of c.args.text.now ts) c.deref.ensures.value in
     let on_lines = subst AreOnScriptLines (sym c.deref.ensures.value) c.in_ok-tokens.ensures.lines in
     let lines = c.new-reader.ensures.lines on_lines ∙ ap lines_of c.deref.ensures.value in
     let spelled = (script_given c.new-reader.result c.in_ok-found.found c.in_ok-found.ensures.read).1 in
-    is_script c.args.text.now c.in_ok-tokens.tokens.items c.in_ok-found.found c.in_ok-tokens.ensures.tokens (sym lexemes ∙ spelled.spells)
+    is_script c.args.text.now c.in_ok-tokens.tokens.items c.in_ok-found.found c.in_ok-tokens.ensures.tokens
+    (sym lexemes ∙ spelled.spells)
     (subst (λ (ls : List ℕ). HasLines ls c.in_ok-found.found) lines spelled.lined)
 
 pub returns-in_err-tokens-clause-none : goal.returns-in_err-tokens-clause-none
 returns-in_err-tokens-clause-none c =
     let r = err_from_is_err_and c.from_residual.result c.from_residual.ensures.1 in
-    rw (r.1, r.2) (λ ne t is s. c.in_err-tokens.ensures.none ne (tokens_of first_position s.pieces) (are_tokens c.args.text.now t s))
+    rw (r.1, r.2) (λ ne t is s. c.in_err-tokens.ensures.none ne (tokens_of first_position s.pieces)
+    (are_tokens c.args.text.now t s))
 
 pub returns-in_err-found-clause-none : goal.returns-in_err-found-clause-none
 returns-in_err-found-clause-none c =
-    let lexemes = ap (λ (i : Input). i.lexemes) c.new-reader.ensures.reads ∙ ap (λ (t : List ℕ). lexemes_of t c.deref.result.now) c.as_bytes.ensures.value
+    let lexemes = ap (λ (i : Input). i.lexemes) c.new-reader.ensures.reads
+    ∙ ap (λ (t : List ℕ). lexemes_of t c.deref.result.now) c.as_bytes.ensures.value
     ∙ ap (λ (ts : List Token). lexemes_of c.args.text.now ts) c.deref.ensures.value in
     let on_lines = subst AreOnScriptLines (sym c.deref.ensures.value) c.in_ok-tokens.ensures.lines in
     let lines = c.new-reader.ensures.lines on_lines ∙ ap lines_of c.deref.ensures.value in
     let r = err_from_is_err_and c.from_residual-in_err-found.result c.from_residual-in_err-found.ensures.1 in
-    rw (r.1, r.2) (λ ne. none_spelled c.args.text.now c.in_ok-tokens.tokens.items c.new-reader.result c.in_ok-tokens.ensures.tokens lexemes lines (c.in_err-found.ensures.none ne))
+    rw (r.1, r.2) (λ ne. none_spelled c.args.text.now c.in_ok-tokens.tokens.items c.new-reader.result
+    c.in_ok-tokens.ensures.tokens lexemes lines (c.in_err-found.ensures.none ne))

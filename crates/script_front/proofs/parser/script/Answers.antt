@@ -1,4 +1,4 @@
-use Rattle.std.proofs.Common.{rules}
+use Rattle.script_front.proofs.Words.{rules}
 use Rattle.script_front.specs.BlockReader.{script_at}
 use Rattle.script_front.proofs.ReadingScripts.{script_given}
 use Rattle.script_front.proofs.parser.script.Goals as goal

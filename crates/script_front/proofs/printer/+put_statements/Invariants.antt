@@ -1,6 +1,4 @@
-use Rattle.std.proofs.Common.{◌+◌, ◌*◌, [], length, drop, string_bytes}
-use Rattle.script_front.specs.Block.{block_of}
-use Rattle.script_front.specs.Tree.{IsInBounds}
+use Rattle.script_front.proofs.Words.{[], ◌*◌, ◌+◌, IsInBounds, block_of, drop, length, string_bytes}
 use Rattle.script_front.proofs.Printed.{Printed}
 use Rattle.script_front.proofs.printer.+put_statements.Given as goal
 

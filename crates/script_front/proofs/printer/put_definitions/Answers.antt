@@ -1,30 +1,35 @@
-use Rattle.std.proofs.Common.{List, [], length, ◌++◌, string_bytes, ap, ◌∙◌, sym, subst, arith}
-use Rattle.script_front.specs.declared.tree.Statement.{Statement}
-use Rattle.script_front.specs.Block.{block_of}
-use Rattle.script_front.specs.Tree.{IsInBounds}
+use Rattle.script_front.proofs.Words.{[], ◌++◌, ◌∙◌, IsInBounds, List, Statement, ap, arith, block_of, definition_lines}
+use Rattle.script_front.proofs.Words.{length, string_bytes, subst, sym, text_of_lines}
 use Rattle.script_front.proofs.Listing.{next_fits}
-use Rattle.script_front.specs.Printing.{text_of_lines, definition_lines}
 use Rattle.script_front.proofs.Printed.{definition_more, definitions_all}
 use Rattle.script_front.proofs.printer.put_definitions.Goals as goal
 
 pub put_definition-requires-clause-fits : goal.put_definition-requires-clause-fits
 put_definition-requires-clause-fits c =
     let few = c.requires.few in
-    let h = next_fits c.loop-index.index c.loop-index.index (length c.args.names.now) c.args.blocks.now c.index-blocks-index.result c.loop-index-test.true c.index-blocks-index.is (omega (arith, few, c.loop-index-test.true)) c.loop-index.invariant.fits in
-    subst (λ (ss : List Statement). IsInBounds (length c.args.names.now) 15 (block_of [] ss)) (sym c.as_slice.ensures.value) h.fits
+    let h = next_fits c.loop-index.index c.loop-index.index (length c.args.names.now) c.args.blocks.now
+    c.index-blocks-index.result c.loop-index-test.true c.index-blocks-index.is
+    (omega (arith, few, c.loop-index-test.true)) c.loop-index.invariant.fits in
+    subst (λ (ss : List Statement). IsInBounds (length c.args.names.now) 15 (block_of [] ss))
+    (sym c.as_slice.ensures.value) h.fits
 
 pub loop-index-preserved : goal.loop-index-preserved
 loop-index-preserved c =
     let few = c.requires.few in
     let inv = c.loop-index.invariant in
-    let h = next_fits c.loop-index.index c.loop-index.index (length c.args.names.now) c.args.blocks.now c.index-blocks-index.result c.loop-index-test.true c.index-blocks-index.is (omega (arith, few, c.loop-index-test.true)) inv.fits in
+    let h = next_fits c.loop-index.index c.loop-index.index (length c.args.names.now) c.args.blocks.now
+    c.index-blocks-index.result c.loop-index-test.true c.index-blocks-index.is
+    (omega (arith, few, c.loop-index-test.true)) inv.fits in
     let put = c.in_ok-put_definition.ensures
-    ∙ ap (λ (ss : List Statement). string_bytes c.loop-index.out ++ text_of_lines (definition_lines c.args.names.now c.loop-index.index ss)) c.as_slice.ensures.value in
+    ∙ ap (λ (ss : List Statement). string_bytes c.loop-index.out
+    ++ text_of_lines (definition_lines c.args.names.now c.loop-index.index ss)) c.as_slice.ensures.value in
     record {
-      so_far = definition_more c.args.names.now (string_bytes c.args.out.now) (string_bytes c.loop-index.out) (string_bytes c.put_definition.new.out) c.args.blocks.now c.loop-index.index c.index-blocks-index.result
+      so_far = definition_more c.args.names.now (string_bytes c.args.out.now) (string_bytes c.loop-index.out)
+          (string_bytes c.put_definition.new.out) c.args.blocks.now c.loop-index.index c.index-blocks-index.result
           c.loop-index-test.true c.index-blocks-index.is put inv.so_far;
       fits = h.later;
     }
 
 pub returns : goal.returns
-returns c = definitions_all c.args.names.now (string_bytes c.args.out.now) (string_bytes c.loop-index.out) c.args.blocks.now c.loop-index.index c.loop-index-test.false c.loop-index.invariant.so_far
+returns c = definitions_all c.args.names.now (string_bytes c.args.out.now) (string_bytes c.loop-index.out)
+    c.args.blocks.now c.loop-index.index c.loop-index-test.false c.loop-index.invariant.so_far

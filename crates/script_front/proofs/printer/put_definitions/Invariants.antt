@@ -1,6 +1,4 @@
-use Rattle.std.proofs.Common.{drop, string_bytes}
-use Rattle.script_front.specs.Tree.{AllFit}
-use Rattle.script_front.specs.Parsing.{bodies}
+use Rattle.script_front.proofs.Words.{AllFit, bodies, drop, string_bytes}
 use Rattle.script_front.proofs.Printed.{AllPrinted}
 use Rattle.script_front.proofs.printer.put_definitions.Given as goal
 

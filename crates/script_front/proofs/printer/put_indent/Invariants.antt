@@ -1,5 +1,4 @@
-use Rattle.std.proofs.Common.{◌≡◌, ◌++◌, string_bytes}
-use Rattle.script_front.specs.Printing.{indent}
+use Rattle.script_front.proofs.Words.{◌++◌, ◌≡◌, indent, string_bytes}
 use Rattle.script_front.proofs.printer.put_indent.Given as goal
 
 abbrev pub invariant-loop-level : goal.invariant-loop-level

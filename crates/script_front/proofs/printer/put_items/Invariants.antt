@@ -1,4 +1,4 @@
-use Rattle.std.proofs.Common.{string_bytes}
+use Rattle.script_front.proofs.Words.{string_bytes}
 use Rattle.script_front.proofs.Printed.{ItemsPrinted}
 use Rattle.script_front.proofs.printer.put_items.Given as goal
 

@@ -1,4 +1,4 @@
-use Rattle.std.proofs.Common.{◌+◌, ◌*◌}
+use Rattle.script_front.proofs.Words.{◌*◌, ◌+◌}
 use Rattle.script_front.proofs.ReadingOn.{GoesOn}
 use Rattle.script_front.proofs.statements.+statements.Given as goal
 

@@ -1,4 +1,4 @@
-use Rattle.std.proofs.Common.{string_bytes}
+use Rattle.script_front.proofs.Words.{string_bytes}
 use Rattle.script_front.proofs.PrintedWaits.{OrPrinted}
 use Rattle.script_front.proofs.wait_lexemes.put_each_or.Given as goal
 

@@ -1,13 +1,13 @@
-use Rattle.std.proofs.Common.{◌≡◌, ◌≤◌, ◌∙◌, true, refl, ap, sym, arith, length, drop, Some}
+use Rattle.script_front.proofs.Words.{◌∙◌, ◌≡◌, ◌≤◌, Some, allowed_at, ap, arith, drop, length, sym, true}
 use Rattle.std.proofs.lemmas.Grind.{common_steps}
-use Rattle.script_front.specs.Readers.{allowed_at}
 use Rattle.script_front.proofs.ReadingWaits.{two_read, next_read}
 use Rattle.script_front.proofs.Beside.{Alternatives}
 use Rattle.script_front.proofs.waits.alternatives.Goals as goal
 
 pub alternatives-init : goal.alternatives-init
 alternatives-init c = record {
-  read = two_read c.args.first c.in_ok-second.second c.new-all.result c.args.reader.now.lexemes c.second_alternative.new.reader.lexemes c.requires c.in_ok-second.ensures.read.0 c.new-all.ensures;
+  read = two_read c.args.first c.in_ok-second.second c.new-all.result c.args.reader.now.lexemes
+      c.second_alternative.new.reader.lexemes c.requires c.in_ok-second.ensures.read.0 c.new-all.ensures;
   lines = c.in_ok-second.ensures.read.1;
   few = rw (c.new-all.ensures) (omega arith);
 }
@@ -15,10 +15,14 @@ alternatives-init c = record {
 pub alternatives-preserved : goal.alternatives-preserved
 alternatives-preserved c =
     let next = sym c.is_next.ensures.is ∙ c.alternatives-test.true in
-    let full : length c.alternatives.all ≡ 8 → ⊥ = λ e. grind (arith, common_steps, e, c.if-as_slice-eq-MOST_ALTERNATIVES.false, c.as_slice.ensures) in
-    let read : allowed_at c.alternatives.all (drop 1 c.alternatives.reader.lexemes) ≡ Some (c.in_ok-next.next, c.or_alternative.new.reader.lexemes) =
-    ap (λ (xs : Alternatives). allowed_at xs (drop 1 c.alternatives.reader.lexemes)) (sym c.as_slice-in-alternatives.ensures) ∙ c.in_ok-next.ensures.read.0 in
-    let h = next_read c.alternatives.all c.push.new.self c.in_ok-next.next c.alternatives.reader.lexemes c.or_alternative.new.reader.lexemes c.alternatives.invariant.few full next read c.push.ensures in
+    let full : length c.alternatives.all ≡ 8 → ⊥ = λ e.
+    grind (arith, common_steps, e, c.if-as_slice-eq-MOST_ALTERNATIVES.false, c.as_slice.ensures) in
+    let read : allowed_at c.alternatives.all (drop 1 c.alternatives.reader.lexemes)
+    ≡ Some (c.in_ok-next.next, c.or_alternative.new.reader.lexemes) =
+    ap (λ (xs : Alternatives). allowed_at xs (drop 1 c.alternatives.reader.lexemes))
+    (sym c.as_slice-in-alternatives.ensures) ∙ c.in_ok-next.ensures.read.0 in
+    let h = next_read c.alternatives.all c.push.new.self c.in_ok-next.next c.alternatives.reader.lexemes
+    c.or_alternative.new.reader.lexemes c.alternatives.invariant.few full next read c.push.ensures in
     record {
       read = c.alternatives.invariant.read ∙ h.0;
       lines = c.in_ok-next.ensures.read.1 ∙ c.alternatives.invariant.lines;

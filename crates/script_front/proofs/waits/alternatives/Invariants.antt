@@ -1,10 +1,10 @@
-use Rattle.std.proofs.Common.{◌≡◌, ◌≤◌, ◌+◌, ◌-◌, ◌∷◌, [], length}
-use Rattle.script_front.specs.Readers.{alternatives_from}
+use Rattle.script_front.proofs.Words.{[], ◌+◌, ◌-◌, ◌∷◌, ◌≡◌, ◌≤◌, alternatives_from, length}
 use Rattle.script_front.proofs.waits.alternatives.Given as goal
 
 abbrev pub invariant-alternatives : goal.invariant-alternatives
 invariant-alternatives l = record {
-  read : alternatives_from 7 (l.fn.first ∷ []) l.fn.reader.lexemes ≡ alternatives_from (8 - length l.all) l.all l.reader.lexemes;
+  read : alternatives_from 7 (l.fn.first ∷ []) l.fn.reader.lexemes
+      ≡ alternatives_from (8 - length l.all) l.all l.reader.lexemes;
   lines : l.reader.lines ≡ l.fn.reader.lines;
   few : length l.all ≤ 8;
 }

@@ -1,4 +1,5 @@
-use Rattle.script_compiler.proofs.Words.{◌+◌, ◌∙◌, ◌≡◌, Some, StepsTo, continues, false, inl, inr, suspends, sym, target_of, true}
+use Rattle.script_compiler.proofs.Words.{◌+◌, ◌∙◌, ◌≡◌, Some, StepsTo, continues, false, inl, inr, suspends, sym}
+use Rattle.script_compiler.proofs.Words.{target_of, true}
 use Rattle.script_compiler.proofs.Cycles.{grows_both}
 use Rattle.script_compiler.proofs.Putting.{on_ok_map}
 use Rattle.script_compiler.proofs.cost.Reached.add_following.Goals as goal

@@ -7,4 +7,6 @@ returns-clause-limited c =
     let w = c.args.self.now in
     let v = c.save.new.self in
     limits_at_map c.put.result c.args.line (λ k without_label p ps e space.
-    without_label p ps (e ∙ sym c.save.ensures.now) (space_as k w v (p ∷ ps) (ap (λ x. length x.items) c.save.ensures.lines) (ap (λ x. x.items) c.save.ensures.unpriced) space)) c.put.ensures.limited
+    without_label p ps (e ∙ sym c.save.ensures.now)
+    (space_as k w v (p ∷ ps) (ap (λ x. length x.items) c.save.ensures.lines)
+    (ap (λ x. x.items) c.save.ensures.unpriced) space)) c.put.ensures.limited

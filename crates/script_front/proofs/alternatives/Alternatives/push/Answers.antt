@@ -1,5 +1,4 @@
-use Rattle.std.proofs.Common.{◌≡◌, ◌<◌, true, length, take, refl, rules}
-use Rattle.script_front.specs.Waits.{IsAlternative, may_follow}
+use Rattle.script_front.proofs.Words.{◌<◌, ◌≡◌, IsAlternative, length, may_follow, refl, rules, take, true}
 use Rattle.script_front.proofs.Beside.{has_one_more}
 use Rattle.script_front.proofs.alternatives.Alternatives.push.Goals as goal
 
@@ -9,5 +8,6 @@ invariant_of-self c =
     let room : length held < 8 = rw c.self.view_is c.requires.room in
     let fits : may_follow held c.args.next ≡ true = rw c.self.view_is c.requires.fits in
     let is : IsAlternative c.args.next = search rules in
-    let h = has_one_more c.self.inside.slots held c.self.inside.len c.args.next refl c.self.invariant.0 c.self.invariant.1 c.self.invariant.2 is room fits in
+    let h = has_one_more c.self.inside.slots held c.self.inside.len c.args.next refl c.self.invariant.0
+    c.self.invariant.1 c.self.invariant.2 is room fits in
     (h.long, h.kept, h.are)
