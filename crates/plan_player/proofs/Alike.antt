@@ -1,18 +1,16 @@
 -- Frames that differ in the count alone, one after another.
-use Rattle.std.proofs.Common.{◌≡◌, ℕ, zero, suc, ◌+◌, ◌-◌, ◌*◌, ◌/◌, ◌%◌, ◌<◌, ◌≤◌, ◌==◌, Bool, true, false, cond, ltb}
-use Rattle.std.proofs.Common.{List, [], ◌∷◌, ◌++◌, length, take, drop, map, flat_map, replicate, Option, Some, None}
-use Rattle.std.proofs.Common.{refl, sym, ap, ap₂, subst, ◌∙◌, arith, append_assoc, length-append}
-use Rattle.plan_player.proofs.Names.{concat, take_at, drop_at, suc-mul, COUNTS, occurrence_bytes, entries_bytes}
-use Rattle.plan_player.proofs.Names.{figs_bytes, fib_bytes, filled, checked, page_bytes, Header, counted_on, header_of}
-use Rattle.plan_player.proofs.Names.{ensemble_at, IsAlike, AreAlike}
-use Rattle.plan_runs.proofs.Names.{ne_eqb, append-nil, layout_mode, frame_fibs, FrameLayout, EnsembleInformation}
-use Rattle.plan_runs.proofs.Names.{Marked, marked, EnsembleOf, count_step, Written, head_of, head_byte, Mode, I}
-use Rattle.plan_runs.proofs.Names.{fib_entries, first_fib, later_fibs, reserved_figs, figs_of, ensemble_figs}
-use Rattle.plan_runs.proofs.Names.{IsPageable, Plan, State, ensemble_of, ensemble_sent, shown_bytes, sent_entries}
-use Rattle.plan_runs.proofs.Names.{notice_frames}
+use Rattle.plan_player.proofs.Words.{[], ◌%◌, ◌*◌, ◌++◌, ◌+◌, ◌-◌, ◌/◌, ◌<◌, ◌==◌, ◌∙◌, ◌∷◌, ◌≡◌, ◌≤◌, AreAlike, Bool}
+use Rattle.plan_player.proofs.Words.{COUNTS, EnsembleInformation, EnsembleOf, FrameLayout, Header, I, IsAlike}
+use Rattle.plan_player.proofs.Words.{IsPageable, List, Marked, Mode, None, Option, Plan, Some, State, Written, ap}
+use Rattle.plan_player.proofs.Words.{append-nil, append_assoc, ap₂, arith, checked, checked_len, concat, cond}
+use Rattle.plan_player.proofs.Words.{count_step, counted_on, drop, drop_at, ensemble_at, ensemble_figs, ensemble_of}
+use Rattle.plan_player.proofs.Words.{ensemble_sent, entries_bytes, false, fib_bytes, fib_entries, figs_bytes, figs_of}
+use Rattle.plan_player.proofs.Words.{filled, first_fib, flat_map, frame_fibs, head_byte, head_of, header_of, later_fibs}
+use Rattle.plan_player.proofs.Words.{layout_mode, length, length-append, ltb, map, marked, ne_eqb, notice_frames}
+use Rattle.plan_player.proofs.Words.{occurrence_bytes, page_bytes, page_fits, pages_are_valid, refl, replicate}
+use Rattle.plan_player.proofs.Words.{reserved_figs, sent_entries, shown_bytes, subst, suc, suc-mul, sym, take, take_at}
+use Rattle.plan_player.proofs.Words.{true, zero, ℕ}
 use Rattle.fib_codec.proofs.Finished.{length-filled}
-use Rattle.fib_codec.proofs.U16.{checked_len}
-use Rattle.fib_carousel.proofs.Hearing.{page_fits, pages_are_valid}
 use Rattle.plan_player.proofs.CountedOn.{on_more, count_on}
 use Rattle.plan_player.proofs.Together.{ensemble_is, bytes_more}
 

@@ -1,10 +1,8 @@
 -- The contents of the tables for the bytes of the count.
-use Rattle.std.proofs.Common.{◌≡◌, ℕ, zero, suc, ◌+◌, ◌<◌, Bool, true, ◌==◌, ◌&&◌, List, [], ◌∷◌, length, get_or, refl}
-use Rattle.std.proofs.Common.{sym, ◌∙◌, ap, arith}
-use Rattle.plan_player.proofs.Names.{later}
-use Rattle.plan_runs.proofs.Names.{and_parts, eqb-true}
-use Rattle.fib_codec.specs.Register.{after}
+use Rattle.plan_player.proofs.Words.{[], ◌&&◌, ◌+◌, ◌<◌, ◌==◌, ◌∙◌, ◌∷◌, ◌≡◌, Bool, List, and_parts, ap, arith}
+use Rattle.plan_player.proofs.Words.{eqb-true, get_or, later, length, refl, suc, sym, true, zero, ℕ}
 use Rattle.plan_player.specs.declared.count_tables.TheConstants.{LOWS, HIGHS}
+use Rattle.fib_codec.specs.Register.{after}
 
 -- from `byte` on, a table of the CRC register after each byte and n zero bytes, from a register of zero
 abbrev is_late_table : ℕ → List ℕ → ℕ → Bool

@@ -1,10 +1,10 @@
 -- Advancing the counts, frame by frame or by many frames at once.
-use Rattle.std.proofs.Common.{◌≡◌, ℕ, zero, suc, ◌+◌, ◌-◌, ◌%◌, ◌<◌, ◌≤◌, Bool, true, false, cond, ltb, List, [], ◌∷◌}
-use Rattle.std.proofs.Common.{◌++◌, Option, Some, None, refl, sym, ap, subst, ◌∙◌, arith}
-use Rattle.plan_player.proofs.Names.{mod-eq_of_lt, mod-add-mod, mod_self, mod-lt, COUNTS, FRAMES_A_DAY, counted_on}
-use Rattle.plan_player.proofs.Names.{left_later, hold_later, HasRounds}
-use Rattle.plan_runs.proofs.Names.{ltb-true, ltb-false, page_after, Hold, Waits, WaitsAny, Plan, State, shown_bytes}
-use Rattle.plan_runs.proofs.Names.{sent_rounds, left_after_frame, hold_after_frame, with_next_counts, notice_frames}
+use Rattle.plan_player.proofs.Words.{[], ◌%◌, ◌++◌, ◌+◌, ◌-◌, ◌<◌, ◌∙◌, ◌∷◌, ◌≡◌, ◌≤◌, Bool, COUNTS, FRAMES_A_DAY}
+use Rattle.plan_player.proofs.Words.{HasRounds, Hold, List, None, Option, Plan, Some, State, Waits, WaitsAny, ap, arith}
+use Rattle.plan_player.proofs.Words.{cond, counted_on, false, hold_after_frame, hold_later, left_after_frame}
+use Rattle.plan_player.proofs.Words.{left_later, ltb, ltb-false, ltb-true, mod-add-mod, mod-eq_of_lt, mod-lt, mod_self}
+use Rattle.plan_player.proofs.Words.{notice_frames, page_after, refl, sent_rounds, shown_bytes, subst, suc, sym, true}
+use Rattle.plan_player.proofs.Words.{with_next_counts, zero, ℕ}
 
 -- ---- one frame more
 

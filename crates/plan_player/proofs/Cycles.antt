@@ -1,12 +1,12 @@
 -- Quiet frames that come whole cycles after others, and differ from these in the count alone.
-use Rattle.std.proofs.Common.{◌≡◌, ℕ, zero, suc, ◌+◌, ◌-◌, ◌*◌, ◌%◌, ◌<◌, ◌≤◌, ◌==◌, Bool, cond, List, ◌∷◌, ◌++◌}
-use Rattle.std.proofs.Common.{length, take, drop, Option, Some, None, refl, sym, ap, ap₂, subst, ◌∙◌, arith}
-use Rattle.std.proofs.Common.{length-append, length-drop, length-take-le}
-use Rattle.plan_player.proofs.Names.{concat, copy_within, take_at, drop_at, drop-take, take-append-drop, paste}
-use Rattle.plan_player.proofs.Names.{take-append-add, suc-mul, mod-add-mod, concat-append, COUNTS, PhasePages, Header}
-use Rattle.plan_player.proofs.Names.{counted_on, SwapIsAway, header_of, IsStretch, IsAlike, AreAlike, AreRecounted}
-use Rattle.plan_runs.proofs.Names.{take-append-le, layout_mode, frame_fibs, fib_count, count_step, Mode, I, page_set}
-use Rattle.plan_runs.proofs.Names.{Plan, State, is_noticed, shown_bytes, sent_entries, with_next_counts, notice_frames}
+use Rattle.plan_player.proofs.Words.{◌%◌, ◌*◌, ◌++◌, ◌+◌, ◌-◌, ◌<◌, ◌==◌, ◌∙◌, ◌∷◌, ◌≡◌, ◌≤◌, AreAlike, AreRecounted}
+use Rattle.plan_player.proofs.Words.{Bool, COUNTS, Header, I, IsAlike, IsStretch, List, Mode, None, Option, PhasePages}
+use Rattle.plan_player.proofs.Words.{Plan, Some, State, SwapIsAway, ap, ap₂, arith, concat, concat-append, cond}
+use Rattle.plan_player.proofs.Words.{copy_within, count_step, counted_on, drop, drop-take, drop_at, fib_count}
+use Rattle.plan_player.proofs.Words.{frame_fibs, header_of, is_noticed, layout_mode, length, length-append, length-drop}
+use Rattle.plan_player.proofs.Words.{length-take-le, mod-add-mod, notice_frames, page_set, paste, refl, sent_entries}
+use Rattle.plan_player.proofs.Words.{shown_bytes, subst, suc, suc-mul, sym, take, take-append-add, take-append-drop}
+use Rattle.plan_player.proofs.Words.{take-append-le, take_at, with_next_counts, zero, ℕ}
 use Rattle.std.proofs.lemmas.List.Edits.{take-paste}
 use Rattle.plan_player.proofs.CountedOn.{apart, left_on, turn_on}
 use Rattle.plan_player.proofs.Together.{noticed_later, header_later, stretch_rounds, fewer_rounds, stretch_page}

@@ -1,12 +1,10 @@
 -- Playing events, and then one more.
-use Rattle.std.proofs.Common.{◌≡◌, ℕ, ◌+◌, ◌<◌, ◌≤◌, List, [], ◌∷◌, ◌++◌, length, take, drop, Option, refl, sym, ap}
-use Rattle.std.proofs.Common.{subst, ◌∙◌, arith, append_assoc, length-append, take-append-drop}
-use Rattle.plan_player.proofs.Names.{concat, Appends, Appends-trans, concat-append, Playing, last_steps, played}
-use Rattle.plan_player.proofs.Names.{frames_of, played_bytes, next_frame, Stopped}
-use Rattle.plan_runs.proofs.Names.{Program, State, frame_steps, after_frame, happens, run}
+use Rattle.plan_player.proofs.Words.{[], ◌++◌, ◌+◌, ◌<◌, ◌∙◌, ◌∷◌, ◌≡◌, ◌≤◌, Appends, Appends-trans, Contact, Event}
+use Rattle.plan_player.proofs.Words.{Frame, List, Option, Playing, Program, State, Stopped, after_frame, ap}
+use Rattle.plan_player.proofs.Words.{append_assoc, arith, concat, concat-append, drop, frame_steps, frames_of, happens}
+use Rattle.plan_player.proofs.Words.{last_steps, length, length-append, next_frame, played, played_bytes, refl, run}
+use Rattle.plan_player.proofs.Words.{subst, sym, take, take-append-drop, ℕ}
 use Rattle.plan_runs.proofs.Joined.{state_joins, runs_join}
-use Rattle.plan_runs.specs.declared.event.Event.{Event}
-use Rattle.plan_runs.specs.declared.event.Event.TheVariants.{Contact, Frame}
 
 -- ---- events and then more
 

@@ -1,25 +1,19 @@
 -- What the player's calls require of a state that a typed code reaches.
-use Rattle.std.proofs.Common.{◌≡◌, ℕ, ◌<◌, Bool, true, false, cond, List, [], ◌∷◌, Option, Some, None, refl, sym, ap}
-use Rattle.std.proofs.Common.{subst, ◌∙◌, arith, ◌≤◌}
-use Rattle.plan_player.proofs.Names.{IsPlan, PhasePages, Keeps, HasChange, KeepsChange, IsFrameReady, IsGoing, Progress}
-use Rattle.plan_runs.proofs.Names.{◌||◌, eqb-false, FrameLayout, Configuration, change_of, bits_of, Marked, page_set}
-use Rattle.plan_runs.proofs.Names.{rounds, Plan, Program, IsProgram, State, is_due, with_swap}
-use Rattle.plan_runs.proofs.Names.{is_noticed, is_first_noticed, left_after_frame, shown, after_burst, sent_entries}
-use Rattle.plan_runs.proofs.Names.{after_frame, frame_steps, begins_phase, SentBy, StartIsInRange, IsStart, happens}
-use Rattle.plan_runs.proofs.Names.{IsPlayed}
+use Rattle.plan_player.proofs.Words.{[], ◌<◌, ◌||◌, ◌∙◌, ◌∷◌, ◌≡◌, ◌≤◌, Bool, Configuration, Contact, Frame}
+use Rattle.plan_player.proofs.Words.{FrameLayout, HasChange, IsFrameReady, IsGoing, IsPlan, IsPlayed, IsProgram}
+use Rattle.plan_player.proofs.Words.{IsStart, Keeps, KeepsChange, List, Marked, None, Option, PhasePages, Plan, Program}
+use Rattle.plan_player.proofs.Words.{Progress, SentBy, Some, Start, StartIsInRange, State, after_burst, after_frame}
+use Rattle.plan_player.proofs.Words.{after_goes, airs, ap, arith, begins_phase, bits_of, change_of, code_of, cond}
+use Rattle.plan_player.proofs.Words.{eqb-false, false, frame_steps, happens, is_due, is_first_noticed, is_noticed}
+use Rattle.plan_player.proofs.Words.{left_after_frame, noticed, noticed_from, page_set, played_holds, reached_is_kept}
+use Rattle.plan_player.proofs.Words.{refl, rounds, sends, sent_entries, shown, starts_are_reached, subst, sym, true}
+use Rattle.plan_player.proofs.Words.{typed_code_runs, with_swap, ℕ}
 use Rattle.plan_verifier.specs.Typing.{IsTyped}
 use Rattle.plan_runs.proofs.Carries.{IsNewly, LeftBy, frame_carries}
 use Rattle.plan_runs.proofs.Knowledge.{IsAhead, IsOnAir, CommittedBy}
 use Rattle.plan_runs.proofs.Notice.{Links, links}
 use Rattle.plan_runs.proofs.Swaps.{left_turned}
 use Rattle.plan_runs.proofs.Headline.{frames_can_be_sent}
-use Rattle.plan_runs.proofs.TypedRuns.{typed_code_runs}
-use Rattle.plan_runs.proofs.Reached.{starts_are_reached, reached_is_kept}
-use Rattle.plan_runs.proofs.Facts.{airs, code_of, played_holds}
-use Rattle.plan_runs.proofs.Tracked.{noticed, noticed_from}
-use Rattle.plan_runs.proofs.Periods.{sends, after_goes}
-use Rattle.plan_runs.specs.declared.event.Event.TheVariants.{Contact, Frame}
-use Rattle.plan_runs.specs.declared.event.Start.{Start}
 
 -- ---- progress: a typed code can always continue
 

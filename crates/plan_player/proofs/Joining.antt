@@ -1,11 +1,9 @@
 -- Playing events, and then more events.
-use Rattle.std.proofs.Common.{◌≡◌, ℕ, zero, suc, ◌+◌, ◌-◌, ◌<◌, ◌≤◌, List, [], ◌∷◌, ◌++◌, length, take, Option, refl}
-use Rattle.std.proofs.Common.{sym, ap, subst, ◌∙◌, arith, append_assoc, length-append}
-use Rattle.plan_player.proofs.Names.{replicate, Appends, Appends-trans, Playing, played, frames_of, played_bytes}
-use Rattle.plan_player.proofs.Names.{next_frame, Delivered, Stopped, AreQuiet}
-use Rattle.plan_runs.proofs.Names.{append-nil, Program, State, after_frame, happens, run_frames}
-use Rattle.plan_runs.specs.declared.event.Event.{Event}
-use Rattle.plan_runs.specs.declared.event.Event.TheVariants.{Contact, Frame}
+use Rattle.plan_player.proofs.Words.{[], ◌++◌, ◌+◌, ◌-◌, ◌<◌, ◌∙◌, ◌∷◌, ◌≡◌, ◌≤◌, Appends, Appends-trans, AreQuiet}
+use Rattle.plan_player.proofs.Words.{Contact, Delivered, Event, Frame, List, Option, Playing, Program, State, Stopped}
+use Rattle.plan_player.proofs.Words.{after_frame, ap, append-nil, append_assoc, arith, frames_of, happens, length}
+use Rattle.plan_player.proofs.Words.{length-append, next_frame, played, played_bytes, refl, replicate, run_frames}
+use Rattle.plan_player.proofs.Words.{subst, suc, sym, take, zero, ℕ}
 use Rattle.plan_player.proofs.Delivering.{played_join, bytes_join, frames_join}
 
 counts_join : (p : Playing) (events more : List Event)

@@ -1,11 +1,9 @@
 -- Keeping the pages of a phase.
-use Rattle.std.proofs.Common.{◌≡◌, ℕ, zero, suc, ◌+◌, ◌<◌, ◌≤◌, Bool, true, false, cond, eqb, List, [], ◌∷◌, length}
-use Rattle.std.proofs.Common.{length-set, Option, Some, refl, sym, ap, subst, ◌∙◌, arith}
-use Rattle.plan_player.proofs.Names.{KeptPage, Cursor, IsKept, IsAtPage, cursor_page, PhasePages, HasPage, Keeps}
-use Rattle.plan_runs.proofs.Names.{slice_get, slice_set, eqb-true, eqb-false, ltb-true, ltb-false, FrameLayout, Marked}
-use Rattle.plan_runs.proofs.Names.{rounds, page_after}
-use Rattle.plan_runs.proofs.Periods.{after_up}
-use Rattle.std.proofs.Math.Dec.{ltb}
+use Rattle.plan_player.proofs.Words.{[], ◌+◌, ◌<◌, ◌∙◌, ◌∷◌, ◌≡◌, ◌≤◌, Bool, Cursor, FrameLayout, HasPage, IsAtPage}
+use Rattle.plan_player.proofs.Words.{IsKept, Keeps, KeptPage, List, Marked, Option, PhasePages, Some, after_up, ap}
+use Rattle.plan_player.proofs.Words.{arith, cond, cursor_page, eqb, eqb-false, eqb-true, false, length, length-set, ltb}
+use Rattle.plan_player.proofs.Words.{ltb-false, ltb-true, page_after, refl, rounds, slice_get, slice_set, subst, suc}
+use Rattle.plan_player.proofs.Words.{sym, true, zero, ℕ}
 
 get_set_same : {X : Type 0} (xs : List X) (i : ℕ) (x : X) → i < length xs → slice_get (slice_set xs i x) i ≡ Some x
 get_set_same [] i x lt = absurd (omega (arith, lt))

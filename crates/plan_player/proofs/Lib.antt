@@ -1,4 +1,4 @@
-pub mod Names
+mod Words
 pub mod Remaining
 pub mod Keeping
 pub mod FrameFacts

@@ -1,20 +1,14 @@
 -- The pc is within the code in every state that a typed code reaches.
-use Rattle.std.proofs.Common.{◌≡◌, ℕ, zero, suc, ◌<◌, Bool, true, false, cond, eqb, List, [], ◌∷◌, length, Option, Some}
-use Rattle.std.proofs.Common.{None, refl, sym, ap, subst, ◌∙◌, arith}
-use Rattle.plan_player.proofs.Names.{IsSome, line_at}
-use Rattle.plan_runs.proofs.Names.{slice_get, option_map, eqb-true, Hold, Running, Ended, Instr, Wait, Until}
-use Rattle.plan_runs.proofs.Names.{WaitContact, WaitAny, Join, Settle, End, Line, Label, Plan, Program, label_at, State}
-use Rattle.plan_runs.proofs.Names.{step, effect, settle, Known, IsTyping, Arrives, is_due}
-use Rattle.plan_runs.proofs.Names.{with_swap, with_due_swap, is_running, is_here, ready, Executes, after_burst}
-use Rattle.plan_runs.proofs.Names.{is_first_noticed, hold_after_frame, left_after_frame, after_frame, happens, run}
-use Rattle.plan_runs.proofs.Names.{IsPlayed}
+use Rattle.plan_player.proofs.Words.{[], ◌<◌, ◌∙◌, ◌∷◌, ◌≡◌, Arrives, Bool, Contact, End, Ended, Event, Executes, Frame}
+use Rattle.plan_player.proofs.Words.{Hold, Holds, Instr, IsCode, IsPlayed, IsSome, IsTyping, Join, Known, Label, Line}
+use Rattle.plan_player.proofs.Words.{List, None, Option, Plan, Program, Running, Settle, Some, State, Until, Wait}
+use Rattle.plan_player.proofs.Words.{WaitAny, WaitContact, after_burst, after_frame, ap, arith, code_of, cond, effect}
+use Rattle.plan_player.proofs.Words.{eqb, eqb-true, false, frame_goes, happens, happens_holds, hold_after_frame, is_due}
+use Rattle.plan_player.proofs.Words.{is_first_noticed, is_here, is_running, label_at, left_after_frame, length, line_at}
+use Rattle.plan_player.proofs.Words.{option_map, played_holds, ready, refl, run, settle, slice_get, starts_are_reached}
+use Rattle.plan_player.proofs.Words.{step, step_is, subst, suc, sym, true, with_due_swap, with_swap, zero, ℕ}
 use Rattle.plan_runs.proofs.Lookups.{found, get_below}
 use Rattle.plan_runs.proofs.Steps.{Expects, ResumesBy}
-use Rattle.plan_runs.proofs.Between.{frame_goes, step_is}
-use Rattle.plan_runs.proofs.Facts.{Holds, IsCode, happens_holds, code_of, played_holds}
-use Rattle.plan_runs.proofs.Reached.{starts_are_reached}
-use Rattle.plan_runs.specs.declared.event.Event.{Event}
-use Rattle.plan_runs.specs.declared.event.Event.TheVariants.{Contact, Frame}
 
 abbrev pub IsInside : Program → ℕ → Type 0
 IsInside p pc = pc < length p.lines

@@ -1,19 +1,16 @@
 -- Quiet frames: what they are, from the state alone, and how many there are.
-use Rattle.std.proofs.Common.{◌≡◌, ℕ, zero, suc, ◌+◌, ◌%◌, ◌≤◌, ◌==◌, Bool, true, false, cond, List, ◌∷◌, Option, Some}
-use Rattle.std.proofs.Common.{None, refl, sym, ap, subst, ◌∙◌, arith}
-use Rattle.plan_player.proofs.Names.{replicate, mod-eq_of_lt, FRAMES_A_DAY, last_steps, IsQuiet, AreQuiet, counted_on}
-use Rattle.plan_player.proofs.Names.{QuietFramesAreCopied, SwapIsAway, DayIsAway, HoldIsAway}
-use Rattle.plan_runs.proofs.Names.{◌||◌, IfSome, eqb-true, is_same_flag, Hold, Running, Waits, WaitsDay, WaitsContact}
-use Rattle.plan_runs.proofs.Names.{WaitsAny, WaitsSwap, Ended, Plan, is_closed, Program, State, is_due}
-use Rattle.plan_runs.proofs.Names.{with_swap, with_due_swap, is_running, is_day, is_here, with_hold_ended, ready, burst}
-use Rattle.plan_runs.proofs.Names.{burst_steps, after_burst, frame_steps, is_first_noticed, shown, shown_bytes}
-use Rattle.plan_runs.proofs.Names.{left_after_frame, hold_after_frame, with_next_counts, frame_bytes, after_frame}
-use Rattle.plan_runs.proofs.Names.{run_frames, notice_frames}
+use Rattle.plan_player.proofs.Words.{◌%◌, ◌+◌, ◌==◌, ◌||◌, ◌∙◌, ◌∷◌, ◌≡◌, ◌≤◌, AreQuiet, Bool, DayIsAway, Ended}
+use Rattle.plan_player.proofs.Words.{FRAMES_A_DAY, Frame, Hold, HoldIsAway, IfSome, IsQuiet, List, None, Option, Plan}
+use Rattle.plan_player.proofs.Words.{Program, QuietFramesAreCopied, Running, Some, State, SwapIsAway, Waits, WaitsAny}
+use Rattle.plan_player.proofs.Words.{WaitsContact, WaitsDay, WaitsSwap, after_burst, after_frame, ap, arith, burst}
+use Rattle.plan_player.proofs.Words.{burst_steps, cond, counted_on, eqb-true, false, frame_bytes, frame_steps}
+use Rattle.plan_player.proofs.Words.{hold_after_frame, is_closed, is_day, is_due, is_first_noticed, is_here, is_running}
+use Rattle.plan_player.proofs.Words.{is_same_flag, last_steps, left_after_frame, mod-eq_of_lt, notice_frames, ready}
+use Rattle.plan_player.proofs.Words.{refl, replicate, run_frames, shown, shown_bytes, still_stops, subst, suc, sym}
+use Rattle.plan_player.proofs.Words.{true, with_due_swap, with_hold_ended, with_next_counts, with_swap, zero, ℕ}
 use Rattle.std.proofs.lemmas.Bool.{or_from}
 use Rattle.plan_code.specs.Flags.{any_closed, any_open}
 use Rattle.plan_runs.proofs.Waits.{burst_stays}
-use Rattle.plan_runs.proofs.Between.{still_stops}
-use Rattle.plan_runs.specs.declared.event.Event.TheVariants.{Frame}
 
 -- ---- a quiet frame
 

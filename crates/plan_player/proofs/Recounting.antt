@@ -1,16 +1,12 @@
 -- The CRC is linear, so changing two bytes of a FIB changes it by the contribution of each.
-use Rattle.std.proofs.Common.{◌≡◌, ℕ, zero, suc, ◌+◌, ◌*◌, ◌/◌, ◌%◌, ◌<◌, List, [], ◌∷◌, ◌++◌, length, refl, sym, ◌∙◌}
-use Rattle.std.proofs.Common.{ap, ap₂, arith}
-use Rattle.plan_player.proofs.Names.{slice_index_or, bit_xor, set-append_right, get_or-append_right, checked, after_all}
-use Rattle.plan_player.proofs.Names.{later}
-use Rattle.plan_runs.proofs.Names.{slice_set}
+use Rattle.plan_player.proofs.Words.{[], ◌%◌, ◌*◌, ◌++◌, ◌+◌, ◌/◌, ◌<◌, ◌∙◌, ◌∷◌, ◌≡◌, List, after, after_all, ap, ap₂}
+use Rattle.plan_player.proofs.Words.{arith, bit_xor, check_word_below, checked, get_or-append_right, later, length}
+use Rattle.plan_player.proofs.Words.{refl, set-append_right, slice_index_or, slice_set, suc, sym, word_checked, zero, ℕ}
 use Rattle.std.specs.Int.Bits.{xor_assoc, xor_self}
 use Rattle.std.proofs.lemmas.Nat.{xor_comm, xor_of_16}
 use Rattle.fib_codec.specs.Crc.{crc_value}
-use Rattle.fib_codec.specs.Register.{after}
 use Rattle.fib_codec.proofs.Division.{word_checks}
 use Rattle.fib_codec.proofs.Linear.{apart, zeros_apart, one_byte, byte_below}
-use Rattle.fib_codec.proofs.U16.{word_checked, check_word_below}
 
 -- ---- sums modulo 2
 

@@ -1,8 +1,6 @@
 -- The instructions of a frame that remain to be executed.
-use Rattle.std.proofs.Common.{◌≡◌, ℕ, zero, suc, ◌+◌, ◌≤◌, true, false, sym, subst, ◌∙◌, arith}
-use Rattle.plan_player.proofs.Names.{CanRun}
-use Rattle.plan_runs.proofs.Names.{Program, IsProgram, State, step, StepIsAllowed, is_running, Executes, burst}
-use Rattle.plan_runs.proofs.Names.{burst_steps}
+use Rattle.plan_player.proofs.Words.{◌+◌, ◌∙◌, ◌≡◌, ◌≤◌, CanRun, Executes, IsProgram, Program, State, StepIsAllowed}
+use Rattle.plan_player.proofs.Words.{arith, burst, burst_steps, false, is_running, step, subst, suc, sym, true, zero, ℕ}
 use Rattle.plan_runs.proofs.Bursts.{bursts_are_one}
 
 -- this many instructions took the first state to this one, and the rest of the frame's instructions remain

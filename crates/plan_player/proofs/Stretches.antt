@@ -1,15 +1,12 @@
 -- What the player's calls require of quiet frames that go to a sink together.
-use Rattle.std.proofs.Common.{◌≡◌, ℕ, zero, suc, ◌+◌, ◌-◌, ◌<◌, ◌≤◌, true, false, List, [], ◌∷◌, ◌++◌, length, take}
-use Rattle.std.proofs.Common.{Option, Some, None, refl, sym, ap, subst, ◌∙◌, arith}
-use Rattle.plan_player.proofs.Names.{replicate, Result, Ok, Err, IfOk, IfErr, OnOk, concat, Appends, PhasePages}
-use Rattle.plan_player.proofs.Names.{IsGoing, Keeps, HasChange, Playing, last_steps, played, played_bytes, next_frame}
-use Rattle.plan_player.proofs.Names.{Delivered, Stopped, IsQuiet, AreQuiet, counted_on, SwapIsAway, IsStretch, IsCut}
-use Rattle.plan_player.proofs.Names.{IsPageReady}
-use Rattle.plan_runs.proofs.Names.{eqb-false, Plan, Program, State, is_due, is_first_noticed}
-use Rattle.plan_runs.proofs.Names.{left_after_frame, shown_bytes, sent_entries, sent_rounds, with_next_counts}
-use Rattle.plan_runs.proofs.Names.{frame_bytes, after_frame, shown, run, run_frames, notice_frames, page_after}
-use Rattle.plan_runs.specs.declared.event.Event.{Event}
-use Rattle.plan_runs.specs.declared.event.Event.TheVariants.{Frame}
+use Rattle.plan_player.proofs.Words.{[], ◌++◌, ◌+◌, ◌-◌, ◌<◌, ◌∙◌, ◌∷◌, ◌≡◌, ◌≤◌, Appends, AreQuiet, Delivered, Err}
+use Rattle.plan_player.proofs.Words.{Event, Frame, HasChange, IfErr, IfOk, IsCut, IsGoing, IsPageReady, IsQuiet}
+use Rattle.plan_player.proofs.Words.{IsStretch, Keeps, List, None, Ok, OnOk, Option, PhasePages, Plan, Playing, Program}
+use Rattle.plan_player.proofs.Words.{Result, Some, State, Stopped, SwapIsAway, after_frame, ap, arith, concat}
+use Rattle.plan_player.proofs.Words.{counted_on, eqb-false, false, frame_bytes, is_due, is_first_noticed, last_steps}
+use Rattle.plan_player.proofs.Words.{left_after_frame, length, next_frame, notice_frames, page_after, played}
+use Rattle.plan_player.proofs.Words.{played_bytes, refl, replicate, run, run_frames, sent_entries, sent_rounds, shown}
+use Rattle.plan_player.proofs.Words.{shown_bytes, subst, suc, sym, take, true, with_next_counts, zero, ℕ}
 use Rattle.plan_player.specs.declared.fault.Accepted.{Accepted}
 use Rattle.plan_player.proofs.Keeping.{turned}
 use Rattle.plan_player.proofs.Quiet.{stays, quiet_frames_are_copied}

@@ -1,18 +1,18 @@
 -- Quiet frames that go to a sink together: the content of each, and cutting their bytes.
-use Rattle.std.proofs.Common.{◌≡◌, ℕ, zero, suc, ◌+◌, ◌-◌, ◌*◌, ◌/◌, ◌%◌, ◌<◌, ◌≤◌, ◌==◌, Bool, true, false, cond, List}
-use Rattle.std.proofs.Common.{[], ◌∷◌, ◌++◌, length, take, Option, Some, None, IfSome, refl, sym, ap, subst, ◌∙◌, arith}
-use Rattle.std.proofs.Common.{inl, inr, append_assoc, length-append}
-use Rattle.plan_player.proofs.Names.{concat, take-append-add, mod-add-mod, mod-add-div', mod-lt, suc-mul, concat-append}
-use Rattle.plan_player.proofs.Names.{COUNTS, KeptPage, page_bytes, IsKept, PhasePages, Header, HasPage, counted_on}
-use Rattle.plan_player.proofs.Names.{SwapIsAway, header_of, ensemble_at, headed_at, IsStretch, left_later, HasRounds}
-use Rattle.plan_runs.proofs.Names.{slice_get, append-nil, take-append-le, layout_mode, frame_fibs, change_of, bits_of}
-use Rattle.plan_runs.proofs.Names.{EnsembleInformation, count_step, IsEnsembleInformation, Marked, page_after, Plan}
-use Rattle.plan_runs.proofs.Names.{State, is_noticed, low_of_swap, ensemble_of, ensemble_sent, shown_bytes}
-use Rattle.plan_runs.proofs.Names.{sent_entries, with_next_counts, notice_frames}
-use Rattle.plan_runs.proofs.Tracked.{noticed, not_noticed, split_le}
+use Rattle.plan_player.proofs.Words.{[], ◌%◌, ◌*◌, ◌++◌, ◌+◌, ◌-◌, ◌/◌, ◌<◌, ◌==◌, ◌∙◌, ◌∷◌, ◌≡◌, ◌≤◌, Bool, COUNTS}
+use Rattle.plan_player.proofs.Words.{EnsembleInformation, HasPage, HasRounds, Header, IsEnsembleInformation, IsKept}
+use Rattle.plan_player.proofs.Words.{IsStretch, KeptPage, List, Marked, None, Option, PhasePages, Plan, Some, State}
+use Rattle.plan_player.proofs.Words.{SwapIsAway, ap, append-nil, append_assoc, arith, bits_of, change_of, concat}
+use Rattle.plan_player.proofs.Words.{concat-append, cond, count_step, counted_on, ensemble_at, ensemble_of}
+use Rattle.plan_player.proofs.Words.{ensemble_sent, false, frame_fibs, headed_at, header_of, inl, inr, is_noticed}
+use Rattle.plan_player.proofs.Words.{layout_mode, left_later, length, length-append, low_of_swap, mod-add-div'}
+use Rattle.plan_player.proofs.Words.{mod-add-mod, mod-lt, not_noticed, notice_frames, noticed, page_after, page_bytes}
+use Rattle.plan_player.proofs.Words.{pages_are_valid, refl, sent_entries, shown_bytes, slice_get, split_le, subst, suc}
+use Rattle.plan_player.proofs.Words.{suc-mul, sym, take, take-append-add, take-append-le, true, with_next_counts, zero}
+use Rattle.plan_player.proofs.Words.{ℕ}
+use Rattle.std.proofs.Common.{IfSome}
 use Rattle.plan_player.proofs.Keeping.{held_is}
 use Rattle.plan_player.proofs.CountedOn.{apart, left_on, count_on, on_more, frames_more}
-use Rattle.fib_carousel.proofs.Hearing.{pages_are_valid}
 
 -- ---- FIG 0/0
 

@@ -1,14 +1,11 @@
 -- The state of a player and what a sink receives, for a code that waits for a frame and ends: examples that hold and
 -- examples that fail for each definition.
-use Rattle.std.proofs.Common.{◌≡◌, ℕ, List, [], ◌∷◌, ◌++◌, length, take, replicate, Some, None, refl, ap, arith}
-use Rattle.plan_player.proofs.Names.{length-append, page_bytes, KeptPage, Playing, start_fault, IsAtStart, last_steps}
-use Rattle.plan_player.proofs.Names.{played, frames_of, played_bytes, next_frame, Stopped, StoppedBy, Kept, HasPage}
-use Rattle.plan_player.proofs.Names.{ShowsAs, HasChange, KeepsChange}
-use Rattle.plan_runs.proofs.Names.{Whole, nothing, I, Line, Wait, End, Program, State}
-use Rattle.plan_runs.proofs.Samples.{label, code, start_at, first_state, it_starts}
-use Rattle.plan_runs.specs.declared.event.Event.{Event}
-use Rattle.plan_runs.specs.declared.event.Event.TheVariants.{Frame}
-use Rattle.plan_runs.specs.declared.event.Start.{Start}
+use Rattle.plan_player.proofs.Words.{[], ◌++◌, ◌∷◌, ◌≡◌, End, Event, Frame, HasChange, HasPage, I, IsAtStart}
+use Rattle.plan_player.proofs.Words.{KeepsChange, Kept, KeptPage, Line, List, None, Playing, Program, ShowsAs, Some}
+use Rattle.plan_player.proofs.Words.{Start, State, Stopped, StoppedBy, Wait, Whole, ap, arith, code, first_state}
+use Rattle.plan_player.proofs.Words.{frames_of, it_starts, label, last_steps, length, length-append, next_frame}
+use Rattle.plan_player.proofs.Words.{nothing, page_bytes, played, played_bytes, refl, replicate, start_at, start_fault}
+use Rattle.plan_player.proofs.Words.{take, ℕ}
 use Rattle.plan_player.specs.declared.fault.StartFault.TheVariants.{Count, Day}
 use Rattle.plan_player.specs.declared.fault.PlayFault.TheVariants.{Write}
 

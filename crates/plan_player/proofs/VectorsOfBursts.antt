@@ -1,9 +1,6 @@
 -- The preconditions of a frame: examples that hold and examples that fail.
-use Rattle.std.proofs.Common.{◌<◌, arith}
-use Rattle.plan_player.proofs.Names.{CanRun, CanContinue}
-use Rattle.plan_runs.proofs.Names.{ready, after_burst}
-use Rattle.plan_runs.proofs.Samples.{all_open, one_sub_is, unflagged_is}
-use Rattle.plan_runs.proofs.VectorsOfRuns.{waits, joins, first, one_instruction, join_traps}
+use Rattle.plan_player.proofs.Words.{◌<◌, CanContinue, CanRun, after_burst, all_open, arith, first, join_traps, joins}
+use Rattle.plan_player.proofs.Words.{one_instruction, one_sub_is, ready, unflagged_is, waits}
 
 -- ---- instructions
 

@@ -1,14 +1,13 @@
 -- The pages that a player keeps of a phase, and its invariant between frames, for a code with one sub-channel that
 -- waits for a frame and ends: examples that hold and examples that fail for each definition.
-use Rattle.std.proofs.Common.{◌≡◌, ℕ, zero, suc, ◌<◌, ◌≤◌, true, false, List, ◌∷◌, Some, None, replicate, refl, ap}
-use Rattle.std.proofs.Common.{arith}
-use Rattle.plan_player.proofs.Names.{KeptPage, Cursor, page_bytes, PhasePages, Kept, Headed, HasPage, Keeps, ShowsBytes}
-use Rattle.plan_player.proofs.Names.{IsInPhase, IsFrameReady, IsGoing}
-use Rattle.plan_runs.proofs.Names.{get_or, Whole, Marked, I, page_set, rounds}
-use Rattle.fib_carousel.specs.Greedy.{start as before_all}
+use Rattle.plan_player.proofs.Words.{◌<◌, ◌∷◌, ◌≡◌, ◌≤◌, Cursor, HasPage, Headed, I, IsFrameReady, IsGoing, IsInPhase}
+use Rattle.plan_player.proofs.Words.{Keeps, Kept, KeptPage, List, Marked, None, PhasePages, ShowsBytes, Some, Whole, ap}
+use Rattle.plan_player.proofs.Words.{arith, false, first, one_sub_is, page_bytes, page_set, plan, refl, replicate}
+use Rattle.plan_player.proofs.Words.{rounds, second, suc, true, waits, with_sub, zero, ℕ}
+use Rattle.plan_runs.proofs.Names.{get_or}
 use Rattle.fib_carousel.proofs.Sendable.{sendable_page_set}
-use Rattle.plan_runs.proofs.VectorsOfRuns.{played, waits, first, second}
-use Rattle.plan_runs.proofs.Samples.{plan, with_sub, one_sub_is}
+use Rattle.plan_runs.proofs.VectorsOfRuns.{played}
+use Rattle.fib_carousel.specs.Greedy.{start as before_all}
 use Rattle.plan_player.proofs.FrameFacts.{frame_ready}
 
 -- ---- the pages of a phase

@@ -1,9 +1,8 @@
 -- Quiet frames of a code that waits, with an empty multiplex: examples that hold and examples that fail.
-use Rattle.std.proofs.Common.{◌≡◌, ℕ, zero, suc, true, false, [], ◌∷◌, Option, Some, None, refl, arith}
-use Rattle.plan_player.proofs.Names.{IsQuiet, AreQuiet, counted_on, AreCopied, SwapIsAway, DayIsAway, AreAway}
-use Rattle.plan_player.proofs.Names.{HoldIsAway, hold_later}
-use Rattle.plan_runs.proofs.Names.{nothing, Contacts, Hold, Waits, WaitsAny, Ended, Wait, End, Program, State}
-use Rattle.plan_runs.proofs.Samples.{plan, line, code, first_state}
+use Rattle.plan_player.proofs.Words.{[], ◌∷◌, ◌≡◌, AreAway, AreCopied, AreQuiet, Contacts, DayIsAway, End, Ended, Hold}
+use Rattle.plan_player.proofs.Words.{HoldIsAway, IsQuiet, None, Option, Program, Some, State, SwapIsAway, Wait, Waits}
+use Rattle.plan_player.proofs.Words.{WaitsAny, arith, code, counted_on, false, first_state, hold_later, line, nothing}
+use Rattle.plan_player.proofs.Words.{plan, refl, suc, true, zero, ℕ}
 use Rattle.plan_code.specs.Flags.{any_closed, any_open}
 use Rattle.plan_player.proofs.Quiet.{quiet_frames_are_copied}
 

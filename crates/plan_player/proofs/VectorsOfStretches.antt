@@ -1,13 +1,9 @@
 -- Quiet frames that go to a sink together: for each definition, an example that holds and one that fails.
-use Rattle.std.proofs.Common.{◌≡◌, ℕ, zero, suc, ◌<◌, false, true, List, [], length, take, Option, Some, None, refl, ap}
-use Rattle.std.proofs.Common.{◌∙◌, arith}
-use Rattle.plan_player.proofs.Names.{concat, Header, counted_on, header_of, ensemble_at, headed_at, IsPageReady}
-use Rattle.plan_player.proofs.Names.{IsStretch, IsCut, IsAlike, AreAlike, AreRecounted, left_later, hold_later}
-use Rattle.plan_player.proofs.Names.{HasRounds}
-use Rattle.plan_runs.proofs.Names.{IsPageable, I, Running, Waits, State, shown, ensemble_sent, shown_bytes}
-use Rattle.plan_runs.proofs.Names.{sent_entries, notice_frames}
-use Rattle.plan_runs.proofs.Samples.{plan}
-use Rattle.plan_runs.proofs.VectorsOfRuns.{waits, second}
+use Rattle.plan_player.proofs.Words.{[], ◌<◌, ◌∙◌, ◌≡◌, AreAlike, AreRecounted, HasRounds, Header, I, IsAlike, IsCut}
+use Rattle.plan_player.proofs.Words.{IsPageReady, IsPageable, IsStretch, List, None, Option, Running, Some, State}
+use Rattle.plan_player.proofs.Words.{Waits, ap, arith, concat, counted_on, ensemble_at, ensemble_sent, false, headed_at}
+use Rattle.plan_player.proofs.Words.{header_of, hold_later, left_later, length, notice_frames, plan, refl, second}
+use Rattle.plan_player.proofs.Words.{sent_entries, shown, shown_bytes, suc, take, true, waits, zero, ℕ}
 use Rattle.plan_player.proofs.Together.{stretch_page}
 use Rattle.plan_player.proofs.Cycles.{bytes_long}
 use Rattle.plan_player.proofs.VectorsOfPhases.{fresh, kept, ready_for_the_second}

@@ -29,7 +29,7 @@ pub enum PlayFault {
 
 /// How far playback got before the sink failed: the full frames, and the bytes of the next one,
 /// that were accepted.
-#[derive(Clone, Copy, Debug, PartialEq, Eq)]
+#[derive(Clone, Copy, PartialEq, Eq)]
 pub(crate) struct Accepted {
     pub(crate) frames: u32,
     pub(crate) bytes: usize,

@@ -16,7 +16,7 @@ use mux_config::Store;
 const MOST_PAGES: usize = 60;
 
 /// Where the bytes of a frame are stored.
-#[derive(Clone, Copy, Debug, PartialEq, Eq)]
+#[derive(Clone, Copy, PartialEq, Eq)]
 pub(crate) enum Sent {
     /// In the kept page with this index, which has no FIG 0/0.
     Kept(u8),

@@ -1,14 +1,14 @@
 -- Every swap was announced by the frames of its notice.
-use Rattle.std.proofs.Common.{◌≡◌, ℕ, zero, suc, ◌+◌, ◌-◌, ◌*◌, ◌%◌, ◌<◌, ◌≤◌, Bool, true, false, cond, ltb, List, []}
-use Rattle.std.proofs.Common.{◌∷◌, ◌++◌, Option, Some, None, refl, sym, ap, subst, append_assoc, ◌∙◌, arith}
-use Rattle.plan_runs.proofs.Names.{Contains, slice_get, ◌==◌, ltb-true, lt-ltb, Contains-append_right, layout_mode}
-use Rattle.plan_runs.proofs.Names.{Configuration, IsConfiguration, EnsembleInformation, Marked, facts_of, change_of}
-use Rattle.plan_runs.proofs.Names.{bits_of, Mode, I, count_step, IsHeardInRow, IsEnsembleHeardInRow, page_set}
-use Rattle.plan_runs.proofs.Names.{page_after, page_entries, Plan, with_contact, Program, State, Known, Event, Contact}
-use Rattle.plan_runs.proofs.Names.{Frame, is_due, is_noticed, shown_bytes, low_of_swap, ensemble_of, ensemble_sent}
-use Rattle.plan_runs.proofs.Names.{sent_entries, after_frame, happens, run, IsHeardWhole, heard_left, heard_of}
-use Rattle.plan_runs.proofs.Names.{heard_after, heard_along, HasHeader, IsHeaded, HasThreeHeaders, IsFlagged}
-use Rattle.plan_runs.proofs.Names.{IsAnnounced, FrameRuns, Runs, SwapsAreAnnounced, HeardIsKnown}
+use Rattle.plan_runs.proofs.Words.{[], ◌%◌, ◌*◌, ◌++◌, ◌+◌, ◌-◌, ◌<◌, ◌==◌, ◌∙◌, ◌∷◌, ◌≡◌, ◌≤◌, Bool, Configuration}
+use Rattle.plan_runs.proofs.Words.{Contact, Contains, Contains-append_right, EnsembleInformation, Event, Frame}
+use Rattle.plan_runs.proofs.Words.{FrameRuns, HasHeader, HasThreeHeaders, HeardIsKnown, I, IsAnnounced, IsConfiguration}
+use Rattle.plan_runs.proofs.Words.{IsEnsembleHeardInRow, IsFlagged, IsHeaded, IsHeardInRow, IsHeardWhole, Known, List}
+use Rattle.plan_runs.proofs.Words.{Marked, Mode, None, Option, Plan, Program, Runs, Some, State, SwapsAreAnnounced}
+use Rattle.plan_runs.proofs.Words.{after_frame, ap, append_assoc, arith, bits_of, change_of, cond, count_step}
+use Rattle.plan_runs.proofs.Words.{ensemble_of, ensemble_sent, facts_of, false, happens, heard_after, heard_along}
+use Rattle.plan_runs.proofs.Words.{heard_left, heard_of, is_due, is_noticed, layout_mode, low_of_swap, lt-ltb, ltb}
+use Rattle.plan_runs.proofs.Words.{ltb-true, page_after, page_entries, page_set, refl, run, sent_entries, shown_bytes}
+use Rattle.plan_runs.proofs.Words.{slice_get, subst, suc, sym, true, with_contact, zero, ℕ}
 use Rattle.plan_runs.proofs.Knowledge.{IsOnAir, IsCommitted, CommittedBy}
 use Rattle.plan_runs.proofs.Passing.{due_is}
 use Rattle.plan_runs.proofs.Tracked.{Airs, SwapsOn, page_of, page_of_first, page_of_next, noticed, some_rounds}

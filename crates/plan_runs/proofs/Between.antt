@@ -1,21 +1,19 @@
 -- A typed code between frames: what is expected where it resumes, and that each frame is free of traps.
-use Rattle.std.proofs.Common.{◌≡◌, ℕ, zero, suc, ◌+◌, ◌-◌, ◌≤◌, Bool, true, false, cond, List, Option, Some, None, refl}
-use Rattle.std.proofs.Common.{sym, ap, subst, arith, inl, inr}
-use Rattle.plan_runs.proofs.Names.{◌||◌, IfSome, slice_get, option_map, eqb-true, eqb-false, Configuration}
-use Rattle.plan_runs.proofs.Names.{AllByRecursion, Contacts, Hold, Running, Waits, WaitsDay, WaitsContact, WaitsAny}
-use Rattle.plan_runs.proofs.Names.{WaitsSwap, Ended, Line, Instr, Program, IsProgram, IsLine, IsInstr, instr_at, State}
-use Rattle.plan_runs.proofs.Names.{step, effect, effect_of, Known, IsTyping, is_due, with_swap, with_due_swap}
-use Rattle.plan_runs.proofs.Names.{hold_after_swap, is_running, is_day, is_any_here, is_here, with_hold_ended, ready}
-use Rattle.plan_runs.proofs.Names.{Executes, after_burst, FrameIsAllowed, is_first_noticed, left_after_frame}
-use Rattle.plan_runs.proofs.Names.{hold_after_frame, with_next_counts, after_frame}
-use Rattle.plan_code.specs.Flags.{any_closed, any_open}
+use Rattle.plan_runs.proofs.Words.{◌+◌, ◌-◌, ◌||◌, ◌≡◌, ◌≤◌, AllByRecursion, Bool, Configuration, Contacts, Ended}
+use Rattle.plan_runs.proofs.Words.{Executes, FrameIsAllowed, Hold, IfSome, Instr, IsInstr, IsLine, IsProgram, IsTyping}
+use Rattle.plan_runs.proofs.Words.{Known, Line, List, None, Option, Program, Running, Some, State, Waits, WaitsAny}
+use Rattle.plan_runs.proofs.Words.{WaitsContact, WaitsDay, WaitsSwap, after_burst, after_frame, any_closed, any_open}
+use Rattle.plan_runs.proofs.Words.{ap, arith, cond, each_at, effect, effect_of, eqb-false, eqb-true, false}
+use Rattle.plan_runs.proofs.Words.{hold_after_frame, hold_after_swap, inl, inr, instr_at, is_any_here, is_day, is_due}
+use Rattle.plan_runs.proofs.Words.{is_first_noticed, is_here, is_running, left_after_frame, option_map, ready, refl}
+use Rattle.plan_runs.proofs.Words.{slice_get, step, subst, suc, sym, true, with_due_swap, with_hold_ended}
+use Rattle.plan_runs.proofs.Words.{with_next_counts, with_swap, zero, ℕ}
 use Rattle.plan_runs.proofs.Knowledge.{ComesBy, IsAhead, IsOnAir, CommittedBy, IsKept}
 use Rattle.plan_runs.proofs.Passing.{swap_comes, swap_pauses, swap_joins, now, pauses_come, comes_later, pauses_later}
 use Rattle.plan_runs.proofs.Passing.{joins_later, ahead_from}
 use Rattle.plan_runs.proofs.Steps.{Expects, ResumesBy, IsSuspended, not_running, Suspends, RunsAt, Outcome, arrive}
 use Rattle.plan_runs.proofs.Instructions.{IsHere, succeeds}
 use Rattle.plan_runs.proofs.Bursts.{bursts_are_one}
-use Rattle.mux_types.proofs.Walking.{each_at}
 
 -- ---- a burst
 

@@ -1,6 +1,6 @@
 -- A frame's instructions determine one final state, and their number is the frame's step count.
-use Rattle.std.proofs.Common.{◌≡◌, ℕ, zero, suc, ◌+◌, ◌≤◌, cond, refl, sym, ap, ◌∙◌, arith}
-use Rattle.plan_runs.proofs.Names.{Program, State, step, Executes, burst, burst_steps, BurstsAreOne}
+use Rattle.plan_runs.proofs.Words.{◌+◌, ◌∙◌, ◌≡◌, ◌≤◌, BurstsAreOne, Executes, Program, State, ap, arith, burst}
+use Rattle.plan_runs.proofs.Words.{burst_steps, cond, refl, step, suc, sym, zero, ℕ}
 
 only_one : (p : Program) (s : State) (n : ℕ) (t : State) → Executes p s n t → (m : ℕ) (u : State) → Executes p s m u
     → (m ≡ n) × (u ≡ t)

@@ -1,13 +1,12 @@
 -- What instructions leave unchanged in any code: the current configuration, the counts, and a pending swap.
-use Rattle.std.proofs.Common.{◌≡◌, ℕ, zero, suc, ◌+◌, ◌%◌, ◌<◌, ◌≤◌, Bool, true, false, cond, List, Option, Some, None}
-use Rattle.std.proofs.Common.{refl, sym, subst, ◌∙◌, arith}
-use Rattle.plan_runs.proofs.Names.{layout_mode, Configuration, IsConfiguration, changed, Mode, I, count_step, Plan}
-use Rattle.plan_runs.proofs.Names.{Hold, Running, Instr, CommitIn, CommitAt, Settle, Edits, Program, IsProgram, IsInstr}
-use Rattle.plan_runs.proofs.Names.{State, step, commit, settle, effect, IsAllowed, left_in, left_at, with_due_swap}
-use Rattle.plan_runs.proofs.Names.{is_here, with_hold_ended, ready, Executes, after_burst}
+use Rattle.plan_runs.proofs.Words.{◌%◌, ◌+◌, ◌<◌, ◌∙◌, ◌≡◌, ◌≤◌, Bool, CommitAt, CommitIn, Configuration, Edits}
+use Rattle.plan_runs.proofs.Words.{Executes, Hold, I, Instr, IsAllowed, IsConfiguration, IsInstr, IsProgram, List, Mode}
+use Rattle.plan_runs.proofs.Words.{None, Option, Plan, Program, Running, Settle, Some, State, after_burst, arith}
+use Rattle.plan_runs.proofs.Words.{changed, commit, cond, count_step, effect, false, in_range, is_here, layout_mode}
+use Rattle.plan_runs.proofs.Words.{left_at, left_in, ready, refl, settle, step, subst, suc, sym, true, with_due_swap}
+use Rattle.plan_runs.proofs.Words.{with_hold_ended, zero, ℕ}
 use Rattle.mux_config.proofs.Keeping.{edits_keep}
 use Rattle.plan_runs.proofs.Between.{line_formed, step_is}
-use Rattle.plan_verifier.proofs.OneVerdict.{in_range}
 
 -- where no swap was pending there is none, or one was committed with the whole notice, to a count on the mode's step
 abbrev pub IsNewly : Plan → ℕ → Option ℕ → Type 0

@@ -1,13 +1,12 @@
 -- What no instruction changes in any code: the current configuration, the CIF count, the frame of the day and the
 -- contacts; and the counts and the contacts along a run.
-use Rattle.std.proofs.Common.{◌≡◌, ◌≢◌, ℕ, zero, suc, ◌+◌, ◌%◌, ◌<◌, Bool, true, false, cond, eqb, List, [], ◌∷◌}
-use Rattle.std.proofs.Common.{length, Option, Some, None, refl, sym, ap, subst, ◌∙◌, arith}
-use Rattle.plan_runs.proofs.Names.{eqb-true, eqb-false, Configuration, Plan, Instr, Settle, Contacts, is_closed}
-use Rattle.plan_runs.proofs.Names.{with_contact, Program, instr_at, State, step, settle, effect, effect_of, is_due}
-use Rattle.plan_runs.proofs.Names.{with_swap, with_due_swap, is_running, is_here, burst, ready, after_burst}
-use Rattle.plan_runs.proofs.Names.{is_first_noticed, shown, after_frame, Event, Contact, Frame, happens, run}
-use Rattle.plan_runs.proofs.Names.{run_frames, level_after, FramesAreCounted, ContactsAreAsSet}
-use Rattle.plan_code.proofs.Bits.{contacts_change_alone}
+use Rattle.plan_runs.proofs.Words.{[], ◌%◌, ◌+◌, ◌<◌, ◌∙◌, ◌∷◌, ◌≡◌, ◌≢◌, Bool, Configuration, Contact, Contacts}
+use Rattle.plan_runs.proofs.Words.{ContactsAreAsSet, Event, Frame, FramesAreCounted, Instr, List, None, Option, Plan}
+use Rattle.plan_runs.proofs.Words.{Program, Settle, Some, State, after_burst, after_frame, ap, arith, burst, cond}
+use Rattle.plan_runs.proofs.Words.{contacts_change_alone, effect, effect_of, eqb, eqb-false, eqb-true, false, happens}
+use Rattle.plan_runs.proofs.Words.{instr_at, is_closed, is_due, is_first_noticed, is_here, is_running, length}
+use Rattle.plan_runs.proofs.Words.{level_after, ready, refl, run, run_frames, settle, shown, step, subst, suc, sym}
+use Rattle.plan_runs.proofs.Words.{true, with_contact, with_due_swap, with_swap, zero, ℕ}
 
 abbrev Unchanged : Type 0
 Unchanged = Configuration × ℕ × ℕ × Contacts

@@ -1,12 +1,12 @@
 -- The entries that the FIBs of a frame carry.
-use Rattle.std.proofs.Common.{◌≡◌, ℕ, zero, suc, replicate, ◌+◌, ◌==◌, Bool, true, false, cond, List, [], ◌∷◌, ◌++◌}
-use Rattle.std.proofs.Common.{length, Option, Some, None, inl, inr, ◌⊎◌, refl, ap, sym, ◌∙◌, subst, arith}
-use Rattle.plan_runs.proofs.Names.{Contains, flat_map, map, drop, ◌*◌, drop-drop, frame_fibs, reserved_fibs}
-use Rattle.plan_runs.proofs.Names.{FrameLayout, Whole, ReserveOne, ReserveTwo, Configuration, AllByRecursion}
-use Rattle.plan_runs.proofs.Names.{EnsembleInformation, Marked, facts_of, I, fib_at, IsHeardInRow, fig_of}
-use Rattle.plan_runs.proofs.Names.{entries_where, packing, page_set, page_entries, fib_entries, first_fib, later_fibs}
-use Rattle.plan_runs.proofs.Names.{PageIsFibs, AreFibs, figs_of, ensemble_figs, Raw, raw_entry, EnsembleIsHeard, Plan}
-use Rattle.plan_runs.proofs.Names.{State, is_noticed, sent_entries, ensemble_sent, shown_bytes, fibs_from}
+use Rattle.plan_runs.proofs.Words.{[], ◌*◌, ◌++◌, ◌+◌, ◌==◌, ◌∙◌, ◌∷◌, ◌≡◌, ◌⊎◌, AllByRecursion, AreFibs, Bool}
+use Rattle.plan_runs.proofs.Words.{Configuration, Contains, EnsembleInformation, EnsembleIsHeard, FrameLayout, I}
+use Rattle.plan_runs.proofs.Words.{IsHeardInRow, List, Marked, None, Option, PageIsFibs, Plan, Raw, ReserveOne}
+use Rattle.plan_runs.proofs.Words.{ReserveTwo, Some, State, Whole, ap, arith, cond, drop, drop-drop, ensemble_figs}
+use Rattle.plan_runs.proofs.Words.{ensemble_sent, entries_where, facts_of, false, fib_at, fib_entries, fibs_from}
+use Rattle.plan_runs.proofs.Words.{fig_of, figs_of, first_fib, flat_map, frame_fibs, inl, inr, is_noticed, later_fibs}
+use Rattle.plan_runs.proofs.Words.{length, map, packing, page_entries, page_set, raw_entry, refl, replicate}
+use Rattle.plan_runs.proofs.Words.{reserved_fibs, sent_entries, shown_bytes, subst, suc, sym, true, zero, ℕ}
 use Rattle.plan_runs.proofs.Tracked.{Airs}
 use Rattle.plan_runs.proofs.Right.{PageLaws, pageable, sent_within}
 use Rattle.plan_runs.proofs.Parts.{In}

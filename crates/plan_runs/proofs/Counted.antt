@@ -1,11 +1,10 @@
 -- All announcements of a notice name one count, and the swap falls on the first later frame with that count.
-use Rattle.std.proofs.Common.{◌≡◌, ◌≢◌, ℕ, ◌+◌, ◌-◌, ◌%◌, ◌<◌, ◌≤◌, Bool, true, false, cond, List, [], ◌∷◌, Option}
-use Rattle.std.proofs.Common.{Some, None, refl, sym, ap, ◌∙◌, arith, inl, inr}
-use Rattle.plan_runs.proofs.Names.{MatchBool, ◌==◌, eqb-true, eq-eqb, EnsembleInformation, change_of, bits_of, Plan}
-use Rattle.plan_runs.proofs.Names.{Program, State, Known, Event, Contact, Frame, is_due, is_noticed, shown, frame_bytes}
-use Rattle.plan_runs.proofs.Names.{shown_bytes, low_of_swap, ensemble_of, ensemble_sent, sent_entries, left_after_frame}
-use Rattle.plan_runs.proofs.Names.{with_next_counts, after_frame, happens, IsAnnouncedIn, AnnouncesOnly, SwapsAt}
-use Rattle.plan_runs.proofs.Names.{KeepsCount, SwapsComeAsAnnounced}
+use Rattle.plan_runs.proofs.Words.{[], ◌%◌, ◌+◌, ◌-◌, ◌<◌, ◌==◌, ◌∙◌, ◌∷◌, ◌≡◌, ◌≢◌, ◌≤◌, AnnouncesOnly, Bool, Contact}
+use Rattle.plan_runs.proofs.Words.{EnsembleInformation, Event, Frame, IsAnnouncedIn, KeepsCount, Known, List, MatchBool}
+use Rattle.plan_runs.proofs.Words.{None, Option, Plan, Program, Some, State, SwapsAt, SwapsComeAsAnnounced, after_frame}
+use Rattle.plan_runs.proofs.Words.{ap, arith, bits_of, change_of, cond, ensemble_of, ensemble_sent, eq-eqb, eqb-true}
+use Rattle.plan_runs.proofs.Words.{false, frame_bytes, happens, inl, inr, is_due, is_noticed, left_after_frame}
+use Rattle.plan_runs.proofs.Words.{low_of_swap, refl, sent_entries, shown, shown_bytes, sym, true, with_next_counts, ℕ}
 use Rattle.plan_runs.proofs.Passing.{not_due_from}
 use Rattle.plan_runs.proofs.Tracked.{Airs, noticed_from}
 use Rattle.plan_runs.proofs.Facts.{Holds, IsCode, airs, frame_holds, happens_holds, code_of, played_holds}

@@ -1,12 +1,12 @@
 -- A listener knows the current configuration after a period of one phase.
-use Rattle.std.proofs.Common.{◌≡◌, ℕ, zero, suc, ◌%◌, ◌≤◌, Bool, true, false, List, [], ◌∷◌, ◌++◌, length, inl, inr}
-use Rattle.std.proofs.Common.{◌⊎◌, refl, ap, sym, ◌∙◌, subst, arith}
-use Rattle.plan_runs.proofs.Names.{or_parts, layout_mode, frame_fibs, Configuration, marked, facts_of, Entry}
-use Rattle.plan_runs.proofs.Names.{count_step, IsHeardInRow, OneList, Raw, raw_entry, Listening, untuned, Shows, Plan}
-use Rattle.plan_runs.proofs.Names.{Program, State, Known, Event, Contact, Frame, is_due, with_due_swap}
-use Rattle.plan_runs.proofs.Names.{is_first_noticed, shown, shown_bytes, frame_bytes, after_frame, happens, run}
-use Rattle.plan_runs.proofs.Names.{run_frames, IsHeardInSome, IsHeardWhole, IsOnePhase, BeginsNoPhase, IsPlayed}
-use Rattle.plan_runs.proofs.Names.{fibs_from, fibs_of, HearsAll, IsTunedBy, IsNeverFull, KnowsTheCurrent}
+use Rattle.plan_runs.proofs.Words.{[], ◌%◌, ◌++◌, ◌∙◌, ◌∷◌, ◌≡◌, ◌≤◌, ◌⊎◌, BeginsNoPhase, Bool, Configuration, Contact}
+use Rattle.plan_runs.proofs.Words.{Entry, Event, Frame, HearsAll, IsHeardInRow, IsHeardInSome, IsHeardWhole}
+use Rattle.plan_runs.proofs.Words.{IsNeverFull, IsOnePhase, IsPlayed, IsTunedBy, Known, KnowsTheCurrent, List}
+use Rattle.plan_runs.proofs.Words.{Listening, OneList, Plan, Program, Raw, Shows, State, after_frame, ap, arith}
+use Rattle.plan_runs.proofs.Words.{count_step, facts_of, false, fibs_from, fibs_of, frame_bytes, frame_fibs, happens}
+use Rattle.plan_runs.proofs.Words.{inl, inr, is_due, is_first_noticed, layout_mode, length, marked, or_parts, raw_entry}
+use Rattle.plan_runs.proofs.Words.{refl, run, run_frames, shown, shown_bytes, subst, suc, sym, true, untuned}
+use Rattle.plan_runs.proofs.Words.{with_due_swap, zero, ℕ}
 use Rattle.std.proofs.lemmas.Grind.{flat_map-append}
 use Rattle.plan_runs.proofs.Facts.{Holds, IsCode, airs, frame_holds, happens_holds, run_holds, code_of, played_holds}
 use Rattle.plan_runs.proofs.Notice.{links}

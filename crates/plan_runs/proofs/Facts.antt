@@ -1,12 +1,11 @@
 -- Facts about every state that a typed code reaches.
-use Rattle.std.proofs.Common.{ℕ, ◌<◌, List, [], ◌∷◌, Option, None, sym, subst}
-use Rattle.plan_runs.proofs.Names.{Configuration, IsConfiguration, page_set, Program, IsProgram, State, Known, IsTyping}
-use Rattle.plan_runs.proofs.Names.{Event, Contact, Frame, Start, shown, after_frame, IsStart, StartIsInRange, happens}
-use Rattle.plan_runs.proofs.Names.{run, IsPlayed}
+use Rattle.plan_runs.proofs.Words.{[], ◌<◌, ◌∷◌, Configuration, Contact, Event, Frame, IsConfiguration, IsPlayed}
+use Rattle.plan_runs.proofs.Words.{IsProgram, IsStart, IsTyping, Known, List, None, Option, Program, Start}
+use Rattle.plan_runs.proofs.Words.{StartIsInRange, State, after_frame, each_at, happens, page_set, run, shown, subst}
+use Rattle.plan_runs.proofs.Words.{sym, ℕ}
 use Rattle.plan_runs.proofs.Between.{Between, frame_between}
 use Rattle.plan_runs.proofs.TypedRuns.{started_between}
 use Rattle.plan_runs.proofs.Tracked.{Tracked, TurnBefore, SwapsOn, Airs, some_rounds, frame_airs, frame_tracked}
-use Rattle.mux_types.proofs.Walking.{each_at}
 
 pub record Holds (p : Program) (ts : List Known) (s : State) : Type 0 where
   pub between : Between p ts s

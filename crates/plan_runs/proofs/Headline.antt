@@ -1,16 +1,15 @@
 -- The guarantees of a typed code.
-use Rattle.std.proofs.Common.{List, [], ◌∷◌}
-use Rattle.plan_runs.proofs.Names.{AllByRecursion, Program, State, Known, Event, Contact, Frame, shown, after_frame}
-use Rattle.plan_runs.proofs.Names.{sent_entries, ensemble_sent, shown_bytes, happens, run_frames, FramesCanBeSent}
-use Rattle.plan_runs.proofs.Names.{FramesAreRight, FramesOfTypedCodeAreRight, HeadlineHolds, HeadersAreSent}
-use Rattle.plan_runs.proofs.Names.{KeepsReserve, PagesKeepReserve}
+use Rattle.plan_runs.proofs.Words.{[], ◌∷◌, AllByRecursion, Contact, Event, Frame, FramesAreRight, FramesCanBeSent}
+use Rattle.plan_runs.proofs.Words.{FramesOfTypedCodeAreRight, HeadersAreSent, HeadlineHolds, KeepsReserve, Known, List}
+use Rattle.plan_runs.proofs.Words.{PagesKeepReserve, Program, State, after_frame, ensemble_sent, happens, run_frames}
+use Rattle.plan_runs.proofs.Words.{sent_entries, shown, shown_bytes}
+use Rattle.plan_runs.specs.Reserved.{ReservesAreKept}
 use Rattle.plan_runs.proofs.Tracked.{turn_is_page}
 use Rattle.plan_runs.proofs.Facts.{Holds, IsCode, airs, frame_holds, happens_holds, code_of, played_holds}
 use Rattle.plan_runs.proofs.Right.{PageLaws, frame_right, sent_within, pageable}
 use Rattle.plan_runs.proofs.Announcing.{swaps_are_announced}
 use Rattle.plan_runs.proofs.Counted.{swaps_come_as_announced}
 use Rattle.plan_runs.proofs.Periods.{periods_are_whole}
-use Rattle.plan_runs.specs.Reserved.{ReservesAreKept}
 
 pub frames_can_be_sent : FramesCanBeSent
 frames_can_be_sent p s h =

@@ -1,10 +1,10 @@
 -- A listener hearing one frame of a typed code.
-use Rattle.std.proofs.Common.{◌≡◌, ◌≢◌, ℕ, zero, suc, ◌+◌, ◌%◌, Bool, true, false, cond, List, ◌∷◌, Option, Some, None}
-use Rattle.std.proofs.Common.{inl, inr, ◌⊎◌, refl, ap, sym, ◌∙◌, subst, arith}
-use Rattle.plan_runs.proofs.Names.{take, layout_mode, frame_fibs, Configuration, EnsembleInformation, marked, Entry}
-use Rattle.plan_runs.proofs.Names.{count_step, IsHeardInRow, Raw, raw_entry, Listening, untuned, Plan, Program, State}
-use Rattle.plan_runs.proofs.Names.{Known, is_due, with_swap, with_due_swap, is_noticed, is_first_noticed, shown}
-use Rattle.plan_runs.proofs.Names.{after_burst, shown_bytes, ensemble_of, ensemble_sent, fibs_from, HearsFib, HearsAll}
+use Rattle.plan_runs.proofs.Words.{◌%◌, ◌+◌, ◌∙◌, ◌∷◌, ◌≡◌, ◌≢◌, ◌⊎◌, Bool, Configuration, EnsembleInformation, Entry}
+use Rattle.plan_runs.proofs.Words.{HearsAll, HearsFib, IsHeardInRow, Known, List, Listening, None, Option, Plan}
+use Rattle.plan_runs.proofs.Words.{Program, Raw, Some, State, after_burst, ap, arith, cond, count_step, ensemble_of}
+use Rattle.plan_runs.proofs.Words.{ensemble_sent, false, fibs_from, frame_fibs, inl, inr, is_due, is_first_noticed}
+use Rattle.plan_runs.proofs.Words.{is_noticed, layout_mode, marked, raw_entry, refl, shown, shown_bytes, subst, suc}
+use Rattle.plan_runs.proofs.Words.{sym, take, true, untuned, with_due_swap, with_swap, zero, ℕ}
 use Rattle.plan_runs.proofs.Passing.{ahead_from}
 use Rattle.plan_runs.proofs.Tracked.{Airs, SwapsOn}
 use Rattle.plan_runs.proofs.Between.{frame_goes}

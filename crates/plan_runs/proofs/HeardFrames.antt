@@ -1,10 +1,9 @@
 -- A listener hearing the frames of a run: it always has room, and it is tuned after the first FIG 0/0.
-use Rattle.std.proofs.Common.{◌≡◌, ◌≢◌, ℕ, ◌%◌, Bool, true, false, List, [], ◌∷◌, ◌++◌, Option, Some, None, inl, inr}
-use Rattle.std.proofs.Common.{◌⊎◌, refl, ap, sym, ◌∙◌, subst}
-use Rattle.plan_runs.proofs.Names.{layout_mode, frame_fibs, FrameLayout, Configuration, count_step, Raw, Listening}
-use Rattle.plan_runs.proofs.Names.{untuned, Plan, Program, State, Known, Event, Contact, Frame, is_due, shown}
-use Rattle.plan_runs.proofs.Names.{shown_bytes, frame_bytes, ensemble_sent, after_frame, happens, run, run_frames}
-use Rattle.plan_runs.proofs.Names.{fibs_from, fibs_of, HearsAll, HasCount}
+use Rattle.plan_runs.proofs.Words.{[], ◌%◌, ◌++◌, ◌∙◌, ◌∷◌, ◌≡◌, ◌≢◌, ◌⊎◌, Bool, Configuration, Contact, Event, Frame}
+use Rattle.plan_runs.proofs.Words.{FrameLayout, HasCount, HearsAll, Known, List, Listening, None, Option, Plan, Program}
+use Rattle.plan_runs.proofs.Words.{Raw, Some, State, after_frame, ap, count_step, ensemble_sent, false, fibs_from}
+use Rattle.plan_runs.proofs.Words.{fibs_of, frame_bytes, frame_fibs, happens, inl, inr, is_due, layout_mode, refl, run}
+use Rattle.plan_runs.proofs.Words.{run_frames, shown, shown_bytes, subst, sym, true, untuned, ℕ}
 use Rattle.std.proofs.lemmas.List.Concat.{flat_map-cons}
 use Rattle.plan_runs.proofs.Tracked.{split_le}
 use Rattle.plan_runs.proofs.Facts.{Holds, IsCode, airs, frame_holds, happens_holds}

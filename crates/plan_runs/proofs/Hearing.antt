@@ -1,11 +1,11 @@
 -- A listener hearing the FIGs of some entries hears the entries one after another.
-use Rattle.std.proofs.Common.{◌≡◌, ℕ, ◌/◌, ◌%◌, ◌==◌, Bool, true, false, cond, List, [], ◌∷◌, ◌++◌, map, Option, Some}
-use Rattle.std.proofs.Common.{None, refl, ap, ◌∙◌, subst, arith}
-use Rattle.plan_runs.proofs.Names.{IfSome, EnsembleInformation, Marked, marked, Entry, EnsembleOf}
-use Rattle.plan_runs.proofs.Names.{IsEnsembleInformation, Written, head_of, head_byte, bit_of, entry_bytes, ext_of}
-use Rattle.plan_runs.proofs.Names.{is_long_entry, fig_of, is_next, is_long, Head, same_head, with_entry_first, figs_of}
-use Rattle.plan_runs.proofs.Names.{ensemble_figs, Raw, raw_of, raw_entry, Listening, where_heard, hear_entry}
-use Rattle.plan_runs.proofs.Names.{hear_entries, hear_fig, hear_figs, at_ensemble, EnsembleIsHeard}
+use Rattle.plan_runs.proofs.Words.{[], ◌%◌, ◌++◌, ◌/◌, ◌==◌, ◌∙◌, ◌∷◌, ◌≡◌, Bool, EnsembleInformation, EnsembleIsHeard}
+use Rattle.plan_runs.proofs.Words.{EnsembleOf, Entry, Head, IfSome, IsEnsembleInformation, List, Listening, Marked}
+use Rattle.plan_runs.proofs.Words.{None, Option, Raw, Some, Written, ap, arith, at_ensemble, bit_of, cond}
+use Rattle.plan_runs.proofs.Words.{ensemble_figs, entry_bytes, ext_of, false, fig_of, figs_of, head_byte, head_of}
+use Rattle.plan_runs.proofs.Words.{hear_entries, hear_entry, hear_fig, hear_figs, is_long, is_long_entry, is_next, map}
+use Rattle.plan_runs.proofs.Words.{marked, raw_entry, raw_of, refl, same_head, subst, true, where_heard}
+use Rattle.plan_runs.proofs.Words.{with_entry_first, ℕ}
 use Rattle.fib_carousel.proofs.Sharing.{same_head_is}
 use Rattle.plan_runs.proofs.Right.{ext_low, flag_le}
 

@@ -1,22 +1,21 @@
 -- Each kind of instruction of a typed code is allowed, and leaves what is known wherever the machine continues.
-use Rattle.std.proofs.Common.{◌≡◌, ◌≢◌, ℕ, ◌+◌, ◌-◌, ◌<◌, ◌≤◌, Bool, true, false, cond, eqb, List, length, set, Option}
-use Rattle.std.proofs.Common.{Some, None, is_some, refl, sym, ap, subst, ◌∙◌, arith, inl, inr}
-use Rattle.plan_runs.proofs.Names.{IfSome, nat_lt, slice_index, slice_set, eqb-true, eqb-false, ltb-true}
-use Rattle.plan_runs.proofs.Names.{get_or-set_same, get_or-set_other, length-set, layout_mode, Configuration, IsSound}
-use Rattle.plan_runs.proofs.Names.{edit_fault, changed, Mode, I, count_step, Hold, Waits, WaitsDay, WaitsContact}
-use Rattle.plan_runs.proofs.Names.{WaitsAny, WaitsSwap, Counters, Label, Swap, Idle, Within, Perhaps, Instr, Wait}
-use Rattle.plan_runs.proofs.Names.{Until, WaitContact, WaitAny, CommitIn, CommitAt, Join, Settle, End, Edits, Test}
-use Rattle.plan_runs.proofs.Names.{TestTime, Jump, Set, Loop, is_set, is_closed, with_counter, without_counter, Program}
-use Rattle.plan_runs.proofs.Names.{IsProgram, IsFrames, IsInstr, label_at, State, advance, suspend, commit, settle}
-use Rattle.plan_runs.proofs.Names.{effect, left_in, left_at, counter_of, is_in_window, IsAllowed, IsReady, Known}
-use Rattle.plan_runs.proofs.Names.{CanCommit, IsTyping, IsSafe, IsSurelyPending, Arrives, Reaches, leaves, continues}
-use Rattle.plan_runs.proofs.Names.{target_of, spent, known_after_swap, after_wait, after_pause, after_settle}
-use Rattle.plan_runs.proofs.Names.{is_running, left_after_frame, hold_after_frame}
+use Rattle.plan_runs.proofs.Words.{◌+◌, ◌-◌, ◌<◌, ◌∙◌, ◌≡◌, ◌≢◌, ◌≤◌, Arrives, Bool, CanCommit, CommitAt, CommitIn}
+use Rattle.plan_runs.proofs.Words.{Configuration, Counters, Edits, End, Hold, I, Idle, IfSome, Instr, IsAllowed}
+use Rattle.plan_runs.proofs.Words.{IsFrames, IsInstr, IsProgram, IsReady, IsSafe, IsSound, IsSurelyPending, IsTyping}
+use Rattle.plan_runs.proofs.Words.{Join, Jump, Known, Label, List, Loop, Mode, None, Option, Perhaps, Program, Reaches}
+use Rattle.plan_runs.proofs.Words.{Set, Settle, Some, State, Swap, Test, TestTime, Until, Wait, WaitAny, WaitContact}
+use Rattle.plan_runs.proofs.Words.{Waits, WaitsAny, WaitsContact, WaitsDay, WaitsSwap, Within, advance, after_pause}
+use Rattle.plan_runs.proofs.Words.{after_settle, after_wait, ap, arith, changed, commit, cond, continues, count_step}
+use Rattle.plan_runs.proofs.Words.{counter_of, counters_change_alone, edit_fault, effect, eqb, eqb-false, eqb-true}
+use Rattle.plan_runs.proofs.Words.{false, get_or-set_other, get_or-set_same, hold_after_frame, inl, inr, is_closed}
+use Rattle.plan_runs.proofs.Words.{is_in_window, is_running, is_set, is_some, known_after_swap, label_at, layout_mode}
+use Rattle.plan_runs.proofs.Words.{leaves, left_after_frame, left_at, left_in, length, length-set, ltb-true, nat_lt}
+use Rattle.plan_runs.proofs.Words.{refl, set, settle, slice_index, slice_set, spent, subst, suspend, sym, target_of}
+use Rattle.plan_runs.proofs.Words.{true, with_counter, without_counter, ℕ}
 use Rattle.plan_runs.proofs.Knowledge.{IsIdleAs, IsPendingAs, AgreesBy, ComesBy, PausesBy, JoinsBy, IsAhead, AreSet}
 use Rattle.plan_runs.proofs.Knowledge.{IsCommitted, CommittedBy, IsKept}
 use Rattle.plan_runs.proofs.Passing.{wait_by, pause_by, after_some}
 use Rattle.plan_runs.proofs.Steps.{Expects, ResumesBy, IsSuspended, Suspends, Outcome, arrive}
-use Rattle.plan_code.proofs.Bits.{counters_change_alone}
 
 -- what is known where an instruction is executed
 pub record IsHere (p : Program) (ts : List Known) (b : ℕ) (s : State) (i : Instr) (t : Known) : Type 0 where
@@ -434,7 +433,8 @@ succeeds p ts b s (Jump target) t h = (tt, jumps p ts b s (Jump target) target t
 succeeds p ts b s (Set r n) t h =
     let after = set_one t.counters s.counters r n h.formed.0 h.kept.eight h.formed.1 h.set in
     let kept : IsKept p.plan s.left s.current s.next (slice_set s.counters r n) =
-    record { on_air = h.kept.on_air; committed = h.kept.committed; eight = still_eight s.counters r n h.kept.eight } in (
+    record { on_air = h.kept.on_air; committed = h.kept.committed; eight = still_eight s.counters r n h.kept.eight }
+    in (
       tt,
       inr (arrive p ts h.typing b (effect p.plan (Set r n) s) (leaves p.plan (Set r n) t) h.runs (h.safe.onward refl)
           (omega (arith, h.affords)) h.agrees after kept),

@@ -1,7 +1,7 @@
 -- A run over some events and then over more is the run over all of them.
-use Rattle.std.proofs.Common.{◌≡◌, ◌↔◌, ℕ, List, [], ◌∷◌, ◌++◌, refl, ap}
-use Rattle.plan_runs.proofs.Names.{Program, State, Event, Contact, Frame, after_frame, frame_bytes, happens, run}
-use Rattle.plan_runs.proofs.Names.{run_frames, RunIsAllowed, heard_by, heard_along, Runs, RunsJoin}
+use Rattle.plan_runs.proofs.Words.{[], ◌++◌, ◌↔◌, ◌∷◌, ◌≡◌, Contact, Event, Frame, List, Program, RunIsAllowed, Runs}
+use Rattle.plan_runs.proofs.Words.{RunsJoin, State, after_frame, ap, frame_bytes, happens, heard_along, heard_by, refl}
+use Rattle.plan_runs.proofs.Words.{run, run_frames, ℕ}
 
 pub state_joins : (p : Program) (s : State) (events more : List Event)
     → run p s (events ++ more) ≡ run p (run p s events) more

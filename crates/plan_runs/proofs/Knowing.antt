@@ -1,10 +1,10 @@
 -- What a listener knows between two frames, before and after FIG 0/0.
-use Rattle.std.proofs.Common.{◌≡◌, ◌≢◌, ℕ, ◌+◌, ◌%◌, ◌<◌, ◌≤◌, ◌==◌, Bool, true, false, cond, Option, Some, None}
-use Rattle.std.proofs.Common.{is_some, inl, inr, refl, ap, sym, ◌∙◌, subst, arith}
-use Rattle.plan_runs.proofs.Names.{◌||◌, ◌-◌, eq-eqb, ne_eqb, or_right, layout_mode, Configuration, EnsembleInformation}
-use Rattle.plan_runs.proofs.Names.{Mode, I, count_step, IsEnsembleInformation, Raw, Pictured, blank, Listening, untuned}
-use Rattle.plan_runs.proofs.Names.{is_made, swapped, awaiting, at_ensemble, Plan, State, is_noticed, is_first_noticed}
-use Rattle.plan_runs.proofs.Names.{ensemble_of, low_of_swap, left_after_frame}
+use Rattle.plan_runs.proofs.Words.{◌%◌, ◌+◌, ◌-◌, ◌<◌, ◌==◌, ◌||◌, ◌∙◌, ◌≡◌, ◌≢◌, ◌≤◌, Bool, Configuration}
+use Rattle.plan_runs.proofs.Words.{EnsembleInformation, I, IsEnsembleInformation, Listening, Mode, None, Option}
+use Rattle.plan_runs.proofs.Words.{Pictured, Plan, Raw, Some, State, ap, arith, at_ensemble, awaiting, blank, cond}
+use Rattle.plan_runs.proofs.Words.{count_step, ensemble_of, eq-eqb, false, inl, inr, is_first_noticed, is_made}
+use Rattle.plan_runs.proofs.Words.{is_noticed, is_some, layout_mode, left_after_frame, low_of_swap, ne_eqb, or_right}
+use Rattle.plan_runs.proofs.Words.{refl, subst, swapped, sym, true, untuned, ℕ}
 use Rattle.plan_runs.proofs.Knowledge.{IsAhead}
 use Rattle.plan_runs.proofs.Tracked.{Airs, noticed, not_noticed, noticed_from, split_le}
 use Rattle.plan_runs.proofs.Carries.{IsNewly, LeftBy}

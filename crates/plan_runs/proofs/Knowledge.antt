@@ -1,7 +1,7 @@
 -- What a typing says about a state, now and some frames later.
-use Rattle.std.proofs.Common.{◌≡◌, ◌≢◌, ℕ, ◌+◌, ◌*◌, ◌<◌, ◌≤◌, true, List, length, Option, Some, None, ◌⊎◌}
-use Rattle.plan_runs.proofs.Names.{slice_index, Configuration, IsSound, page_set, rounds, Plan, Counters, Swap, Idle}
-use Rattle.plan_runs.proofs.Names.{Within, Perhaps, is_set, Known}
+use Rattle.plan_runs.proofs.Words.{◌*◌, ◌+◌, ◌<◌, ◌≡◌, ◌≢◌, ◌≤◌, ◌⊎◌, Configuration, Counters, Idle, IsSound, Known}
+use Rattle.plan_runs.proofs.Words.{List, None, Option, Perhaps, Plan, Some, Swap, Within, is_set, length, page_set}
+use Rattle.plan_runs.proofs.Words.{rounds, slice_index, true, ℕ}
 
 -- no swap is pending, and these are the configurations
 pub record IsIdleAs (a b : Configuration) (left : Option ℕ) (c n : Configuration) : Type 0 where

@@ -1,13 +1,12 @@
 -- Only the last level of each contact counts in contact settings.
-use Rattle.std.proofs.Common.{◌≡◌, ◌≢◌, ℕ, ◌-◌, ◌<◌, ◌^◌, Bool, true, false, cond, eqb, List, [], ◌∷◌, ◌++◌, Option}
-use Rattle.std.proofs.Common.{Some, None, refl, sym, ap, subst, ◌∙◌, arith}
-use Rattle.plan_runs.proofs.Names.{bit_at, bit_at-lt, same_from_bits_below, eqb-true, eqb-false, AllByRecursion}
-use Rattle.plan_runs.proofs.Names.{Contacts, is_closed, with_contact, Program, State, Event, Frame, after_frame}
-use Rattle.plan_runs.proofs.Names.{frame_bytes, run, run_frames, run_states, Setting, IsSetting, last_of, level_by}
-use Rattle.plan_runs.proofs.Names.{last_level, AgreeOnContacts, set_events, schedule, LastLevelsCount}
+use Rattle.plan_runs.proofs.Words.{[], ◌++◌, ◌-◌, ◌<◌, ◌^◌, ◌∙◌, ◌∷◌, ◌≡◌, ◌≢◌, AgreeOnContacts, AllByRecursion, Bool}
+use Rattle.plan_runs.proofs.Words.{Contacts, Event, Frame, IsSetting, LastLevelsCount, List, None, Option, Program}
+use Rattle.plan_runs.proofs.Words.{Setting, Some, State, after_frame, ap, arith, bit_at, bit_at-lt, cond}
+use Rattle.plan_runs.proofs.Words.{contacts_change_alone, eqb, eqb-false, eqb-true, false, frame_bytes, is_closed}
+use Rattle.plan_runs.proofs.Words.{last_level, last_of, level_by, refl, run, run_frames, run_states}
+use Rattle.plan_runs.proofs.Words.{same_from_bits_below, schedule, set_events, subst, sym, true, with_contact, ℕ}
 use Rattle.std.proofs.lemmas.Nat.{pow_below, or_lt, and_le_l}
 use Rattle.plan_runs.proofs.Clock.{frame_contacts}
-use Rattle.plan_code.proofs.Bits.{contacts_change_alone}
 
 -- ---- the contacts after settings
 

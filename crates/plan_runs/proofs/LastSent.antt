@@ -1,10 +1,10 @@
 -- The frames heard of a notice are the last ones that a run sent.
-use Rattle.std.proofs.Common.{◌≡◌, ℕ, zero, suc, ◌-◌, ◌≤◌, Bool, true, false, cond, List, [], ◌∷◌, ◌++◌, length, Option}
-use Rattle.std.proofs.Common.{Some, None, refl, sym, ap, append_assoc, ◌∙◌, arith, inl, inr}
-use Rattle.plan_runs.proofs.Names.{append-nil, Plan, Program, State, Known, Event, Contact, Frame, is_due, is_noticed}
-use Rattle.plan_runs.proofs.Names.{shown, frame_bytes, left_after_frame, with_next_counts, after_frame, happens, run}
-use Rattle.plan_runs.proofs.Names.{run_frames, heard_before, notice_frames, notice_begin, heard_left, heard_of}
-use Rattle.plan_runs.proofs.Names.{heard_along, HeardWasSent}
+use Rattle.plan_runs.proofs.Words.{[], ◌++◌, ◌-◌, ◌∙◌, ◌∷◌, ◌≡◌, ◌≤◌, Bool, Contact, Event, Frame, HeardWasSent, Known}
+use Rattle.plan_runs.proofs.Words.{List, None, Option, Plan, Program, Some, State, after_frame, ap, append-nil}
+use Rattle.plan_runs.proofs.Words.{append_assoc, arith, cond, false, frame_bytes, happens, heard_along, heard_before}
+use Rattle.plan_runs.proofs.Words.{heard_left, heard_of, inl, inr, is_due, is_noticed, left_after_frame, length}
+use Rattle.plan_runs.proofs.Words.{notice_begin, notice_frames, refl, run, run_frames, shown, suc, sym, true}
+use Rattle.plan_runs.proofs.Words.{with_next_counts, zero, ℕ}
 use Rattle.plan_runs.proofs.Knowledge.{IsAhead}
 use Rattle.plan_runs.proofs.Passing.{due_is}
 use Rattle.plan_runs.proofs.Tracked.{noticed, split_le}

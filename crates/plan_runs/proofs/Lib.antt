@@ -1,4 +1,4 @@
-pub mod Names
+mod Words
 pub mod Bursts
 mod LastLevels
 pub mod Joined

@@ -1,7 +1,6 @@
 -- Lookup in lists: what is found is in the list.
-use Rattle.std.proofs.Common.{◌≡◌, ℕ, zero, suc, ◌<◌, Bool, true, false, cond, List, [], ◌∷◌, length, Some, refl, subst}
-use Rattle.std.proofs.Common.{arith}
-use Rattle.plan_runs.proofs.Names.{Contains, find, slice_get, slice_get_within}
+use Rattle.plan_runs.proofs.Words.{[], ◌<◌, ◌∷◌, ◌≡◌, Bool, Contains, List, Some, arith, cond, false, find, length}
+use Rattle.plan_runs.proofs.Words.{refl, slice_get, slice_get_within, subst, suc, true, zero, ℕ}
 use Rattle.mux_types.proofs.Elements.{contains_first}
 
 -- an element that is found is in the list and passes the test

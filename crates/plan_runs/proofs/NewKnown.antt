@@ -1,13 +1,13 @@
 -- A listener that heard a notice knows the new configuration from the first FIB of the swap's frame on.
-use Rattle.std.proofs.Common.{◌≡◌, ℕ, zero, suc, ◌+◌, ◌<◌, ◌≤◌, Bool, true, false, cond, List, [], ◌∷◌, ◌++◌, length}
-use Rattle.std.proofs.Common.{Option, Some, None, inl, inr, ◌⊎◌, refl, ap, sym, ◌∙◌, subst, arith}
-use Rattle.plan_runs.proofs.Names.{take, ◌-◌, eqb-true, or_parts, take-append-le, Contains-append_cases}
-use Rattle.plan_runs.proofs.Names.{Contains-append_left, Configuration, marked, IsHeardInRow, OneList, Raw, raw_entry}
-use Rattle.plan_runs.proofs.Names.{Listening, untuned, Shows, Plan, Program, State, Known, Event, Contact, Frame}
-use Rattle.plan_runs.proofs.Names.{is_due, is_noticed, is_first_noticed, shown, shown_bytes, frame_bytes, ensemble_sent}
-use Rattle.plan_runs.proofs.Names.{left_after_frame, after_frame, happens, run, run_frames, heard_before, heard_after}
-use Rattle.plan_runs.proofs.Names.{notice_frames, notice_begin, heard_left, heard_of, IsAnnounced, BeginsNoPhase}
-use Rattle.plan_runs.proofs.Names.{IsPlayed, fibs_of, HearsAll, IsNotice, MakesNoSwap, IsUntilNextSwap, KnowsTheNew}
+use Rattle.plan_runs.proofs.Words.{[], ◌++◌, ◌+◌, ◌-◌, ◌<◌, ◌∙◌, ◌∷◌, ◌≡◌, ◌≤◌, ◌⊎◌, BeginsNoPhase, Bool, Configuration}
+use Rattle.plan_runs.proofs.Words.{Contact, Contains-append_cases, Contains-append_left, Event, Frame, HearsAll}
+use Rattle.plan_runs.proofs.Words.{IsAnnounced, IsHeardInRow, IsNotice, IsPlayed, IsUntilNextSwap, Known, KnowsTheNew}
+use Rattle.plan_runs.proofs.Words.{List, Listening, MakesNoSwap, None, OneList, Option, Plan, Program, Raw, Shows, Some}
+use Rattle.plan_runs.proofs.Words.{State, after_frame, ap, arith, cond, ensemble_sent, eqb-true, false, fibs_of}
+use Rattle.plan_runs.proofs.Words.{frame_bytes, happens, heard_after, heard_before, heard_left, heard_of, inl, inr}
+use Rattle.plan_runs.proofs.Words.{is_due, is_first_noticed, is_noticed, left_after_frame, length, marked, notice_begin}
+use Rattle.plan_runs.proofs.Words.{notice_frames, or_parts, raw_entry, refl, run, run_frames, shown, shown_bytes, subst}
+use Rattle.plan_runs.proofs.Words.{suc, sym, take, take-append-le, true, untuned, zero, ℕ}
 use Rattle.std.proofs.Math.Seq.{take-append-add}
 use Rattle.plan_runs.proofs.Passing.{not_due}
 use Rattle.plan_runs.proofs.Tracked.{noticed, split_le}

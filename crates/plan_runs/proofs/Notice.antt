@@ -1,11 +1,11 @@
 -- The frames of a notice, one after another; what was heard of them is a function of the state.
-use Rattle.std.proofs.Common.{◌≡◌, ℕ, zero, suc, ◌+◌, ◌-◌, ◌%◌, ◌<◌, ◌≤◌, Bool, true, false, cond, List, [], ◌∷◌, ◌++◌}
-use Rattle.std.proofs.Common.{Option, Some, None, refl, sym, ap, subst, ◌∙◌, arith, inl, inr}
-use Rattle.plan_runs.proofs.Names.{Contains, slice_get, Configuration, page_set, rounds, page_after, Plan, Running}
-use Rattle.plan_runs.proofs.Names.{Program, State, Known, is_due, with_swap, is_noticed, is_first_noticed, shown}
-use Rattle.plan_runs.proofs.Names.{after_burst, shown_bytes, frame_bytes, sent_rounds, left_after_frame}
-use Rattle.plan_runs.proofs.Names.{with_next_counts, after_frame, heard_before, heard_after, notice_frames}
-use Rattle.plan_runs.proofs.Names.{notice_begin, heard_left, heard_of}
+use Rattle.plan_runs.proofs.Words.{[], ◌%◌, ◌++◌, ◌+◌, ◌-◌, ◌<◌, ◌∙◌, ◌∷◌, ◌≡◌, ◌≤◌, Bool, Configuration, Contains}
+use Rattle.plan_runs.proofs.Words.{Known, List, None, Option, Plan, Program, Running, Some, State, after_burst}
+use Rattle.plan_runs.proofs.Words.{after_frame, ap, arith, cond, false, frame_bytes, heard_after, heard_before}
+use Rattle.plan_runs.proofs.Words.{heard_left, heard_of, inl, inr, is_due, is_first_noticed, is_noticed}
+use Rattle.plan_runs.proofs.Words.{left_after_frame, notice_begin, notice_frames, page_after, page_set, refl, rounds}
+use Rattle.plan_runs.proofs.Words.{sent_rounds, shown, shown_bytes, slice_get, subst, suc, sym, true, with_next_counts}
+use Rattle.plan_runs.proofs.Words.{with_swap, zero, ℕ}
 use Rattle.plan_runs.proofs.Knowledge.{IsAhead}
 use Rattle.plan_runs.proofs.Tracked.{Airs, IsTurn, TurnShown, page_of, page_of_first, page_of_next, noticed}
 use Rattle.plan_runs.proofs.Tracked.{not_noticed, split_le}

@@ -1,8 +1,8 @@
 -- A part of a set of entries, given by the known identifiers, and the part after one more entry.
-use Rattle.std.proofs.Common.{◌≡◌, ◌≢◌, ℕ, suc, ◌<◌, ◌≤◌, ◌==◌, Bool, true, false, cond, List, [], ◌∷◌, length, Some}
-use Rattle.std.proofs.Common.{inl, inr, ◌⊎◌, refl, ap, sym, ◌∙◌, subst, lt-ltb, le-ltb, arith}
-use Rattle.plan_runs.proofs.Names.{◌||◌, slice_get, eq-eqb, ne_eqb, or_right, or_left, IsAscending, AllByRecursion, Raw}
-use Rattle.plan_runs.proofs.Names.{identifier_of, is_known, kept, has_room}
+use Rattle.plan_runs.proofs.Words.{[], ◌<◌, ◌==◌, ◌||◌, ◌∙◌, ◌∷◌, ◌≡◌, ◌≢◌, ◌≤◌, ◌⊎◌, AllByRecursion, Bool, IsAscending}
+use Rattle.plan_runs.proofs.Words.{List, Raw, Some, ap, arith, cond, eq-eqb, false, has_room, identifier_of, inl, inr}
+use Rattle.plan_runs.proofs.Words.{is_known, kept, le-ltb, length, lt-ltb, ne_eqb, or_left, or_right, refl, slice_get}
+use Rattle.plan_runs.proofs.Words.{subst, suc, sym, true, ℕ}
 use Rattle.mux_config.specs.Tables.{with_entry}
 use Rattle.fib_reader.proofs.Keeping.{kept-new, room_for_known, room_for_new, known_where_found, kept_where_found}
 

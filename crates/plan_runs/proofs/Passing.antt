@@ -1,9 +1,8 @@
 -- What is known remains valid as a swap is made and as frames pass.
-use Rattle.std.proofs.Common.{◌≡◌, ℕ, ◌+◌, ◌-◌, ◌<◌, ◌≤◌, Bool, true, false, cond, Option, Some, None, refl, sym, ap}
-use Rattle.std.proofs.Common.{subst, ◌∙◌, arith, inl, inr, ◌⊎◌}
-use Rattle.plan_runs.proofs.Names.{nat_lt, eqb-true, eqb-false, ltb-true, ltb-false, Configuration, Swap, Idle, Within}
-use Rattle.plan_runs.proofs.Names.{Perhaps, Known, IsCertain, after_wait, after_pause, known_after_swap, FitsSwap}
-use Rattle.plan_runs.proofs.Names.{is_due, left_after_frame}
+use Rattle.plan_runs.proofs.Words.{◌+◌, ◌-◌, ◌<◌, ◌∙◌, ◌≡◌, ◌≤◌, ◌⊎◌, Bool, Configuration, FitsSwap, Idle, IsCertain}
+use Rattle.plan_runs.proofs.Words.{Known, None, Option, Perhaps, Some, Swap, Within, after_pause, after_wait, ap, arith}
+use Rattle.plan_runs.proofs.Words.{cond, eqb-false, eqb-true, false, inl, inr, is_due, known_after_swap}
+use Rattle.plan_runs.proofs.Words.{left_after_frame, ltb-false, ltb-true, nat_lt, refl, subst, sym, true, ℕ}
 use Rattle.plan_runs.proofs.Knowledge.{IsIdleAs, IsPendingAs, AgreesBy, ComesBy, PausesBy, JoinsBy, IsAhead}
 
 -- ---- how many frames are left

@@ -1,13 +1,13 @@
 -- The whole current configuration is heard in any period of a phase.
-use Rattle.std.proofs.Common.{◌≡◌, ℕ, zero, suc, ◌+◌, ◌-◌, ◌<◌, ◌≤◌, Bool, true, false, cond, List, [], ◌∷◌, length}
-use Rattle.std.proofs.Common.{Option, Some, None, refl, sym, ap, subst, ◌∙◌, arith, inl, inr}
-use Rattle.plan_runs.proofs.Names.{Contains, eqb-false, lt-ltb, or_parts, Contains-append_left, Configuration, Marked}
-use Rattle.plan_runs.proofs.Names.{facts_of, IsHeardInRow, page_set, rounds, page_after, page_entries, Plan, Program}
-use Rattle.plan_runs.proofs.Names.{State, Known, Event, Contact, Frame, is_due, with_swap, with_due_swap, is_noticed}
-use Rattle.plan_runs.proofs.Names.{is_first_noticed, shown, after_burst, frame_bytes, shown_bytes, ensemble_sent}
-use Rattle.plan_runs.proofs.Names.{sent_entries, sent_rounds, left_after_frame, with_next_counts, after_frame}
-use Rattle.plan_runs.proofs.Names.{begins_phase, SentBy, happens, run, run_frames, IsHeardInSome, IsHeardWhole}
-use Rattle.plan_runs.proofs.Names.{BeginsNoPhase, IsOnePhase, PeriodsAreWhole}
+use Rattle.plan_runs.proofs.Words.{[], ◌+◌, ◌-◌, ◌<◌, ◌∙◌, ◌∷◌, ◌≡◌, ◌≤◌, BeginsNoPhase, Bool, Configuration, Contact}
+use Rattle.plan_runs.proofs.Words.{Contains, Contains-append_left, Event, Frame, IsHeardInRow, IsHeardInSome}
+use Rattle.plan_runs.proofs.Words.{IsHeardWhole, IsOnePhase, Known, List, Marked, None, Option, PeriodsAreWhole, Plan}
+use Rattle.plan_runs.proofs.Words.{Program, SentBy, Some, State, after_burst, after_frame, ap, arith, begins_phase}
+use Rattle.plan_runs.proofs.Words.{cond, ensemble_sent, eqb-false, facts_of, false, frame_bytes, happens, inl, inr}
+use Rattle.plan_runs.proofs.Words.{is_due, is_first_noticed, is_noticed, left_after_frame, length, lt-ltb, or_parts}
+use Rattle.plan_runs.proofs.Words.{page_after, page_entries, page_set, refl, rounds, run, run_frames, sent_entries}
+use Rattle.plan_runs.proofs.Words.{sent_rounds, shown, shown_bytes, subst, suc, sym, true, with_due_swap}
+use Rattle.plan_runs.proofs.Words.{with_next_counts, with_swap, zero, ℕ}
 use Rattle.plan_runs.proofs.Knowledge.{IsAhead, IsOnAir, CommittedBy}
 use Rattle.plan_runs.proofs.Passing.{ahead_from}
 use Rattle.plan_runs.proofs.Tracked.{Airs, noticed, not_noticed, split_le, turn_is_page}

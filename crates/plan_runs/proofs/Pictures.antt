@@ -1,11 +1,10 @@
 -- Pictures with a part of a configuration's entries.
-use Rattle.std.proofs.Common.{◌≡◌, ℕ, zero, suc, ◌<◌, ◌≤◌, ◌==◌, Bool, cond, List, [], ◌∷◌, ◌++◌, length, map, Option}
-use Rattle.std.proofs.Common.{Some, None, inl, inr, ◌⊎◌, refl, ap, sym, ◌∙◌, subst, arith}
-use Rattle.plan_runs.proofs.Names.{Contains, length-map, Configuration, IsConfiguration, IsPlaced, IsService}
-use Rattle.plan_runs.proofs.Names.{IsAddressed, IsAscending, sub_key, service_key, packet_key, AllByRecursion, Marked}
-use Rattle.plan_runs.proofs.Names.{marked, sub_entry, service_entry, packet_entry, sub_entries, service_entries, Entry}
-use Rattle.plan_runs.proofs.Names.{ext_of, Raw, raw_entry, Pictured, blank, identifier_of, kept, has_room, pictured}
-use Rattle.plan_runs.proofs.Names.{Shows}
+use Rattle.plan_runs.proofs.Words.{[], ◌++◌, ◌<◌, ◌==◌, ◌∙◌, ◌∷◌, ◌≡◌, ◌≤◌, ◌⊎◌, AllByRecursion, Bool, Configuration}
+use Rattle.plan_runs.proofs.Words.{Contains, Entry, IsAddressed, IsAscending, IsConfiguration, IsPlaced, IsService}
+use Rattle.plan_runs.proofs.Words.{List, Marked, None, Option, Pictured, Raw, Shows, Some, ap, arith, blank, cond}
+use Rattle.plan_runs.proofs.Words.{ext_of, has_room, identifier_of, inl, inr, kept, length, length-map, map, marked}
+use Rattle.plan_runs.proofs.Words.{packet_entry, packet_key, pictured, raw_entry, refl, service_entries, service_entry}
+use Rattle.plan_runs.proofs.Words.{service_key, sub_entries, sub_entry, sub_key, subst, suc, sym, zero, ℕ}
 use Rattle.fib_reader.proofs.FromEntries.{sub_identified, service_identified, packet_identified}
 use Rattle.fib_reader.proofs.Shown.{ShowsEach, each_shows}
 use Rattle.plan_runs.proofs.Parts.{In, each_in, IsPart, Also, part_takes, part_weaker, part_empty, part_whole}

@@ -1,6 +1,6 @@
 -- A start is reached, and so is every state that follows a reached one.
-use Rattle.std.proofs.Common.{List, [], ◌∷◌, ◌++◌, refl, ap, ◌∙◌}
-use Rattle.plan_runs.proofs.Names.{AllByRecursion, Event, IsEvent, run, StartsAreReached, ReachedIsKept}
+use Rattle.plan_runs.proofs.Words.{[], ◌++◌, ◌∙◌, ◌∷◌, AllByRecursion, Event, IsEvent, List, ReachedIsKept}
+use Rattle.plan_runs.proofs.Words.{StartsAreReached, ap, refl, run}
 use Rattle.plan_runs.proofs.Joined.{state_joins}
 
 pub starts_are_reached : StartsAreReached

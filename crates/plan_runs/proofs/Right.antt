@@ -1,27 +1,25 @@
 -- The bytes of every frame are correct.
-use Rattle.std.proofs.Common.{◌≡◌, ◌≢◌, ℕ, zero, suc, ◌+◌, ◌*◌, ◌/◌, ◌%◌, ◌<◌, ◌≤◌, Bool, true, false, cond, List, []}
-use Rattle.std.proofs.Common.{◌∷◌, ◌++◌, length, Option, Some, None, refl, sym, ap, subst, ◌∙◌, arith, inl, inr, ◌⊎◌}
-use Rattle.std.proofs.Common.{replicate}
-use Rattle.plan_runs.proofs.Names.{Contains, slice_get, map, take, drop, IfSome, ◌==◌, not, drop-drop}
-use Rattle.plan_runs.proofs.Names.{Contains-append_cases, eqb-true, eq-eqb, and_parts, layout_mode, frame_fibs}
-use Rattle.plan_runs.proofs.Names.{used_fibs, reserved_fibs, FrameLayout, Whole, ReserveOne, ReserveTwo, Configuration}
-use Rattle.plan_runs.proofs.Names.{IsConfiguration, AllByRecursion, EnsembleInformation, Marked, marked, facts_of}
-use Rattle.plan_runs.proofs.Names.{change_of, bits_of, has_same_subs, has_same_services, is_same_sub, is_same_service}
-use Rattle.plan_runs.proofs.Names.{is_same_packet, is_same_list, EnsembleOf, Entry, Mode, I, fib_count, count_step}
-use Rattle.plan_runs.proofs.Names.{IsEnsembleInformation, Written, head_of, head_byte, ext_of, bit_of, fig_bytes}
-use Rattle.plan_runs.proofs.Names.{entry_bytes, Open, Other, IsValid, fig_of, fib_at, IsHeardInRow, IsInFig, Head}
-use Rattle.plan_runs.proofs.Names.{same_head, entries_in_fib, entries_where, page_set, page_entries, EachInAPage}
-use Rattle.plan_runs.proofs.Names.{first_fib, later_fibs, packing, reserved_figs, page_figs, AreFibs, ensemble_figs}
-use Rattle.plan_runs.proofs.Names.{figs_of, with_entry_first, IsPageable, IsSendable, AreSendable, PageSetsArePageable}
-use Rattle.plan_runs.proofs.Names.{PagesAreValid, PagesAreHeard, EnsembleIsCarried, Plan, State, is_noticed}
-use Rattle.plan_runs.proofs.Names.{announced_next, sent_entries, ensemble_of, ensemble_sent, low_of_swap, shown_bytes}
-use Rattle.plan_runs.proofs.Names.{IsNoHeader, IsFlaggedBy, IsEnsembleOf, IsHeadedBy, IsUnheaded, IsRight}
+use Rattle.plan_runs.proofs.Words.{[], ◌%◌, ◌*◌, ◌++◌, ◌+◌, ◌/◌, ◌<◌, ◌==◌, ◌∙◌, ◌∷◌, ◌≡◌, ◌≢◌, ◌≤◌, ◌⊎◌}
+use Rattle.plan_runs.proofs.Words.{AllByRecursion, AreFibs, AreSendable, Bool, Configuration, Contains}
+use Rattle.plan_runs.proofs.Words.{Contains-append_cases, EachInAPage, EnsembleInformation, EnsembleIsCarried}
+use Rattle.plan_runs.proofs.Words.{EnsembleOf, Entry, FrameLayout, Head, I, IfSome, IsConfiguration}
+use Rattle.plan_runs.proofs.Words.{IsEnsembleInformation, IsEnsembleOf, IsFlaggedBy, IsHeadedBy, IsHeardInRow, IsInFig}
+use Rattle.plan_runs.proofs.Words.{IsNoHeader, IsPageable, IsRight, IsSendable, IsUnheaded, IsValid, List, Marked, Mode}
+use Rattle.plan_runs.proofs.Words.{None, Open, Option, Other, PageSetsArePageable, PagesAreHeard, PagesAreValid, Plan}
+use Rattle.plan_runs.proofs.Words.{ReserveOne, ReserveTwo, Some, State, Whole, Written, and_parts, announced_next, ap}
+use Rattle.plan_runs.proofs.Words.{arith, bit_of, bits_of, change_of, cond, count_step, drop, drop-drop, each_in_a_page}
+use Rattle.plan_runs.proofs.Words.{ensemble_figs, ensemble_is_heard, ensemble_of, ensemble_sent, entries_in_fib}
+use Rattle.plan_runs.proofs.Words.{entries_where, entry_bytes, eq-eqb, eqb-true, ext_of, facts_of, false, fib_at}
+use Rattle.plan_runs.proofs.Words.{fib_count, fig_bytes, fig_of, figs_of, first_fib, frame_fibs, has_same_services}
+use Rattle.plan_runs.proofs.Words.{has_same_subs, head_byte, head_of, inl, inr, is_noticed, is_same_list}
+use Rattle.plan_runs.proofs.Words.{is_same_packet, is_same_service, is_same_sub, later_fibs, layout_mode, length}
+use Rattle.plan_runs.proofs.Words.{low_of_swap, map, marked, not, packing, page_entries, page_figs, page_set}
+use Rattle.plan_runs.proofs.Words.{page_sets_are_pageable, pages_are_heard, pages_are_valid, refl, replicate}
+use Rattle.plan_runs.proofs.Words.{reserved_fibs, reserved_figs, same_head, sendable_where, sent_entries, shown_bytes}
+use Rattle.plan_runs.proofs.Words.{slice_get, subst, suc, sym, take, true, used_fibs, with_entry_first, zero, ℕ}
 use Rattle.mux_config.proofs.Same.{list_same, sub_same, service_same, packet_same}
 use Rattle.plan_runs.proofs.Knowledge.{CommittedBy}
 use Rattle.plan_runs.proofs.Tracked.{Airs}
-use Rattle.fib_carousel.proofs.Hearing.{pages_are_valid, pages_are_heard, ensemble_is_heard, page_sets_are_pageable}
-use Rattle.fib_carousel.proofs.Hearing.{sendable_where}
-use Rattle.fib_carousel.proofs.Pieces.{each_in_a_page}
 
 -- ---- the laws of pages that are used
 

@@ -1,7 +1,7 @@
 -- What vectors of runs speak of: a start in range, the state in which a code begins there, and that it begins so.
-use Rattle.std.proofs.Common.{ℕ, ◌<◌, false, List, [], ◌∷◌, Option, Some, None, replicate, refl, arith}
-use Rattle.plan_runs.proofs.Names.{EnsembleInformation, IsEnsembleInformation, Whole, Mode, Configuration, Contacts}
-use Rattle.plan_runs.proofs.Names.{Plan, Running, Ended, Line, Program, State, Start, StartIsInRange, IsStart}
+use Rattle.plan_runs.proofs.Words.{[], ◌<◌, ◌∷◌, Configuration, Contacts, Ended, EnsembleInformation}
+use Rattle.plan_runs.proofs.Words.{IsEnsembleInformation, IsStart, Line, List, Mode, None, Option, Plan, Program}
+use Rattle.plan_runs.proofs.Words.{Running, Some, Start, StartIsInRange, State, Whole, arith, false, refl, replicate, ℕ}
 pub use Rattle.plan_verifier.proofs.Samples.{plan, with_sub, one_sub, many_subs, empty_is, one_sub_is, counters, label}
 pub use Rattle.plan_verifier.proofs.Samples.{line, line_is, code, code_under, code_from, first_under_is, first_from_is}
 use Rattle.plan_runs.proofs.Right.{plain_within, flagged_within}

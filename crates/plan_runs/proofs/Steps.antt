@@ -1,10 +1,9 @@
 -- One instruction of a typed code is allowed, and leaves what is known wherever the machine continues.
-use Rattle.std.proofs.Common.{◌≡◌, ℕ, ◌<◌, ◌≤◌, true, false, eqb, List, length, Option, Some, None, refl, sym, ap}
-use Rattle.std.proofs.Common.{subst, ◌∙◌, arith, ◌⊎◌}
-use Rattle.plan_runs.proofs.Names.{IfSome, slice_get, option_map, eqb-true, Configuration, Hold, Running, Waits}
-use Rattle.plan_runs.proofs.Names.{WaitsDay, WaitsContact, WaitsAny, WaitsSwap, Ended, Counters, Label, Swap, Instr}
-use Rattle.plan_runs.proofs.Names.{Program, instr_at, label_at, State, Known, IsTyping, Arrives, is_running}
-use Rattle.plan_runs.proofs.Names.{hold_after_frame, left_after_frame}
+use Rattle.plan_runs.proofs.Words.{◌<◌, ◌∙◌, ◌≡◌, ◌≤◌, ◌⊎◌, Arrives, Configuration, Counters, Ended, Hold, IfSome}
+use Rattle.plan_runs.proofs.Words.{Instr, IsTyping, Known, Label, List, None, Option, Program, Running, Some, State}
+use Rattle.plan_runs.proofs.Words.{Swap, Waits, WaitsAny, WaitsContact, WaitsDay, WaitsSwap, ap, arith, eqb, eqb-true}
+use Rattle.plan_runs.proofs.Words.{false, hold_after_frame, instr_at, is_running, label_at, left_after_frame, length}
+use Rattle.plan_runs.proofs.Words.{option_map, refl, slice_get, subst, sym, true, ℕ}
 use Rattle.plan_verifier.proofs.Tabled.{declared_once}
 use Rattle.plan_runs.proofs.Lookups.{found, get_some, get_below}
 use Rattle.plan_runs.proofs.Knowledge.{AgreesBy, ComesBy, PausesBy, JoinsBy, IsAhead, AreSet, IsKept}

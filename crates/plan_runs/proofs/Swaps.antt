@@ -1,12 +1,12 @@
 -- A swap is made in the frame that its commit requested, and changes the current configuration in that frame alone.
-use Rattle.std.proofs.Common.{◌≡◌, ℕ, zero, suc, ◌+◌, ◌-◌, ◌%◌, ◌<◌, ◌≤◌, Bool, true, false, cond, List, [], ◌∷◌}
-use Rattle.std.proofs.Common.{Option, Some, None, refl, sym, ap, subst, ◌∙◌, arith, inl, inr, ◌⊎◌}
-use Rattle.plan_runs.proofs.Names.{layout_mode, Mode, I, count_step, Plan, Instr, CommitIn, CommitAt, Program, State}
-use Rattle.plan_runs.proofs.Names.{SwapsInTime, SwapsAtCount, IsAllowed, StepIsAllowed, step, effect, commit, left_in}
-use Rattle.plan_runs.proofs.Names.{left_at, Known, Event, Contact, Frame, is_due, ready, Executes, burst, after_burst}
-use Rattle.plan_runs.proofs.Names.{is_first_noticed, shown, left_after_frame, after_frame, happens, CarriesOut}
-use Rattle.plan_runs.proofs.Names.{IsFirstWhere, IsSwapAtCount, IsSwapAfterDelay, SwapsAreOnSteps}
-use Rattle.plan_runs.proofs.Names.{SwapsChangeTheCurrent, CommitsAreKept}
+use Rattle.plan_runs.proofs.Words.{[], ◌%◌, ◌+◌, ◌-◌, ◌<◌, ◌∙◌, ◌∷◌, ◌≡◌, ◌≤◌, ◌⊎◌, Bool, CarriesOut, CommitAt}
+use Rattle.plan_runs.proofs.Words.{CommitIn, CommitsAreKept, Contact, Event, Executes, Frame, I, Instr, IsAllowed}
+use Rattle.plan_runs.proofs.Words.{IsFirstWhere, IsSwapAfterDelay, IsSwapAtCount, Known, List, Mode, None, Option, Plan}
+use Rattle.plan_runs.proofs.Words.{Program, Some, State, StepIsAllowed, SwapsAreOnSteps, SwapsAtCount}
+use Rattle.plan_runs.proofs.Words.{SwapsChangeTheCurrent, SwapsInTime, after_burst, after_frame, ap, arith, burst}
+use Rattle.plan_runs.proofs.Words.{commit, cond, count_step, effect, false, happens, inl, inr, is_due, is_first_noticed}
+use Rattle.plan_runs.proofs.Words.{layout_mode, left_after_frame, left_at, left_in, ready, refl, shown, step, subst}
+use Rattle.plan_runs.proofs.Words.{suc, sym, true, zero, ℕ}
 use Rattle.plan_runs.proofs.Passing.{some_is, due_is, not_due_from}
 use Rattle.plan_runs.proofs.Between.{step_is, frame_goes}
 use Rattle.plan_runs.proofs.Carries.{LeftBy, Carries, burst_carries}

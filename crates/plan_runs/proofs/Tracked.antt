@@ -1,11 +1,11 @@
 -- The page in turn and the counts, from frame to frame.
-use Rattle.std.proofs.Common.{◌≡◌, ℕ, zero, suc, ◌+◌, ◌-◌, ◌%◌, ◌<◌, ◌≤◌, Bool, true, false, cond, leb, List, Option}
-use Rattle.std.proofs.Common.{Some, None, refl, sym, ap, subst, ◌∙◌, arith, inl, inr, ◌⊎◌}
-use Rattle.plan_runs.proofs.Names.{nat_lt, nat_le, eqb-true, eqb-false, ltb-true, leb-true, leb-false, and_parts}
-use Rattle.plan_runs.proofs.Names.{layout_mode, FrameLayout, Configuration, IsConfiguration, Marked, Mode, I}
-use Rattle.plan_runs.proofs.Names.{count_step, page_set, rounds, page_after, Plan, Program, IsProgram, State, Known}
-use Rattle.plan_runs.proofs.Names.{IsTyping, is_due, with_swap, after_burst, is_noticed, is_first_noticed, shown}
-use Rattle.plan_runs.proofs.Names.{sent_rounds, left_after_frame, with_next_counts, after_frame}
+use Rattle.plan_runs.proofs.Words.{◌%◌, ◌+◌, ◌-◌, ◌<◌, ◌∙◌, ◌≡◌, ◌≤◌, ◌⊎◌, Bool, Configuration, FrameLayout, I}
+use Rattle.plan_runs.proofs.Words.{IsConfiguration, IsProgram, IsTyping, Known, List, Marked, Mode, None, Option, Plan}
+use Rattle.plan_runs.proofs.Words.{Program, Some, State, after_burst, after_frame, and_parts, ap, arith, cond}
+use Rattle.plan_runs.proofs.Words.{count_step, eqb-false, eqb-true, false, inl, inr, is_due, is_first_noticed}
+use Rattle.plan_runs.proofs.Words.{is_noticed, layout_mode, leb, leb-false, leb-true, left_after_frame, ltb-true}
+use Rattle.plan_runs.proofs.Words.{nat_le, nat_lt, page_after, page_set, refl, rounds, sent_rounds, shown, subst, suc}
+use Rattle.plan_runs.proofs.Words.{sym, true, with_next_counts, with_swap, zero, ℕ}
 use Rattle.plan_runs.proofs.Knowledge.{IsAhead, IsOnAir, CommittedBy}
 use Rattle.plan_runs.proofs.Steps.{Suspends}
 use Rattle.plan_runs.proofs.Between.{Between, frame_goes}

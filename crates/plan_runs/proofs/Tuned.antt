@@ -1,9 +1,9 @@
 -- A tuned listener, before and after entries of the current and the next configuration.
-use Rattle.std.proofs.Common.{◌≡◌, ℕ, ◌==◌, Bool, true, false, cond, List, [], ◌∷◌, take, zero, suc, Option, Some, None}
-use Rattle.std.proofs.Common.{inl, inr, ◌⊎◌, refl, ap, sym, ◌∙◌, subst}
-use Rattle.plan_runs.proofs.Names.{Configuration, AllByRecursion, EnsembleInformation, Marked, Fig, IsFib, OneList, Raw}
-use Rattle.plan_runs.proofs.Names.{raw_entry, ensemble_in, Pictured, blank, pictured, Listening, untuned, picture_of}
-use Rattle.plan_runs.proofs.Names.{into, where_heard, hear_entry, hear_figs, at_ensemble, HearsAll}
+use Rattle.plan_runs.proofs.Words.{[], ◌==◌, ◌∙◌, ◌∷◌, ◌≡◌, ◌⊎◌, AllByRecursion, Bool, Configuration}
+use Rattle.plan_runs.proofs.Words.{EnsembleInformation, Fig, HearsAll, IsFib, List, Listening, Marked, None, OneList}
+use Rattle.plan_runs.proofs.Words.{Option, Pictured, Raw, Some, ap, at_ensemble, blank, cond, ensemble_in, false}
+use Rattle.plan_runs.proofs.Words.{hear_entry, hear_figs, inl, inr, into, picture_of, pictured, raw_entry, refl, subst}
+use Rattle.plan_runs.proofs.Words.{suc, sym, take, true, untuned, where_heard, zero, ℕ}
 use Rattle.plan_runs.proofs.Parts.{In, Also}
 use Rattle.plan_runs.proofs.Pictures.{whole_of, IsSet, IsOf, IsPartial, grows, weaker, entries_of, entry_is_of}
 use Rattle.plan_runs.proofs.Hearing.{hear_marked, headed}

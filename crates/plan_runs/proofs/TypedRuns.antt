@@ -1,10 +1,9 @@
 -- A typed code never traps.
-use Rattle.std.proofs.Common.{◌≡◌, ℕ, true, false, eqb, List, [], ◌∷◌, length, replicate, Option, Some, None, refl, sym}
-use Rattle.std.proofs.Common.{ap, subst, ◌∙◌, arith, inl}
-use Rattle.plan_runs.proofs.Names.{slice_get, bit_at, bit_at-zero, Configuration, Hold, Running, Counters, Label, Swap}
-use Rattle.plan_runs.proofs.Names.{Idle, Within, Perhaps, Program, IsProgram, label_at, State, Known, IsTyping, Arrives}
-use Rattle.plan_runs.proofs.Names.{CanEnter, FitsSwap, Event, Contact, Frame, Start, after_frame, IsStart, IsReached}
-use Rattle.plan_runs.proofs.Names.{RunIsAllowed, happens, run, TypedCodeRuns}
+use Rattle.plan_runs.proofs.Words.{[], ◌∙◌, ◌∷◌, ◌≡◌, Arrives, CanEnter, Configuration, Contact, Counters, Event}
+use Rattle.plan_runs.proofs.Words.{FitsSwap, Frame, Hold, Idle, IsProgram, IsReached, IsStart, IsTyping, Known, Label}
+use Rattle.plan_runs.proofs.Words.{List, None, Option, Perhaps, Program, RunIsAllowed, Running, Some, Start, State}
+use Rattle.plan_runs.proofs.Words.{Swap, TypedCodeRuns, Within, after_frame, ap, arith, bit_at, bit_at-zero, eqb, false}
+use Rattle.plan_runs.proofs.Words.{happens, inl, label_at, length, refl, replicate, run, slice_get, subst, sym, true, ℕ}
 use Rattle.plan_runs.proofs.Lookups.{found}
 use Rattle.plan_runs.proofs.Knowledge.{IsIdleAs, ComesBy, AreSet, IsOnAir, CommittedBy}
 use Rattle.plan_runs.proofs.Steps.{Expects, ResumesBy, same_some}

@@ -1,10 +1,9 @@
 -- Without a commit no swap becomes pending.
-use Rattle.std.proofs.Common.{◌≡◌, ℕ, zero, suc, ◌+◌, ◌<◌, Bool, true, false, cond, Option, Some, None, refl, sym, ap}
-use Rattle.std.proofs.Common.{◌∙◌, arith, inl, inr, ◌⊎◌}
-use Rattle.plan_runs.proofs.Names.{Plan, Running, Instr, CommitIn, CommitAt, Settle, Program, instr_at, State, step}
-use Rattle.plan_runs.proofs.Names.{settle, effect, effect_of, is_due, with_swap, with_due_swap, is_running, is_here}
-use Rattle.plan_runs.proofs.Names.{ready, burst, burst_steps, after_burst, is_first_noticed, left_after_frame, IsCommit}
-use Rattle.plan_runs.proofs.Names.{SwapsAreCommitted}
+use Rattle.plan_runs.proofs.Words.{◌+◌, ◌<◌, ◌∙◌, ◌≡◌, ◌⊎◌, Bool, CommitAt, CommitIn, Instr, IsCommit, None, Option}
+use Rattle.plan_runs.proofs.Words.{Plan, Program, Running, Settle, Some, State, SwapsAreCommitted, after_burst, ap}
+use Rattle.plan_runs.proofs.Words.{arith, burst, burst_steps, cond, effect, effect_of, false, inl, inr, instr_at}
+use Rattle.plan_runs.proofs.Words.{is_due, is_first_noticed, is_here, is_running, left_after_frame, ready, refl, settle}
+use Rattle.plan_runs.proofs.Words.{step, suc, sym, true, with_due_swap, with_swap, zero, ℕ}
 
 settle_left : (left : Option ℕ) (s : State) → (settle left s).left ≡ s.left
 settle_left None s = refl

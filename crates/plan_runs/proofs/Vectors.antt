@@ -1,11 +1,10 @@
 -- Small runs, computed by the checker: the bytes and counts are those of worked examples from practice.
-use Rattle.std.proofs.Common.{◌≡◌, ℕ, zero, suc, true, List, [], ◌∷◌, Some, take, refl}
-use Rattle.plan_runs.proofs.Names.{AddSub, AddService, AddComponent, nothing, Label, Idle, Instr, CommitIn, Join, End}
-use Rattle.plan_runs.proofs.Names.{Edits, Line, Program, Event, Frame, is_due, frame_bytes, frame_steps, run}
+use Rattle.plan_runs.proofs.Words.{[], ◌∷◌, ◌≡◌, AddComponent, AddService, AddSub, CommitIn, Edits, End, Event, Frame}
+use Rattle.plan_runs.proofs.Words.{Idle, Instr, Join, Label, Line, List, Program, Some, counters, frame_bytes}
+use Rattle.plan_runs.proofs.Words.{frame_steps, is_due, nothing, plan, refl, run, sub_at_rate, suc, take, true, zero, ℕ}
 use Rattle.mux_types.specs.declared.parts.Component.TheVariants.{Sound}
 use Rattle.mux_types.specs.declared.numbers.Sid.TheVariants.{Short}
 use Rattle.plan_runs.proofs.Samples.{first_state}
-use Rattle.plan_verifier.proofs.Samples.{plan, sub_at_rate, counters}
 
 abbrev line : ℕ → Instr → Line
 line number instr = record { number = number; instr = instr }

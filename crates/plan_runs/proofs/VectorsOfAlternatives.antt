@@ -1,7 +1,7 @@
 -- Waits with alternatives: for each definition, an example that holds and one that fails.
-use Rattle.std.proofs.Common.{◌≡◌, ℕ, true, false, Option, Some, None, refl, inl, inr, arith}
-use Rattle.plan_runs.proofs.Names.{eqb-true, bit_at-zero, bit_at, nothing, Contacts, Hold, WaitsAny, State, is_day}
-use Rattle.plan_runs.proofs.Names.{is_any_here, is_here, HasClosed, HasOpen, HasCome}
+use Rattle.plan_runs.proofs.Words.{◌≡◌, Contacts, HasClosed, HasCome, HasOpen, Hold, None, Option, Some, State}
+use Rattle.plan_runs.proofs.Words.{WaitsAny, arith, bit_at, bit_at-zero, eqb-true, false, inl, inr, is_any_here, is_day}
+use Rattle.plan_runs.proofs.Words.{is_here, nothing, refl, true, ℕ}
 use Rattle.plan_code.specs.Flags.{any_closed, any_open}
 use Rattle.plan_runs.proofs.Samples.{all_open, first_state}
 

@@ -1,21 +1,19 @@
 -- Frames of one sub-channel, and of a notice that lowers its rate: what is heard in them, and what is not.
-use Rattle.std.proofs.Common.{◌≡◌, ℕ, zero, suc, ◌<◌, Bool, true, false, List, [], ◌∷◌, Contains, Some, None, refl, sym}
-use Rattle.std.proofs.Common.{ap, subst, ◌∙◌, arith}
-use Rattle.plan_runs.proofs.Names.{slice_get_within, AllByRecursion, Whole, EnsembleInformation, Marked, marked}
-use Rattle.plan_runs.proofs.Names.{sub_entry, EnsembleOf, Mode, I, II, Fig, Open, Other, IsInFig, IsEnsembleHeardInRow}
-use Rattle.plan_runs.proofs.Names.{fib_at, page_entries, page_set, IsPageable, Plan, Program, State, Frame}
-use Rattle.plan_runs.proofs.Names.{FrameIsAllowed, sent_entries, ensemble_sent, shown_bytes, after_frame, frame_bytes}
-use Rattle.plan_runs.proofs.Names.{IsHeardInSome, IsHeardWhole, HasHeader, IsFlagged, IsAnnounced, FrameRuns, Runs}
-use Rattle.plan_runs.proofs.Names.{IsEnsembleFig, IsNoHeader, IsEnsembleOf, IsHeadedBy, IsUnheaded, IsRight}
-use Rattle.plan_runs.proofs.Names.{BeginsNoPhase, IsOnePhase, IsAnnouncedIn, AnnouncesOnly, SwapsAt, KeepsCount}
+use Rattle.plan_runs.proofs.Words.{[], ◌<◌, ◌∙◌, ◌∷◌, ◌≡◌, AllByRecursion, AnnouncesOnly, BeginsNoPhase, Bool, Contains}
+use Rattle.plan_runs.proofs.Words.{EnsembleInformation, EnsembleOf, Fig, Frame, FrameIsAllowed, FrameRuns, HasHeader, I}
+use Rattle.plan_runs.proofs.Words.{II, IsAnnounced, IsAnnouncedIn, IsEnsembleFig, IsEnsembleHeardInRow, IsEnsembleOf}
+use Rattle.plan_runs.proofs.Words.{IsFlagged, IsHeadedBy, IsHeardInSome, IsHeardWhole, IsInFig, IsNoHeader, IsOnePhase}
+use Rattle.plan_runs.proofs.Words.{IsPageable, IsRight, IsUnheaded, KeepsCount, List, Marked, Mode, None, Open, Other}
+use Rattle.plan_runs.proofs.Words.{Plan, Program, Runs, Some, State, SwapsAt, Whole, after_frame, ap, arith}
+use Rattle.plan_runs.proofs.Words.{ensemble_is_heard, ensemble_sent, false, fib_at, frame_bytes, lower_is, marked}
+use Rattle.plan_runs.proofs.Words.{one_fib, one_sub_is, page_entries, page_set, page_sets_are_pageable, pages_are_heard}
+use Rattle.plan_runs.proofs.Words.{refl, sent_entries, shown_bytes, slice_get_within, sub_at_rate, sub_entry, subst}
+use Rattle.plan_runs.proofs.Words.{suc, sym, true, with_sub, zero, ℕ}
 use Rattle.mux_config.proofs.Sounding.{sound_told}
 use Rattle.plan_runs.proofs.Samples.{short_plan, ended, lowering, unflagged, flagged, flagged_is}
 use Rattle.plan_runs.proofs.Passing.{some_is}
 use Rattle.plan_runs.proofs.Tracked.{Airs}
 use Rattle.plan_runs.proofs.Right.{page_laws, frame_right, ensemble_right}
-use Rattle.fib_codec.proofs.Uniqueness.{one_fib}
-use Rattle.fib_carousel.proofs.Hearing.{pages_are_heard, ensemble_is_heard, page_sets_are_pageable}
-use Rattle.plan_verifier.proofs.Samples.{sub_at_rate, with_sub, one_sub_is, lower_is}
 
 abbrev plan : Mode → Plan
 plan mode = short_plan mode 12 20

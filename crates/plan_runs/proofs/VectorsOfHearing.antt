@@ -1,7 +1,6 @@
 -- Statements about listeners that hold for one run and fail for another.
-use Rattle.std.proofs.Common.{◌≡◌, true, false, [], ◌∷◌, Some, None, inr, refl}
-use Rattle.plan_runs.proofs.Names.{II, blank, untuned, Shows, Program, Frame, KnowsTheCurrent, IsNotice, MakesNoSwap}
-use Rattle.plan_runs.proofs.Names.{IsUntilNextSwap, ListenersKnow}
+use Rattle.plan_runs.proofs.Words.{[], ◌∷◌, ◌≡◌, Frame, II, IsNotice, IsUntilNextSwap, KnowsTheCurrent, ListenersKnow}
+use Rattle.plan_runs.proofs.Words.{MakesNoSwap, None, Program, Shows, Some, blank, false, inr, refl, true, untuned}
 use Rattle.plan_runs.proofs.Samples.{one_sub, short_plan, ended, lowering}
 
 not_blank : Shows blank one_sub → ⊥

@@ -1,19 +1,18 @@
 -- Swaps, waits, counts, contacts and what was heard: for each definition, examples that hold and examples that fail.
-use Rattle.std.proofs.Common.{◌≡◌, ℕ, zero, suc, ◌<◌, ◌≤◌, ◌%◌, true, false, List, [], ◌∷◌, length, Some, None, refl}
-use Rattle.std.proofs.Common.{ap, arith, inl, inr}
-use Rattle.plan_runs.proofs.Names.{map, get_or, Configuration, EnsembleInformation, I, II, Running, Waits, WaitsSwap}
-use Rattle.plan_runs.proofs.Names.{Wait, CommitIn, CommitAt, End, Set, Line, Program, State, Contact, Frame, Start}
-use Rattle.plan_runs.proofs.Names.{is_due, hold_after_swap, is_running, is_here, with_hold_ended, ensemble_of, shown}
-use Rattle.plan_runs.proofs.Names.{frame_bytes, hold_after_frame, after_frame, CarriesOut, IsFirstWhere, IsOnStep}
-use Rattle.plan_runs.proofs.Names.{SwapsWhereDue, IsSwapAtCount, IsSwapAfterDelay, IsCommit, IsWaitOf, WaitsUntil}
-use Rattle.plan_runs.proofs.Names.{IsCounted, level_after, AreLastSent, HasHeaderOf}
+use Rattle.plan_runs.proofs.Words.{[], ◌%◌, ◌<◌, ◌∷◌, ◌≡◌, ◌≤◌, AreLastSent, CarriesOut, CommitAt, CommitIn}
+use Rattle.plan_runs.proofs.Words.{Configuration, Contact, End, EnsembleInformation, Frame, HasHeaderOf, I, II}
+use Rattle.plan_runs.proofs.Words.{IsCommit, IsCounted, IsFirstWhere, IsOnStep, IsSwapAfterDelay, IsSwapAtCount}
+use Rattle.plan_runs.proofs.Words.{IsWaitOf, Line, List, None, Program, Running, Set, Some, Start, State, SwapsWhereDue}
+use Rattle.plan_runs.proofs.Words.{Wait, Waits, WaitsSwap, WaitsUntil, after_frame, ap, arith, ensemble_of, false}
+use Rattle.plan_runs.proofs.Words.{frame_bytes, get_or, hold_after_frame, hold_after_swap, inl, inr, is_due, is_here}
+use Rattle.plan_runs.proofs.Words.{is_running, length, level_after, map, refl, shown, suc, true, with_hold_ended}
+use Rattle.plan_runs.proofs.Words.{with_sub, zero, ℕ}
 use Rattle.mux_types.specs.declared.parts.Sub.{Sub}
 use Rattle.plan_runs.proofs.Samples.{line, start_at, short_plan, ended}
 use Rattle.plan_runs.proofs.Waits.{waits_are_kept}
 use Rattle.plan_runs.proofs.VectorsOfRuns.{waits, first, second, played, played_first}
 use Rattle.plan_runs.proofs.Right.{page_laws}
 use Rattle.plan_runs.proofs.Headline.{headers_are_sent}
-use Rattle.plan_verifier.proofs.Samples.{with_sub}
 
 -- with FIG 0/0 in every frame, and a notice of one frame
 abbrev code : ℕ → List Line → Program

@@ -1,30 +1,25 @@
 -- Listeners to small codes: for each definition of listening, examples that hold and examples that fail.
-use Rattle.std.proofs.Common.{rules, ◌≡◌, ℕ, ◌+◌, Bool, true, false, List, [], ◌∷◌, ◌++◌, length, map, Some, None, inl}
-use Rattle.std.proofs.Common.{inr, refl, ap, arith}
-use Rattle.plan_runs.proofs.Names.{Whole, marked, sub_entry, fig_of, fib_at, ensemble_figs, figs_of, IsSendable}
-use Rattle.plan_runs.proofs.Names.{IsPageable, page_set, Raw, blank, Listening, untuned, Shows, frame_bytes}
-use Rattle.plan_runs.proofs.Names.{after_frame, RateSub, Configuration, Mode, I, II, EnsembleIsHeard, CommitIn, Join}
-use Rattle.plan_runs.proofs.Names.{End, Edits, Program, IsProgram, State, Frame, IsPlayed, HearsFib, HasCount}
-use Rattle.plan_runs.proofs.Names.{IsTunedBy, KnowsTheCurrent, KnowsTheNew, IsNeverFull, ListenersKnow}
-use Rattle.plan_runs.proofs.Samples.{start_at, in_range, starts_under, first_state, short_plan, ended, lowering}
-use Rattle.plan_runs.proofs.Samples.{unflagged, flagged, unflagged_is, flagged_is}
-use Rattle.plan_runs.proofs.Pictures.{whole_of}
+use Rattle.plan_runs.proofs.Words.{[], ◌++◌, ◌+◌, ◌∷◌, ◌≡◌, Bool, CommitIn, Configuration, Edits, End, EnsembleIsHeard}
+use Rattle.plan_runs.proofs.Words.{Frame, HasCount, HearsFib, I, II, IsNeverFull, IsPageable, IsPlayed, IsProgram}
+use Rattle.plan_runs.proofs.Words.{IsSendable, IsTunedBy, Join, KnowsTheCurrent, KnowsTheNew, List, ListenersKnow}
+use Rattle.plan_runs.proofs.Words.{Listening, Mode, None, Program, RateSub, Raw, Shows, Some, State, Whole, after_frame}
+use Rattle.plan_runs.proofs.Words.{ap, arith, blank, code_under, ensemble_figs, false, fib_at, fig_of, figs_of}
+use Rattle.plan_runs.proofs.Words.{first_under_is, frame_bytes, inl, inr, label, length, line, line_is, map, marked}
+use Rattle.plan_runs.proofs.Words.{one_fib, one_sub, one_sub_is, page_is_fibs, page_set, pages_are_valid, refl, rules}
+use Rattle.plan_runs.proofs.Words.{sub_at_rate, sub_entry, true, typed_if, untuned, with_sub, ℕ}
 use Rattle.fib_reader.specs.declared.fault.FibFault.TheVariants.{Entry}
 use Rattle.fib_reader.specs.Faults.{IsFibFault}
 use Rattle.fib_codec.specs.Crc.{IsChecked}
-use Rattle.fib_codec.proofs.Uniqueness.{one_fib}
-use Rattle.fib_reader.specs.FirstFault.{entries_fault, figs_fault}
 use Rattle.fib_reader.proofs.FigFaults.{found_is_fault, no_fault}
+use Rattle.fib_reader.specs.FirstFault.{entries_fault, figs_fault}
+use Rattle.plan_runs.proofs.Samples.{start_at, in_range, starts_under, first_state, short_plan, ended, lowering}
+use Rattle.plan_runs.proofs.Samples.{unflagged, flagged, unflagged_is, flagged_is}
+use Rattle.plan_runs.proofs.Pictures.{whole_of}
 use Rattle.plan_runs.proofs.Reached.{starts_are_reached}
 use Rattle.plan_runs.proofs.Contents.{Laws}
 use Rattle.plan_runs.proofs.CurrentKnown.{never_full, knows_the_current}
 use Rattle.plan_runs.proofs.NewKnown.{knows_the_new}
 use Rattle.plan_runs.proofs.Right.{page_laws}
-use Rattle.fib_carousel.proofs.Hearing.{pages_are_valid}
-use Rattle.fib_carousel.proofs.Pieces.{page_is_fibs}
-use Rattle.plan_verifier.proofs.Samples.{sub_at_rate, with_sub, one_sub, one_sub_is, label, line, line_is, code_under}
-use Rattle.plan_verifier.proofs.Samples.{first_under_is}
-use Rattle.plan_verifier.proofs.OneVerdict.{typed_if}
 
 -- lowers the rate of a sub-channel, and waits for the swap
 abbrev lowers : Mode → Program

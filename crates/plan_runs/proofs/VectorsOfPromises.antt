@@ -1,9 +1,9 @@
 -- The guarantees of typed codes: for a small code they hold; for an untyped code, or a state that no run reaches, they
 -- fail.
-use Rattle.std.proofs.Common.{◌≡◌, ◌<◌, true, false, List, [], ◌∷◌, refl, arith}
-use Rattle.plan_runs.proofs.Names.{marked, sub_entry, EnsembleInformation, EnsembleOf, Fig, Open, Other, IsInFig, State}
-use Rattle.plan_runs.proofs.Names.{Event, Contact, Frame, IsOneBurst, ready, after_burst, RunsWell, AlwaysRuns}
-use Rattle.plan_runs.proofs.Names.{IsHeardInSome, FrameIsRight, FramesAreRight, IsHeardEachPeriod, MeetsGuarantees}
+use Rattle.plan_runs.proofs.Words.{[], ◌<◌, ◌∷◌, ◌≡◌, AlwaysRuns, Contact, EnsembleInformation, EnsembleOf, Event, Fig}
+use Rattle.plan_runs.proofs.Words.{Frame, FrameIsRight, FramesAreRight, IsHeardEachPeriod, IsHeardInSome, IsInFig}
+use Rattle.plan_runs.proofs.Words.{IsOneBurst, List, MeetsGuarantees, Open, Other, RunsWell, State, after_burst, arith}
+use Rattle.plan_runs.proofs.Words.{false, marked, plan, ready, refl, sub_at_rate, sub_entry, true}
 use Rattle.plan_runs.proofs.Bursts.{bursts_are_one}
 use Rattle.plan_runs.proofs.TypedRuns.{typed_code_runs}
 use Rattle.plan_runs.proofs.Announcing.{swaps_are_announced}
@@ -11,7 +11,6 @@ use Rattle.plan_runs.proofs.Periods.{periods_are_whole}
 use Rattle.plan_runs.proofs.Headline.{frames_are_right, headline_holds}
 use Rattle.plan_runs.proofs.VectorsOfRuns.{waits, joins, first, second, played, frame_traps, one_instruction}
 use Rattle.plan_runs.proofs.Right.{page_laws}
-use Rattle.plan_verifier.proofs.Samples.{plan, sub_at_rate}
 
 -- a frame, a contact that closes, and a frame
 abbrev events : List Event

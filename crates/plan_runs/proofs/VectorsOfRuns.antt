@@ -1,14 +1,12 @@
 -- Runs of a code that waits for a frame and ends: for each definition, an example that holds and one that fails.
-use Rattle.std.proofs.Common.{◌≡◌, ℕ, zero, suc, ◌<◌, ◌≤◌, Bool, true, false, cond, List, [], ◌∷◌, length, Some, None}
-use Rattle.std.proofs.Common.{◌==◌, refl, sym, ap, subst, arith}
-use Rattle.plan_runs.proofs.Names.{Marked, page_set, Contacts, Instr, Line, Wait, Join, End, Program, IsProgram, State}
-use Rattle.plan_runs.proofs.Names.{IsAllowed, Contact, Frame, Start, ready, Executes, after_burst, after_frame}
-use Rattle.plan_runs.proofs.Names.{StartIsInRange, IsEvent, IsStart, EventIsAllowed, IsReached, Setting, IsSetting}
-use Rattle.plan_runs.proofs.Names.{AgreeOnContacts, AreAllAlike, last_of, SentBy, IsPlayed, CanBeSent, IsJoined}
+use Rattle.plan_runs.proofs.Words.{[], ◌<◌, ◌==◌, ◌∷◌, ◌≡◌, ◌≤◌, AgreeOnContacts, AreAllAlike, Bool, CanBeSent, Contact}
+use Rattle.plan_runs.proofs.Words.{Contacts, End, EventIsAllowed, Executes, Frame, Instr, IsAllowed, IsEvent, IsJoined}
+use Rattle.plan_runs.proofs.Words.{IsPlayed, IsProgram, IsReached, IsSetting, IsStart, Join, Line, List, Marked, None}
+use Rattle.plan_runs.proofs.Words.{Program, SentBy, Setting, Some, Start, StartIsInRange, State, Wait, after_burst}
+use Rattle.plan_runs.proofs.Words.{after_frame, ap, arith, code_from, codes_have_one_verdict, cond, false}
+use Rattle.plan_runs.proofs.Words.{first_from_is, label, last_of, length, line, line_is, one_sub, one_sub_is, page_set}
+use Rattle.plan_runs.proofs.Words.{plan, ready, refl, refused_if, subst, suc, sym, true, typed_if, with_sub, zero, ℕ}
 use Rattle.plan_verifier.specs.declared.cause.Cause.TheVariants.{JoinIdle}
-use Rattle.plan_verifier.proofs.Samples.{plan, with_sub, one_sub, one_sub_is, label, line, line_is, code_from}
-use Rattle.plan_verifier.proofs.Samples.{first_from_is}
-use Rattle.plan_verifier.proofs.OneVerdict.{typed_if, refused_if, codes_have_one_verdict}
 use Rattle.plan_runs.proofs.Samples.{all_open, start_at, in_range, first_state, it_starts}
 use Rattle.plan_runs.proofs.Joined.{runs_join}
 use Rattle.plan_runs.proofs.Reached.{starts_are_reached, reached_is_kept}

@@ -1,16 +1,14 @@
 -- A suspended code resumes in the first frame with which its wait ends.
-use Rattle.std.proofs.Common.{◌≡◌, ℕ, zero, suc, ◌+◌, ◌-◌, ◌≤◌, Bool, true, false, cond, List, [], ◌∷◌, refl, sym, ap}
-use Rattle.std.proofs.Common.{subst, ◌∙◌, arith, inl, inr}
-use Rattle.plan_runs.proofs.Names.{nat_le, ◌==◌, IfSome, Option, Some, None, eqb-true, eqb-false, eq-eqb, le-leb}
-use Rattle.plan_runs.proofs.Names.{or_cases, or_left, or_right, is_same_flag, Hold, Running, Waits, WaitsDay}
-use Rattle.plan_runs.proofs.Names.{WaitsContact, WaitsAny, WaitsSwap, Ended, Instr, Wait, Until, WaitContact, WaitAny}
-use Rattle.plan_runs.proofs.Names.{Join, End, Contacts, is_closed, Program, IsInstr, State, step, effect, Event}
-use Rattle.plan_runs.proofs.Names.{Contact, Frame, is_due, with_swap, with_due_swap, hold_after_swap, is_running}
-use Rattle.plan_runs.proofs.Names.{is_day, is_any_here, is_here, ready, Executes, burst, burst_steps, after_burst}
-use Rattle.plan_runs.proofs.Names.{is_first_noticed, shown, left_after_frame, hold_after_frame, after_frame, happens}
-use Rattle.plan_runs.proofs.Names.{is_active, CarriesOut, IsFirstWhere, IsPlayed, HasCome, WaitsAreKept}
-use Rattle.plan_runs.proofs.Names.{InstructionsSuspend}
-use Rattle.plan_code.specs.Flags.{any_closed, any_open}
+use Rattle.plan_runs.proofs.Words.{[], ◌+◌, ◌-◌, ◌==◌, ◌∙◌, ◌∷◌, ◌≡◌, ◌≤◌, Bool, CarriesOut, Contact, Contacts, End}
+use Rattle.plan_runs.proofs.Words.{Ended, Event, Executes, Frame, HasCome, Hold, IfSome, Instr, InstructionsSuspend}
+use Rattle.plan_runs.proofs.Words.{IsFirstWhere, IsInstr, IsPlayed, Join, List, None, Option, Program, Running, Some}
+use Rattle.plan_runs.proofs.Words.{State, Until, Wait, WaitAny, WaitContact, Waits, WaitsAny, WaitsAreKept}
+use Rattle.plan_runs.proofs.Words.{WaitsContact, WaitsDay, WaitsSwap, after_burst, after_frame, any_closed, any_open}
+use Rattle.plan_runs.proofs.Words.{ap, arith, burst, burst_steps, cond, effect, eq-eqb, eqb-false, eqb-true, false}
+use Rattle.plan_runs.proofs.Words.{happens, hold_after_frame, hold_after_swap, inl, inr, is_active, is_any_here}
+use Rattle.plan_runs.proofs.Words.{is_closed, is_day, is_due, is_first_noticed, is_here, is_running, is_same_flag}
+use Rattle.plan_runs.proofs.Words.{le-leb, left_after_frame, nat_le, or_cases, or_left, or_right, ready, refl, shown}
+use Rattle.plan_runs.proofs.Words.{step, subst, suc, sym, true, with_due_swap, with_swap, zero, ℕ}
 use Rattle.plan_code.proofs.Meeting.{closed_is, is_closed_one, open_is, is_open_one}
 use Rattle.plan_runs.proofs.Between.{line_formed, step_is, frame_goes, not_due, still_stops}
 use Rattle.plan_runs.proofs.Steps.{IsSuspended}

@@ -1,17 +1,15 @@
 -- The tests in the code have the results of the tests of the walk.
-
-use Rattle.std.proofs.Common.{◌≡◌, ℕ, ◌↔◌, Bool, true, false, IsTrue, refl, sym, ap, ◌∙◌, ◌&&◌, length, Option, Some}
-use Rattle.std.proofs.Common.{None, IfSome}
-use Rattle.plan_verifier.proofs.Names.{false_from_ne_true, Label, Program, IsProgram, IsLabel, label_at, Swap}
-use Rattle.plan_verifier.proofs.Names.{IndexedFlow, FitsFlow, flow_of, known_at, flow_at, IsWithin, flow_of_label}
-use Rattle.plan_verifier.proofs.Names.{Known, includes, is_fit, declared_by, FitsSwap, fits_swap, is_same, satisfies}
-use Rattle.plan_verifier.proofs.Names.{Configuration}
-use Rattle.plan_verifier.proofs.Finding.{swap_alone}
+use Rattle.plan_verifier.proofs.Words.{◌&&◌, ◌↔◌, ◌∙◌, ◌≡◌, Bool, Configuration, FitsFlow, FitsSwap, IfSome}
+use Rattle.plan_verifier.proofs.Words.{IndexedFlow, IsLabel, IsProgram, IsTrue, IsWithin, Known, Label, None, Option}
+use Rattle.plan_verifier.proofs.Words.{Program, Some, Swap, ap, declared_by, false, false_from_ne_true, fits_swap}
+use Rattle.plan_verifier.proofs.Words.{flow_at, flow_of, flow_of_label, includes, is_fit, is_same, known_at, label_at}
+use Rattle.plan_verifier.proofs.Words.{length, refl, satisfies, sym, true, ℕ}
 use Rattle.plan_verifier.specs.Walking.{fits_swap}
-use Rattle.plan_verifier.proofs.DecidingFlows.{Decides, decides_fits_swap, decides_fits, decides_same}
-use Rattle.plan_verifier.proofs.Tabled.{tabled, label_of}
 use Rattle.plan_verifier.specs.declared.fitting.Condition.{Condition}
 use Rattle.plan_verifier.specs.Rules.{Known}
+use Rattle.plan_verifier.proofs.Finding.{swap_alone}
+use Rattle.plan_verifier.proofs.DecidingFlows.{Decides, decides_fits_swap, decides_fits, decides_same}
+use Rattle.plan_verifier.proofs.Tabled.{tabled, label_of}
 
 pub same_answer : (r b : Bool) (P : Type 0) → (IsTrue r ↔ P) → Decides b P → r ≡ b
 same_answer true b P h d = sym (d.found (h.0 refl))

@@ -1,12 +1,11 @@
 -- The causes that the walk finds at an instruction are those of the definition of refusals.
-use Rattle.std.proofs.Common.{◌≡◌, ℕ, ◌+◌, ◌<◌, ◌≤◌, true, not, length, Option, Some, None, refl, sym, ap, subst, ◌∙◌}
-use Rattle.std.proofs.Common.{arith}
-use Rattle.plan_verifier.proofs.Names.{not-false, IsConfiguration, Label, Instr, Wait, Until, WaitContact, WaitAny}
-use Rattle.plan_verifier.proofs.Names.{CommitIn, CommitAt, Join, Settle, End, Edits, Test, TestTime, Jump, Set, Loop}
-use Rattle.plan_verifier.proofs.Names.{Program, label_at, Cause, Target, HasItsCounter, Known, IsFine, continues}
-use Rattle.plan_verifier.proofs.Names.{target_of, spent, Declares, Fits, CanEnter, Reaches, FitsLabel, EntryRefused}
-use Rattle.plan_verifier.proofs.Names.{JumpRefused, InstrRefused, KnownRefused, ◌first_or◌, is_fit, declared_by}
-use Rattle.plan_verifier.proofs.Names.{entry_cause, jump_cause, flow_cause, target_cause, instr_cause, known_cause}
+use Rattle.plan_verifier.proofs.Words.{◌+◌, ◌<◌, ◌first_or◌, ◌∙◌, ◌≡◌, ◌≤◌, CanEnter, Cause, Declares, EntryRefused}
+use Rattle.plan_verifier.proofs.Words.{Fits, FitsLabel, HasItsCounter, Instr, InstrRefused, IsConfiguration, IsFine}
+use Rattle.plan_verifier.proofs.Words.{Jump, JumpRefused, Known, KnownRefused, Label, Loop, None, Option, Program}
+use Rattle.plan_verifier.proofs.Words.{Reaches, Some, Target, Test, TestTime, ap, arith, continues, declared_by}
+use Rattle.plan_verifier.proofs.Words.{entry_cause, flow_cause, instr_cause, is_fit, jump_cause, known_cause, label_at}
+use Rattle.plan_verifier.proofs.Words.{length, not, not-false, refl, spent, subst, sym, target_cause, target_of, true}
+use Rattle.plan_verifier.proofs.Words.{ℕ}
 use Rattle.plan_verifier.proofs.Finding.{decides_is_true, decides_is_false, flow_computes, flow_fine, fine_none}
 use Rattle.plan_verifier.proofs.Finding.{none_two, two_none, none_if, if_none, refuted, none_where, needed, none_unless}
 use Rattle.plan_verifier.proofs.DecidingFlows.{Decides, Computes, decides_not, decides_both, decides_lt, decides_eq}

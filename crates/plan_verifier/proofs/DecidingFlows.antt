@@ -1,13 +1,13 @@
 -- What the tests of a flow decide, and that the causes they find are the first in the order of refusals.
-use Rattle.std.proofs.Common.{◌≡◌, ◌↔◌, IsTrue, ℕ, ◌<◌, ◌≤◌, ◌==◌, ◌⊎◌, Bool, true, false, not, ◌&&◌, ◌||◌, nat_lt}
-use Rattle.std.proofs.Common.{nat_le, Option, Some, None, refl, sym, ap, ◌∙◌, inl, inr, arith}
-use Rattle.plan_verifier.proofs.Names.{false≢true, false_from_ne_true, both_ways, not-true, and_parts, and_from}
-use Rattle.plan_verifier.proofs.Names.{or_cases, or_left, or_right, none-some, Configuration, Plan, Swap, Idle, Within}
-use Rattle.plan_verifier.proofs.Names.{Perhaps, Counters, Cause, HasRoom, IsCertain, IsSurelyPending}
-use Rattle.plan_verifier.proofs.Names.{HasConfigurationsOf, FitsSwap, Where, WhereSome, ◌orelse◌, cause_if, cause_of}
-use Rattle.plan_verifier.proofs.Names.{is_same, is_idle, is_surely_pending, is_certain, has_room_for_notice}
-use Rattle.plan_verifier.proofs.Names.{is_swap_count, has_configurations_of, fits_swap, Known, Fits, IsInitial}
-use Rattle.plan_verifier.proofs.Names.{includes, is_fit, is_initial}
+use Rattle.plan_verifier.proofs.Words.{◌&&◌, ◌<◌, ◌==◌, ◌orelse◌, ◌||◌, ◌↔◌, ◌∙◌, ◌≡◌, ◌≤◌, ◌⊎◌, Bool, Cause}
+use Rattle.plan_verifier.proofs.Words.{Configuration, Counters, Fits, FitsSwap, HasConfigurationsOf, HasRoom, Idle}
+use Rattle.plan_verifier.proofs.Words.{IsCertain, IsInitial, IsSurelyPending, IsTrue, Known, None, Option, Perhaps}
+use Rattle.plan_verifier.proofs.Words.{Plan, Some, Swap, Where, WhereSome, Within, and_from, and_parts, ap, arith}
+use Rattle.plan_verifier.proofs.Words.{both_ways, cause_if, cause_of, false, false_from_ne_true, false≢true, fits_swap}
+use Rattle.plan_verifier.proofs.Words.{has_configurations_of, has_room_for_notice, includes, inl, inr, is_certain}
+use Rattle.plan_verifier.proofs.Words.{is_fit, is_idle, is_initial, is_same, is_surely_pending, is_swap_count, nat_le}
+use Rattle.plan_verifier.proofs.Words.{nat_lt, none-some, not, not-true, or_cases, or_left, or_right, refl, sym, true}
+use Rattle.plan_verifier.proofs.Words.{ℕ}
 use Rattle.mux_config.specs.Change.{has_same_subs, has_same_services}
 use Rattle.mux_config.proofs.Same.{list_same, list_equal, sub_same, sub_itself, service_same, service_itself}
 use Rattle.mux_config.proofs.Same.{packet_same, packet_itself}

@@ -1,13 +1,11 @@
 -- What is known where the walk enters an instruction: what holds after the preceding one, or what the label declares.
-use Rattle.std.proofs.Common.{◌≡◌, ℕ, zero, suc, ◌<◌, ◌≤◌, not, nat_lt, List, Option, Some, None, Ok, refl, sym, ap}
-use Rattle.std.proofs.Common.{subst, ◌∙◌, arith}
-use Rattle.plan_verifier.proofs.Names.{first_fault, IsConfiguration, Label, Instr, Program, label_at, Cause, Table}
-use Rattle.plan_verifier.proofs.Names.{Mismatch, OfConfig, Round, Known, IsOpening, CanEnter, Declares, pages_alone}
-use Rattle.plan_verifier.proofs.Names.{TakenRefused, LabelRefused, PcRefused, OpenedRefused, OpeningRefused}
-use Rattle.plan_verifier.proofs.Names.{InstructionRefused, left_before, whole_cause, ◌first_or◌, taken, label_cause}
-use Rattle.plan_verifier.proofs.Names.{opening_cause, opening_known, known_at_pc, entered, declared_by, known_cause}
-use Rattle.plan_verifier.proofs.Names.{entry_cause, is_initial}
-use Rattle.mux_config.proofs.Sounding.{sound_told, sound_found}
+use Rattle.plan_verifier.proofs.Words.{◌<◌, ◌first_or◌, ◌∙◌, ◌≡◌, ◌≤◌, CanEnter, Cause, Declares, Instr}
+use Rattle.plan_verifier.proofs.Words.{InstructionRefused, IsConfiguration, IsOpening, Known, Label, LabelRefused, List}
+use Rattle.plan_verifier.proofs.Words.{Mismatch, None, OfConfig, Ok, OpenedRefused, OpeningRefused, Option, PcRefused}
+use Rattle.plan_verifier.proofs.Words.{Program, Round, Some, Table, TakenRefused, ap, arith, declared_by, entered}
+use Rattle.plan_verifier.proofs.Words.{entry_cause, first_fault, is_initial, known_at_pc, known_cause, label_at}
+use Rattle.plan_verifier.proofs.Words.{label_cause, left_before, nat_lt, not, opening_cause, opening_known, pages_alone}
+use Rattle.plan_verifier.proofs.Words.{refl, sound_found, sound_told, subst, suc, sym, taken, whole_cause, zero, ℕ}
 use Rattle.plan_verifier.specs.Walking.{cause_if, cause_of}
 use Rattle.plan_verifier.proofs.DecidingFlows.{Computes, decides_not, decides_lt, computes_always, computes_where}
 use Rattle.plan_verifier.proofs.DecidingFlows.{computes_some, computes_orelse, decides_initial}

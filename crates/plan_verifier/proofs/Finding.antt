@@ -1,11 +1,10 @@
 -- The cause found at an instruction is the first of the definition, and none is found where the instruction is fine.
-use Rattle.std.proofs.Common.{◌≡◌, ◌↔◌, ℕ, ◌<◌, ◌≤◌, Bool, true, false, not, Option, Some, None, Result, Ok, Err, IfErr}
-use Rattle.std.proofs.Common.{refl, sym, ap, subst, arith}
-use Rattle.plan_verifier.proofs.Names.{false_from_ne_true, both_ways, not-false, IsConfiguration, first_fault, Plan}
-use Rattle.plan_verifier.proofs.Names.{Counters, Swap, Idle, Within, Perhaps, Instr, Wait, CommitIn, CommitAt, Join}
-use Rattle.plan_verifier.proofs.Names.{Edits, Loop, Cause, CanCommit, CommitRefused, FlowRefused, Flow, HasItsCounter}
-use Rattle.plan_verifier.proofs.Names.{known_with, known_at, flow_of, cause_if, cause_of, commit_cause, fits_swap}
-use Rattle.mux_config.proofs.Sounding.{sound_told, sound_found}
+use Rattle.plan_verifier.proofs.Words.{◌<◌, ◌↔◌, ◌≡◌, ◌≤◌, Bool, CanCommit, Cause, CommitAt, CommitIn, CommitRefused}
+use Rattle.plan_verifier.proofs.Words.{Counters, Edits, Err, Flow, FlowRefused, HasItsCounter, Idle, IfErr, Instr}
+use Rattle.plan_verifier.proofs.Words.{IsConfiguration, Join, Loop, None, Ok, Option, Perhaps, Plan, Result, Some, Swap}
+use Rattle.plan_verifier.proofs.Words.{Wait, Within, ap, arith, both_ways, cause_if, cause_of, commit_cause, false}
+use Rattle.plan_verifier.proofs.Words.{false_from_ne_true, first_fault, fits_swap, flow_of, known_at, known_with, not}
+use Rattle.plan_verifier.proofs.Words.{not-false, refl, sound_found, sound_told, subst, sym, true, ℕ}
 use Rattle.plan_verifier.specs.Rules.{Known, IsFine}
 use Rattle.plan_verifier.specs.Tests.{◌first_or◌, unless, flow_cause}
 use Rattle.plan_verifier.proofs.DecidingFlows.{Decides, Computes, decides_not, decides_lt, decides_same, decides_idle}

@@ -1,9 +1,8 @@
 -- The flow after an instruction, and how counters and the allowance change.
-use Rattle.std.proofs.Common.{◌≡◌, ℕ, ◌-◌, Bool, true, false, if◌then◌else◌, nat_lt, refl}
-use Rattle.plan_verifier.proofs.Names.{Plan, Counters, Swap, Idle, Within, Perhaps, Instr, Wait, Until, WaitContact}
-use Rattle.plan_verifier.proofs.Names.{WaitAny, Settle, known_after_swap, after_wait, perhaps_swapped, after_pause}
-use Rattle.plan_verifier.proofs.Names.{after_settle, rested, Flow, known_with, known_at, flow_of, after_instr}
-use Rattle.plan_verifier.proofs.Names.{set_after, left_over}
+use Rattle.plan_verifier.proofs.Words.{◌-◌, ◌≡◌, Bool, Counters, Flow, Idle, Instr, Perhaps, Plan, Settle, Swap, Until}
+use Rattle.plan_verifier.proofs.Words.{Wait, WaitAny, WaitContact, Within, after_instr, after_pause, after_settle}
+use Rattle.plan_verifier.proofs.Words.{after_wait, false, flow_of, if◌then◌else◌, known_after_swap, known_at}
+use Rattle.plan_verifier.proofs.Words.{known_with, left_over, nat_lt, perhaps_swapped, refl, rested, set_after, true, ℕ}
 use Rattle.plan_verifier.specs.Rules.{spent, leaves}
 
 waited_known : (plan : Plan) (frames : ℕ) (p : Swap) (f : Flow) (c : Counters) (a : ℕ)

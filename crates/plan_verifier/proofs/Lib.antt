@@ -1,4 +1,4 @@
-pub mod Names
+mod Words
 pub mod DecidingFlows
 pub mod Finding
 pub mod Leaving

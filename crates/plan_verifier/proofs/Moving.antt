@@ -1,12 +1,12 @@
 -- The indices of the configurations in a table, after an instruction and where a flow fits another.
-use Rattle.std.proofs.Common.{◌≡◌, ℕ, ◌-◌, ◌<◌, Bool, true, false, if◌then◌else◌, nat_lt, List, length, Option, Some}
-use Rattle.std.proofs.Common.{slice_get, refl, sym, ap, subst, ◌∙◌}
-use Rattle.plan_verifier.proofs.Names.{slice_get-get_or, get_or_from_slice_get, Configuration, nothing, Plan, Swap}
-use Rattle.plan_verifier.proofs.Names.{Idle, Within, Perhaps, Instr, Wait, Until, WaitContact, WaitAny, Join, Settle}
-use Rattle.plan_verifier.proofs.Names.{Edits, IndexedFlow, Indices, FitsSwap, known_after_swap, after_wait, after_pause}
-use Rattle.plan_verifier.proofs.Names.{after_settle, Flow, FitsFlow, known_at, flow_of, after_instr, is_same}
-use Rattle.plan_verifier.proofs.Names.{configuration_at, flow_at, has_swapped, indices_of, swapped_indices}
-use Rattle.plan_verifier.proofs.Names.{moved_indices, indices_after, fit_indices, AreAt, IsAt, IsWithin}
+use Rattle.plan_verifier.proofs.Words.{◌-◌, ◌<◌, ◌∙◌, ◌≡◌, AreAt, Bool, Configuration, Edits, FitsFlow, FitsSwap, Flow}
+use Rattle.plan_verifier.proofs.Words.{Idle, IndexedFlow, Indices, Instr, IsAt, IsWithin, Join, List, Option, Perhaps}
+use Rattle.plan_verifier.proofs.Words.{Plan, Settle, Some, Swap, Until, Wait, WaitAny, WaitContact, Within, after_instr}
+use Rattle.plan_verifier.proofs.Words.{after_pause, after_settle, after_wait, ap, configuration_at, false, fit_indices}
+use Rattle.plan_verifier.proofs.Words.{flow_at, flow_of, get_or_from_slice_get, has_swapped, if◌then◌else◌}
+use Rattle.plan_verifier.proofs.Words.{indices_after, indices_of, is_same, known_after_swap, known_at, length}
+use Rattle.plan_verifier.proofs.Words.{moved_indices, nat_lt, nothing, refl, slice_get, slice_get-get_or, subst}
+use Rattle.plan_verifier.proofs.Words.{swapped_indices, sym, true, ℕ}
 use Rattle.plan_verifier.specs.Rules.{Known}
 use Rattle.plan_verifier.proofs.DecidingFlows.{decides_same}
 

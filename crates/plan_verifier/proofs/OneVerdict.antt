@@ -1,14 +1,14 @@
 -- A typing is what the walk finds; so a code is typed, or refused at one instruction with one cause, never both.
-use Rattle.std.proofs.Common.{◌≡◌, ℕ, zero, suc, ◌+◌, ◌<◌, ◌≤◌, ◌⊎◌, Bool, true, false, nat_lt, nat_le, if◌then◌else◌}
-use Rattle.std.proofs.Common.{List, [], ◌∷◌, length, drop, find, slice_get, Contains, Option, Some, None, option_map}
-use Rattle.std.proofs.Common.{Ok, refl, sym, ap, subst, ◌∙◌, inl, inr, arith}
-use Rattle.plan_verifier.proofs.Names.{slice_get_within, IsConfiguration, AddSub, AddService, AddComponent, AddPacket}
-use Rattle.plan_verifier.proofs.Names.{Plan, Label, Swap, Idle, Within, Perhaps, Line, Instr, Wait, Until, WaitContact}
-use Rattle.plan_verifier.proofs.Names.{WaitAny, Join, Settle, Edits, Program, IsProgram, IsInstr, IsEdit, instr_at}
-use Rattle.plan_verifier.proofs.Names.{label_at, Cause, Table, Refusal, Known, IsFine, leaves, continues, Arrives}
-use Rattle.plan_verifier.proofs.Names.{Declares, IsOpening, IsTyping, IsTyped, IsTypingBelow, IsFirstPast, IsRefusedAt}
-use Rattle.plan_verifier.proofs.Names.{IsRefused, CodesHaveOneVerdict, left_before, whole_cause, entered, known_cause}
-use Rattle.plan_verifier.proofs.Names.{passed_on, refused_at, past_label, walk, refusal_of}
+use Rattle.plan_verifier.proofs.Words.{[], ◌+◌, ◌<◌, ◌∙◌, ◌∷◌, ◌≡◌, ◌≤◌, ◌⊎◌, AddComponent, AddPacket, AddService}
+use Rattle.plan_verifier.proofs.Words.{AddSub, Arrives, Bool, Cause, CodesHaveOneVerdict, Contains, Declares, Edits}
+use Rattle.plan_verifier.proofs.Words.{Idle, Instr, IsConfiguration, IsEdit, IsFine, IsFirstPast, IsInstr, IsOpening}
+use Rattle.plan_verifier.proofs.Words.{IsProgram, IsRefused, IsRefusedAt, IsTyped, IsTyping, IsTypingBelow, Join, Known}
+use Rattle.plan_verifier.proofs.Words.{Label, Line, List, None, Ok, Option, Perhaps, Plan, Program, Refusal, Settle}
+use Rattle.plan_verifier.proofs.Words.{Some, Swap, Table, Until, Wait, WaitAny, WaitContact, Within, ap, arith}
+use Rattle.plan_verifier.proofs.Words.{continues, drop, entered, false, find, if◌then◌else◌, inl, inr, instr_at}
+use Rattle.plan_verifier.proofs.Words.{known_cause, label_at, leaves, left_before, length, nat_le, nat_lt, option_map}
+use Rattle.plan_verifier.proofs.Words.{passed_on, past_label, refl, refusal_of, refused_at, slice_get, slice_get_within}
+use Rattle.plan_verifier.proofs.Words.{subst, suc, sym, true, walk, whole_cause, zero, ℕ}
 use Rattle.mux_config.specs.Edits.{IsInRange}
 use Rattle.mux_config.specs.declared.edit.Edit.{Edit}
 use Rattle.mux_config.proofs.Keeping.{edits_keep}

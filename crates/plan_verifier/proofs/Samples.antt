@@ -1,9 +1,8 @@
 -- What vectors speak of: a plan, a sub-channel, labels, instructions and small codes, and that all of them are within
 -- their limits.
-use Rattle.std.proofs.Common.{ℕ, zero, suc, ◌+◌, ◌*◌, ◌<◌, ◌≤◌, List, [], ◌∷◌, length, arith}
-use Rattle.plan_verifier.proofs.Names.{Configuration, IsPlaced, IsConfiguration, IsAscending, nothing, Counters, Instr}
-use Rattle.plan_verifier.proofs.Names.{Line, Label, Idle, Plan, Program, IsProgram, IsPlan, IsLabel, IsLine, IsInstr}
-use Rattle.plan_verifier.proofs.Names.{label_key}
+use Rattle.plan_verifier.proofs.Words.{[], ◌*◌, ◌+◌, ◌<◌, ◌∷◌, ◌≤◌, Configuration, Counters, Idle, Instr, IsAscending}
+use Rattle.plan_verifier.proofs.Words.{IsConfiguration, IsInstr, IsLabel, IsLine, IsPlaced, IsPlan, IsProgram, Label}
+use Rattle.plan_verifier.proofs.Words.{Line, List, Plan, Program, arith, label_key, length, nothing, suc, zero, ℕ}
 use Rattle.std.specs.List.{AllByRecursion}
 use Rattle.mux_eep.specs.declared.sizes.EepSet.TheVariants.{A}
 use Rattle.mux_types.specs.declared.parts.Sub.{Sub}

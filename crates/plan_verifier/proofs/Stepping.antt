@@ -1,10 +1,10 @@
 -- One step of the walk, as the code makes it.
-use Rattle.std.proofs.Common.{◌≡◌, ℕ, zero, suc, ◌+◌, ◌<◌, List, length, drop, Option, Some, None, option_map, Result}
-use Rattle.std.proofs.Common.{Ok, Err, IfErr, OnOk, refl, sym, ap, subst, ◌∙◌, arith}
-use Rattle.plan_verifier.proofs.Names.{Label, Line, Instr, Program, instr_at, label_at, Cause, Known, leaves, continues}
-use Rattle.plan_verifier.proofs.Names.{whole_cause, unless, taken, opening_cause, opening_known, known_at_pc, entered}
-use Rattle.plan_verifier.proofs.Names.{declared_by, known_cause, passed_on, known_if_reached, instr_or_end, refused_at}
-use Rattle.plan_verifier.proofs.Names.{PassesInstr, walk, refusal_of}
+use Rattle.plan_verifier.proofs.Words.{◌+◌, ◌<◌, ◌∙◌, ◌≡◌, Cause, Err, IfErr, Instr, Known, Label, Line, List, None, Ok}
+use Rattle.plan_verifier.proofs.Words.{OnOk, Option, PassesInstr, Program, Result, Some, ap, arith, continues}
+use Rattle.plan_verifier.proofs.Words.{declared_by, drop, entered, instr_at, instr_or_end, known_at_pc, known_cause}
+use Rattle.plan_verifier.proofs.Words.{known_if_reached, label_at, leaves, length, opening_cause, opening_known}
+use Rattle.plan_verifier.proofs.Words.{option_map, passed_on, refl, refusal_of, refused_at, subst, suc, sym, taken}
+use Rattle.plan_verifier.proofs.Words.{unless, walk, whole_cause, zero, ℕ}
 use Rattle.plan_verifier.proofs.Finding.{unless_err, unless_ok}
 use Rattle.plan_verifier.proofs.Verdicts.{slice_there, stops, passes, dropped}
 

@@ -1,11 +1,11 @@
 -- Lookup in the tables of a code: the label at an instruction, and what it declares.
-use Rattle.std.proofs.Common.{◌≡◌, ℕ, ◌+◌, ◌<◌, Bool, true, false, eqb, List, [], ◌∷◌, length, Contains, find}
-use Rattle.std.proofs.Common.{slice_get, Option, Some, None, option_map, refl, sym, ap, subst, ◌∙◌, arith}
-use Rattle.plan_verifier.proofs.Names.{eqb-true, slice_get_within, get_or_from_slice_get, slice_get-get_or}
-use Rattle.plan_verifier.proofs.Names.{Configuration, IsConfiguration, nothing, Label, Instr, Line, Program, IsProgram}
-use Rattle.plan_verifier.proofs.Names.{IsLabel, IsInstr, IsLine, label_key, label_at, instr_at, Known, Declares}
-use Rattle.plan_verifier.proofs.Names.{IsTyping, Arrives, continues, leaves, configuration_at, declared_by}
-use Rattle.mux_types.proofs.Elements.{contains_first, contains_later, each_contains}
+use Rattle.plan_verifier.proofs.Words.{[], ◌+◌, ◌<◌, ◌∙◌, ◌∷◌, ◌≡◌, Arrives, Bool, Configuration, Contains, Declares}
+use Rattle.plan_verifier.proofs.Words.{Instr, IsConfiguration, IsInstr, IsLabel, IsLine, IsProgram, IsTyping, Known}
+use Rattle.plan_verifier.proofs.Words.{Label, Line, List, None, Option, Program, Some, ap, arith, configuration_at}
+use Rattle.plan_verifier.proofs.Words.{contains_first, contains_later, continues, declared_by, each_contains, eqb}
+use Rattle.plan_verifier.proofs.Words.{eqb-true, false, find, get_or_from_slice_get, instr_at, label_at, label_key}
+use Rattle.plan_verifier.proofs.Words.{leaves, length, nothing, option_map, refl, slice_get, slice_get-get_or}
+use Rattle.plan_verifier.proofs.Words.{slice_get_within, subst, sym, true, ℕ}
 use Rattle.plan_code.proofs.Ascending.{find_at}
 
 -- ---- lists

@@ -1,7 +1,6 @@
 -- Small codes: which are typed, and why and where others are refused.
-use Rattle.std.proofs.Common.{ℕ, [], ◌∷◌, refl, arith}
-use Rattle.plan_verifier.proofs.Names.{Instr, Join, End, Program, IsProgram, IsInstr, Cause, JoinIdle, IsTyped}
-use Rattle.plan_verifier.proofs.Names.{IsRefused}
+use Rattle.plan_verifier.proofs.Words.{[], ◌∷◌, Cause, End, Instr, IsInstr, IsProgram, IsRefused, IsTyped, Join}
+use Rattle.plan_verifier.proofs.Words.{JoinIdle, Program, arith, refl, ℕ}
 use Rattle.plan_verifier.proofs.Samples.{label, line, line_is, code, first_is}
 use Rattle.plan_verifier.proofs.OneVerdict.{typed_if, refused_if, codes_have_one_verdict}
 

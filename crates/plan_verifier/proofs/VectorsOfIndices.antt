@@ -1,10 +1,10 @@
 -- Flows whose configurations are in a table, and the indices of configurations after an instruction: examples that
 -- hold, and examples that fail.
-use Rattle.std.proofs.Common.{◌≡◌, ℕ, true, false, List, [], ◌∷◌, length, Option, Some, None, refl, sym, ap, arith}
-use Rattle.plan_verifier.proofs.Names.{false≢true, Configuration, nothing, DropSub, Edits, Wait, Swap, Idle, Within}
-use Rattle.plan_verifier.proofs.Names.{Perhaps, NextTwice, IndexedFlow, Indices, Flow, known_at, satisfies}
-use Rattle.plan_verifier.proofs.Names.{configuration_at, flow_at, has_swapped, indices_of, swapped_indices}
-use Rattle.plan_verifier.proofs.Names.{moved_indices, indices_after, fit_indices, AreAt, IsAt, IsTracked, IsWithin}
+use Rattle.plan_verifier.proofs.Words.{[], ◌∷◌, ◌≡◌, AreAt, Configuration, DropSub, Edits, Flow, Idle, IndexedFlow}
+use Rattle.plan_verifier.proofs.Words.{Indices, IsAt, IsTracked, IsWithin, List, NextTwice, None, Option, Perhaps, Some}
+use Rattle.plan_verifier.proofs.Words.{Swap, Wait, Within, ap, arith, configuration_at, false, false≢true, fit_indices}
+use Rattle.plan_verifier.proofs.Words.{flow_at, has_swapped, indices_after, indices_of, known_at, length, moved_indices}
+use Rattle.plan_verifier.proofs.Words.{nothing, refl, satisfies, swapped_indices, sym, true, ℕ}
 use Rattle.plan_verifier.specs.declared.tracked.TrackedFlow.{TrackedFlow}
 
 -- a configuration of one packet component

@@ -1,16 +1,15 @@
 -- Why small codes are refused: for each definition of refusals, examples that hold and examples that fail.
-use Rattle.std.proofs.Common.{◌≡◌, ◌≢◌, ℕ, zero, suc, ◌<◌, ◌≤◌, [], ◌∷◌, Contains, Some, None, inl, inr, refl, sym, ap}
-use Rattle.std.proofs.Common.{subst, arith}
-use Rattle.plan_verifier.proofs.Names.{false≢true, AddSub, DropSub, Label, Idle, Within, Instr, Join, End, Edits, Jump}
-use Rattle.plan_verifier.proofs.Names.{Program, IsProgram, IsInstr, label_at, label_key, Cause, Target, Table, OfEdit}
-use Rattle.plan_verifier.proofs.Names.{Pending, Notice, JoinIdle, Mismatch, Cost, FallsOff, Known, Declares, HasOpening}
-use Rattle.plan_verifier.proofs.Names.{FitsLabel, EntryRefused, JumpRefused, InstrRefused, KnownRefused, TakenRefused}
-use Rattle.plan_verifier.proofs.Names.{LabelRefused, PcRefused, OpenedRefused, OpeningRefused, IsSafeBelow}
-use Rattle.plan_verifier.proofs.Names.{IsTypingBelow, InstructionRefused, IsFirstPast, IsRefusedAt, IsRefused}
-use Rattle.plan_verifier.proofs.Names.{HasOneVerdict}
+use Rattle.plan_verifier.proofs.Words.{[], ◌<◌, ◌∷◌, ◌≡◌, ◌≢◌, ◌≤◌, AddSub, Cause, Contains, Cost, Declares, DropSub}
+use Rattle.plan_verifier.proofs.Words.{Edits, End, EntryRefused, FallsOff, FitsLabel, HasOneVerdict, HasOpening, Idle}
+use Rattle.plan_verifier.proofs.Words.{Instr, InstrRefused, InstructionRefused, IsFirstPast, IsInstr, IsProgram}
+use Rattle.plan_verifier.proofs.Words.{IsRefused, IsRefusedAt, IsSafeBelow, IsTypingBelow, Join, JoinIdle, Jump}
+use Rattle.plan_verifier.proofs.Words.{JumpRefused, Known, KnownRefused, Label, LabelRefused, Mismatch, None, Notice}
+use Rattle.plan_verifier.proofs.Words.{OfEdit, OpenedRefused, OpeningRefused, PcRefused, Pending, Program, Some, Table}
+use Rattle.plan_verifier.proofs.Words.{TakenRefused, Target, Within, ap, arith, false≢true, inl, inr, label_at}
+use Rattle.plan_verifier.proofs.Words.{label_key, refl, subst, suc, sym, zero, ℕ}
 use Rattle.mux_config.specs.declared.fault.EditFault.TheVariants.{IdAbsent}
-use Rattle.plan_verifier.proofs.Samples.{plan, sub, counters, label, line, code, line_is, first_is}
 use Rattle.plan_verifier.specs.Refusals.{Where, WhereSome, CommitRefused}
+use Rattle.plan_verifier.proofs.Samples.{plan, sub, counters, label, line, code, line_is, first_is}
 use Rattle.plan_verifier.proofs.Tabled.{IsTabled, tabled, declared_once}
 use Rattle.plan_verifier.proofs.Causes.{decides_label, entry_computes, known_computes}
 use Rattle.plan_verifier.proofs.Entries.{whole_computes}

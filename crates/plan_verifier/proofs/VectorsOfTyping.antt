@@ -1,12 +1,11 @@
 -- Typed codes on a small code: for each definition, an example that holds and one that fails.
-use Rattle.std.proofs.Common.{◌≡◌, ◌≢◌, ℕ, ◌+◌, ◌≤◌, List, [], ◌∷◌, Option, Some, None, inl, inr, refl, ap, arith}
-use Rattle.plan_verifier.proofs.Names.{false≢true, Configuration, nothing, IsSound, AddSub, Plan, Swap, Idle, Within}
-use Rattle.plan_verifier.proofs.Names.{CommitIn, Join, End, Edits, Program, IsProgram, IsLine, Known, IsFine, Declares}
-use Rattle.plan_verifier.proofs.Names.{Fits, CanEnter, IsInitial, IsOpening, HasOpening, IsLabelTyped, Reaches, IsAfter}
-use Rattle.plan_verifier.proofs.Names.{IsSafe, IsTyping, IsTyped}
-use Rattle.mux_config.proofs.Sounding.{sound_told}
-use Rattle.plan_verifier.proofs.Samples.{plan, sub, one_sub, many_subs, counters, label, line, line_is, code, first_is}
+use Rattle.plan_verifier.proofs.Words.{[], ◌+◌, ◌∷◌, ◌≡◌, ◌≢◌, ◌≤◌, AddSub, CanEnter, CommitIn, Configuration, Declares}
+use Rattle.plan_verifier.proofs.Words.{Edits, End, Fits, HasOpening, Idle, IsAfter, IsFine, IsInitial, IsLabelTyped}
+use Rattle.plan_verifier.proofs.Words.{IsLine, IsOpening, IsProgram, IsSafe, IsSound, IsTyped, IsTyping, Join, Known}
+use Rattle.plan_verifier.proofs.Words.{List, None, Option, Plan, Program, Reaches, Some, Swap, Within, ap, arith}
+use Rattle.plan_verifier.proofs.Words.{false≢true, inl, inr, nothing, refl, sound_told, ℕ}
 use Rattle.plan_verifier.specs.Typing.{HasRoom, CanCommit, IsCertain, HasConfigurationsOf, FitsSwap}
+use Rattle.plan_verifier.proofs.Samples.{plan, sub, one_sub, many_subs, counters, label, line, line_is, code, first_is}
 use Rattle.plan_verifier.proofs.DecidingFlows.{decides_room, decides_initial}
 use Rattle.plan_verifier.proofs.OneVerdict.{typed_if}
 

@@ -1,17 +1,17 @@
 -- The walk over a whole code: if it ends without a cause the code is typed, and otherwise the cause that it finds is
 -- the refusal; so each code is typed, or refused at one instruction with one cause.
-use Rattle.std.proofs.Common.{◌≡◌, ℕ, zero, suc, ◌+◌, ◌<◌, ◌≤◌, ◌⊎◌, Bool, true, false, nat_le, List, [], ◌∷◌, ◌++◌}
-use Rattle.std.proofs.Common.{length, drop, find, slice_get, Contains, Option, Some, None, option_map, Result, Ok, Err}
-use Rattle.std.proofs.Common.{refl, sym, ap, subst, ◌∙◌, inl, inr, arith}
-use Rattle.plan_verifier.proofs.Names.{cases_lt, false_from_ne_true, both_ways, slice_get_within, slice_get_past}
-use Rattle.plan_verifier.proofs.Names.{IsAscending, Plan, Label, Line, Instr, Program, IsProgram, label_key, instr_at}
-use Rattle.plan_verifier.proofs.Names.{label_at, Cause, Table, Refusal, Known, leaves, continues, Arrives, Declares}
-use Rattle.plan_verifier.proofs.Names.{HasOpening, IsLabelTyped, IsAfter, IsTyping, IsTyped, InstructionRefused}
-use Rattle.plan_verifier.proofs.Names.{IsSafeBelow, IsTypingBelow, IsFirstPast, IsRefusedAt, IsRefused, left_by}
-use Rattle.plan_verifier.proofs.Names.{left_before, whole_cause, entered, known_cause, passed_on, refused_at, on_entry}
-use Rattle.plan_verifier.proofs.Names.{or_after, past_label, walk}
+use Rattle.plan_verifier.proofs.Words.{[], ◌++◌, ◌+◌, ◌<◌, ◌∙◌, ◌∷◌, ◌≡◌, ◌≤◌, ◌⊎◌, Arrives, Bool, Cause, Contains}
+use Rattle.plan_verifier.proofs.Words.{Declares, Err, HasOpening, Instr, InstructionRefused, IsAfter, IsAscending}
+use Rattle.plan_verifier.proofs.Words.{IsFirstPast, IsLabelTyped, IsProgram, IsRefused, IsRefusedAt, IsSafeBelow}
+use Rattle.plan_verifier.proofs.Words.{IsTyped, IsTyping, IsTypingBelow, Known, Label, Line, List, None, Ok, Option}
+use Rattle.plan_verifier.proofs.Words.{Plan, Program, Refusal, Result, Some, Table, ap, arith, both_ways, cases_lt}
+use Rattle.plan_verifier.proofs.Words.{contains_cases, contains_first, contains_later, contains_none, continues, drop}
+use Rattle.plan_verifier.proofs.Words.{each_contains, entered, false, false_from_ne_true, find, inl, inr, instr_at}
+use Rattle.plan_verifier.proofs.Words.{known_cause, label_at, label_key, leaves, left_before, left_by, length, nat_le}
+use Rattle.plan_verifier.proofs.Words.{on_entry, option_map, or_after, passed_on, past_label, refl, refused_at}
+use Rattle.plan_verifier.proofs.Words.{slice_get, slice_get_past, slice_get_within, subst, suc, sym, true, walk}
+use Rattle.plan_verifier.proofs.Words.{whole_cause, zero, ℕ}
 use Rattle.std.proofs.lemmas.List.{length_push}
-use Rattle.mux_types.proofs.Elements.{contains_cases, contains_first, contains_later, contains_none, each_contains}
 use Rattle.plan_verifier.proofs.DecidingFlows.{Computes, decides_le}
 use Rattle.plan_verifier.proofs.Causes.{IsPassed, known_passed}
 use Rattle.plan_verifier.proofs.Entries.{whole_computes, IsHere, IsEnteredAt, entered_told}

@@ -89,7 +89,8 @@ fn run<S: Store>(plan: &Plan, instr: Instr, flow: &mut Flow<S>) -> Result<(), Ca
         Instr::WaitContact { .. } => pause(flow),
         Instr::WaitAny { .. } => pause(flow),
         Instr::Settle => settle(flow),
-        _ => {}
+        Instr::Test { .. } | Instr::TestTime { .. } | Instr::Jump(_) => {}
+        Instr::Loop { .. } | Instr::Set { .. } | Instr::End => {}
     }
     Ok(())
 }

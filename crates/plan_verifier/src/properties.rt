@@ -11,7 +11,10 @@ pub fn commits(instr: Instr) -> bool
 {
     match instr {
         Instr::CommitIn(_) | Instr::CommitAt(_) => true,
-        _ => false,
+        Instr::Edit(_) | Instr::Join | Instr::Settle | Instr::End | Instr::Jump(_) => false,
+        Instr::Wait(_) | Instr::Until(_) | Instr::WaitContact { .. } => false,
+        Instr::WaitAny { .. } | Instr::Test { .. } | Instr::TestTime { .. } => false,
+        Instr::Set { .. } | Instr::Loop { .. } => false,
     }
 }
 
@@ -21,7 +24,10 @@ pub fn continues(instr: Instr) -> bool
 {
     match instr {
         Instr::Jump(_) | Instr::End => false,
-        _ => true,
+        Instr::Edit(_) | Instr::CommitIn(_) | Instr::CommitAt(_) | Instr::Join => true,
+        Instr::Settle | Instr::Wait(_) | Instr::Until(_) | Instr::WaitContact { .. } => true,
+        Instr::WaitAny { .. } | Instr::Test { .. } | Instr::TestTime { .. } => true,
+        Instr::Set { .. } | Instr::Loop { .. } => true,
     }
 }
 
@@ -32,7 +38,9 @@ pub fn suspends(instr: Instr) -> bool
     match instr {
         Instr::Wait(_) | Instr::Until(_) | Instr::WaitContact { .. } => true,
         Instr::WaitAny { .. } | Instr::Join | Instr::End => true,
-        _ => false,
+        Instr::Edit(_) | Instr::CommitIn(_) | Instr::CommitAt(_) | Instr::Settle => false,
+        Instr::Test { .. } | Instr::TestTime { .. } | Instr::Jump(_) => false,
+        Instr::Set { .. } | Instr::Loop { .. } => false,
     }
 }
 
@@ -43,6 +51,8 @@ pub fn target_of(instr: Instr) -> Option<u16>
     match instr {
         Instr::Test { target, .. } | Instr::TestTime { target, .. } => Some(target),
         Instr::Jump(target) | Instr::Loop { target, .. } => Some(target),
-        _ => None,
+        Instr::Edit(_) | Instr::CommitIn(_) | Instr::CommitAt(_) | Instr::Join => None,
+        Instr::Settle | Instr::End | Instr::Wait(_) | Instr::Until(_) => None,
+        Instr::WaitContact { .. } | Instr::WaitAny { .. } | Instr::Set { .. } => None,
     }
 }

@@ -3,7 +3,7 @@
 use crate::cause::Cause;
 
 /// A cause, and the instruction at which it holds.
-#[derive(Clone, Copy, Debug, PartialEq, Eq)]
+#[derive(Clone, Copy, PartialEq, Eq)]
 pub(crate) struct Refusal {
     pub(crate) pc: u16,
     pub(crate) cause: Cause,

@@ -16,7 +16,8 @@ fn is_running(hold: Hold) -> bool
 {
     match hold {
         Hold::Running => true,
-        _ => false,
+        Hold::Waits(_) | Hold::WaitsDay(_) | Hold::WaitsContact { .. } => false,
+        Hold::WaitsAny { .. } | Hold::WaitsSwap | Hold::Ended => false,
     }
 }
 

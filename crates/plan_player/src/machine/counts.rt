@@ -40,7 +40,8 @@ fn hold_later(hold: Hold, frames: u16) -> Hold
             until,
             left: left_later(left, frames),
         },
-        _ => hold,
+        Hold::Running | Hold::WaitsDay(_) | Hold::WaitsContact { .. } => hold,
+        Hold::WaitsSwap | Hold::Ended => hold,
     }
 }
 

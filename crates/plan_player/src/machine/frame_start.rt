@@ -25,7 +25,8 @@ fn hold_after_swap(hold: Hold) -> Hold
 {
     match hold {
         Hold::WaitsSwap => Hold::Running,
-        _ => hold,
+        Hold::Running | Hold::Waits(_) | Hold::WaitsDay(_) => hold,
+        Hold::WaitsContact { .. } | Hold::WaitsAny { .. } | Hold::Ended => hold,
     }
 }
 

@@ -86,7 +86,7 @@ pub(crate) fn is_on_step(mode: Mode, count: u16) -> bool
 
 /// The content of FIG 0/0 except for the CIF count (EN 300 401 clause 6.4): the same throughout a
 /// notice, and throughout the frames outside of a notice.
-#[derive(Clone, Copy, Debug, PartialEq, Eq)]
+#[derive(Clone, Copy, PartialEq, Eq)]
 pub(crate) struct Header {
     eid: u16,
     change: u8,

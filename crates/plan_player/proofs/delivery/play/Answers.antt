@@ -1,8 +1,6 @@
-use Rattle.std.proofs.Common.{◌≡◌, ℕ, List, ◌∷◌, [], ◌++◌, ◌+◌, take, ap, sym, ◌∙◌}
-use Rattle.plan_player.proofs.Names.{take_more}
+use Rattle.plan_player.proofs.Words.{[], ◌++◌, ◌+◌, ◌∙◌, ◌∷◌, ◌≡◌, Event, List, ap, sym, take, take_more, ℕ}
 use Rattle.plan_player.proofs.Delivering.{one_more, stopped_here}
 use Rattle.plan_player.proofs.delivery.play.Goals as goal
-use Rattle.plan_runs.specs.declared.event.Event.{Event}
 
 pub returns-in-Err-clause-stopped : goal.returns-in-Err-clause-stopped
 returns-in-Err-clause-stopped g c =

@@ -1,4 +1,4 @@
-use Rattle.std.proofs.Common.{◌≡◌, false}
+use Rattle.plan_player.proofs.Words.{◌≡◌, false}
 use Rattle.plan_player.proofs.Delivering.{Delivered}
 use Rattle.plan_player.proofs.delivery.play.Given as goal
 

@@ -1,6 +1,4 @@
-use Rattle.std.proofs.Common.{sym, subst}
-use Rattle.plan_player.proofs.Names.{state_of, Keeps}
-use Rattle.plan_runs.proofs.Names.{Plan, State, sent_entries}
+use Rattle.plan_player.proofs.Words.{Keeps, Plan, State, sent_entries, state_of, subst, sym}
 use Rattle.plan_player.proofs.frame_step.make_frame.Goals as goal
 
 pub send-requires-clause-keeps : goal.send-requires-clause-keeps

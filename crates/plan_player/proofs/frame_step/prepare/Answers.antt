@@ -1,6 +1,4 @@
-use Rattle.std.proofs.Common.{sym, subst}
-use Rattle.plan_player.proofs.Names.{CanRun}
-use Rattle.plan_runs.proofs.Names.{State}
+use Rattle.plan_player.proofs.Words.{CanRun, State, subst, sym}
 use Rattle.plan_player.proofs.frame_step.prepare.Goals as goal
 
 pub run-steps-requires : goal.run-steps-requires

@@ -1,6 +1,5 @@
-use Rattle.std.proofs.Common.{ℕ, ◌<◌, ap, ◌∙◌, arith}
-use Rattle.plan_player.proofs.Names.{state_of}
-use Rattle.plan_runs.proofs.Names.{State, sent_entries, sent_rounds, with_next_counts, page_after}
+use Rattle.plan_player.proofs.Words.{◌<◌, ◌∙◌, State, ap, arith, page_after, sent_entries, sent_rounds, state_of}
+use Rattle.plan_player.proofs.Words.{with_next_counts, ℕ}
 use Rattle.plan_player.proofs.Keeping.{turned, next_page}
 use Rattle.plan_player.proofs.frame_step.send.Goals as goal
 

@@ -1,8 +1,6 @@
-use Rattle.std.proofs.Common.{◌-◌, ◌≤◌, ℕ, replicate, subst, sym, arith}
-use Rattle.plan_player.proofs.Names.{Stopped}
+use Rattle.plan_player.proofs.Words.{◌-◌, ◌≤◌, Frame, Stopped, arith, replicate, subst, sym, ℕ}
 use Rattle.plan_player.proofs.Joining.{joined_frames, stopped_frames, few_frames}
 use Rattle.plan_player.proofs.frames.play_frames.Goals as goal
-use Rattle.plan_runs.specs.declared.event.Event.TheVariants.{Frame}
 
 pub overflow_add-done-in-Err : goal.overflow_add-done-in-Err
 overflow_add-done-in-Err g c =

@@ -1,7 +1,5 @@
-use Rattle.std.proofs.Common.{◌-◌, ◌≡◌, ◌≤◌, false, replicate}
-use Rattle.plan_player.proofs.Names.{Delivered}
+use Rattle.plan_player.proofs.Words.{◌-◌, ◌≡◌, ◌≤◌, Delivered, Frame, false, replicate}
 use Rattle.plan_player.proofs.frames.play_frames.Given as goal
-use Rattle.plan_runs.specs.declared.event.Event.TheVariants.{Frame}
 
 abbrev pub invariant-loop-done : goal.invariant-loop-done
 invariant-loop-done g l = record {

@@ -1,5 +1,4 @@
-use Rattle.std.proofs.Common.{◌≡◌, ◌-◌, ◌+◌, ◌≤◌, ℕ, subst, sym, arith}
-use Rattle.plan_player.proofs.Names.{Playing, AreQuiet}
+use Rattle.plan_player.proofs.Words.{◌+◌, ◌-◌, ◌≡◌, ◌≤◌, AreQuiet, Playing, arith, subst, sym, ℕ}
 use Rattle.plan_player.proofs.Joining.{joined_frames, stopped_frames, few_frames}
 use Rattle.plan_player.proofs.Stretches.{quiet_rest}
 use Rattle.plan_player.proofs.frames.play_quiet.Goals as goal

@@ -1,4 +1,4 @@
-use Rattle.std.proofs.Common.{arith}
+use Rattle.plan_player.proofs.Words.{arith}
 use Rattle.plan_player.proofs.Joining.{stopped_among, one_delivered, one_stopped}
 use Rattle.plan_player.proofs.frames.play_some.Goals as goal
 

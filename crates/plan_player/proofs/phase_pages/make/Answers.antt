@@ -1,6 +1,4 @@
-use Rattle.std.proofs.Common.{ℕ, subst}
-use Rattle.plan_player.proofs.Names.{IsKept, IsAtPage}
-use Rattle.plan_runs.proofs.Names.{page_after, rounds}
+use Rattle.plan_player.proofs.Words.{IsAtPage, IsKept, page_after, rounds, subst, ℕ}
 use Rattle.std.specs.Option.{option_copied}
 use Rattle.fib_carousel.specs.Pages.{page_set_of}
 use Rattle.plan_player.proofs.Keeping.{one_more}

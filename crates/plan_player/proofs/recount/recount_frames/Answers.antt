@@ -1,6 +1,5 @@
-use Rattle.std.proofs.Common.{◌≡◌, ℕ, List, ◌+◌, ◌-◌, ◌*◌, ◌%◌, ◌≤◌, refl, sym, ap, subst, ◌∙◌, arith}
-use Rattle.plan_player.proofs.Names.{mod-add-mod, COUNTS}
-use Rattle.plan_runs.proofs.Names.{layout_mode, frame_fibs, count_step, Mode}
+use Rattle.plan_player.proofs.Words.{◌%◌, ◌*◌, ◌+◌, ◌-◌, ◌∙◌, ◌≡◌, ◌≤◌, COUNTS, List, Mode, ap, arith, count_step}
+use Rattle.plan_player.proofs.Words.{frame_fibs, layout_mode, mod-add-mod, refl, subst, sym, ℕ}
 use borrow.Rule.Slice.PartMut.{put_mid, mid_of, same_len_mid}
 use Rattle.plan_player.proofs.Alike.{mixed_all, first_on_step, next_on_step, first_near, entered, continued}
 use Rattle.plan_player.proofs.recount.recount_frames.Goals as goal

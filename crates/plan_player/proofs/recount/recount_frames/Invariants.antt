@@ -1,6 +1,5 @@
-use Rattle.std.proofs.Common.{◌≡◌, ◌+◌, ◌-◌, ◌%◌, ◌≤◌, length}
-use Rattle.plan_player.proofs.Names.{concat, COUNTS, AreAlike}
-use Rattle.plan_runs.proofs.Names.{layout_mode, count_step, State, notice_frames}
+use Rattle.plan_player.proofs.Words.{◌%◌, ◌+◌, ◌-◌, ◌≡◌, ◌≤◌, AreAlike, COUNTS, State, concat, count_step, layout_mode}
+use Rattle.plan_player.proofs.Words.{length, notice_frames}
 use Rattle.plan_player.proofs.Alike.{mixed}
 use Rattle.plan_player.proofs.recount.recount_frames.Given as goal
 

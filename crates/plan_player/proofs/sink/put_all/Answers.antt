@@ -1,5 +1,5 @@
-use Rattle.std.proofs.Common.{◌-◌, ◌++◌, length, take, drop, sym, ap, subst, ◌∙◌, arith, length-take}
-use Rattle.plan_player.proofs.Names.{take-add, take-take, Appends, Appends-trans}
+use Rattle.plan_player.proofs.Words.{◌++◌, ◌-◌, ◌∙◌, Appends, Appends-trans, ap, arith, drop, length, length-take}
+use Rattle.plan_player.proofs.Words.{subst, sym, take, take-add, take-take}
 use Rattle.plan_player.proofs.sink.put_all.Goals as goal
 
 pub loop-taken-preserved : goal.loop-taken-preserved

@@ -1,5 +1,4 @@
-use Rattle.std.proofs.Common.{◌≡◌, ◌-◌, ◌≤◌, false, length, take}
-use Rattle.plan_player.proofs.Names.{Appends}
+use Rattle.plan_player.proofs.Words.{◌-◌, ◌≡◌, ◌≤◌, Appends, false, length, take}
 use Rattle.plan_player.proofs.sink.put_all.Given as goal
 
 abbrev pub invariant-loop-taken : goal.invariant-loop-taken

@@ -1,6 +1,5 @@
-use Rattle.std.proofs.Common.{◌≡◌, ◌+◌, ◌%◌, ℕ, suc, sym, ap, subst, ◌∙◌, arith}
-use Rattle.plan_player.proofs.Names.{concat, COUNTS, state_of, counted_on, HasPage}
-use Rattle.plan_runs.proofs.Names.{page_after, State, sent_entries, notice_frames}
+use Rattle.plan_player.proofs.Words.{◌%◌, ◌+◌, ◌∙◌, ◌≡◌, COUNTS, HasPage, State, ap, arith, concat, counted_on}
+use Rattle.plan_player.proofs.Words.{notice_frames, page_after, sent_entries, state_of, subst, suc, sym, ℕ}
 use Rattle.plan_player.proofs.Together.{stretch_page, headed_within, page_kept, batch_more, turn_more, count_more}
 use Rattle.plan_player.proofs.stretch.begin.Goals as goal
 

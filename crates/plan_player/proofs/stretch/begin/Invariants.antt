@@ -1,6 +1,4 @@
-use Rattle.std.proofs.Common.{◌-◌, ◌≡◌, ◌≤◌, ◌*◌, length}
-use Rattle.plan_player.proofs.Names.{concat, state_of, counted_on}
-use Rattle.plan_runs.proofs.Names.{State, notice_frames}
+use Rattle.plan_player.proofs.Words.{◌*◌, ◌-◌, ◌≡◌, ◌≤◌, State, concat, counted_on, length, notice_frames, state_of}
 use Rattle.plan_player.proofs.stretch.begin.Given as goal
 
 abbrev pub invariant-loop-done : goal.invariant-loop-done

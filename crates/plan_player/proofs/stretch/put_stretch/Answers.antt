@@ -1,10 +1,9 @@
-use Rattle.std.proofs.Common.{◌≡◌, ◌+◌, ◌<◌, ◌*◌, ◌/◌, ◌%◌, ℕ, suc, List, length, take, sym, ap, subst, ◌∙◌, arith}
-use Rattle.plan_player.proofs.Names.{concat, Appends, state_of, counted_on, IsCut}
-use Rattle.plan_runs.proofs.Names.{State, notice_frames}
+use Rattle.plan_player.proofs.Words.{◌%◌, ◌*◌, ◌+◌, ◌/◌, ◌<◌, ◌∙◌, ◌≡◌, Appends, IsCut, List, State, ap, arith, concat}
+use Rattle.plan_player.proofs.Words.{counted_on, length, notice_frames, state_of, subst, suc, sym, take, ℕ}
 use Rattle.plan_player.proofs.Together.{Cut, stretch_cut, stretch_rounds, fewer_rounds}
+use Rattle.plan_player.proofs.stretch.put_stretch.Goals.{After-fibs-size}
 use Rattle.plan_player.proofs.stretch.put_stretch.Given as given
 use Rattle.plan_player.proofs.stretch.put_stretch.Goals as goal
-use Rattle.plan_player.proofs.stretch.put_stretch.Goals.{After-fibs-size}
 
 -- the bytes that the sink took are whole frames and a part of one
 cut : (g : given.Over) (c : After-fibs-size g)

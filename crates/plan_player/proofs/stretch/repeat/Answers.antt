@@ -1,10 +1,9 @@
-use Rattle.std.proofs.Common.{◌≡◌, ℕ, List, ◌+◌, ◌*◌, ◌%◌, ◌≤◌, ◌<◌, ap, ◌∙◌, arith, length}
-use Rattle.plan_player.proofs.Names.{mul-le-mul_right, COUNTS, state_of}
-use Rattle.plan_runs.proofs.Names.{layout_mode, frame_fibs, count_step, State}
+use Rattle.plan_player.proofs.Words.{◌%◌, ◌*◌, ◌+◌, ◌<◌, ◌∙◌, ◌≡◌, ◌≤◌, COUNTS, List, State, ap, arith, count_step}
+use Rattle.plan_player.proofs.Words.{frame_fibs, layout_mode, length, mul-le-mul_right, state_of, ℕ}
 use Rattle.plan_player.proofs.Cycles.{bytes_long, turn_on_turn, twice_whole, room}
+use Rattle.plan_player.proofs.stretch.repeat.Goals.{After-min-more}
 use Rattle.plan_player.proofs.stretch.repeat.Given as given
 use Rattle.plan_player.proofs.stretch.repeat.Goals as goal
-use Rattle.plan_player.proofs.stretch.repeat.Goals.{After-min-more}
 
 -- the bytes of the frames so far
 long : (g : given.Over) (c : After-min-more g) → length c.loop-done.batch ≡ c.loop-done.done

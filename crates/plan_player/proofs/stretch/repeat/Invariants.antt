@@ -1,6 +1,5 @@
-use Rattle.std.proofs.Common.{◌≡◌, ◌-◌, ◌%◌, ◌<◌, ◌≤◌}
-use Rattle.plan_player.proofs.Names.{concat, state_of}
-use Rattle.plan_runs.proofs.Names.{layout_mode, count_step, State, notice_frames}
+use Rattle.plan_player.proofs.Words.{◌%◌, ◌-◌, ◌<◌, ◌≡◌, ◌≤◌, State, concat, count_step, layout_mode, notice_frames}
+use Rattle.plan_player.proofs.Words.{state_of}
 use Rattle.plan_player.proofs.stretch.repeat.Given as goal
 
 abbrev pub invariant-loop-done : goal.invariant-loop-done

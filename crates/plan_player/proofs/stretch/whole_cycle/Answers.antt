@@ -1,5 +1,4 @@
-use Rattle.std.proofs.Common.{ℕ, ◌*◌, ◌%◌, ap, ◌∙◌}
-use Rattle.plan_player.proofs.Names.{mul_comm, mul-mod_left}
+use Rattle.plan_player.proofs.Words.{◌%◌, ◌*◌, ◌∙◌, ap, mul-mod_left, mul_comm, ℕ}
 use Rattle.plan_player.proofs.stretch.whole_cycle.Goals as goal
 
 pub returns-clause-cycle : goal.returns-clause-cycle

@@ -1,9 +1,9 @@
+use Rattle.plan_runs.proofs.Words.{page_is_fibs}
 use Rattle.plan_runs.proofs.Right.{page_laws}
 use Rattle.plan_runs.proofs.Contents.{Laws}
 use Rattle.plan_runs.proofs.CurrentKnown.{never_full, knows_the_current}
 use Rattle.plan_runs.proofs.NewKnown.{knows_the_new}
 use Rattle.plan_runs.proofs.laws.listener.Goals as goal
-use Rattle.fib_carousel.proofs.Pieces.{page_is_fibs}
 
 pub returns : goal.returns
 returns c =

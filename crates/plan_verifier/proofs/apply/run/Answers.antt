@@ -1,4 +1,4 @@
-use Rattle.plan_verifier.proofs.Names.{held}
+use Rattle.plan_verifier.proofs.Words.{held}
 use Rattle.plan_verifier.proofs.Finding.{fine_in, fine_at}
 use Rattle.plan_verifier.proofs.apply.run.Goals as goal
 

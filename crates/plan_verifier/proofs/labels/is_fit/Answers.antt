@@ -1,8 +1,7 @@
-use Rattle.std.proofs.Common.{◌∙◌, ap, List}
-use Rattle.plan_verifier.proofs.Names.{Configuration, IndexedFlow, flow_of, known_at, flow_at, known_of, flow_of_label}
-use Rattle.plan_verifier.proofs.Names.{Known, declared_by}
-use Rattle.plan_verifier.proofs.Finding.{swap_alone}
+use Rattle.plan_verifier.proofs.Words.{◌∙◌, Configuration, IndexedFlow, Known, List, ap, declared_by, flow_at, flow_of}
+use Rattle.plan_verifier.proofs.Words.{flow_of_label, known_at, known_of}
 use Rattle.plan_verifier.specs.Walking.{fits_swap}
+use Rattle.plan_verifier.proofs.Finding.{swap_alone}
 use Rattle.plan_verifier.proofs.Answering.{fit_counters, fit_no_counters}
 use Rattle.plan_verifier.proofs.labels.is_fit.Goals as goal
 

@@ -1,5 +1,4 @@
-use Rattle.std.proofs.Common.{sym, ◌∙◌}
-use Rattle.plan_verifier.proofs.Names.{known_of}
+use Rattle.plan_verifier.proofs.Words.{◌∙◌, known_of, sym}
 use Rattle.plan_verifier.proofs.Answering.{label_fits}
 use Rattle.plan_verifier.proofs.labels.test_entry.Goals as goal
 

@@ -1,5 +1,4 @@
-use Rattle.std.proofs.Common.{◌∙◌, ap}
-use Rattle.plan_verifier.proofs.Names.{known_of, unless}
+use Rattle.plan_verifier.proofs.Words.{◌∙◌, ap, known_of, unless}
 use Rattle.plan_verifier.proofs.Finding.{flow_alone}
 use Rattle.plan_verifier.proofs.step.advance.Goals as goal
 

@@ -1,5 +1,5 @@
-use Rattle.std.proofs.Common.{◌∙◌, sym, ap}
-use Rattle.plan_verifier.proofs.Names.{Plan, flow_of, known_with, set_after, left_over, known_of, Known, leaves}
+use Rattle.plan_verifier.proofs.Words.{◌∙◌, Known, Plan, ap, flow_of, known_of, known_with, leaves, left_over}
+use Rattle.plan_verifier.proofs.Words.{set_after, sym}
 use Rattle.plan_verifier.proofs.Leaving.{leaves_known}
 use Rattle.plan_verifier.proofs.step.step.Goals as goal
 

@@ -1,5 +1,4 @@
-use Rattle.std.proofs.Common.{refl, sym, ◌∙◌}
-use Rattle.plan_verifier.proofs.Names.{false≢true, none-some}
+use Rattle.plan_verifier.proofs.Words.{◌∙◌, false≢true, none-some, refl, sym}
 use Rattle.plan_verifier.proofs.OneVerdict.{typed_if, typed_passes, refused_if}
 use Rattle.plan_verifier.proofs.verified.verify.Goals as goal
 

@@ -1,4 +1,4 @@
-use Rattle.std.proofs.Common.{◌∙◌, sym}
+use Rattle.plan_verifier.proofs.Words.{◌∙◌, sym}
 use Rattle.plan_verifier.proofs.Stepping.{opening_refused}
 use Rattle.plan_verifier.proofs.walk.open.Goals as goal
 

@@ -1,5 +1,4 @@
-use Rattle.std.proofs.Common.{◌≡◌, drop, find, nat_le, length}
-use Rattle.plan_verifier.proofs.Names.{Label, past_end, past_label}
+use Rattle.plan_verifier.proofs.Words.{◌≡◌, Label, drop, find, length, nat_le, past_end, past_label}
 use Rattle.plan_verifier.proofs.walk.past_end.Given as goal
 
 abbrev pub invariant-loop-label : goal.invariant-loop-label

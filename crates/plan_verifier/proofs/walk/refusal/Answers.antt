@@ -1,5 +1,5 @@
-use Rattle.std.proofs.Common.{◌+◌, ◌<◌, Bool, length, drop, sym, ap, ◌∙◌, arith}
-use Rattle.plan_verifier.proofs.Names.{known_of, continues, walk, known_if_reached}
+use Rattle.plan_verifier.proofs.Words.{◌+◌, ◌<◌, ◌∙◌, Bool, ap, arith, continues, drop, known_if_reached, known_of}
+use Rattle.plan_verifier.proofs.Words.{length, sym, walk}
 use Rattle.plan_verifier.proofs.Stepping.{walk_stop, walk_go}
 use Rattle.plan_verifier.proofs.walk.refusal.Goals as goal
 

@@ -1,5 +1,4 @@
-use Rattle.std.proofs.Common.{◌≡◌, drop}
-use Rattle.plan_verifier.proofs.Names.{IsProgram, IsTracked, known_of, walk, refusal_of, known_if_reached}
+use Rattle.plan_verifier.proofs.Words.{◌≡◌, IsProgram, IsTracked, drop, known_if_reached, known_of, refusal_of, walk}
 use Rattle.plan_verifier.proofs.walk.refusal.Given as goal
 
 abbrev pub invariant-loop-pc : goal.invariant-loop-pc

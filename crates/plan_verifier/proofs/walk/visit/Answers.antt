@@ -1,4 +1,4 @@
-use Rattle.plan_verifier.proofs.Names.{known_of, known_if_reached, instr_or_end, instr_at}
+use Rattle.plan_verifier.proofs.Words.{instr_at, instr_or_end, known_if_reached, known_of}
 use Rattle.plan_verifier.proofs.Stepping.{visit_refused, visit_passed, visit_stopped}
 use Rattle.plan_verifier.proofs.walk.visit.Goals as goal
 

@@ -1,6 +1,5 @@
-use Rattle.std.proofs.Common.{◌≡◌, ℕ, List, ◌+◌, ◌-◌, ◌*◌, ◌≤◌, ◌++◌, sym, ap, ap₂, ◌∙◌, arith, length, take, drop}
-use Rattle.std.proofs.Common.{length-take-le}
-use Rattle.plan_runs.proofs.Names.{frame_fibs}
+use Rattle.plan_player.proofs.Words.{◌*◌, ◌++◌, ◌+◌, ◌-◌, ◌∙◌, ◌≡◌, ◌≤◌, List, ap, ap₂, arith, drop, frame_fibs, length}
+use Rattle.plan_player.proofs.Words.{length-take-le, sym, take, ℕ}
 use Rattle.plan_player.proofs.Cycles.{copied, appended}
 use Rattle.plan_player.proofs.batch.Bytes+SIZE.repeat.Goals as goal
 

@@ -1,4 +1,4 @@
-use Rattle.std.proofs.Common.{sym, arith}
+use Rattle.plan_player.proofs.Words.{arith, sym}
 use Rattle.plan_player.proofs.Cycles.{moved}
 use Rattle.plan_player.proofs.bytes.Bytes.release.Goals as goal
 

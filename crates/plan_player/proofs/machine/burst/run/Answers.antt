@@ -1,7 +1,5 @@
 -- Answers of `run` in src/burst.rt
-use Rattle.std.proofs.Common.{◌≡◌, ◌+◌, true, false, sym, subst, ◌∙◌}
-use Rattle.plan_player.proofs.Names.{state_of}
-use Rattle.plan_runs.proofs.Names.{State, is_running}
+use Rattle.plan_player.proofs.Words.{◌+◌, ◌∙◌, ◌≡◌, State, false, is_running, state_of, subst, sym, true}
 use Rattle.plan_player.proofs.Remaining.{Remains, goes, stops}
 use Rattle.plan_player.proofs.machine.burst.run.Goals as goal
 

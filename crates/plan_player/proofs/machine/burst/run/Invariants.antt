@@ -1,6 +1,5 @@
 -- Invariants of `run` in src/burst.rt
-use Rattle.std.proofs.Common.{◌-◌}
-use Rattle.plan_player.proofs.Names.{state_of}
+use Rattle.plan_player.proofs.Words.{◌-◌, state_of}
 use Rattle.plan_player.proofs.Remaining.{Remains}
 use Rattle.plan_player.proofs.machine.burst.run.Given as goal
 

@@ -1,5 +1,4 @@
-use Rattle.plan_player.proofs.Names.{state_of}
-use Rattle.plan_runs.proofs.Names.{State}
+use Rattle.plan_player.proofs.Words.{State, state_of}
 use Rattle.plan_player.proofs.CountedOn.{passed}
 use Rattle.plan_player.proofs.machine.counts.pass_many.Goals as goal
 

@@ -1,6 +1,4 @@
-use Rattle.std.proofs.Common.{◌≤◌, ℕ, subst, arith}
-use Rattle.plan_player.proofs.Names.{state_of, SwapIsAway}
-use Rattle.plan_runs.proofs.Names.{Plan, State}
+use Rattle.plan_player.proofs.Words.{◌≤◌, Plan, State, SwapIsAway, arith, state_of, subst, ℕ}
 use Rattle.plan_player.proofs.Quiet.{fewer_swap, fewer_hold, are_quiet}
 use Rattle.plan_player.proofs.machine.quiet.quiet_frames.Goals as goal
 

@@ -1,7 +1,5 @@
-use Rattle.std.proofs.Common.{sym, subst, ap, ◌∙◌, arith}
-use Rattle.plan_player.proofs.Names.{state_of, IsGoing, Playing}
-use Rattle.plan_runs.proofs.Names.{State, happens, IsPlayed}
-use Rattle.plan_runs.specs.declared.event.Event.TheVariants.{Contact}
+use Rattle.plan_player.proofs.Words.{◌∙◌, Contact, IsGoing, IsPlayed, Playing, State, ap, arith, happens, state_of}
+use Rattle.plan_player.proofs.Words.{subst, sym}
 use Rattle.plan_player.proofs.FrameFacts.{contact_goes}
 use Rattle.plan_player.proofs.player.Player.contact.Goals as goal
 

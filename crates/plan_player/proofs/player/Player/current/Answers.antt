@@ -1,7 +1,4 @@
-use Rattle.std.proofs.Common.{[], subst}
-use Rattle.plan_player.proofs.Names.{state_of, Playing}
-use Rattle.plan_runs.proofs.Names.{IsSound}
-use Rattle.plan_runs.proofs.TypedRuns.{typed_code_runs}
+use Rattle.plan_player.proofs.Words.{[], IsSound, Playing, state_of, subst, typed_code_runs}
 use Rattle.plan_player.proofs.player.Player.current.Goals as goal
 
 pub returns-clause-sound : goal.returns-clause-sound

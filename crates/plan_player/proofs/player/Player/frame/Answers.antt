@@ -1,11 +1,9 @@
-use Rattle.std.proofs.Common.{◌≤◌, subst, [], ◌∷◌, ap, ◌∙◌}
-use Rattle.plan_player.proofs.Names.{Playing, state_of, IsGoing}
-use Rattle.plan_runs.proofs.Names.{Program, frame_bytes}
-use Rattle.plan_runs.specs.declared.event.Event.TheVariants.{Frame}
+use Rattle.plan_player.proofs.Words.{[], ◌∙◌, ◌∷◌, ◌≤◌, Frame, IsGoing, Playing, Program, ap, frame_bytes, state_of}
+use Rattle.plan_player.proofs.Words.{subst}
 use Rattle.plan_player.proofs.FrameFacts.{lent_ready, lent_goes}
+use Rattle.plan_player.proofs.player.Player.frame.Goals.{After-make_frame-self-inside}
 use Rattle.plan_player.proofs.player.Player.frame.Given as given
 use Rattle.plan_player.proofs.player.Player.frame.Goals as goal
-use Rattle.plan_player.proofs.player.Player.frame.Goals.{After-make_frame-self-inside}
 
 -- the player after the frame
 goes : (g : given.Over) (c : After-make_frame-self-inside g)

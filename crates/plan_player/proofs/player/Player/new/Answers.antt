@@ -1,5 +1,4 @@
-use Rattle.std.proofs.Common.{refl}
-use Rattle.plan_player.proofs.Names.{state_of}
+use Rattle.plan_player.proofs.Words.{refl, state_of}
 use Rattle.plan_player.proofs.FrameFacts.{start_goes}
 use Rattle.plan_player.proofs.player.Player.new.Goals as goal
 

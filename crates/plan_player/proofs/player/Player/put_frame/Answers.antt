@@ -1,10 +1,9 @@
-use Rattle.std.proofs.Common.{◌≡◌, ℕ, ◌<◌, List, length, take, IfErr, OnOk, ap, subst, ◌∙◌}
-use Rattle.plan_player.proofs.Names.{Appends, Playing, next_frame, state_of}
-use Rattle.plan_runs.proofs.Names.{Program, frame_bytes}
+use Rattle.plan_player.proofs.Words.{◌<◌, ◌∙◌, ◌≡◌, Appends, IfErr, List, OnOk, Playing, Program, ap, frame_bytes}
+use Rattle.plan_player.proofs.Words.{length, next_frame, state_of, subst, take, ℕ}
 use Rattle.plan_player.proofs.FrameFacts.{lent_ready, lent_goes}
+use Rattle.plan_player.proofs.player.Player.put_frame.Goals.{After-bytes}
 use Rattle.plan_player.proofs.player.Player.put_frame.Given as given
 use Rattle.plan_player.proofs.player.Player.put_frame.Goals as goal
-use Rattle.plan_player.proofs.player.Player.put_frame.Goals.{After-bytes}
 
 -- the bytes of the frame
 sent : (g : given.Over) (c : After-bytes g) → c.bytes.result.now ≡ next_frame c.args.self.now

@@ -1,12 +1,10 @@
-use Rattle.std.proofs.Common.{◌≡◌, ◌-◌, ◌≤◌, ℕ, suc, replicate, true, IfOk, IfErr, refl, sym, ap, subst, arith}
-use Rattle.plan_player.proofs.Names.{Playing, Delivered, Stopped, state_of, AreQuiet}
-use Rattle.plan_runs.proofs.Names.{State}
-use Rattle.plan_runs.specs.declared.event.Event.TheVariants.{Frame}
+use Rattle.plan_player.proofs.Words.{◌-◌, ◌≡◌, ◌≤◌, AreQuiet, Delivered, Frame, IfErr, IfOk, Playing, State, Stopped}
+use Rattle.plan_player.proofs.Words.{ap, arith, refl, replicate, state_of, subst, suc, sym, true, ℕ}
 use Rattle.plan_player.proofs.Joining.{stopped_among, one_delivered, one_stopped, first_quiet}
 use Rattle.plan_player.proofs.Stretches.{fewer_quiet, stretch, quiet_done, quiet_stopped, some_quiet, goes_quiet}
+use Rattle.plan_player.proofs.player.Player.put_quiet.Goals.{After-min-count}
 use Rattle.plan_player.proofs.player.Player.put_quiet.Given as given
 use Rattle.plan_player.proofs.player.Player.put_quiet.Goals as goal
-use Rattle.plan_player.proofs.player.Player.put_quiet.Goals.{After-min-count}
 
 -- the plan, the pages and the quiet frames, of the player's own fields
 plan_is : (g : given.Over) (c : After-min-count g) → c.args.plan.now ≡ c.self.inside.code.now.plan

@@ -1,11 +1,9 @@
-use Rattle.std.proofs.Common.{◌≡◌, ℕ, ◌<◌, List, [], ◌∷◌, length, take, IfErr, OnOk, sym, ap, subst, ◌∙◌}
-use Rattle.plan_player.proofs.Names.{Appends, Playing, played, next_frame, state_of, IsQuiet}
-use Rattle.plan_runs.proofs.Names.{frame_bytes}
-use Rattle.plan_runs.specs.declared.event.Event.TheVariants.{Frame}
-use Rattle.plan_player.proofs.player.Player.put_quiet_frame.Given as given
-use Rattle.plan_player.proofs.player.Player.put_quiet_frame.Goals as goal
+use Rattle.plan_player.proofs.Words.{[], ◌<◌, ◌∙◌, ◌∷◌, ◌≡◌, Appends, Frame, IfErr, IsQuiet, List, OnOk, Playing, ap}
+use Rattle.plan_player.proofs.Words.{frame_bytes, length, next_frame, played, state_of, subst, sym, take, ℕ}
 use Rattle.plan_player.proofs.player.Player.put_quiet_frame.Goals.{After-send, After-bytes}
 use Rattle.plan_player.proofs.Stretches.{ready_in, quiet_goes, quiet_played, quiet_bytes}
+use Rattle.plan_player.proofs.player.Player.put_quiet_frame.Given as given
+use Rattle.plan_player.proofs.player.Player.put_quiet_frame.Goals as goal
 
 -- the plan and the quiet state, of the player's own fields
 plan_is : (g : given.Over) (c : After-send g) → c.args.plan.now ≡ c.self.inside.code.now.plan

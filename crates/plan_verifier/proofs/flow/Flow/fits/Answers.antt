@@ -1,7 +1,6 @@
-use Rattle.std.proofs.Common.{refl}
-use Rattle.plan_verifier.proofs.Names.{Never, Both, NextTwice, Flow, held, known_at}
-use Rattle.plan_verifier.proofs.flow.Flow.fits.Goals as goal
+use Rattle.plan_verifier.proofs.Words.{Both, Flow, Never, NextTwice, held, known_at, refl}
 use Rattle.plan_verifier.proofs.Answering.{fit_as}
+use Rattle.plan_verifier.proofs.flow.Flow.fits.Goals as goal
 
 pub returns-in-Never-clause-fits : goal.returns-in-Never-clause-fits
 returns-in-Never-clause-fits g c =

@@ -1,5 +1,4 @@
-use Rattle.std.proofs.Common.{refl}
-use Rattle.plan_verifier.proofs.Names.{configuration_at}
+use Rattle.plan_verifier.proofs.Words.{configuration_at, refl}
 use Rattle.plan_verifier.proofs.Moving.{is_there}
 use Rattle.plan_verifier.proofs.indices.IndexedFlow.indices.Goals as goal
 

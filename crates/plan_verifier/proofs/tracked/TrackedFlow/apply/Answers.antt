@@ -1,5 +1,4 @@
-use Rattle.std.proofs.Common.{sym, subst}
-use Rattle.plan_verifier.proofs.Names.{Indices, Flow, held, AreAt, indices_after}
+use Rattle.plan_verifier.proofs.Words.{AreAt, Flow, Indices, held, indices_after, subst, sym}
 use Rattle.plan_verifier.proofs.Moving.{tracked_after}
 use Rattle.plan_verifier.proofs.tracked.TrackedFlow.apply.Goals as goal
 

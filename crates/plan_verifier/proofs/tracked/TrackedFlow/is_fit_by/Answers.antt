@@ -1,7 +1,6 @@
-use Rattle.std.proofs.Common.{refl, ◌∙◌}
-use Rattle.plan_verifier.proofs.Names.{Never, Both, NextTwice, Flow, held, known_at, flow_at}
-use Rattle.plan_verifier.proofs.tracked.TrackedFlow.is_fit_by.Goals as goal
+use Rattle.plan_verifier.proofs.Words.{◌∙◌, Both, Flow, Never, NextTwice, flow_at, held, known_at, refl}
 use Rattle.plan_verifier.proofs.Answering.{fit_as, both_turned}
+use Rattle.plan_verifier.proofs.tracked.TrackedFlow.is_fit_by.Goals as goal
 
 pub returns-in-Never : goal.returns-in-Never
 returns-in-Never g c =

@@ -1,5 +1,4 @@
-use Rattle.std.proofs.Common.{sym, subst}
-use Rattle.plan_verifier.proofs.Names.{Indices, held, AreAt}
+use Rattle.plan_verifier.proofs.Words.{AreAt, Indices, held, subst, sym}
 use Rattle.plan_verifier.proofs.Moving.{tracked_fit}
 use Rattle.plan_verifier.proofs.tracked.TrackedFlow.note_fit.Goals as goal
 

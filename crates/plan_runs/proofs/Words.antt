@@ -1,16 +1,7 @@
--- The names that the proofs share, each from where it is defined.
-pub use Rattle.std.proofs.lemmas.Bool.{and_parts, eq-eqb, eqb-false, eqb-true, le-leb, leb-false, leb-true, lt-ltb}
-pub use Rattle.std.proofs.lemmas.Bool.{ltb-false, ltb-true, ne_eqb, or_cases, or_left, or_parts, or_right}
-pub use Rattle.std.proofs.lemmas.List.{append-nil, drop-drop, get_or-set_other, get_or-set_same, length-map, length-set}
-pub use Rattle.std.proofs.lemmas.List.{take-append-le}
-pub use Rattle.std.proofs.lemmas.List.Elements.{Contains-append_cases, Contains-append_left, Contains-append_right}
-pub use Rattle.std.proofs.lemmas.Nat.Bits.{bit_at-lt, bit_at-zero, same_from_bits_below}
-pub use Rattle.std.proofs.lemmas.Option.{slice_get_within}
-pub use Rattle.std.specs.Int.{bit_at}
-pub use Rattle.std.specs.List.{AllByRecursion}
-pub use Rattle.std.specs.Prelude.{Contains, IfSome, MatchBool, None, Option, Some, drop, find, flat_map, get_or, map}
-pub use Rattle.std.specs.Prelude.{nat_le, nat_lt, not, option_map, slice_get, slice_index, slice_set, take, ◌*◌, ◌-◌}
-pub use Rattle.std.specs.Prelude.{◌==◌, ◌||◌}
+-- The words of the proofs, passed on from the modules that define them.
+pub use Rattle.fib_carousel.proofs.Hearing.{ensemble_is_heard, page_sets_are_pageable, pages_are_heard, pages_are_valid}
+pub use Rattle.fib_carousel.proofs.Hearing.{pages_keep_reserve, sendable_where}
+pub use Rattle.fib_carousel.proofs.Pieces.{each_in_a_page, page_is_fibs}
 pub use Rattle.fib_carousel.specs.Bytes.{AreFibs, ensemble_figs, figs_of, page_figs, reserved_figs, with_entry_first}
 pub use Rattle.fib_carousel.specs.Carried.{AreSendable, EnsembleIsCarried, IsPageable, IsSendable, PageSetsArePageable}
 pub use Rattle.fib_carousel.specs.Carried.{PagesAreHeard, PagesAreValid, PagesKeepReserve}
@@ -18,6 +9,7 @@ pub use Rattle.fib_carousel.specs.Greedy.{packing}
 pub use Rattle.fib_carousel.specs.Packing.{entries_in_fib, entries_where, same_head}
 pub use Rattle.fib_carousel.specs.Pages.{EachInAPage, PageIsFibs, fib_entries, first_fib, later_fibs, page_after}
 pub use Rattle.fib_carousel.specs.Pages.{page_entries, page_set, rounds}
+pub use Rattle.fib_codec.proofs.Uniqueness.{one_fib}
 pub use Rattle.fib_codec.specs.Grammar.{Fig, IsFib, IsValid, OneList, Open, Other, fig_of, is_long, is_next}
 pub use Rattle.fib_codec.specs.Heard.{IsEnsembleHeardInRow, IsHeardInRow, IsInFig, fib_at}
 pub use Rattle.fib_codec.specs.Layouts.{KeepsReserve, frame_fibs, layout_mode, reserved_fibs, used_fibs}
@@ -43,12 +35,14 @@ pub use Rattle.mux_config.specs.Edits.{changed, edit_fault}
 pub use Rattle.mux_config.specs.Sameness.{is_same_flag, is_same_list, is_same_packet, is_same_service, is_same_sub}
 pub use Rattle.mux_config.specs.Sound.{IsSound}
 pub use Rattle.mux_config.specs.declared.edit.Edit.TheVariants.{AddComponent, AddService, AddSub, RateSub}
+pub use Rattle.mux_types.proofs.Walking.{each_at}
 pub use Rattle.mux_types.specs.Entries.{EnsembleInformation}
 pub use Rattle.mux_types.specs.Facts.{Marked, facts_of, marked, packet_entry, service_entries, service_entry}
 pub use Rattle.mux_types.specs.Facts.{sub_entries, sub_entry}
 pub use Rattle.mux_types.specs.declared.entry.Entry.{Entry}
-pub use Rattle.mux_types.specs.declared.entry.Entry.TheVariants.{Ensemble as EnsembleOf}
-pub use Rattle.plan_code.specs.Flags.{is_closed, is_set, with_contact, with_counter, without_counter}
+pub use Rattle.plan_code.proofs.Bits.{contacts_change_alone, counters_change_alone}
+pub use Rattle.plan_code.specs.Flags.{any_closed, any_open, is_closed, is_set, with_contact, with_counter}
+pub use Rattle.plan_code.specs.Flags.{without_counter}
 pub use Rattle.plan_code.specs.Machine.{IsAllowed, IsReady, State, StepIsAllowed, SwapsAtCount, SwapsInTime, advance}
 pub use Rattle.plan_code.specs.Machine.{commit, counter_of, effect, effect_of, is_in_window, left_at, left_in, settle}
 pub use Rattle.plan_code.specs.Machine.{step, suspend}
@@ -59,14 +53,15 @@ pub use Rattle.plan_code.specs.declared.hold.Hold.{Hold}
 pub use Rattle.plan_code.specs.declared.hold.Hold.TheVariants.{Ended, Running, Waits, WaitsAny, WaitsContact, WaitsDay}
 pub use Rattle.plan_code.specs.declared.hold.Hold.TheVariants.{WaitsSwap}
 pub use Rattle.plan_code.specs.declared.instr.Instr.{Instr}
-pub use Rattle.plan_code.specs.declared.instr.Instr.TheVariants.{CommitAt, CommitIn, Edit as Edits, End, Join, Jump}
-pub use Rattle.plan_code.specs.declared.instr.Instr.TheVariants.{Loop, Set, Settle, Test, TestTime, Until, Wait}
-pub use Rattle.plan_code.specs.declared.instr.Instr.TheVariants.{WaitAny, WaitContact}
+pub use Rattle.plan_code.specs.declared.instr.Instr.TheVariants.{CommitAt, CommitIn, End, Join, Jump, Loop, Set, Settle}
+pub use Rattle.plan_code.specs.declared.instr.Instr.TheVariants.{Test, TestTime, Until, Wait, WaitAny, WaitContact}
 pub use Rattle.plan_code.specs.declared.instr.Line.{Line}
 pub use Rattle.plan_code.specs.declared.label.Label.{Label}
 pub use Rattle.plan_code.specs.declared.label.Swap.{Swap}
 pub use Rattle.plan_code.specs.declared.label.Swap.TheVariants.{Idle, Perhaps, Within}
 pub use Rattle.plan_code.specs.declared.plan.Plan.{Plan}
+pub use Rattle.mux_types.specs.declared.entry.Entry.TheVariants.{Ensemble as EnsembleOf}
+pub use Rattle.plan_code.specs.declared.instr.Instr.TheVariants.{Edit as Edits}
 pub use Rattle.plan_runs.specs.Announced.{AlwaysRuns, FrameRuns, HasHeader, HasThreeHeaders, IsAnnounced, IsFlagged}
 pub use Rattle.plan_runs.specs.Announced.{IsHeaded, IsHeardInSome, IsHeardWhole, IsJoined, Runs, RunsJoin, heard_after}
 pub use Rattle.plan_runs.specs.Announced.{heard_along, heard_before, heard_by, heard_left, heard_of, notice_begin}
@@ -104,6 +99,24 @@ pub use Rattle.plan_runs.specs.Waits.{WaitsUntil}
 pub use Rattle.plan_runs.specs.declared.event.Event.{Event}
 pub use Rattle.plan_runs.specs.declared.event.Event.TheVariants.{Contact, Frame}
 pub use Rattle.plan_runs.specs.declared.event.Start.{Start}
+pub use Rattle.plan_verifier.proofs.OneVerdict.{codes_have_one_verdict, in_range, refused_if, typed_if}
+pub use Rattle.plan_verifier.proofs.Samples.{code_from, code_under, counters, first_from_is, first_under_is, label}
+pub use Rattle.plan_verifier.proofs.Samples.{line, line_is, lower_is, one_sub, one_sub_is, plan, sub_at_rate, with_sub}
 pub use Rattle.plan_verifier.specs.Typing.{Arrives, CanCommit, CanEnter, FitsSwap, IsCertain, IsSafe, IsSurelyPending}
 pub use Rattle.plan_verifier.specs.Typing.{IsTyping, Known, Reaches, after_pause, after_settle, after_wait, continues}
 pub use Rattle.plan_verifier.specs.Typing.{known_after_swap, leaves, spent, target_of}
+pub use Rattle.std.proofs.Common.{[], ◌%◌, ◌*◌, ◌++◌, ◌+◌, ◌-◌, ◌/◌, ◌<◌, ◌==◌, ◌^◌, ◌↔◌, ◌∙◌, ◌∷◌, ◌≡◌, ◌≢◌, ◌≤◌, ◌⊎◌}
+pub use Rattle.std.proofs.Common.{Bool, Contains, List, None, Option, Some, ap, append_assoc, arith, cond, eqb, false}
+pub use Rattle.std.proofs.Common.{inl, inr, is_some, le-ltb, leb, length, lt-ltb, ltb, map, refl, replicate, rules, set}
+pub use Rattle.std.proofs.Common.{subst, suc, sym, take, true, zero, ℕ}
+pub use Rattle.std.proofs.lemmas.Bool.{and_parts, eq-eqb, eqb-false, eqb-true, le-leb, leb-false, leb-true, ltb-false}
+pub use Rattle.std.proofs.lemmas.Bool.{ltb-true, ne_eqb, or_cases, or_left, or_parts, or_right}
+pub use Rattle.std.proofs.lemmas.List.{append-nil, drop-drop, get_or-set_other, get_or-set_same, length-map, length-set}
+pub use Rattle.std.proofs.lemmas.List.{take-append-le}
+pub use Rattle.std.proofs.lemmas.List.Elements.{Contains-append_cases, Contains-append_left, Contains-append_right}
+pub use Rattle.std.proofs.lemmas.Nat.Bits.{bit_at-lt, bit_at-zero, same_from_bits_below}
+pub use Rattle.std.proofs.lemmas.Option.{slice_get_within}
+pub use Rattle.std.specs.Int.{bit_at}
+pub use Rattle.std.specs.List.{AllByRecursion}
+pub use Rattle.std.specs.Prelude.{◌||◌, IfSome, MatchBool, drop, find, flat_map, get_or, nat_le, nat_lt, not}
+pub use Rattle.std.specs.Prelude.{option_map, slice_get, slice_index, slice_set}
