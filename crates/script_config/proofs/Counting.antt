@@ -1,9 +1,15 @@
 -- Upper bounds on the number of edits.
-use Rattle.script_config.proofs.Words.{[], ◌*◌, ◌++◌, ◌+◌, ◌∷◌, ◌≡◌, ◌≤◌, AllByRecursion, Bool, Component, Configuration, DropComponent, Edit, IsConfiguration, IsService, List, Long, Service, Short, Sid, after_common, arith, carrier_of, component_limit, components_added, components_dropped, cond, edits_that_make, false, flat_map, is_same_component, length, length-append, packet_added, refl, service_added, sub_added, true, ℕ}
+use Rattle.script_config.proofs.Words.{[], ◌*◌, ◌++◌, ◌+◌, ◌∷◌, ◌≡◌, ◌≤◌, AllByRecursion, Bool, Component}
+use Rattle.script_config.proofs.Words.{Configuration, DropComponent, Edit, IsConfiguration, IsService, List, Long}
+use Rattle.script_config.proofs.Words.{Service, Short, Sid, after_common, arith, carrier_of, component_limit}
+use Rattle.script_config.proofs.Words.{components_added, components_dropped, cond, edits_that_make, false, flat_map}
+use Rattle.script_config.proofs.Words.{is_same_component, length, length-append, packet_added, refl, service_added}
+use Rattle.script_config.proofs.Words.{sub_added, true, ℕ}
 
 -- ---- a bound for each member
 
-pub few_each : {T : Type 0} (P : T → Type 0) (f : T → List Edit) (most : ℕ) → ((x : T) → P x → length (f x) ≤ most) → (xs : List T) → AllByRecursion P xs → length (flat_map f xs) ≤ most * length xs
+pub few_each : {T : Type 0} (P : T → Type 0) (f : T → List Edit) (most : ℕ) → ((x : T) → P x → length (f x) ≤ most)
+    → (xs : List T) → AllByRecursion P xs → length (flat_map f xs) ≤ most * length xs
 few_each P f most few [] h = omega arith
 few_each P f most few (x ∷ xs) h =
     let rest = few_each P f most few xs h.1 in
@@ -22,7 +28,8 @@ chosen false es fs n h k = k
 
 -- ---- components
 
-behind_by : (m n : Component) (ms ns : List Component) (b : Bool) → length (after_common ms ns) ≤ length ms → length (cond b (after_common ms ns) (m ∷ ms)) ≤ length (m ∷ ms)
+behind_by : (m n : Component) (ms ns : List Component) (b : Bool) → length (after_common ms ns) ≤ length ms
+    → length (cond b (after_common ms ns) (m ∷ ms)) ≤ length (m ∷ ms)
 behind_by m n ms ns true rest = omega (arith, rest)
 behind_by m n ms ns false rest = omega arith
 
@@ -59,9 +66,12 @@ made_few c h =
     let e1 : List Edit = flat_map sub_added c.subs in
     let e2 : List Edit = flat_map service_added c.services in
     let e3 : List Edit = flat_map packet_added c.packets in
-    let one : length e1 ≤ 1 * length c.subs = few_each (λ s. Unit {0}) sub_added 1 (λ s _. omega arith) c.subs (each_any c.subs) in
-    let two : length e2 ≤ 13 * length c.services = few_each IsService service_added 13 added_few c.services h.services_formed in
-    let three : length e3 ≤ 1 * length c.packets = few_each (λ p. Unit {0}) packet_added 1 (λ p _. omega arith) c.packets (each_any c.packets) in
+    let one : length e1 ≤ 1 * length c.subs =
+    few_each (λ s. Unit {0}) sub_added 1 (λ s _. omega arith) c.subs (each_any c.subs) in
+    let two : length e2 ≤ 13 * length c.services =
+    few_each IsService service_added 13 added_few c.services h.services_formed in
+    let three : length e3 ≤ 1 * length c.packets =
+    few_each (λ p. Unit {0}) packet_added 1 (λ p _. omega arith) c.packets (each_any c.packets) in
     let l1 = length-append e1 (e2 ++ e3) in
     let l2 = length-append e2 e3 in
     let n1 = h.subs_few in

@@ -1,9 +1,17 @@
 -- There are few edits between two configurations: a plan has room for them, and a wait after each.
-use Rattle.script_config.proofs.Words.{[], ◌*◌, ◌++◌, ◌+◌, ◌==◌, ◌∷◌, ◌≡◌, ◌≤◌, AllByRecursion, Bool, Configuration, DropSub, Edit, IsConfiguration, IsService, List, None, Option, Packet, Service, Some, Sub, after_common, alterations, arith, cond, edits_between, false, flat_map, is_same_packet, is_same_profile, length, length-append, nat_lt, packet_at, packet_gone, packet_new, rate_altered, service_at, service_cut, service_gone, service_grown, start_altered, sub_altered, sub_at, sub_gone, sub_new, true, ℕ}
-use Rattle.script_config.proofs.Counting.{few_each, each_any, chosen, behind_few, dropped_length, added_length, added_few, service_few}
+use Rattle.script_config.proofs.Words.{[], ◌*◌, ◌++◌, ◌+◌, ◌==◌, ◌∷◌, ◌≡◌, ◌≤◌, AllByRecursion, Bool, Configuration}
+use Rattle.script_config.proofs.Words.{DropSub, Edit, IsConfiguration, IsService, List, None, Option, Packet, Service}
+use Rattle.script_config.proofs.Words.{Some, Sub, after_common, alterations, arith, cond, edits_between, false}
+use Rattle.script_config.proofs.Words.{flat_map, is_same_packet, is_same_profile, length, length-append, nat_lt}
+use Rattle.script_config.proofs.Words.{packet_at, packet_gone, packet_new, rate_altered, service_at, service_cut}
+use Rattle.script_config.proofs.Words.{service_gone, service_grown, start_altered, sub_altered, sub_at, sub_gone}
+use Rattle.script_config.proofs.Words.{sub_new, true, ℕ}
+use Rattle.script_config.proofs.Counting.{few_each, each_any, chosen, behind_few, dropped_length, added_length}
+use Rattle.script_config.proofs.Counting.{added_few, service_few}
 
 -- two kinds of edits for each member
-both_few : {T : Type 0} (P : T → Type 0) (f g : T → List Edit) (most : ℕ) → ((x : T) → P x → length (f x) + length (g x) ≤ most) → (xs : List T) → AllByRecursion P xs
+both_few : {T : Type 0} (P : T → Type 0) (f g : T → List Edit) (most : ℕ)
+    → ((x : T) → P x → length (f x) + length (g x) ≤ most) → (xs : List T) → AllByRecursion P xs
     → length (flat_map f xs) + length (flat_map g xs) ≤ most * length xs
 both_few P f g most few [] h = omega arith
 both_few P f g most few (x ∷ xs) h =
@@ -55,7 +63,8 @@ alterations_few s t =
     let two = rate_few s t in
     let l1 = length-append (rate_altered s t) (start_altered s t) in
     let l2 = length-append (start_altered s t) (rate_altered s t) in
-    chosen (nat_lt t.kbits s.kbits) (rate_altered s t ++ start_altered s t) (start_altered s t ++ rate_altered s t) 2 (omega (arith, one, two, l1)) (omega (arith, one, two, l2))
+    chosen (nat_lt t.kbits s.kbits) (rate_altered s t ++ start_altered s t) (start_altered s t ++ rate_altered s t) 2
+    (omega (arith, one, two, l1)) (omega (arith, one, two, l2))
 
 -- a sub-channel is dropped, or altered
 other_few : (b : Bool) (s t : Sub) → length (cond b [] (DropSub s.id ∷ [])) + length (cond b (alterations s t) []) ≤ 2
@@ -72,7 +81,8 @@ sub_new_few (Some s) t = chosen (is_same_profile s.protection t.protection) [] _
 
 -- ---- all
 
-pub few_between : (from to : Configuration) → IsConfiguration from → IsConfiguration to → length (edits_between from to) ≤ 1920
+pub few_between : (from to : Configuration) → IsConfiguration from → IsConfiguration to
+    → length (edits_between from to) ≤ 1920
 few_between from to f t =
     let e1 : List Edit = flat_map (λ s. service_gone (service_at s.sid to) s) from.services in
     let e2 : List Edit = flat_map (λ s. service_cut (service_at s.sid to) s) from.services in
@@ -82,12 +92,24 @@ few_between from to f t =
     let e6 : List Edit = flat_map (λ t. sub_new (sub_at t.id from) t) to.subs in
     let e7 : List Edit = flat_map (λ q. packet_new (packet_at q.scid from) q) to.packets in
     let e8 : List Edit = flat_map (λ t. service_grown (service_at t.sid from) t) to.services in
-    let b1 : length e1 + length e2 ≤ 12 * length from.services = both_few IsService (λ s. service_gone (service_at s.sid to) s) (λ s. service_cut (service_at s.sid to) s) 12 (λ s h. less_few (service_at s.sid to) s h) from.services f.services_formed in
-    let b3 : length e3 ≤ 1 * length from.packets = few_each (λ p. Unit {0}) (λ p. packet_gone (packet_at p.scid to) p) 1 (λ p _. packet_gone_few (packet_at p.scid to) p) from.packets (each_any from.packets) in
-    let b4 : length e4 + length e5 ≤ 2 * length from.subs = both_few (λ s. Unit {0}) (λ s. sub_gone (sub_at s.id to) s) (λ s. sub_altered (sub_at s.id to) s) 2 (λ s _. sub_less_few (sub_at s.id to) s) from.subs (each_any from.subs) in
-    let b6 : length e6 ≤ 1 * length to.subs = few_each (λ s. Unit {0}) (λ t. sub_new (sub_at t.id from) t) 1 (λ t _. sub_new_few (sub_at t.id from) t) to.subs (each_any to.subs) in
-    let b7 : length e7 ≤ 1 * length to.packets = few_each (λ p. Unit {0}) (λ q. packet_new (packet_at q.scid from) q) 1 (λ q _. packet_new_few (packet_at q.scid from) q) to.packets (each_any to.packets) in
-    let b8 : length e8 ≤ 13 * length to.services = few_each IsService (λ t. service_grown (service_at t.sid from) t) 13 (λ t h. grown_few (service_at t.sid from) t h) to.services t.services_formed in
+    let b1 : length e1 + length e2 ≤ 12 * length from.services =
+    both_few IsService (λ s. service_gone (service_at s.sid to) s) (λ s. service_cut (service_at s.sid to) s) 12
+    (λ s h. less_few (service_at s.sid to) s h) from.services f.services_formed in
+    let b3 : length e3 ≤ 1 * length from.packets =
+    few_each (λ p. Unit {0}) (λ p. packet_gone (packet_at p.scid to) p) 1
+    (λ p _. packet_gone_few (packet_at p.scid to) p) from.packets (each_any from.packets) in
+    let b4 : length e4 + length e5 ≤ 2 * length from.subs =
+    both_few (λ s. Unit {0}) (λ s. sub_gone (sub_at s.id to) s) (λ s. sub_altered (sub_at s.id to) s) 2
+    (λ s _. sub_less_few (sub_at s.id to) s) from.subs (each_any from.subs) in
+    let b6 : length e6 ≤ 1 * length to.subs =
+    few_each (λ s. Unit {0}) (λ t. sub_new (sub_at t.id from) t) 1 (λ t _. sub_new_few (sub_at t.id from) t) to.subs
+    (each_any to.subs) in
+    let b7 : length e7 ≤ 1 * length to.packets =
+    few_each (λ p. Unit {0}) (λ q. packet_new (packet_at q.scid from) q) 1
+    (λ q _. packet_new_few (packet_at q.scid from) q) to.packets (each_any to.packets) in
+    let b8 : length e8 ≤ 13 * length to.services =
+    few_each IsService (λ t. service_grown (service_at t.sid from) t) 13
+    (λ t h. grown_few (service_at t.sid from) t h) to.services t.services_formed in
     let l1 = length-append e1 (e2 ++ (e3 ++ (e4 ++ (e5 ++ (e6 ++ (e7 ++ e8)))))) in
     let l2 = length-append e2 (e3 ++ (e4 ++ (e5 ++ (e6 ++ (e7 ++ e8))))) in
     let l3 = length-append e3 (e4 ++ (e5 ++ (e6 ++ (e7 ++ e8)))) in
@@ -97,5 +119,6 @@ few_between from to f t =
     let l7 = length-append e7 e8 in
     omega (arith, b1, b3, b4, b6, b7, b8, l1, l2, l3, l4, l5, l6, l7)
 
-pub between_few : (from to : Configuration) → IsConfiguration from → IsConfiguration to → length (edits_between from to) ≤ 2048
+pub between_few : (from to : Configuration) → IsConfiguration from → IsConfiguration to
+    → length (edits_between from to) ≤ 2048
 between_few from to f t = omega (arith, few_between from to f t)

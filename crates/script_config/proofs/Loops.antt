@@ -1,5 +1,8 @@
 -- Loop invariants.
-use Rattle.script_config.proofs.Words.{[], ◌++◌, ◌+◌, ◌<◌, ◌∙◌, ◌∷◌, ◌≡◌, ◌≤◌, Component, Configuration, Edit, HaveNoFault, List, Sid, after, after_common, ap, append_assoc, changed, components_dropped, drop, drop_all, drop_more, get_or, length, refl, subst, sym, ℕ}
+use Rattle.script_config.proofs.Words.{[], ◌++◌, ◌+◌, ◌<◌, ◌∙◌, ◌∷◌, ◌≡◌, ◌≤◌, Component, Configuration, Edit}
+use Rattle.script_config.proofs.Words.{HaveNoFault, List, Sid, after, after_common, ap, append_assoc, changed}
+use Rattle.script_config.proofs.Words.{components_dropped, drop, drop_all, drop_more, get_or, length, refl, subst, sym}
+use Rattle.script_config.proofs.Words.{ℕ}
 
 -- ---- applying edits
 
@@ -8,10 +11,12 @@ pub record IsUnderWay (all left : List Edit) (c d : Configuration) : Type 0 wher
   pub fine : HaveNoFault left d
   pub arrives : after left d ≡ after all c
 
-pub one_on : (all : List Edit) (i : ℕ) (e : Edit) (c d f : Configuration) → i < length all → e ≡ get_or all i e → f ≡ changed e d
+pub one_on : (all : List Edit) (i : ℕ) (e : Edit) (c d f : Configuration) → i < length all → e ≡ get_or all i e
+    → f ≡ changed e d
     → IsUnderWay all (drop i all) c d → IsUnderWay all (drop (i + 1) all) c f
 one_on all i e c d f lt same is h =
-    let cut : drop i all ≡ e ∷ drop (i + 1) all = drop_more all i e lt ∙ ap (λ (x : Edit). x ∷ drop (i + 1) all) (sym same) in
+    let cut : drop i all ≡ e ∷ drop (i + 1) all = drop_more all i e lt
+    ∙ ap (λ (x : Edit). x ∷ drop (i + 1) all) (sym same) in
     let fine : HaveNoFault (e ∷ drop (i + 1) all) d = subst (λ (es : List Edit). HaveNoFault es d) cut h.fine in
     record {
       fine = subst (HaveNoFault (drop (i + 1) all)) (sym is) fine.1;
@@ -34,22 +39,27 @@ behind_nothing : (ms : List Component) → after_common ms [] ≡ ms
 behind_nothing [] = refl
 behind_nothing (m ∷ ms) = refl
 
-pub common_there : (ms ns : List Component) (place : ℕ) → length ns ≤ place → IsCommon ms ns place → drop place ms ≡ after_common ms ns
+pub common_there : (ms ns : List Component) (place : ℕ) → length ns ≤ place → IsCommon ms ns place
+    → drop place ms ≡ after_common ms ns
 common_there ms ns place past h =
     let gone : drop place ns ≡ [] = drop_all place ns past in
-    sym (behind_nothing (drop place ms)) ∙ sym (ap (λ (xs : List Component). after_common (drop place ms) xs) gone) ∙ h.same
+    sym (behind_nothing (drop place ms)) ∙ sym (ap (λ (xs : List Component). after_common (drop place ms) xs) gone)
+    ∙ h.same
 
 -- ---- concatenation
 
 -- three lists appended one after another
-pub three_joined : {T : Type 0} (a b c none one two three : List T) → none ≡ [] → one ≡ none ++ a → two ≡ one ++ b → three ≡ two ++ c → three ≡ a ++ (b ++ c)
+pub three_joined : {T : Type 0} (a b c none one two three : List T) → none ≡ [] → one ≡ none ++ a → two ≡ one ++ b
+    → three ≡ two ++ c → three ≡ a ++ (b ++ c)
 three_joined a b c none one two three n1 n2 n3 n4 =
     n4 ∙ ap (λ xs. xs ++ c) n3 ∙ append_assoc one b c
     ∙ ap (λ xs. xs ++ (b ++ c)) n2 ∙ append_assoc none a (b ++ c)
     ∙ ap (λ xs. xs ++ (a ++ (b ++ c))) n1
 
-pub eight_joined : {T : Type 0} (a b c d e f g h none one two three four five six seven eight : List T) → none ≡ [] → one ≡ none ++ a → two ≡ one ++ b → three ≡ two ++ c → four ≡ three ++ d
-    → five ≡ four ++ e → six ≡ five ++ f → seven ≡ six ++ g → eight ≡ seven ++ h → eight ≡ a ++ (b ++ (c ++ (d ++ (e ++ (f ++ (g ++ h))))))
+pub eight_joined : {T : Type 0} (a b c d e f g h none one two three four five six seven eight : List T) → none ≡ []
+    → one ≡ none ++ a → two ≡ one ++ b → three ≡ two ++ c → four ≡ three ++ d
+    → five ≡ four ++ e → six ≡ five ++ f → seven ≡ six ++ g → eight ≡ seven ++ h → eight ≡ a
+    ++ (b ++ (c ++ (d ++ (e ++ (f ++ (g ++ h))))))
 eight_joined a b c d e f g h none one two three four five six seven eight n1 n2 n3 n4 n5 n6 n7 n8 n9 =
     n9 ∙ ap (λ xs. xs ++ h) n8 ∙ append_assoc six g h
     ∙ ap (λ xs. xs ++ (g ++ h)) n7 ∙ append_assoc five f (g ++ h)
@@ -57,5 +67,6 @@ eight_joined a b c d e f g h none one two three four five six seven eight n1 n2 
     ∙ ap (λ xs. xs ++ (e ++ (f ++ (g ++ h)))) n5 ∙ append_assoc three d (e ++ (f ++ (g ++ h)))
     ∙ ap (λ xs. xs ++ (d ++ (e ++ (f ++ (g ++ h))))) n4 ∙ append_assoc two c (d ++ (e ++ (f ++ (g ++ h))))
     ∙ ap (λ xs. xs ++ (c ++ (d ++ (e ++ (f ++ (g ++ h)))))) n3 ∙ append_assoc one b (c ++ (d ++ (e ++ (f ++ (g ++ h)))))
-    ∙ ap (λ xs. xs ++ (b ++ (c ++ (d ++ (e ++ (f ++ (g ++ h))))))) n2 ∙ append_assoc none a (b ++ (c ++ (d ++ (e ++ (f ++ (g ++ h))))))
+    ∙ ap (λ xs. xs ++ (b ++ (c ++ (d ++ (e ++ (f ++ (g ++ h))))))) n2
+    ∙ append_assoc none a (b ++ (c ++ (d ++ (e ++ (f ++ (g ++ h))))))
     ∙ ap (λ xs. xs ++ (a ++ (b ++ (c ++ (d ++ (e ++ (f ++ (g ++ h)))))))) n1

@@ -1,15 +1,18 @@
 -- What holds of each element of a list.
 use Rattle.script_config.proofs.Words.{[], ◌++◌, ◌∷◌, All, AllByRecursion, List, arith, flat_map, suc, zero}
 
-pub both : {T : Type 0} (P : T → Type 0) (xs ys : List T) → AllByRecursion P xs → AllByRecursion P ys → AllByRecursion P (xs ++ ys)
+pub both : {T : Type 0} (P : T → Type 0) (xs ys : List T) → AllByRecursion P xs → AllByRecursion P ys
+    → AllByRecursion P (xs ++ ys)
 both P [] ys h k = k
 both P (x ∷ xs) ys h k = (h.0, both P xs ys h.1 k)
 
-pub each_as : {T : Type 0} (P Q : T → Type 0) → ((x : T) → P x → Q x) → (xs : List T) → AllByRecursion P xs → AllByRecursion Q xs
+pub each_as : {T : Type 0} (P Q : T → Type 0) → ((x : T) → P x → Q x) → (xs : List T) → AllByRecursion P xs
+    → AllByRecursion Q xs
 each_as P Q acts [] h = tt
 each_as P Q acts (x ∷ xs) h = (acts x h.0, each_as P Q acts xs h.1)
 
-pub each_of : {T U : Type 0} (P : T → Type 0) (Q : U → Type 0) (f : T → List U) → ((x : T) → P x → AllByRecursion Q (f x)) → (xs : List T) → AllByRecursion P xs
+pub each_of : {T U : Type 0} (P : T → Type 0) (Q : U → Type 0) (f : T → List U)
+    → ((x : T) → P x → AllByRecursion Q (f x)) → (xs : List T) → AllByRecursion P xs
     → AllByRecursion Q (flat_map f xs)
 each_of P Q f one [] h = tt
 each_of P Q f one (x ∷ xs) h = both Q (f x) (flat_map f xs) (one x h.0) (each_of P Q f one xs h.1)

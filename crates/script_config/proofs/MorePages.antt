@@ -1,5 +1,8 @@
 -- A page set that begins with another one takes no fewer pages.
-use Rattle.script_config.proofs.Words.{[], ◌++◌, ◌/◌, ◌<◌, ◌∷◌, ◌≡◌, ◌≤◌, Configuration, FrameLayout, I, II, III, IV, List, Marked, None, ReserveOne, ReserveTwo, Some, Whole, ap, arith, div-mul-le_self, extended, facts_of, false, inl, inr, last_number, numbers_from, opened, packing, page_set, placed, rounds, start, true, used_fibs, ℕ}
+use Rattle.script_config.proofs.Words.{[], ◌++◌, ◌/◌, ◌<◌, ◌∷◌, ◌≡◌, ◌≤◌, Configuration, FrameLayout, I, II, III, IV}
+use Rattle.script_config.proofs.Words.{List, Marked, None, ReserveOne, ReserveTwo, Some, Whole, ap, arith}
+use Rattle.script_config.proofs.Words.{div-mul-le_self, extended, facts_of, false, inl, inr, last_number, numbers_from}
+use Rattle.script_config.proofs.Words.{opened, packing, page_set, placed, rounds, start, true, used_fibs, ℕ}
 use Rattle.std.proofs.lemmas.Nat.{le-div}
 use Rattle.fib_carousel.specs.declared.pack_state.PackState.{PackState}
 use Rattle.fib_carousel.proofs.Least.{placed_cases}
@@ -16,7 +19,8 @@ later layout e p = elim (placed_cases layout e p) [
       omega (arith, same, above)
 ]
 
-last_from : (layout : FrameLayout) (p : PackState) (es : List Marked) → p.fib ≤ last_number p.fib (numbers_from layout p es)
+last_from : (layout : FrameLayout) (p : PackState) (es : List Marked)
+    → p.fib ≤ last_number p.fib (numbers_from layout p es)
 last_from layout p [] = omega arith
 last_from layout p (e ∷ es) =
     let first = later layout e p in
@@ -49,8 +53,10 @@ pub more_rounds : (layout : FrameLayout) (es others : List Marked) → rounds la
 more_rounds layout es others =
     let some = some_used layout in
     let last = last_more layout start es others in
-    let pages = divided (last_number 0 (packing layout es)) (last_number 0 (packing layout (es ++ others))) (used_fibs layout) some last in
+    let pages = divided (last_number 0 (packing layout es)) (last_number 0 (packing layout (es ++ others)))
+    (used_fibs layout) some last in
     omega (arith, pages)
 
-pub alone_within : (layout : FrameLayout) (a b : Configuration) → rounds layout (page_set a None) ≤ rounds layout (page_set a (Some b))
+pub alone_within : (layout : FrameLayout) (a b : Configuration)
+    → rounds layout (page_set a None) ≤ rounds layout (page_set a (Some b))
 alone_within layout a b = more_rounds layout (facts_of a false) (facts_of b true)

@@ -1,5 +1,6 @@
 -- The EId that FIBs signal, FIB by FIB.
-use Rattle.script_config.proofs.Words.{[], ◌+◌, ◌<◌, ◌∷◌, ◌≡◌, List, NamesAfter, Option, add-one, drop, drop-cons, get_or, inl, inr, length, named_by_figs, refl, subst, sym, ℕ}
+use Rattle.script_config.proofs.Words.{[], ◌+◌, ◌<◌, ◌∷◌, ◌≡◌, List, NamesAfter, Option, add-one, drop, drop-cons}
+use Rattle.script_config.proofs.Words.{get_or, inl, inr, length, named_by_figs, refl, subst, sym, ℕ}
 use Rattle.fib_codec.specs.Grammar.{Fig, IsFib}
 use Rattle.fib_reader.specs.declared.fault.FibFault.{FibFault}
 use Rattle.fib_reader.specs.Faults.{IsFibFault}
@@ -14,13 +15,16 @@ LeadsOn rest now fibs before = (after : Option ℕ) → NamesAfter rest now afte
 pub begun : (fibs : List (List ℕ)) (before : Option ℕ) → LeadsOn fibs before fibs before
 begun fibs before after h = h
 
-pub whole_more : (fibs : List (List ℕ)) (i : ℕ) (before now new : Option ℕ) (figs : List Fig) → i < length fibs → IsFib (get_or fibs i []) figs → new ≡ named_by_figs figs now
+pub whole_more : (fibs : List (List ℕ)) (i : ℕ) (before now new : Option ℕ) (figs : List Fig) → i < length fibs
+    → IsFib (get_or fibs i []) figs → new ≡ named_by_figs figs now
     → LeadsOn (drop i fibs) now fibs before → LeadsOn (drop (i + 1) fibs) new fibs before
 whole_more fibs i before now new figs lt whole named on after h =
     on after (subst (λ (fs : List (List ℕ)). NamesAfter fs now after) (sym (fib_by_fib fibs i lt))
     (inl (figs, whole, subst (λ (o : Option ℕ). NamesAfter (drop (i + 1) fibs) o after) named h)))
 
-pub damaged_more : (fibs : List (List ℕ)) (i : ℕ) (before now : Option ℕ) (fault : FibFault) → i < length fibs → IsFibFault (get_or fibs i []) fault
+pub damaged_more : (fibs : List (List ℕ)) (i : ℕ) (before now : Option ℕ) (fault : FibFault) → i < length fibs
+    → IsFibFault (get_or fibs i []) fault
     → LeadsOn (drop i fibs) now fibs before → LeadsOn (drop (i + 1) fibs) now fibs before
 damaged_more fibs i before now fault lt wrong on after h =
-    on after (subst (λ (fs : List (List ℕ)). NamesAfter fs now after) (sym (fib_by_fib fibs i lt)) (inr (fault, wrong, h)))
+    on after (subst (λ (fs : List (List ℕ)). NamesAfter fs now after) (sym (fib_by_fib fibs i lt))
+    (inr (fault, wrong, h)))

@@ -1,5 +1,11 @@
 -- The paced edits of a plan.
-use Rattle.script_config.proofs.Words.{[], ◌%◌, ◌*◌, ◌++◌, ◌+◌, ◌-◌, ◌<◌, ◌==◌, ◌∙◌, ◌∷◌, ◌≡◌, ◌≤◌, Act, All, AllByRecursion, Bool, Configuration, Edit, FitFrames, IsAct, IsConfiguration, IsEdit, IsPlan, List, Plan, Transform, Wait, ap, append-nil, append_assoc, arith, cases_eq, committed, edits_between, edits_in, eq-eqb, eqb-true, false, get_or, if◌then◌else◌, inl, inr, length, length-append, length-take-le, mod-eq_of_lt, mod-lt, mod_self, paced, pause_after, plan_acts, refl, subst, suc, suc-mod, sym, take, take_more, true, ℕ}
+use Rattle.script_config.proofs.Words.{[], ◌%◌, ◌*◌, ◌++◌, ◌+◌, ◌-◌, ◌<◌, ◌==◌, ◌∙◌, ◌∷◌, ◌≡◌, ◌≤◌, Act, All}
+use Rattle.script_config.proofs.Words.{AllByRecursion, Bool, Configuration, Edit, FitFrames, IsAct, IsConfiguration}
+use Rattle.script_config.proofs.Words.{IsEdit, IsPlan, List, Plan, Transform, Wait, ap, append-nil, append_assoc, arith}
+use Rattle.script_config.proofs.Words.{cases_eq, committed, edits_between, edits_in, eq-eqb, eqb-true, false, get_or}
+use Rattle.script_config.proofs.Words.{if◌then◌else◌, inl, inr, length, length-append, length-take-le, mod-eq_of_lt}
+use Rattle.script_config.proofs.Words.{mod-lt, mod_self, paced, pause_after, plan_acts, refl, subst, suc, suc-mod, sym}
+use Rattle.script_config.proofs.Words.{take, take_more, true, ℕ}
 use Rattle.std.proofs.Math.Numerals.{suc-eq-add-one}
 use Rattle.script_front.specs.declared.tree.Act.TheVariants.{Edit as Edits}
 use Rattle.script_config.proofs.FewEdits.{between_few}
@@ -8,30 +14,37 @@ use Rattle.script_config.proofs.Ranged.{between_formed}
 
 -- ---- appending one
 
-pub paced_more : (full n : ℕ) (es : List Edit) (e : Edit) → paced full n (es ++ e ∷ []) ≡ paced full n es ++ (Edits e ∷ pause_after full (n + length es))
+pub paced_more : (full n : ℕ) (es : List Edit) (e : Edit) → paced full n (es ++ e ∷ []) ≡ paced full n es
+    ++ (Edits e ∷ pause_after full (n + length es))
 paced_more full n [] e =
     let same : n ≡ n + 0 = omega arith in
     ap (λ (acts : List Act). Edits e ∷ acts) (append-nil (pause_after full n) ∙ ap (λ (k : ℕ). pause_after full k) same)
 paced_more full n (f ∷ es) e =
     let rest = paced_more full (n + 1) es e in
     let same : (n + 1) + length es ≡ n + length (f ∷ es) = omega arith in
-    ap (λ (acts : List Act). Edits f ∷ (pause_after full n ++ acts)) (rest ∙ ap (λ (k : ℕ). paced full (n + 1) es ++ (Edits e ∷ pause_after full k)) same)
-    ∙ ap (λ (acts : List Act). Edits f ∷ acts) (sym (append_assoc (pause_after full n) (paced full (n + 1) es) (Edits e ∷ pause_after full (n + length (f ∷ es)))))
+    ap (λ (acts : List Act). Edits f ∷ (pause_after full n ++ acts))
+    (rest ∙ ap (λ (k : ℕ). paced full (n + 1) es ++ (Edits e ∷ pause_after full k)) same)
+    ∙ ap (λ (acts : List Act). Edits f ∷ acts)
+    (sym (append_assoc (pause_after full n) (paced full (n + 1) es)
+    (Edits e ∷ pause_after full (n + length (f ∷ es)))))
 
 pub record PacedSoFar (full : ℕ) (es : List Edit) (i now : ℕ) (out : List Act) : Type 0 where
   pub number : now ≡ i + 1
   pub so_far : out ≡ paced full 1 (take i es)
 
-pub one_paced : (full : ℕ) (es : List Edit) (i now : ℕ) (e : Edit) (out : List Act) → i < length es → e ≡ get_or es i e → PacedSoFar full es i now out
+pub one_paced : (full : ℕ) (es : List Edit) (i now : ℕ) (e : Edit) (out : List Act) → i < length es → e ≡ get_or es i e
+    → PacedSoFar full es i now out
     → PacedSoFar full es (i + 1) (now + 1) (out ++ (Edits e ∷ pause_after full now))
 one_paced full es i now e out lt same h =
-    let more : take (i + 1) es ≡ take i es ++ e ∷ [] = take_more es i e lt ∙ ap (λ (x : Edit). take i es ++ x ∷ []) (sym same) in
+    let more : take (i + 1) es ≡ take i es ++ e ∷ [] =
+    take_more es i e lt ∙ ap (λ (x : Edit). take i es ++ x ∷ []) (sym same) in
     let size : length (take i es) ≡ i = length-take-le i es (omega (arith, lt)) in
     let at = h.number in
     let long : 1 + length (take i es) ≡ now = omega (arith, size, at) in
     record {
       number = omega (arith, at);
-      so_far = sym (ap (paced full 1) more ∙ paced_more full 1 (take i es) e ∙ ap (λ (k : ℕ). paced full 1 (take i es) ++ (Edits e ∷ pause_after full k)) long
+      so_far = sym (ap (paced full 1) more ∙ paced_more full 1 (take i es) e
+          ∙ ap (λ (k : ℕ). paced full 1 (take i es) ++ (Edits e ∷ pause_after full k)) long
           ∙ ap (λ (acts : List Act). acts ++ (Edits e ∷ pause_after full now)) (sym h.so_far));
     }
 
@@ -41,7 +54,8 @@ in_both : (acts others : List Act) (b : Bool) → edits_in ((if b then Wait 1 �
 in_both acts others true = refl
 in_both acts others false = refl
 
-pub edits_paced : (full n : ℕ) (es : List Edit) (acts : List Act) → edits_in (paced full n es ++ acts) ≡ es ++ edits_in acts
+pub edits_paced : (full n : ℕ) (es : List Edit) (acts : List Act) → edits_in (paced full n es ++ acts) ≡ es
+    ++ edits_in acts
 edits_paced full n [] acts = refl
 edits_paced full n (e ∷ es) acts =
     ap (λ (xs : List Edit). e ∷ xs) (ap edits_in (append_assoc (pause_after full n) (paced full (n + 1) es) acts)
@@ -67,18 +81,25 @@ pause_formed false = tt
 
 paced_formed : (full n : ℕ) (es : List Edit) → AllByRecursion IsEdit es → AllByRecursion IsAct (paced full n es)
 paced_formed full n [] h = tt
-paced_formed full n (e ∷ es) h = (h.0, both IsAct (pause_after full n) (paced full (n + 1) es) (pause_formed (n % full == 0)) (paced_formed full (n + 1) es h.1))
+paced_formed full n (e ∷ es) h = (
+  h.0,
+  both IsAct (pause_after full n) (paced full (n + 1) es) (pause_formed (n % full == 0))
+      (paced_formed full (n + 1) es h.1),
+)
 
-pub acts_formed : (header : Plan) (full n : ℕ) (es : List Edit) → IsPlan header → AllByRecursion IsEdit es → All IsAct (paced full n es ++ committed header)
+pub acts_formed : (header : Plan) (full n : ℕ) (es : List Edit) → IsPlan header → AllByRecursion IsEdit es
+    → All IsAct (paced full n es ++ committed header)
 acts_formed header full n es headed h =
     let from = headed.notice_from in
     let to = headed.notice_to in
     each_at IsAct (paced full n es ++ committed header)
-    (both IsAct (paced full n es) (committed header) (paced_formed full n es h) ((omega (arith, from), omega (arith, to)), (tt, tt)))
+    (both IsAct (paced full n es) (committed header) (paced_formed full n es h)
+    ((omega (arith, from), omega (arith, to)), (tt, tt)))
 
 -- ---- frame by frame
 
-after_pause : (b : Bool) (most left : ℕ) (acts : List Act) → 1 ≤ left → (b ≡ true → FitFrames most most acts) → (b ≡ false → FitFrames most left acts)
+after_pause : (b : Bool) (most left : ℕ) (acts : List Act) → 1 ≤ left → (b ≡ true → FitFrames most most acts)
+    → (b ≡ false → FitFrames most left acts)
     → FitFrames most left ((if b then Wait 1 ∷ [] else []) ++ acts)
 after_pause true most left acts one paused on = (one, paused refl)
 after_pause false most left acts one paused on = on refl
@@ -90,7 +111,8 @@ is_zero n e = eqb-true n 0 e
 used_next : (full m : ℕ) → 0 < full → ((m + 1) % full == 0) ≡ false → (m + 1) % full ≡ m % full + 1
 used_next full m some e =
     let below : m % full < full = mod-lt m some in
-    let step : (m + 1) % full ≡ suc (m % full) % full = ap (λ (n : ℕ). n % full) (sym (suc-eq-add-one m)) ∙ suc-mod m full in
+    let step : (m + 1) % full ≡ suc (m % full) % full =
+    ap (λ (n : ℕ). n % full) (sym (suc-eq-add-one m)) ∙ suc-mod m full in
     elim (cases_eq (suc (m % full)) full) [
       | inl same ↦
           let zero_then : (m + 1) % full ≡ 0 = step ∙ ap (λ (n : ℕ). n % full) same ∙ mod_self full in
@@ -101,7 +123,8 @@ used_next full m some e =
           step ∙ mod-eq_of_lt less ∙ suc-eq-add-one (m % full)
     ]
 
-pub fits : (full m : ℕ) (es : List Edit) (header : Plan) → 0 < full → FitFrames (full + 1) ((full + 1) - m % full) (paced full (m + 1) es ++ committed header)
+pub fits : (full m : ℕ) (es : List Edit) (header : Plan) → 0 < full
+    → FitFrames (full + 1) ((full + 1) - m % full) (paced full (m + 1) es ++ committed header)
 fits full m [] header some =
     let below : m % full < full = mod-lt m some in
     (omega (arith, below), (omega (arith, below), tt))
@@ -111,7 +134,8 @@ fits full m (e ∷ es) header some =
     let left = (full + 1) - m % full in
     let acts : List Act = paced full ((m + 1) + 1) es ++ committed header in (
       omega (arith, below),
-      subst (FitFrames (full + 1) (left - 1)) (sym (append_assoc (pause_after full (m + 1)) (paced full ((m + 1) + 1) es) (committed header)))
+      subst (FitFrames (full + 1) (left - 1))
+          (sym (append_assoc (pause_after full (m + 1)) (paced full ((m + 1) + 1) es) (committed header)))
           (after_pause ((m + 1) % full == 0) (full + 1) (left - 1) acts (omega (arith, below))
           (λ yes. let none : (m + 1) % full ≡ 0 = is_zero ((m + 1) % full) yes in
           let whole : (full + 1) - (m + 1) % full ≡ full + 1 = omega (arith, none) in
@@ -123,24 +147,28 @@ fits full m (e ∷ es) header some =
 
 -- ---- a whole plan
 
-pub plan_formed : (header : Plan) (from to : Configuration) → IsPlan header → IsConfiguration from → IsConfiguration to → All IsAct (plan_acts header from to)
+pub plan_formed : (header : Plan) (from to : Configuration) → IsPlan header → IsConfiguration from → IsConfiguration to
+    → All IsAct (plan_acts header from to)
 plan_formed header from to headed is_from is_to =
     acts_formed header (header.budget - 1) 1 (edits_between from to) headed (between_formed from to is_from is_to)
 
-pub plan_few : (header : Plan) (from to : Configuration) → IsConfiguration from → IsConfiguration to → length (plan_acts header from to) ≤ 7000
+pub plan_few : (header : Plan) (from to : Configuration) → IsConfiguration from → IsConfiguration to
+    → length (plan_acts header from to) ≤ 7000
 plan_few header from to is_from is_to =
     let edits = between_few from to is_from is_to in
     let few = few_paced (header.budget - 1) 1 (edits_between from to) in
     let size = length-append (paced (header.budget - 1) 1 (edits_between from to)) (committed header) in
     omega (arith, edits, few, size)
 
-pub plan_leads : (header : Plan) (from to : Configuration) → Transform (edits_between from to) from to → Transform (edits_in (plan_acts header from to)) from to
+pub plan_leads : (header : Plan) (from to : Configuration) → Transform (edits_between from to) from to
+    → Transform (edits_in (plan_acts header from to)) from to
 plan_leads header from to h =
     let same : edits_in (plan_acts header from to) ≡ edits_between from to =
     edits_paced (header.budget - 1) 1 (edits_between from to) (committed header) ∙ append-nil (edits_between from to) in
     subst (λ (es : List Edit). Transform es from to) (sym same) h
 
-pub plan_fits : (header : Plan) (from to : Configuration) → 2 ≤ header.budget → FitFrames header.budget header.budget (plan_acts header from to)
+pub plan_fits : (header : Plan) (from to : Configuration) → 2 ≤ header.budget
+    → FitFrames header.budget header.budget (plan_acts header from to)
 plan_fits header from to two =
     let full = header.budget - 1 in
     let some : 0 < full = omega (arith, two) in
@@ -148,4 +176,5 @@ plan_fits header from to two =
     let none : 0 % full ≡ 0 = mod-eq_of_lt some in
     let left : (full + 1) - 0 % full ≡ header.budget = omega (arith, none, whole) in
     subst (λ (n : ℕ). FitFrames n header.budget (plan_acts header from to)) whole
-    (subst (λ (n : ℕ). FitFrames (full + 1) n (plan_acts header from to)) left (fits full 0 (edits_between from to) header some))
+    (subst (λ (n : ℕ). FitFrames (full + 1) n (plan_acts header from to)) left
+    (fits full 0 (edits_between from to) header some))

@@ -1,5 +1,13 @@
 -- Scripts without blocks: their items and statements one by one, and that they are scripts.
-use Rattle.script_config.proofs.Words.{[], ◌%◌, ◌*◌, ◌++◌, ◌+◌, ◌/◌, ◌<◌, ◌==◌, ◌∙◌, ◌∷◌, ◌≡◌, ◌≤◌, A, Act, AddPacket, AddSub, Adds, All, AllByRecursion, AllFit, AreNamedApart, B, Bool, Component, Configuration, Edit, EepSet, IsAct, IsAddressed, IsComponent, IsConfiguration, IsEdit, IsInBounds, IsItem, IsPlaced, IsPlan, IsScript, IsService, IsSid, Item, List, Packet, Plan, Service, Sid, Sub, Tree, acts_from, added_by, ap, arith, components_added, cond, counted, counted_in, edits_that_make, false, flat_map, get_or, items_from, length, length-take-le, packet_added, rate_step, refl, service_added, sub_added, subst, suc, sym, take, take_all, take_more, true, units_of_step, zero, ℕ}
+use Rattle.script_config.proofs.Words.{[], ◌%◌, ◌*◌, ◌++◌, ◌+◌, ◌/◌, ◌<◌, ◌==◌, ◌∙◌, ◌∷◌, ◌≡◌, ◌≤◌, A, Act, AddPacket}
+use Rattle.script_config.proofs.Words.{AddSub, Adds, All, AllByRecursion, AllFit, AreNamedApart, B, Bool, Component}
+use Rattle.script_config.proofs.Words.{Configuration, Edit, EepSet, IsAct, IsAddressed, IsComponent, IsConfiguration}
+use Rattle.script_config.proofs.Words.{IsEdit, IsInBounds, IsItem, IsPlaced, IsPlan, IsScript, IsService, IsSid, Item}
+use Rattle.script_config.proofs.Words.{List, Packet, Plan, Service, Sid, Sub, Tree, acts_from, added_by, ap, arith}
+use Rattle.script_config.proofs.Words.{components_added, cond, counted, counted_in, edits_that_make, false, flat_map}
+use Rattle.script_config.proofs.Words.{get_or, items_from, length, length-take-le, packet_added, rate_step, refl}
+use Rattle.script_config.proofs.Words.{service_added, sub_added, subst, suc, sym, take, take_all, take_more, true}
+use Rattle.script_config.proofs.Words.{units_of_step, zero, ℕ}
 use Rattle.script_front.specs.declared.tree.Statement.{Statement}
 use Rattle.script_front.specs.Block.{Block, nothing, basic, before, and_then, block_of}
 use Rattle.script_front.specs.Keywords.{IsName}
@@ -7,21 +15,26 @@ use Rattle.script_config.proofs.Members.{both, each_of}
 
 -- ---- appending one
 
-pub items_pushed : (line : ℕ) (es : List Edit) (e : Edit) → items_from line (es ++ e ∷ []) ≡ items_from line es ++ record { line = line + length es; edit = e } ∷ []
-items_pushed line [] e = let same : line ≡ line + 0 = omega arith in ap (λ (n : ℕ). record { line = n; edit = e } ∷ []) same
+pub items_pushed : (line : ℕ) (es : List Edit) (e : Edit) → items_from line (es ++ e ∷ []) ≡ items_from line es
+    ++ record { line = line + length es; edit = e } ∷ []
+items_pushed line [] e = let same : line ≡ line + 0 = omega arith in
+    ap (λ (n : ℕ). record { line = n; edit = e } ∷ []) same
 items_pushed line (f ∷ es) e =
     let rest = items_pushed (line + 1) es e in
     let same : (line + 1) + length es ≡ line + length (f ∷ es) = omega arith in
-    ap (λ (is : List Item). record { line = line; edit = f } ∷ is) (rest ∙ ap (λ (n : ℕ). items_from (line + 1) es ++ record { line = n; edit = e } ∷ []) same)
+    ap (λ (is : List Item). record { line = line; edit = f } ∷ is)
+    (rest ∙ ap (λ (n : ℕ). items_from (line + 1) es ++ record { line = n; edit = e } ∷ []) same)
 
-pub acts_pushed : (line : ℕ) (acts : List Act) (a : Act) (b : Block) → acts_from line (acts ++ a ∷ []) b ≡ acts_from line acts (basic (line + length acts) a b)
+pub acts_pushed : (line : ℕ) (acts : List Act) (a : Act) (b : Block)
+    → acts_from line (acts ++ a ∷ []) b ≡ acts_from line acts (basic (line + length acts) a b)
 acts_pushed line [] a b = let same : line ≡ line + 0 = omega arith in ap (λ (n : ℕ). basic n a b) same
 acts_pushed line (x ∷ acts) a b =
     let rest = acts_pushed (line + 1) acts a b in
     let same : (line + 1) + length acts ≡ line + length (x ∷ acts) = omega arith in
     ap (basic line x) (rest ∙ ap (λ (n : ℕ). acts_from (line + 1) acts (basic n a b)) same)
 
-pub then_pushed : (ss : List Statement) (s : Statement) (b : Block) → and_then [] (ss ++ s ∷ []) b ≡ and_then [] ss (before [] s b)
+pub then_pushed : (ss : List Statement) (s : Statement) (b : Block)
+    → and_then [] (ss ++ s ∷ []) b ≡ and_then [] ss (before [] s b)
 then_pushed [] s b = refl
 then_pushed (x ∷ ss) s b = ap (before [] x) (then_pushed ss s b)
 
@@ -34,33 +47,42 @@ pub record AreItemsFrom (line now : ℕ) (es : List Edit) (i : ℕ) (out : List 
 take_length : {T : Type 0} (xs : List T) (i : ℕ) → i ≤ length xs → length (take i xs) ≡ i
 take_length xs i le = length-take-le i xs le
 
-pub item_on : (line now : ℕ) (es : List Edit) (i : ℕ) (e : Edit) (out : List Item) → i < length es → e ≡ get_or es i e → AreItemsFrom line now es i out
+pub item_on : (line now : ℕ) (es : List Edit) (i : ℕ) (e : Edit) (out : List Item) → i < length es → e ≡ get_or es i e
+    → AreItemsFrom line now es i out
     → AreItemsFrom line (now + 1) es (i + 1) (out ++ record { line = now; edit = e } ∷ [])
 item_on line now es i e out lt same h =
-    let more : take (i + 1) es ≡ take i es ++ e ∷ [] = take_more es i e lt ∙ ap (λ (x : Edit). take i es ++ x ∷ []) (sym same) in
-    let long : line + length (take i es) ≡ now = let n = take_length es i (omega (arith, lt)) in let at = h.here in omega (arith, n, at) in
+    let more : take (i + 1) es ≡ take i es ++ e ∷ [] =
+    take_more es i e lt ∙ ap (λ (x : Edit). take i es ++ x ∷ []) (sym same) in
+    let long : line + length (take i es) ≡ now = let n = take_length es i (omega (arith, lt)) in let at = h.here in
+    omega (arith, n, at) in
     record {
       here = let at = h.here in omega (arith, at);
-      so_far = sym (ap (items_from line) more ∙ items_pushed line (take i es) e ∙ ap (λ (n : ℕ). items_from line (take i es) ++ record { line = n; edit = e } ∷ []) long
+      so_far = sym (ap (items_from line) more ∙ items_pushed line (take i es) e
+          ∙ ap (λ (n : ℕ). items_from line (take i es) ++ record { line = n; edit = e } ∷ []) long
           ∙ ap (λ (is : List Item). is ++ record { line = now; edit = e } ∷ []) (sym h.so_far));
     }
 
-pub items_done : (line now : ℕ) (es : List Edit) (i : ℕ) (out : List Item) → length es ≤ i → AreItemsFrom line now es i out → out ≡ items_from line es
+pub items_done : (line now : ℕ) (es : List Edit) (i : ℕ) (out : List Item) → length es ≤ i
+    → AreItemsFrom line now es i out → out ≡ items_from line es
 items_done line now es i out past h = h.so_far ∙ ap (items_from line) (take_all i es past)
 
 pub record AreActsFrom (line now : ℕ) (acts : List Act) (i : ℕ) (out : List Statement) : Type 0 where
   pub here : now ≡ line + i
   pub so_far : (b : Block) → and_then [] out b ≡ acts_from line (take i acts) b
 
-pub act_on : (line now : ℕ) (acts : List Act) (i : ℕ) (a : Act) (out : List Statement) (s : Statement) → i < length acts → a ≡ get_or acts i a → ((b : Block) → before [] s b ≡ basic now a b)
+pub act_on : (line now : ℕ) (acts : List Act) (i : ℕ) (a : Act) (out : List Statement) (s : Statement) → i < length acts
+    → a ≡ get_or acts i a → ((b : Block) → before [] s b ≡ basic now a b)
     → AreActsFrom line now acts i out → AreActsFrom line (now + 1) acts (i + 1) (out ++ s ∷ [])
 act_on line now acts i a out s lt same is h =
-    let more : take (i + 1) acts ≡ take i acts ++ a ∷ [] = take_more acts i a lt ∙ ap (λ (x : Act). take i acts ++ x ∷ []) (sym same) in
-    let long : now ≡ line + length (take i acts) = let n = take_length acts i (omega (arith, lt)) in let at = h.here in omega (arith, n, at) in
+    let more : take (i + 1) acts ≡ take i acts ++ a ∷ [] =
+    take_more acts i a lt ∙ ap (λ (x : Act). take i acts ++ x ∷ []) (sym same) in
+    let long : now ≡ line + length (take i acts) = let n = take_length acts i (omega (arith, lt)) in let at = h.here in
+    omega (arith, n, at) in
     record {
       here = let at = h.here in omega (arith, at);
       so_far = λ b. then_pushed out s b ∙ ap (and_then [] out) (is b) ∙ h.so_far (basic now a b)
-          ∙ ap (λ (n : ℕ). acts_from line (take i acts) (basic n a b)) long ∙ sym (acts_pushed line (take i acts) a b) ∙ sym (ap (λ (xs : List Act). acts_from line xs b) more);
+          ∙ ap (λ (n : ℕ). acts_from line (take i acts) (basic n a b)) long ∙ sym (acts_pushed line (take i acts) a b)
+          ∙ sym (ap (λ (xs : List Act). acts_from line xs b) more);
     }
 
 -- ---- the edits of items
@@ -91,9 +113,13 @@ AreFew q units = units * q ≤ 864 → q ≤ 864
 
 steps_few : (set : EepSet) (level q : ℕ) → AreFew q (units_of_step set level)
 steps_few A level q =
-    chosen (AreFew q) (level == 1) 12 _ (λ h. omega (arith, h)) (chosen (AreFew q) (level == 2) 8 _ (λ h. omega (arith, h)) (chosen (AreFew q) (level == 3) 6 4 (λ h. omega (arith, h)) (λ h. omega (arith, h))))
+    chosen (AreFew q) (level == 1) 12 _ (λ h. omega (arith, h))
+    (chosen (AreFew q) (level == 2) 8 _ (λ h. omega (arith, h))
+    (chosen (AreFew q) (level == 3) 6 4 (λ h. omega (arith, h)) (λ h. omega (arith, h))))
 steps_few B level q =
-    chosen (AreFew q) (level == 1) 27 _ (λ h. omega (arith, h)) (chosen (AreFew q) (level == 2) 21 _ (λ h. omega (arith, h)) (chosen (AreFew q) (level == 3) 18 15 (λ h. omega (arith, h)) (λ h. omega (arith, h))))
+    chosen (AreFew q) (level == 1) 27 _ (λ h. omega (arith, h))
+    (chosen (AreFew q) (level == 2) 21 _ (λ h. omega (arith, h))
+    (chosen (AreFew q) (level == 3) 18 15 (λ h. omega (arith, h)) (λ h. omega (arith, h))))
 
 rate_by : (set : EepSet) (kbits : ℕ) → kbits % rate_step set ≡ 0 → kbits / rate_step set ≤ 864 → kbits < 65536
 rate_by A kbits whole few = omega (arith, whole, few)
@@ -103,8 +129,10 @@ pub rate_short : (s : Sub) → IsPlaced s → s.kbits < 65536
 rate_short s h =
     let size = h.sized.from_table in
     let within = h.sized.within in
-    let few : units_of_step s.protection.set s.protection.level * (s.kbits / rate_step s.protection.set) ≤ 864 = omega (arith, size, within) in
-    rate_by s.protection.set s.kbits h.sized.multiple (steps_few s.protection.set s.protection.level (s.kbits / rate_step s.protection.set) few)
+    let few : units_of_step s.protection.set s.protection.level * (s.kbits / rate_step s.protection.set) ≤ 864 =
+    omega (arith, size, within) in
+    rate_by s.protection.set s.kbits h.sized.multiple
+    (steps_few s.protection.set s.protection.level (s.kbits / rate_step s.protection.set) few)
 
 pub sub_adding : (s : Sub) → IsPlaced s → IsAdding (AddSub s)
 sub_adding s h = (
@@ -118,7 +146,8 @@ sub_adding s h = (
   tt,
 )
 
-pub components_adding : (sid : Sid) (ms : List Component) → IsSid sid → AllByRecursion IsComponent ms → AllByRecursion IsAdding (components_added sid ms)
+pub components_adding : (sid : Sid) (ms : List Component) → IsSid sid → AllByRecursion IsComponent ms
+    → AllByRecursion IsAdding (components_added sid ms)
 components_adding sid [] named h = tt
 components_adding sid (m ∷ ms) named h = (((named, h.0), tt), components_adding sid ms named h.1)
 
@@ -126,7 +155,16 @@ service_adding : (s : Service) → IsService s → AllByRecursion IsAdding (serv
 service_adding s h = ((h.named, tt), components_adding s.sid s.components h.named h.within)
 
 pub packet_adding : (p : Packet) → IsAddressed p → IsAdding (AddPacket p)
-packet_adding p h = (record { named = h.named; typed = h.typed; carried = h.carried; to_last = let last = h.to_last in omega (arith, last) }, tt)
+packet_adding p h = (
+  record {
+    named = h.named;
+    typed = h.typed;
+    carried = h.carried;
+    to_last = let last = h.to_last in
+        omega (arith, last);
+  },
+  tt,
+)
 
 pub made_adding : (c : Configuration) → IsConfiguration c → AllByRecursion IsAdding (edits_that_make c)
 made_adding c h =
@@ -160,8 +198,10 @@ apart_none i j d lt below = absurd (omega (arith, below))
 none_formed : {X : Type 0} (P : X → Type 0) → All P []
 none_formed P k d lt = absurd (omega (arith, lt))
 
-pub is_script : (h : Plan) (es : List Edit) (acts : List Act) (t : Tree) → IsPlan h → AllByRecursion IsAdding es → All IsAct acts → length es ≤ 960 → length acts ≤ 7000
-    → t.header ≡ h → t.items ≡ items_from 3 es → t.names ≡ [] → t.blocks ≡ [] → (line : ℕ) → block_of [] t.statements ≡ acts_from line acts nothing → IsScript t
+pub is_script : (h : Plan) (es : List Edit) (acts : List Act) (t : Tree) → IsPlan h → AllByRecursion IsAdding es
+    → All IsAct acts → length es ≤ 960 → length acts ≤ 7000
+    → t.header ≡ h → t.items ≡ items_from 3 es → t.names ≡ [] → t.blocks ≡ [] → (line : ℕ)
+    → block_of [] t.statements ≡ acts_from line acts nothing → IsScript t
 is_script h es acts t headed adding ranged few_items few_acts header items names blocks line statements =
     let counts = acts_counted line acts in
     let count : counted (block_of [] t.statements) ≡ length acts = ap counted statements ∙ counts in
@@ -177,6 +217,7 @@ is_script h es acts t headed adding ranged few_items few_acts header items names
       defined = no_names ∙ sym no_blocks;
       few_blocks = omega (arith, no_blocks);
       blocks_fit = subst (AllFit 0) (sym blocks) tt;
-      fits = subst (λ (n : ℕ). IsInBounds n 16 (block_of [] t.statements)) (sym no_blocks) (subst (IsInBounds 0 16) (sym statements) (acts_bounded line acts ranged));
+      fits = subst (λ (n : ℕ). IsInBounds n 16 (block_of [] t.statements)) (sym no_blocks)
+          (subst (IsInBounds 0 16) (sym statements) (acts_bounded line acts ranged));
       few = omega (arith, count, long, none, few_items, few_acts);
     }

@@ -1,5 +1,7 @@
 -- Test vectors: small plans for which each definition holds, and for which it fails.
-use Rattle.script_config.proofs.Words.{[], ◌∷◌, ◌≡◌, ◌≢◌, CommitIn, DropSub, Edit, FitFrames, FrameLayout, I, II, IsOpening, Join, Plan, ReserveOne, Wait, Whole, arith, edits_in, nothing, paced, pause_after, refl, ℕ}
+use Rattle.script_config.proofs.Words.{[], ◌∷◌, ◌≡◌, ◌≢◌, CommitIn, DropSub, Edit, FitFrames, FrameLayout, I, II}
+use Rattle.script_config.proofs.Words.{IsOpening, Join, Plan, ReserveOne, Wait, Whole, arith, edits_in, nothing, paced}
+use Rattle.script_config.proofs.Words.{pause_after, refl, ℕ}
 use Rattle.script_config.specs.declared.opening.Opening.{Opening}
 use Rattle.script_config.specs.declared.refusal.DiffFault.TheVariants.{AnotherEnsemble}
 use Rattle.script_config.specs.Refusals.{IsOneEnsemble, CanBePlanned, IsInTheWay}
@@ -52,7 +54,11 @@ not_another h = h (record { eid = refl; mode = refl })
 
 -- reserved FIBs make no other ensemble; another mode does
 abbrev laid_out : FrameLayout → Opening
-laid_out layout = record { header = record { eid = 1; layout = layout; period = 4; notice = 24; budget = 20 }; begin_line = 3; config = nothing }
+laid_out layout = record {
+  header = record { eid = 1; layout = layout; period = 4; notice = 24; budget = 20 };
+  begin_line = 3;
+  config = nothing;
+}
 
 of_another_reserve : IsOneEnsemble (laid_out (Whole I)) (laid_out (ReserveOne I))
 of_another_reserve = record { eid = refl; mode = refl }

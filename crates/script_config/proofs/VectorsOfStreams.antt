@@ -1,5 +1,7 @@
 -- Test vectors: small streams for which each definition holds, and for which it fails.
-use Rattle.script_config.proofs.Words.{[], ◌∷◌, ◌≡◌, ◌≢◌, Configuration, I, IsFirstUnsaid, IsOpeningReason, IsSaid, NamesAfter, None, Raw, Some, Whole, ap, arith, false, inr, length, named_by_entries, page_frames, refl, steady, ℕ}
+use Rattle.script_config.proofs.Words.{[], ◌∷◌, ◌≡◌, ◌≢◌, Configuration, I, IsFirstUnsaid, IsOpeningReason, IsSaid}
+use Rattle.script_config.proofs.Words.{NamesAfter, None, Raw, Some, Whole, ap, arith, false, inr, length}
+use Rattle.script_config.proofs.Words.{named_by_entries, page_frames, refl, steady, ℕ}
 use Rattle.script_tokens.specs.declared.fault.ScriptFault.TheVariants.{Expected}
 use Rattle.script_config.specs.declared.opening.OpeningFault.TheVariants.{Script, Memory}
 use Rattle.script_config.specs.Texts.{usual_period}
@@ -36,7 +38,8 @@ not_twice e = absurd (omega (arith, e))
 
 -- ---- frames of pages
 
-sent_in_every_fourth : steady (Whole I) 57797 4 ≡ Some (record { eid = 57797; change = 0; al = false; count = 4; occurrence = None })
+sent_in_every_fourth : steady (Whole I) 57797 4 ≡ Some
+    (record { eid = 57797; change = 0; al = false; count = 4; occurrence = None })
 sent_in_every_fourth = refl
 
 not_in_others : steady (Whole I) 57797 5 ≡ None

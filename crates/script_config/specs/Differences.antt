@@ -4,7 +4,8 @@ use Rattle.std.specs.Prelude.{◌==◌, ◌&&◌, Bool, if◌then◌else◌, nat
 use Rattle.std.specs.List.{flat_map}
 use Rattle.mux_eep.specs.Sizes.{Profile}
 use Rattle.mux_config.specs.declared.edit.Edit.{Edit}
-use Rattle.mux_config.specs.declared.edit.Edit.TheVariants.{DropSub, MoveSub, RateSub, DropService, DropComponent, DropPacket}
+use Rattle.mux_config.specs.declared.edit.Edit.TheVariants.{DropSub, MoveSub, RateSub, DropService, DropComponent}
+use Rattle.mux_config.specs.declared.edit.Edit.TheVariants.{DropPacket}
 use Rattle.mux_types.specs.declared.numbers.Sid.{Sid}
 use Rattle.mux_types.specs.declared.parts.Sub.{Sub}
 use Rattle.mux_types.specs.declared.parts.Service.{Service}

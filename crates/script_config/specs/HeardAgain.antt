@@ -1,5 +1,6 @@
 -- A configuration that is sent page by page, and what a new listener makes of it.
-use Rattle.std.specs.Prelude.{◌≡◌, ℕ, zero, suc, ◌%◌, ◌==◌, ◌<◌, false, if◌then◌else◌, List, [], ◌∷◌, Option, Some, None}
+use Rattle.std.specs.Prelude.{◌≡◌, ℕ, zero, suc, ◌%◌, ◌==◌, ◌<◌, false, if◌then◌else◌, List, [], ◌∷◌, Option, Some}
+use Rattle.std.specs.Prelude.{None}
 use Rattle.mux_config.specs.Configuration.{Configuration, IsConfiguration}
 use Rattle.mux_config.specs.Sound.{IsSound}
 use Rattle.mux_types.specs.Entries.{EnsembleInformation}
@@ -23,7 +24,8 @@ steady layout eid count =
 abbrev pub page_frames : FrameLayout → (eid count : ℕ) → Configuration → (pages first : ℕ) → List (List ℕ)
 page_frames layout eid count c zero first = []
 page_frames layout eid count c (suc pages) first =
-    page_bytes layout (steady layout eid count) first (page_set c None) ∷ page_frames layout eid count c pages (suc first)
+    page_bytes layout (steady layout eid count) first (page_set c None)
+    ∷ page_frames layout eid count c pages (suc first)
 
 -- the frames of all pages
 abbrev pub all_frames : FrameLayout → (eid count : ℕ) → Configuration → List (List ℕ)
@@ -32,6 +34,8 @@ all_frames layout eid count c = page_frames layout eid count c (rounds layout (p
 -- a new listener that hears all pages of a sound configuration, at a count with FIG 0/0, has it as the current one
 abbrev pub PagesAreHeardAgain : Type 0
 PagesAreHeardAgain =
-    (layout : FrameLayout) (eid count : ℕ) (c : Configuration) → IsConfiguration c → IsSound c → eid < 65536 → count < 5000
+    (layout : FrameLayout) (eid count : ℕ) (c : Configuration) → IsConfiguration c → IsSound c → eid < 65536
+    → count < 5000
     → count % count_step (layout_mode layout) ≡ 0
-    → (heard : Listening) × HearsAll (fibs_of layout (all_frames layout eid count c)) untuned heard × Shows heard.current c
+    → (heard : Listening) × HearsAll (fibs_of layout (all_frames layout eid count c)) untuned heard
+    × Shows heard.current c

@@ -30,7 +30,8 @@ pub record Opens (text : List ℕ) (o : Opening) : Type 0 where
 -- sound
 abbrev pub HasNoOpening : List ℕ → OpeningFault → Type 0
 HasNoOpening text (NoScript fault) = IsNoScript text
-HasNoOpening text (Item fault) = (tree : Tree) × IsScript tree × IsScriptOf text tree × (made_by tree.items nothing ≡ Err fault)
+HasNoOpening text (Item fault) = (tree : Tree) × IsScript tree × IsScriptOf text tree
+    × (made_by tree.items nothing ≡ Err fault)
 HasNoOpening text (Unsound line fault) =
     (tree : Tree) × IsScript tree × IsScriptOf text tree × (line ≡ tree.begin_line)
     × ((c : Configuration) × (made_by tree.items nothing ≡ Ok c) × (sound_or_fault c ≡ Err fault))

@@ -25,4 +25,5 @@ pub record IsTextOf (header : Plan) (c : Configuration) (text : List ℕ) : Type
 
 -- room for twice the pages, and one frame more; at least 4 frames and at most the longest period
 abbrev pub usual_period : (pages : ℕ) → ℕ
-usual_period pages = if nat_lt (2 * pages + 1) 4 then 4 else if nat_lt LONGEST_PERIOD (2 * pages + 1) then LONGEST_PERIOD else 2 * pages + 1
+usual_period pages = if nat_lt (2 * pages + 1) 4 then 4 else if nat_lt LONGEST_PERIOD (2 * pages + 1) then
+    LONGEST_PERIOD else 2 * pages + 1

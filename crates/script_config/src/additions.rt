@@ -1,4 +1,5 @@
-//! The edits that add members of the second configuration, new ones and those that replace dropped ones.
+//! The edits that add members of the second configuration, new ones and those that replace dropped
+//! ones.
 
 ghost use Rattle.std.specs.Prelude.{◌≡◌, ◌++◌, OnOk};
 ghost use Rattle.std.specs.List.{flat_map, AllByRecursion};
@@ -12,7 +13,8 @@ use mux_config::{Config, Edit, Packet, Service, Store, Sub};
 use mux_types::sameness::is_same_packet;
 use std::alloc::AllocError;
 
-/// The edit that adds a sub-channel, if the other configuration lacks it or has it with another protection profile.
+/// The edit that adds a sub-channel, if the other configuration lacks it or has it with another
+/// protection profile.
 fn new_sub(edits: &mut Vec<Edit>, sub: &Sub, from: &Config) -> Result<(), AllocError>
     requires { IsPlaced sub.now }
     ensures { OnOk result (edits.new.items ≡ edits.old.items
@@ -26,7 +28,8 @@ fn new_sub(edits: &mut Vec<Edit>, sub: &Sub, from: &Config) -> Result<(), AllocE
     add_sub(edits, sub)
 }
 
-/// The edit that adds a packet component, if the other configuration lacks it or has a different one with its SCId.
+/// The edit that adds a packet component, if the other configuration lacks it or has a different
+/// one with its SCId.
 fn new_packet(edits: &mut Vec<Edit>, packet: &Packet, from: &Config) -> Result<(), AllocError>
     ensures { OnOk result (edits.new.items ≡ edits.old.items
         ++ packet_new (packet_at packet.now.scid from.now) packet.now) }
@@ -39,8 +42,8 @@ fn new_packet(edits: &mut Vec<Edit>, packet: &Packet, from: &Config) -> Result<(
     add_packet(edits, packet)
 }
 
-/// The edits that add a service with its components, if the other configuration lacks it; otherwise only the components
-/// after the longest common prefix.
+/// The edits that add a service with its components, if the other configuration lacks it; otherwise
+/// only the components after the longest common prefix.
 fn grow_service(edits: &mut Vec<Edit>, service: &Service, from: &Config) -> Result<(), AllocError>
     ensures { OnOk result (edits.new.items ≡ edits.old.items
         ++ service_grown (service_at service.now.sid from.now) service.now) }
@@ -55,7 +58,8 @@ fn grow_service(edits: &mut Vec<Edit>, service: &Service, from: &Config) -> Resu
     }
 }
 
-/// The edits that add the sub-channels that the other configuration lacks or has with another protection profile.
+/// The edits that add the sub-channels that the other configuration lacks or has with another
+/// protection profile.
 pub(crate) fn new_subs(edits: &mut Vec<Edit>, subs: &[Sub], from: &Config) -> Result<(), AllocError>
     requires { AllByRecursion IsPlaced subs.now }
     ensures { OnOk result (edits.new.items ≡ edits.old.items
@@ -67,7 +71,8 @@ pub(crate) fn new_subs(edits: &mut Vec<Edit>, subs: &[Sub], from: &Config) -> Re
     Ok(())
 }
 
-/// The edits that add the packet components that the other configuration lacks or has in a different form.
+/// The edits that add the packet components that the other configuration lacks or has in a
+/// different form.
 pub(crate) fn new_packets(
     edits: &mut Vec<Edit>,
     packets: &[Packet],
@@ -82,7 +87,8 @@ pub(crate) fn new_packets(
     Ok(())
 }
 
-/// The edits that add the services that the other configuration lacks, and components to those that it has.
+/// The edits that add the services that the other configuration lacks, and components to those that
+/// it has.
 pub(crate) fn grow_services(
     edits: &mut Vec<Edit>,
     services: &[Service],

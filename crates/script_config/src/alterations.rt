@@ -4,7 +4,8 @@ ghost use Rattle.std.specs.Prelude.{◌≡◌, ◌++◌, OnOk};
 ghost use Rattle.std.specs.List.{flat_map};
 ghost use Rattle.mux_config.specs.Configuration.{IsPlaced};
 ghost use Rattle.mux_config.specs.Edits.{sub_at};
-ghost use Rattle.script_config.specs.Differences.{start_altered, rate_altered, alterations, sub_altered};
+ghost use Rattle.script_config.specs.Differences.{start_altered, rate_altered, alterations};
+ghost use Rattle.script_config.specs.Differences.{sub_altered};
 
 use crate::making::put;
 use crate::removals::has_same_profile;
@@ -37,8 +38,9 @@ fn rate_sub(edits: &mut Vec<Edit>, sub: &Sub, other: &Sub) -> Result<(), AllocEr
     put(edits, Edit::RateSub { id, kbits })
 }
 
-/// The edits that turn a sub-channel into the other one, which has the same profile. A lower rate is set before the
-/// move, any other after it, so that the sub-channel never extends past the last capacity unit in between.
+/// The edits that turn a sub-channel into the other one, which has the same profile. A lower rate
+/// is set before the move, any other after it, so that the sub-channel never extends past the last
+/// capacity unit in between.
 fn alter(edits: &mut Vec<Edit>, sub: &Sub, other: &Sub) -> Result<(), AllocError>
     requires { IsPlaced other.now }
     ensures { OnOk result (edits.new.items ≡ edits.old.items ++ alterations sub.now other.now) }
@@ -51,7 +53,8 @@ fn alter(edits: &mut Vec<Edit>, sub: &Sub, other: &Sub) -> Result<(), AllocError
     rate_sub(edits, sub, other)
 }
 
-/// The edits that alter a sub-channel that the other configuration has with the same protection profile.
+/// The edits that alter a sub-channel that the other configuration has with the same protection
+/// profile.
 fn alter_sub(edits: &mut Vec<Edit>, sub: &Sub, to: &Config) -> Result<(), AllocError>
     ensures { OnOk result (edits.new.items ≡ edits.old.items
         ++ sub_altered (sub_at sub.now.id to.now) sub.now) }

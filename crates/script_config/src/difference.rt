@@ -11,10 +11,11 @@ use crate::removals::{cut_services, drop_packets, drop_services, drop_subs};
 use mux_config::{Config, Edit};
 use std::alloc::{AllocError, Global};
 
-/// The edits that turn one configuration into another, each kind in ascending order of identifiers: drop services, then
-/// components (the last of a service first), packet components and sub-channels; alter sub-channels that stay; add
-/// sub-channels, packet components, and services with their components. A sub-channel whose protection profile changes
-/// and a packet component that changes at all are dropped and added again; so are the components of a service after the
+/// The edits that turn one configuration into another, each kind in ascending order of identifiers:
+/// drop services, then components (the last of a service first), packet components and
+/// sub-channels; alter sub-channels that stay; add sub-channels, packet components, and services
+/// with their components. A sub-channel whose protection profile changes and a packet component
+/// that changes at all are dropped and added again; so are the components of a service after the
 /// longest common prefix.
 ///
 /// Applied in this order, no edit has a fault.

@@ -29,8 +29,8 @@ fn eid_of_figs(mut figs: Figs<'_>, before: Option<u16>) -> Option<u16>
     eid
 }
 
-/// The EId of the last FIG 0/0 for this ensemble (OE 0) in FIBs; if there is none, the previous one. Damaged FIBs are
-/// skipped.
+/// The EId of the last FIG 0/0 for this ensemble (OE 0) in FIBs; if there is none, the previous
+/// one. Damaged FIBs are skipped.
 pub fn eid_after(fibs: &[[u8; 32]], before: Option<u16>) -> Option<u16>
     ensures { NamesAfter fibs.now before result }
 {

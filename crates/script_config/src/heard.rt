@@ -11,8 +11,8 @@ use fib_reader::from_entry::{packet_from_entry, service_from_entry, sub_from_ent
 use fib_reader::{OwnedEntry, Picture};
 use mux_config::{Config, Entry};
 
-/// Whether some configuration has this entry: whether it describes a sub-channel, service or packet component of this
-/// profile.
+/// Whether some configuration has this entry: whether it describes a sub-channel, service or packet
+/// component of this profile.
 fn is_scriptable(entry: &Entry) -> bool
     requires { IsWithin entry.now }
     ensures said { result ≡ true → IsSaid (raw_entry entry.now) }
@@ -36,7 +36,8 @@ fn is_scriptable(entry: &Entry) -> bool
     }
 }
 
-/// The first entry of a picture, in ascending order of extension and identifier, that no configuration has.
+/// The first entry of a picture, in ascending order of extension and identifier, that no
+/// configuration has.
 fn first_unscriptable(picture: &Picture) -> Option<OwnedEntry>
     ensures first { IfSome result (IsFirstUnsaid (all_entries picture.now)) }
     ensures none { IfNone result (AreSaid (all_entries picture.now)) }
@@ -51,10 +52,10 @@ fn first_unscriptable(picture: &Picture) -> Option<OwnedEntry>
     None
 }
 
-/// The configuration that a picture shows, which may be unsound; or the first entry in it, in ascending order of
-/// extension and identifier, that no configuration has: a sub-channel in the short form, with an option above 1 or with
-/// a size that no rate has; a service with a component of another TMId; or an entry with a non-zero field that
-/// configurations always send as 0.
+/// The configuration that a picture shows, which may be unsound; or the first entry in it, in
+/// ascending order of extension and identifier, that no configuration has: a sub-channel in the
+/// short form, with an option above 1 or with a size that no rate has; a service with a component
+/// of another TMId; or an entry with a non-zero field that configurations always send as 0.
 pub fn config_heard(picture: &Picture) -> Result<Config, OwnedEntry>
     ensures shown { IfOk result (Shows picture.now) }
     ensures unsaid { IfErr result (IsFirstUnsaid (all_entries picture.now)) }

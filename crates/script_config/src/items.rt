@@ -11,8 +11,8 @@ use mux_config::{Config, EditFault, Store};
 use script_front::{Item, Script};
 use thiserror::Error;
 
-/// Why the items of a script make no configuration: the first item with a fault. The line is 1 to 65,535 in a script
-/// that was read. `Display` writes the line that `compile` prints.
+/// Why the items of a script make no configuration: the first item with a fault. The line is 1 to
+/// 65,535 in a script that was read. `Display` writes the line that `compile` prints.
 #[derive(Clone, Copy, Debug, PartialEq, Eq, Error)]
 #[error("refused line {line}: Edit {fault}")]
 pub struct ItemFault {
@@ -51,8 +51,8 @@ fn made_by(items: &[Item]) -> Result<Config, ItemFault>
     Ok(config)
 }
 
-/// The configuration that a script begins with: its items, applied to the empty one. It may be unsound. The first item
-/// with a fault is reported, with its line.
+/// The configuration that a script begins with: its items, applied to the empty one. It may be
+/// unsound. The first item with a fault is reported, with its line.
 pub fn opening_of(script: &Script) -> Result<Config, ItemFault>
     ensures value { result ≡ made_by script.now.items nothing }
     ensures leads { IfOk result (λ c. Transform (added_by script.now.items) nothing c) }

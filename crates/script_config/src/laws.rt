@@ -1,5 +1,6 @@
-//! The laws of edits between configurations and of configurations that are sent page by page, and the application of
-//! edits to any representation of a configuration. A law is a function that does nothing; its contract is the law.
+//! The laws of edits between configurations and of configurations that are sent page by page, and
+//! the application of edits to any representation of a configuration. A law is a function that does
+//! nothing; its contract is the law.
 
 ghost use Rattle.std.specs.Prelude.{◌≡◌};
 ghost use Rattle.mux_types.specs.Configuration.{Configuration, IsConfiguration, nothing};
@@ -10,8 +11,8 @@ ghost use Rattle.script_config.specs.HeardAgain.{PagesAreHeardAgain};
 
 use mux_config::{Edit, Store};
 
-/// The law of sequences: the edits that make a configuration turn the empty one into it, and those between two
-/// configurations turn one into the other, each applied without a fault.
+/// The law of sequences: the edits that make a configuration turn the empty one into it, and those
+/// between two configurations turn one into the other, each applied without a fault.
 pub fn transforming()
     ensures making { (c : Configuration) → IsConfiguration c
         → Transform (edits_that_make c) nothing c }
@@ -31,9 +32,9 @@ pub fn carry_out<S: Store>(edits: &[Edit], store: &mut S)
     }
 }
 
-/// A new listener that hears the frames of all pages of a sound configuration, all with one count at which FIG 0/0 is
-/// sent, knows exactly this configuration as the current one. So a script that has the configuration of a stream, sent
-/// page by page, is heard as this configuration again.
+/// A new listener that hears the frames of all pages of a sound configuration, all with one count
+/// at which FIG 0/0 is sent, knows exactly this configuration as the current one. So a script that
+/// has the configuration of a stream, sent page by page, is heard as this configuration again.
 pub fn heard_again()
     ensures { PagesAreHeardAgain }
 {

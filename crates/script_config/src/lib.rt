@@ -1,21 +1,28 @@
 //! Configurations as scripts, and the plans between them (EN 300 401 clauses 6.1 to 6.5).
 //!
-//! - From a script: [`opening_of`] applies its items to the empty configuration, and [`read_opening`] returns the
+//! - From a script: [`opening_of`] applies its items to the empty configuration, and
+//! [`read_opening`] returns the
 //!   [`Opening`] of a text, whose configuration is sound.
-//! - To a script: [`script_of`] makes the script that begins with a configuration, and [`config_text`] its text.
-//! - From a stream of FIBs: [`eid_after`] returns the EId that it signals last, and [`config_heard`] the configuration
+//! - To a script: [`script_of`] makes the script that begins with a configuration, and
+//! [`config_text`] its text.
+//! - From a stream of FIBs: [`eid_after`] returns the EId that it signals last, and
+//! [`config_heard`] the configuration
 //!   that a picture shows, or the first entry that no configuration has.
-//! - Between two configurations: [`edits_that_make`] returns the edits that make a configuration from the empty one,
+//! - Between two configurations: [`edits_that_make`] returns the edits that make a configuration
+//! from the empty one,
 //!   and [`edits_between`] those that turn one into another.
-//! - Between two openings: [`fault_between`] says why there is no plan, and [`plan_between`] makes the plan that turns
+//! - Between two openings: [`fault_between`] says why there is no plan, and [`plan_between`] makes
+//! the plan that turns
 //!   one configuration into the other by one reconfiguration.
-//! - That no edit of these has a fault, and what they result in, is a law in [`laws`], and so is that a configuration
+//! - That no edit of these has a fault, and what they result in, is a law in [`laws`], and so is
+//! that a configuration
 //!   which is sent page by page is heard again.
 //!
-//! What items make is defined in `specs/Items.antt`, the script of a configuration in `specs/Plain.antt` and its text
-//! in `specs/Texts.antt`; the EId of a stream in `specs/Ensembles.antt`, and entries that no configuration has in
-//! `specs/Unsaid.antt`; edits in `specs/Making.antt` and `specs/Differences.antt`; the plan in `specs/Plan.antt`, the
-//! refusals in `specs/Refusals.antt`, and what is heard again in `specs/HeardAgain.antt`.
+//! What items make is defined in `specs/Items.antt`, the script of a configuration in
+//! `specs/Plain.antt` and its text in `specs/Texts.antt`; the EId of a stream in
+//! `specs/Ensembles.antt`, and entries that no configuration has in `specs/Unsaid.antt`; edits in
+//! `specs/Making.antt` and `specs/Differences.antt`; the plan in `specs/Plan.antt`, the refusals in
+//! `specs/Refusals.antt`, and what is heard again in `specs/HeardAgain.antt`.
 #![tactic(auto)]
 
 pub mod additions;

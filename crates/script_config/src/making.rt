@@ -3,7 +3,8 @@
 ghost use Rattle.std.specs.Prelude.{◌≡◌, ◌≤◌, ◌++◌, ◌∷◌, [], length, OnOk, IfOk};
 ghost use Rattle.std.specs.List.{flat_map, AllByRecursion};
 ghost use Rattle.mux_config.specs.Configuration.{IsConfiguration, IsPlaced, nothing};
-ghost use Rattle.script_config.specs.Making.{sub_added, components_added, service_added, packet_added, edits_that_make};
+ghost use Rattle.script_config.specs.Making.{sub_added, components_added, service_added};
+ghost use Rattle.script_config.specs.Making.{packet_added, edits_that_make};
 ghost use Rattle.script_config.specs.Sequences.{Transform};
 
 use crate::laws;
@@ -90,8 +91,9 @@ fn add_packets(edits: &mut Vec<Edit>, packets: &[Packet]) -> Result<(), AllocErr
     Ok(())
 }
 
-/// The edits that make a configuration from the empty one, at most 960: the sub-channels by SubChId; the services by
-/// SId, the 16-bit ones first, each followed by its components in order; the packet components by SCId.
+/// The edits that make a configuration from the empty one, at most 960: the sub-channels by
+/// SubChId; the services by SId, the 16-bit ones first, each followed by its components in order;
+/// the packet components by SCId.
 pub fn edits_that_make(alloc: Global, config: &Config) -> Result<Vec<Edit>, AllocError>
     ensures value { IfOk result (λ v. v.items ≡ edits_that_make config.now) }
     ensures leads { IfOk result (λ v. Transform v.items nothing config.now) }

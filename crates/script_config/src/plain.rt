@@ -51,8 +51,9 @@ fn statements_from(alloc: Global, first: u16, acts: &[Act]) -> Result<Vec<Statem
     Ok(statements)
 }
 
-/// The script with this header that begins with a configuration, which may be unsound, and has these acts. The edits
-/// that make the configuration are its items and the acts its statements, on the lines on which `print` prints them.
+/// The script with this header that begins with a configuration, which may be unsound, and has
+/// these acts. The edits that make the configuration are its items and the acts its statements, on
+/// the lines on which `print` prints them.
 pub fn script_of(
     alloc: Global,
     header: Plan,

@@ -67,9 +67,10 @@ fn acts_between(
     Ok(acts)
 }
 
-/// The plan with this header that turns one configuration into the other by one reconfiguration: the edits between them
-/// in order, a commit with the header's notice, and `join`. A `wait 1` follows each edit whose number, counted from 1,
-/// is a multiple of the budget less one, so that no frame has more instructions than the budget.
+/// The plan with this header that turns one configuration into the other by one reconfiguration:
+/// the edits between them in order, a commit with the header's notice, and `join`. A `wait 1`
+/// follows each edit whose number, counted from 1, is a multiple of the budget less one, so that no
+/// frame has more instructions than the budget.
 pub fn plan_between(
     alloc: Global,
     header: Plan,

@@ -1,7 +1,8 @@
 //! Why there is no plan from one opening to another.
 
 ghost use Rattle.std.specs.Prelude.{◌↔◌, ◌≤◌, IsTrue, IfSome, IfNone};
-ghost use Rattle.script_config.specs.Refusals.{FitsPeriod, IsOneEnsemble, HaveRoom, CanBePlanned, IsInTheWay};
+ghost use Rattle.script_config.specs.Refusals.{FitsPeriod, IsOneEnsemble, HaveRoom, CanBePlanned};
+ghost use Rattle.script_config.specs.Refusals.{IsInTheWay};
 
 use crate::opening::Opening;
 use fib_carousel::pages;
@@ -17,8 +18,8 @@ pub enum DiffFault {
     /// They have the same configuration.
     #[error("refused: NoChange")]
     NoChange,
-    /// The pages of both configurations together take longer than the period, or three cycles of them longer than the
-    /// notice.
+    /// The pages of both configurations together take longer than the period, or three cycles of
+    /// them longer than the notice.
     #[error("refused: Round")]
     Round,
     /// The budget is 1, so no frame has room for an edit and a wait.
@@ -41,7 +42,8 @@ fn is_one_ensemble(from: &Opening, to: &Opening) -> bool
     from.header.eid == to.header.eid && from.header.layout.mode() == to.header.layout.mode()
 }
 
-/// Whether the pages of both go out once within the period of the second opening, and three times within its notice.
+/// Whether the pages of both go out once within the period of the second opening, and three times
+/// within its notice.
 fn have_room(from: &Opening, to: &Opening) -> bool
     ensures { IsTrue result ↔ HaveRoom from.now to.now }
 {
@@ -49,7 +51,8 @@ fn have_room(from: &Opening, to: &Opening) -> bool
     both <= usize::from(to.header.period) && both <= usize::from(to.header.notice) / 3
 }
 
-/// Why there is no plan with the second opening's header from the first to the second; None if there is one.
+/// Why there is no plan with the second opening's header from the first to the second; None if
+/// there is one.
 pub fn fault_between(from: &Opening, to: &Opening) -> Option<DiffFault>
     requires { 1 ≤ to.now.header.budget }
     ensures fault { IfSome result (IsInTheWay from.now to.now) }

@@ -1,9 +1,12 @@
-//! The edits that drop members of the first configuration, those that the second lacks and those that are replaced.
+//! The edits that drop members of the first configuration, those that the second lacks and those
+//! that are replaced.
 
 ghost use Rattle.std.specs.Prelude.{◌≡◌, ◌++◌, ◌≤◌, length, drop, OnOk};
 ghost use Rattle.std.specs.List.{flat_map};
 ghost use Rattle.mux_config.specs.Edits.{sub_at, service_at, packet_at};
-ghost use Rattle.script_config.specs.Differences.{after_common, components_dropped, service_gone, service_cut, packet_gone, sub_gone, is_same_profile};
+ghost use Rattle.script_config.specs.Differences.{after_common, components_dropped, service_gone};
+ghost use Rattle.script_config.specs.Differences.{service_cut, packet_gone, sub_gone};
+ghost use Rattle.script_config.specs.Differences.{is_same_profile};
 
 use crate::making::put;
 use mux_config::{Component, Config, Edit, Packet, Service, Sid, Store, Sub};
@@ -54,8 +57,8 @@ fn drop_service(edits: &mut Vec<Edit>, service: &Service, to: &Config) -> Result
     }
 }
 
-/// The edits that drop the components of a service after the longest common prefix, if the other configuration has the
-/// service.
+/// The edits that drop the components of a service after the longest common prefix, if the other
+/// configuration has the service.
 fn cut_service(edits: &mut Vec<Edit>, service: &Service, to: &Config) -> Result<(), AllocError>
     ensures { OnOk result (edits.new.items ≡ edits.old.items
         ++ service_cut (service_at service.now.sid to.now) service.now) }
@@ -70,7 +73,8 @@ fn cut_service(edits: &mut Vec<Edit>, service: &Service, to: &Config) -> Result<
     }
 }
 
-/// The edit that drops a packet component, if the other configuration lacks it or has a different one with its SCId.
+/// The edit that drops a packet component, if the other configuration lacks it or has a different
+/// one with its SCId.
 fn drop_packet(edits: &mut Vec<Edit>, packet: &Packet, to: &Config) -> Result<(), AllocError>
     ensures { OnOk result (edits.new.items ≡ edits.old.items
         ++ packet_gone (packet_at packet.now.scid to.now) packet.now) }
@@ -90,7 +94,8 @@ pub(crate) fn has_same_profile(sub: &Sub, other: &Sub) -> bool
     sub.protection == other.protection
 }
 
-/// The edit that drops a sub-channel, if the other configuration lacks it or has it with another protection profile.
+/// The edit that drops a sub-channel, if the other configuration lacks it or has it with another
+/// protection profile.
 fn drop_sub(edits: &mut Vec<Edit>, sub: &Sub, to: &Config) -> Result<(), AllocError>
     ensures { OnOk result (edits.new.items ≡ edits.old.items
         ++ sub_gone (sub_at sub.now.id to.now) sub.now) }
@@ -133,7 +138,8 @@ pub(crate) fn cut_services(
     Ok(())
 }
 
-/// The edits that drop the packet components that the other configuration lacks or has in a different form.
+/// The edits that drop the packet components that the other configuration lacks or has in a
+/// different form.
 pub(crate) fn drop_packets(
     edits: &mut Vec<Edit>,
     packets: &[Packet],
@@ -148,7 +154,8 @@ pub(crate) fn drop_packets(
     Ok(())
 }
 
-/// The edits that drop the sub-channels that the other configuration lacks or has with another protection profile.
+/// The edits that drop the sub-channels that the other configuration lacks or has with another
+/// protection profile.
 pub(crate) fn drop_subs(edits: &mut Vec<Edit>, subs: &[Sub], to: &Config) -> Result<(), AllocError>
     ensures { OnOk result (edits.new.items ≡ edits.old.items
         ++ flat_map (λ s. sub_gone (sub_at s.id to.now) s) subs.now) }

@@ -14,8 +14,8 @@ use plan_code::limits::LONGEST_PERIOD;
 use script_front::print;
 use std::alloc::{AllocError, Global};
 
-/// The default period for the script of a configuration whose frames have this layout, in frames: room for its pages,
-/// as many for the next one, and one frame more, but at least 4 and at most 60.
+/// The default period for the script of a configuration whose frames have this layout, in frames:
+/// room for its pages, as many for the next one, and one frame more, but at least 4 and at most 60.
 pub fn usual_period(layout: FrameLayout, config: &Config) -> u8
     ensures value { result ≡ usual_period (rounds layout (page_set config.now None)) }
     ensures from { 4 ≤ result }
@@ -30,8 +30,8 @@ pub fn usual_period(layout: FrameLayout, config: &Config) -> u8
     if period < 4 { 4 } else { period }
 }
 
-/// The text of the script with this header whose items make exactly this configuration, which may be unsound, without
-/// statements after `begin`. It is formatted as by [`print`].
+/// The text of the script with this header whose items make exactly this configuration, which may
+/// be unsound, without statements after `begin`. It is formatted as by [`print`].
 pub fn config_text(alloc: Global, header: Plan, config: &Config) -> Result<String, AllocError>
     requires { IsPlan header }
     ensures { IfOk result (λ text. IsTextOf header config.now (string_bytes text)) }

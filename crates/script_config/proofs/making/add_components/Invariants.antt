@@ -2,4 +2,5 @@ use Rattle.script_config.proofs.Words.{◌++◌, ◌≡◌, components_added, ta
 use Rattle.script_config.proofs.making.add_components.Given as goal
 
 abbrev pub invariant-loop-component : goal.invariant-loop-component
-invariant-loop-component l = (l.edits.items ≡ l.initial.edits.items ++ components_added l.sid (take l.component-index l.components))
+invariant-loop-component l = (l.edits.items ≡ l.initial.edits.items
+    ++ components_added l.sid (take l.component-index l.components))

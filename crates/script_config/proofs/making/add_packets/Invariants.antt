@@ -2,4 +2,5 @@ use Rattle.script_config.proofs.Words.{◌++◌, ◌≡◌, flat_map, packet_add
 use Rattle.script_config.proofs.making.add_packets.Given as goal
 
 abbrev pub invariant-loop-packet : goal.invariant-loop-packet
-invariant-loop-packet l = (l.edits.items ≡ l.initial.edits.items ++ flat_map packet_added (take l.packet-index l.packets))
+invariant-loop-packet l = (l.edits.items ≡ l.initial.edits.items
+    ++ flat_map packet_added (take l.packet-index l.packets))

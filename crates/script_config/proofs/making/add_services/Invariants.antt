@@ -2,4 +2,5 @@ use Rattle.script_config.proofs.Words.{◌++◌, ◌≡◌, flat_map, service_ad
 use Rattle.script_config.proofs.making.add_services.Given as goal
 
 abbrev pub invariant-loop-service : goal.invariant-loop-service
-invariant-loop-service l = (l.edits.items ≡ l.initial.edits.items ++ flat_map service_added (take l.service-index l.services))
+invariant-loop-service l = (l.edits.items ≡ l.initial.edits.items
+    ++ flat_map service_added (take l.service-index l.services))

@@ -7,20 +7,28 @@ script_of-requires c =
     let is = c.as_slice.ensures.value ∙ c.in_ok-acts.ensures in
     record {
       headed = c.requires.headed;
-      acts = subst (All IsAct) (sym is) (plan_formed c.args.header c.args.from.now c.args.to.now c.requires.headed c.subs.ensures.configuration c.subs-2.ensures.configuration);
-      few = subst (λ (acts : List Act). length acts ≤ 7000) (sym is) (plan_few c.args.header c.args.from.now c.args.to.now c.subs.ensures.configuration c.subs-2.ensures.configuration);
+      acts = subst (All IsAct) (sym is)
+          (plan_formed c.args.header c.args.from.now c.args.to.now c.requires.headed c.subs.ensures.configuration
+          c.subs-2.ensures.configuration);
+      few = subst (λ (acts : List Act). length acts ≤ 7000) (sym is)
+          (plan_few c.args.header c.args.from.now c.args.to.now c.subs.ensures.configuration
+          c.subs-2.ensures.configuration);
     }
 
 pub returns-in_err-acts-clause-leads : goal.returns-in_err-acts-clause-leads
 returns-in_err-acts-clause-leads c =
-    plan_leads c.args.header c.args.from.now c.args.to.now (c.transforming.ensures.between c.args.from.now c.args.to.now c.subs.ensures.configuration c.subs-2.ensures.configuration)
+    plan_leads c.args.header c.args.from.now c.args.to.now
+    (c.transforming.ensures.between c.args.from.now c.args.to.now c.subs.ensures.configuration
+    c.subs-2.ensures.configuration)
 
 pub returns-in_err-acts-clause-frames : goal.returns-in_err-acts-clause-frames
 returns-in_err-acts-clause-frames c = plan_fits c.args.header c.args.from.now c.args.to.now c.requires.room
 
 pub returns-clause-leads : goal.returns-clause-leads
 returns-clause-leads c =
-    plan_leads c.args.header c.args.from.now c.args.to.now (c.transforming.ensures.between c.args.from.now c.args.to.now c.subs.ensures.configuration c.subs-2.ensures.configuration)
+    plan_leads c.args.header c.args.from.now c.args.to.now
+    (c.transforming.ensures.between c.args.from.now c.args.to.now c.subs.ensures.configuration
+    c.subs-2.ensures.configuration)
 
 pub returns-clause-frames : goal.returns-clause-frames
 returns-clause-frames c = plan_fits c.args.header c.args.from.now c.args.to.now c.requires.room
