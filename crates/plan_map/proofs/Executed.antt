@@ -1,39 +1,22 @@
 -- The next configuration of the machine is the one that is known at its pc, in every state of every run.
-use Rattle.std.proofs.Common.{◌≡◌, ◌==◌, ℕ, zero, suc, ◌+◌, ◌<◌, Bool, true, false, cond, List, [], ◌∷◌, length, slice_get, Option, Some, None, option_map, refl, sym, ap, subst, ◌∙◌, arith}
-use Rattle.std.proofs.lemmas.Bool.{eqb-true}
-use Rattle.std.proofs.lemmas.Option.{slice_get_within}
-use Rattle.mux_types.specs.Configuration.{Configuration, nothing}
-use Rattle.mux_config.specs.Edits.{changed}
-use Rattle.plan_code.specs.declared.label.Label.{Label}
-use Rattle.plan_code.specs.declared.label.Swap.{Swap}
-use Rattle.plan_code.specs.declared.label.Swap.TheVariants.{Idle, Within, Perhaps}
-use Rattle.plan_code.specs.declared.instr.Instr.{Instr}
-use Rattle.plan_code.specs.declared.instr.Instr.TheVariants.{Wait, Until, WaitContact, WaitAny, CommitIn, CommitAt, Join, Settle, End, Edit as Edits, Test, TestTime, Jump, Set, Loop}
-use Rattle.plan_code.specs.declared.instr.Line.{Line}
-use Rattle.plan_code.specs.Program.{Program, instr_at, label_at}
-use Rattle.plan_code.specs.Machine.{State, step, settle, effect, is_in_window}
-use Rattle.plan_code.specs.Flags.{is_closed}
-use Rattle.plan_verifier.specs.Typing.{Known, IsTyping, IsSafe, Arrives, FitsSwap, leaves, spent, target_of}
-use Rattle.plan_verifier.proofs.Tabled.{found}
+use Rattle.std.proofs.Common.{◌≡◌, ◌==◌, ℕ, zero, suc, ◌+◌, ◌<◌, Bool, true, false, cond, List, [], ◌∷◌, length}
+use Rattle.std.proofs.Common.{slice_get, Option, Some, None, option_map, refl, sym, ap, subst, ◌∙◌, arith}
+use Rattle.plan_map.proofs.Names.{same_Some, Configuration, nothing, Row, Begin, Beginning, One, opening_of, rows_of}
+use Rattle.plan_map.proofs.Names.{HasCommit, commits_before, RunsBeginWithTheFirst, CommitsAreRows}
+use Rattle.plan_runs.proofs.Names.{eqb-true, slice_get_within, changed, Label, Instr, Wait, Until, WaitContact, WaitAny}
+use Rattle.plan_runs.proofs.Names.{CommitIn, CommitAt, Join, Settle, End, Edits, Test, TestTime, Jump, Set, Loop, Line}
+use Rattle.plan_runs.proofs.Names.{Program, instr_at, label_at, State, step, settle, effect, is_in_window, is_closed}
+use Rattle.plan_runs.proofs.Names.{Known, IsTyping, IsSafe, Arrives, leaves, spent, target_of}
+use Rattle.plan_runs.proofs.Names.{is_due, with_swap, with_due_swap, is_running, is_here, ready, burst}
+use Rattle.plan_runs.proofs.Names.{after_burst, is_first_noticed, shown, IsStart, happens, run, IsCommit, IsPlayed}
+use Rattle.plan_runs.proofs.Lookups.{get_some}
+use Rattle.plan_runs.proofs.Between.{step_is}
 use Rattle.plan_runs.specs.declared.event.Event.{Event}
 use Rattle.plan_runs.specs.declared.event.Event.TheVariants.{Contact, Frame}
 use Rattle.plan_runs.specs.declared.event.Start.{Start}
-use Rattle.plan_runs.specs.Frames.{is_due, with_swap, with_due_swap, is_running, is_here, ready, burst, after_burst, is_first_noticed, shown}
-use Rattle.plan_runs.specs.Runs.{IsStart, happens, run}
-use Rattle.plan_runs.specs.Swaps.{IsCommit}
-use Rattle.plan_runs.specs.TypedRuns.{IsPlayed}
-use Rattle.plan_runs.proofs.Lookups.{get_some}
-use Rattle.plan_runs.proofs.Between.{step_is}
-use Rattle.plan_map.specs.declared.rows.Row.{Row}
-use Rattle.plan_map.specs.declared.rows.RowKind.TheVariants.{Begin}
-use Rattle.plan_map.specs.declared.lead.Lead.TheVariants.{Begin as Beginning}
-use Rattle.plan_map.specs.declared.lead.Ways.TheVariants.{One}
-use Rattle.plan_map.specs.Rows.{opening_of, rows_of}
-use Rattle.plan_map.specs.Committed.{HasCommit, commits_before, RunsBeginWithTheFirst, CommitsAreRows}
+use Rattle.plan_verifier.proofs.Moving.{next_fits}
+use Rattle.plan_verifier.proofs.Tabled.{found}
 use Rattle.plan_map.proofs.KnownRows.{waited_next, paused_next, settled_next, at_first, all_from, commits_if, row_of}
-
-some_same : {A : Type 0} (x y : A) → Some x ≡ Some y → x ≡ y
-some_same x y e = cc
 
 -- ---- what is known where a state arrives
 
@@ -43,34 +26,27 @@ pub record IsKnownNext (typing : List Known) (pc : ℕ) (next : Configuration) :
   pub there : slice_get typing pc ≡ Some known
   pub same : next ≡ known.next
 
-fits_next : (q r : Swap) (t d : Known) → FitsSwap q r t d → t.next ≡ d.next
-fits_next Idle Idle t d h = h.1
-fits_next Idle (Within low high) t d h = absurd h
-fits_next Idle (Perhaps high) t d h = h.1
-fits_next (Within lo hi) Idle t d h = absurd h
-fits_next (Within lo hi) (Within low high) t d h = h.0.1
-fits_next (Within lo hi) (Perhaps high) t d h = h.0.1
-fits_next (Perhaps hi) Idle t d h = absurd h
-fits_next (Perhaps hi) (Within low high) t d h = absurd h
-fits_next (Perhaps hi) (Perhaps high) t d h = h.0.1
-
-arrives_by : (p : Program) (typing : List Known) → IsTyping p typing → (pc : ℕ) (o : Option Label) (t : Known) → label_at p pc ≡ o → Arrives p typing pc o t → IsKnownNext typing pc t.next
+arrives_by : (p : Program) (typing : List Known) → IsTyping p typing → (pc : ℕ) (o : Option Label) (t : Known)
+    → label_at p pc ≡ o → Arrives p typing pc o t → IsKnownNext typing pc t.next
 arrives_by p typing ty pc None t e h = record { known = t; there = h; same = refl }
 arrives_by p typing ty pc (Some label) t e h =
     let within = found (λ (l : Label). l.pc == pc) p.labels label e in
     let at : label.pc ≡ pc = eqb-true label.pc pc within.1 in
     let typed = ty.labels label within.0 in
-    let one : h.declared.next ≡ typed.known.next = some_same h.declared.next typed.known.next (sym h.declares.next ∙ typed.declares.next) in
+    let one : h.declared.next ≡ typed.known.next =
+    same_Some h.declared.next typed.known.next (sym h.declares.next ∙ typed.declares.next) in
     record {
       known = typed.known;
       there = subst (λ k. slice_get typing k ≡ Some typed.known) at typed.there;
-      same = fits_next t.pending h.declared.pending t h.declared h.fits.swap ∙ one;
+      same = next_fits t.pending h.declared.pending t h.declared h.fits.swap ∙ one;
     }
 
-known_as : (typing : List Known) (pc : ℕ) (c n : Configuration) → n ≡ c → IsKnownNext typing pc c → IsKnownNext typing pc n
+known_as : (typing : List Known) (pc : ℕ) (c n : Configuration) → n ≡ c → IsKnownNext typing pc c
+    → IsKnownNext typing pc n
 known_as typing pc c n e h = record { known = h.known; there = h.there; same = e ∙ h.same }
 
-arrives : (p : Program) (typing : List Known) → IsTyping p typing → (pc : ℕ) (t : Known) (n : Configuration) → Arrives p typing pc (label_at p pc) t → n ≡ t.next → IsKnownNext typing pc n
+arrives : (p : Program) (typing : List Known) → IsTyping p typing → (pc : ℕ) (t : Known) (n : Configuration)
+    → Arrives p typing pc (label_at p pc) t → n ≡ t.next → IsKnownNext typing pc n
 arrives p typing ty pc t n h e = known_as typing pc t.next n e (arrives_by p typing ty pc (label_at p pc) t refl h)
 
 -- ---- one instruction
@@ -78,82 +54,105 @@ arrives p typing ty pc t n h e = known_as typing pc t.next n e (arrives_by p typ
 abbrev pub IsAtKnown : List Known → State → Type 0
 IsAtKnown typing s = IsKnownNext typing s.pc s.next
 
-either_known : (typing : List Known) (b : Bool) (s t : State) → IsAtKnown typing s → IsAtKnown typing t → IsAtKnown typing (cond b s t)
+either_known : (typing : List Known) (b : Bool) (s t : State) → IsAtKnown typing s → IsAtKnown typing t
+    → IsAtKnown typing (cond b s t)
 either_known typing true s t h g = h
 either_known typing false s t h g = g
 
-either_pc : (typing : List Known) (b : Bool) (i j : ℕ) (n : Configuration) → IsKnownNext typing i n → IsKnownNext typing j n → IsKnownNext typing (cond b i j) n
+either_pc : (typing : List Known) (b : Bool) (i j : ℕ) (n : Configuration) → IsKnownNext typing i n
+    → IsKnownNext typing j n → IsKnownNext typing (cond b i j) n
 either_pc typing true i j n h g = h
 either_pc typing false i j n h g = g
 
-settles : (typing : List Known) (left : Option ℕ) (s : State) → IsKnownNext typing (s.pc + 1) s.next → IsAtKnown typing (settle left s)
+settles : (typing : List Known) (left : Option ℕ) (s : State) → IsKnownNext typing (s.pc + 1) s.next
+    → IsAtKnown typing (settle left s)
 settles typing None s h = h
 settles typing (Some k) s h = h
 
-reaches : (p : Program) (typing : List Known) → IsTyping p typing → (s : State) (i : Instr) (t : Known) → IsSafe p typing s.pc i t → s.next ≡ t.next → (target : ℕ)
+reaches : (p : Program) (typing : List Known) → IsTyping p typing → (s : State) (i : Instr) (t : Known)
+    → IsSafe p typing s.pc i t → s.next ≡ t.next → (target : ℕ)
     → target_of i ≡ Some target → IsKnownNext typing target s.next
 reaches p typing ty s i t safe e target is =
     let r = safe.targets target is in
-    arrives p typing ty target (spent t) s.next (subst (λ (o : Option Label). Arrives p typing target o (spent t)) (sym r.there) r.comes) e
+    arrives p typing ty target (spent t) s.next
+    (subst (λ (o : Option Label). Arrives p typing target o (spent t)) (sym r.there) r.comes) e
 
-effect_known : (p : Program) (typing : List Known) → IsTyping p typing → (s : State) (i : Instr) (t : Known) → IsSafe p typing s.pc i t → slice_get typing s.pc ≡ Some t → s.next ≡ t.next
+effect_known : (p : Program) (typing : List Known) → IsTyping p typing → (s : State) (i : Instr) (t : Known)
+    → IsSafe p typing s.pc i t → slice_get typing s.pc ≡ Some t → s.next ≡ t.next
     → IsAtKnown typing (effect p.plan i s)
-effect_known p typing ty s (Wait n) t safe there e = arrives p typing ty (s.pc + 1) (leaves p.plan (Wait n) t) s.next (safe.onward refl) (e ∙ sym (waited_next n t.pending t))
-effect_known p typing ty s (Until d) t safe there e = arrives p typing ty (s.pc + 1) (leaves p.plan (Until d) t) s.next (safe.onward refl) (e ∙ sym (paused_next t.pending t))
-effect_known p typing ty s (WaitContact c b) t safe there e = arrives p typing ty (s.pc + 1) (leaves p.plan (WaitContact c b) t) s.next (safe.onward refl) (e ∙ sym (paused_next t.pending t))
-effect_known p typing ty s (WaitAny closed opened until frames) t safe there e = arrives p typing ty (s.pc + 1) (leaves p.plan (WaitAny closed opened until frames) t) s.next (safe.onward refl) (e ∙ sym (paused_next t.pending t))
-effect_known p typing ty s (CommitIn k) t safe there e = arrives p typing ty (s.pc + 1) (leaves p.plan (CommitIn k) t) s.next (safe.onward refl) e
-effect_known p typing ty s (CommitAt n) t safe there e = arrives p typing ty (s.pc + 1) (leaves p.plan (CommitAt n) t) s.next (safe.onward refl) e
-effect_known p typing ty s Join t safe there e = arrives p typing ty (s.pc + 1) (leaves p.plan Join t) s.next (safe.onward refl) e
+effect_known p typing ty s (Wait n) t safe there e =
+    arrives p typing ty (s.pc + 1) (leaves p.plan (Wait n) t) s.next (safe.onward refl)
+    (e ∙ sym (waited_next n t.pending t))
+effect_known p typing ty s (Until d) t safe there e =
+    arrives p typing ty (s.pc + 1) (leaves p.plan (Until d) t) s.next (safe.onward refl)
+    (e ∙ sym (paused_next t.pending t))
+effect_known p typing ty s (WaitContact c b) t safe there e =
+    arrives p typing ty (s.pc + 1) (leaves p.plan (WaitContact c b) t) s.next (safe.onward refl)
+    (e ∙ sym (paused_next t.pending t))
+effect_known p typing ty s (WaitAny closed opened until frames) t safe there e =
+    arrives p typing ty (s.pc + 1) (leaves p.plan (WaitAny closed opened until frames) t) s.next (safe.onward refl)
+    (e ∙ sym (paused_next t.pending t))
 effect_known p typing ty s Settle t safe there e =
-    settles typing s.left s (arrives p typing ty (s.pc + 1) (leaves p.plan Settle t) s.next (safe.onward refl) (e ∙ sym (settled_next t.pending t)))
+    settles typing s.left s (arrives p typing ty (s.pc + 1) (leaves p.plan Settle t) s.next (safe.onward refl)
+    (e ∙ sym (settled_next t.pending t)))
 effect_known p typing ty s End t safe there e = record { known = t; there = there; same = e }
-effect_known p typing ty s (Edits c) t safe there e = arrives p typing ty (s.pc + 1) (leaves p.plan (Edits c) t) (changed c s.next) (safe.onward refl) (ap (changed c) e)
+effect_known p typing ty s (Edits c) t safe there e =
+    arrives p typing ty (s.pc + 1) (leaves p.plan (Edits c) t) (changed c s.next) (safe.onward refl) (ap (changed c) e)
 effect_known p typing ty s (Test c target) t safe there e =
-    either_pc typing (is_closed s.contacts c) (s.pc + 1) target s.next (arrives p typing ty (s.pc + 1) (leaves p.plan (Test c target) t) s.next (safe.onward refl) e)
+    either_pc typing (is_closed s.contacts c) (s.pc + 1) target s.next
+    (arrives p typing ty (s.pc + 1) (leaves p.plan (Test c target) t) s.next (safe.onward refl) e)
     (reaches p typing ty s (Test c target) t safe e target refl)
 effect_known p typing ty s (TestTime from to target) t safe there e =
-    either_pc typing (is_in_window from to s.day) (s.pc + 1) target s.next (arrives p typing ty (s.pc + 1) (leaves p.plan (TestTime from to target) t) s.next (safe.onward refl) e)
+    either_pc typing (is_in_window from to s.day) (s.pc + 1) target s.next
+    (arrives p typing ty (s.pc + 1) (leaves p.plan (TestTime from to target) t) s.next (safe.onward refl) e)
     (reaches p typing ty s (TestTime from to target) t safe e target refl)
 effect_known p typing ty s (Jump target) t safe there e = reaches p typing ty s (Jump target) t safe e target refl
-effect_known p typing ty s (Set r n) t safe there e = arrives p typing ty (s.pc + 1) (leaves p.plan (Set r n) t) s.next (safe.onward refl) e
 effect_known p typing ty s (Loop r target) t safe there e =
     either_pc typing _ target (s.pc + 1) s.next (reaches p typing ty s (Loop r target) t safe e target refl)
     (arrives p typing ty (s.pc + 1) (leaves p.plan (Loop r target) t) s.next (safe.onward refl) e)
+effect_known p typing ty s i t safe there e =
+    arrives p typing ty (s.pc + 1) (leaves p.plan i t) s.next (safe.onward refl) e
 
-pub step_known : (p : Program) (typing : List Known) → IsTyping p typing → (s : State) → IsAtKnown typing s → IsAtKnown typing (step p s)
+pub step_known : (p : Program) (typing : List Known) → IsTyping p typing → (s : State) → IsAtKnown typing s
+    → IsAtKnown typing (step p s)
 step_known p typing ty s h =
     let within : s.pc < length p.lines = subst (λ n. s.pc < n) ty.each (slice_get_within typing s.pc h.known h.there) in
     let line = get_some p.lines s.pc within in
     let i : Instr = line.0.instr in
     let at : instr_at p s.pc ≡ Some i = ap (λ o. option_map (λ (l : Line). l.instr) o) line.1 in
-    subst (λ (t : State). IsAtKnown typing t) (sym (step_is p s i at)) (effect_known p typing ty s i h.known (ty.safe s.pc i h.known at h.there) h.there h.same)
+    subst (λ (t : State). IsAtKnown typing t) (sym (step_is p s i at))
+    (effect_known p typing ty s i h.known (ty.safe s.pc i h.known at h.there) h.there h.same)
 
 -- ---- frames and runs
 
-pub burst_known : (most : ℕ) (p : Program) (typing : List Known) → IsTyping p typing → (s : State) → IsAtKnown typing s → IsAtKnown typing (burst most p s)
+pub burst_known : (most : ℕ) (p : Program) (typing : List Known) → IsTyping p typing → (s : State) → IsAtKnown typing s
+    → IsAtKnown typing (burst most p s)
 burst_known zero p typing ty s h = h
 burst_known (suc most) p typing ty s h =
-    either_known typing (is_running s.hold) (burst most p (step p s)) s (burst_known most p typing ty (step p s) (step_known p typing ty s h)) h
+    either_known typing (is_running s.hold) (burst most p (step p s)) s
+    (burst_known most p typing ty (step p s) (step_known p typing ty s h)) h
 
 pub ready_known : (typing : List Known) (s : State) → IsAtKnown typing s → IsAtKnown typing (ready s)
 ready_known typing s h =
     let due : IsAtKnown typing (with_due_swap s) = either_known typing (is_due s.left) (with_swap s) s h h in
     either_known typing (is_here (with_due_swap s) (with_due_swap s).hold) _ (with_due_swap s) due due
 
-pub shown_known : (p : Program) (typing : List Known) → IsTyping p typing → (s : State) → IsAtKnown typing s → IsAtKnown typing (shown p s)
+pub shown_known : (p : Program) (typing : List Known) → IsTyping p typing → (s : State) → IsAtKnown typing s
+    → IsAtKnown typing (shown p s)
 shown_known p typing ty s h =
     let t : State = after_burst p s in
     let after : IsAtKnown typing t = burst_known p.plan.budget p typing ty (ready s) (ready_known typing s h) in
     either_known typing (is_first_noticed p.plan.notice t.left) _ t after after
 
-pub happens_known : (p : Program) (typing : List Known) → IsTyping p typing → (s : State) (e : Event) → IsAtKnown typing s → IsAtKnown typing (happens p s e)
+pub happens_known : (p : Program) (typing : List Known) → IsTyping p typing → (s : State) (e : Event)
+    → IsAtKnown typing s → IsAtKnown typing (happens p s e)
 happens_known p typing ty s (Contact c closed) h = record { known = h.known; there = h.there; same = h.same }
 happens_known p typing ty s Frame h =
     let k = shown_known p typing ty s h in
     record { known = k.known; there = k.there; same = k.same }
 
-run_known : (p : Program) (typing : List Known) → IsTyping p typing → (s : State) (events : List Event) → IsAtKnown typing s → IsAtKnown typing (run p s events)
+run_known : (p : Program) (typing : List Known) → IsTyping p typing → (s : State) (events : List Event)
+    → IsAtKnown typing s → IsAtKnown typing (run p s events)
 run_known p typing ty s [] h = h
 run_known p typing ty s (e ∷ es) h = run_known p typing ty (happens p s e) es (happens_known p typing ty s e h)
 
@@ -166,17 +165,21 @@ pub record Begins (p : Program) (typing : List Known) (s : State) : Type 0 where
   pub next : s.next ≡ known.next
   pub current : s.current ≡ opening_of p
 
-pub begins : (p : Program) (typing : List Known) (start : Start) (s : State) → IsTyping p typing → IsStart p start s → Begins p typing s
+pub begins : (p : Program) (typing : List Known) (start : Start) (s : State) → IsTyping p typing → IsStart p start s
+    → Begins p typing s
 begins p typing start s ty st =
     let o = ty.opening in
     let within = found (λ (l : Label). l.pc == 0) p.labels o.label o.first in
     let at : o.label.pc ≡ 0 = eqb-true o.label.pc 0 within.1 in
     let typed = ty.labels o.label within.0 in
-    let there : slice_get typing 0 ≡ Some typed.known = subst (λ k. slice_get typing k ≡ Some typed.known) at typed.there in
-    let one : st.label ≡ o.label = some_same st.label o.label (sym st.first ∙ o.first) in
-    let gets : slice_get p.configurations o.label.cur ≡ Some s.current = subst (λ (l : Label). slice_get p.configurations l.cur ≡ Some s.current) one st.current in
-    let current : s.current ≡ o.known.current = some_same s.current o.known.current (sym gets ∙ o.declares.current) in
-    let next : o.known.next ≡ typed.known.next = some_same o.known.next typed.known.next (sym o.declares.next ∙ typed.declares.next) in
+    let there : slice_get typing 0 ≡ Some typed.known =
+    subst (λ k. slice_get typing k ≡ Some typed.known) at typed.there in
+    let one : st.label ≡ o.label = same_Some st.label o.label (sym st.first ∙ o.first) in
+    let gets : slice_get p.configurations o.label.cur ≡ Some s.current =
+    subst (λ (l : Label). slice_get p.configurations l.cur ≡ Some s.current) one st.current in
+    let current : s.current ≡ o.known.current = same_Some s.current o.known.current (sym gets ∙ o.declares.current) in
+    let next : o.known.next ≡ typed.known.next =
+    same_Some o.known.next typed.known.next (sym o.declares.next ∙ typed.declares.next) in
     let same : s.current ≡ typed.known.next = current ∙ o.opening.initial.same ∙ next in
     record {
       known = typed.known;
@@ -185,32 +188,47 @@ begins p typing start s ty st =
       current = same ∙ sym (at_first p typing nothing ty typed.known there);
     }
 
-pub started_known : (p : Program) (typing : List Known) (start : Start) (s : State) → IsTyping p typing → IsStart p start s → IsAtKnown typing s
+pub started_known : (p : Program) (typing : List Known) (start : Start) (s : State) → IsTyping p typing
+    → IsStart p start s → IsAtKnown typing s
 started_known p typing start s ty st =
     let b = begins p typing start s ty st in
-    record { known = b.known; there = subst (λ k. slice_get typing k ≡ Some b.known) (sym st.pc) b.there; same = b.next }
+    record {
+      known = b.known;
+      there = subst (λ k. slice_get typing k ≡ Some b.known) (sym st.pc) b.there;
+      same = b.next;
+    }
 
 pub played_known : (p : Program) (s : State) → (h : IsPlayed p s) → IsAtKnown h.typed.0 s
 played_known p s h =
     let r = h.reached in
     let ts : List Known = h.typed.0 in
     let ty : IsTyping p ts = h.typed.1 in
-    subst (λ (t : State). IsAtKnown ts t) r.leads (run_known p ts ty r.first r.events (started_known p ts r.start r.first ty r.started))
+    subst (λ (t : State). IsAtKnown ts t) r.leads
+    (run_known p ts ty r.first r.events (started_known p ts r.start r.first ty r.started))
 
 -- ---- the laws
 
 pub runs_begin : RunsBeginWithTheFirst
 runs_begin begin p start s typed st =
     let first : Row = record { kind = Begin; line = begin; block = []; lead = None; config = opening_of p } in
-    record { row = first; there = refl; kind = refl; line = refl; config = sym (begins p typed.0 start s typed.1 st).current }
+    record {
+      row = first;
+      there = refl;
+      kind = refl;
+      line = refl;
+      config = sym (begins p typed.0 start s typed.1 st).current;
+    }
 
 -- the commit at the pc of a state has its row
-pub row_at_state : (begin : ℕ) (p : Program) (typing : List Known) → IsTyping p typing → (s : State) (l : Line) → IsAtKnown typing s → slice_get p.lines s.pc ≡ Some l → IsCommit l.instr
+pub row_at_state : (begin : ℕ) (p : Program) (typing : List Known) → IsTyping p typing → (s : State) (l : Line)
+    → IsAtKnown typing s → slice_get p.lines s.pc ≡ Some l → IsCommit l.instr
     → HasCommit (rows_of begin p) (1 + commits_before p s.pc) l s.next
 row_at_state begin p typing ty s l h at commits =
     let place : s.pc ≡ 0 + s.pc = omega arith in
-    let there : slice_get typing (0 + s.pc) ≡ Some h.known = subst (λ k. slice_get typing k ≡ Some h.known) place h.there in
-    let row = row_of p typing ty 0 (One Beginning) [] (opening_of p) p.lines (all_from p) (at_first p typing (opening_of p) ty) s.pc l h.known at there (commits_if l.instr commits) in
+    let there : slice_get typing (0 + s.pc) ≡ Some h.known =
+    subst (λ k. slice_get typing k ≡ Some h.known) place h.there in
+    let row = row_of p typing ty 0 (One Beginning) [] (opening_of p) p.lines (all_from p)
+    (at_first p typing (opening_of p) ty) s.pc l h.known at there (commits_if l.instr commits) in
     let e : suc (commits_before p s.pc) ≡ 1 + commits_before p s.pc = omega arith in
     record {
       row = row.row;
@@ -228,4 +246,5 @@ commits_are_rows begin p s pc l c h at =
     let known : IsAtKnown ts u = burst_known at.steps p ts ty (ready s) (ready_known ts s (played_known p s h)) in
     let line : slice_get p.lines u.pc ≡ Some l = subst (λ k. slice_get p.lines k ≡ Some l) (sym at.reached) at.there in
     let row = row_at_state begin p ts ty u l known line at.commits in
-    subst (λ (x : Configuration). HasCommit (rows_of begin p) (1 + commits_before p pc) l x) at.next (subst (λ k. HasCommit (rows_of begin p) (1 + commits_before p k) l u.next) at.reached row)
+    subst (λ (x : Configuration). HasCommit (rows_of begin p) (1 + commits_before p pc) l x) at.next
+    (subst (λ k. HasCommit (rows_of begin p) (1 + commits_before p k) l u.next) at.reached row)

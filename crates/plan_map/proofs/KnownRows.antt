@@ -1,44 +1,26 @@
 -- The rows of a typed code have the next configuration that is known at each of its commits.
-use Rattle.std.specs.Prelude.{nat_lt}
-use Rattle.std.specs.List.{filter}
-use Rattle.std.proofs.Common.{◌≡◌, ◌==◌, ℕ, zero, suc, ◌+◌, ◌-◌, ◌<◌, Bool, true, false, cond, List, [], ◌∷◌, ◌++◌, length, take, slice_get, Option, Some, None, option_map, refl, sym, ap, subst, ◌∙◌, arith}
-use Rattle.std.proofs.lemmas.Bool.{eqb-true}
-use Rattle.std.proofs.lemmas.Option.{slice_get_within}
-use Rattle.mux_types.specs.Configuration.{Configuration}
-use Rattle.mux_config.specs.Edits.{changed}
-use Rattle.plan_code.specs.declared.plan.Plan.{Plan}
-use Rattle.plan_code.specs.declared.label.Label.{Label}
-use Rattle.plan_code.specs.declared.label.Swap.{Swap}
-use Rattle.plan_code.specs.declared.label.Swap.TheVariants.{Idle, Within, Perhaps}
-use Rattle.plan_code.specs.declared.instr.Instr.{Instr}
-use Rattle.plan_code.specs.declared.instr.Instr.TheVariants.{Wait, Until, WaitContact, WaitAny, CommitIn, CommitAt, Join, Settle, End, Edit as Edits, Test, TestTime, Jump, Set, Loop}
-use Rattle.plan_code.specs.declared.instr.Line.{Line}
-use Rattle.plan_code.specs.Program.{Program, instr_at, label_at}
-use Rattle.plan_verifier.specs.Rules.{commits}
-use Rattle.plan_verifier.specs.Typing.{Known, IsTyping, IsFine, leaves, known_after_swap, after_wait, perhaps_swapped, after_pause, after_settle}
-use Rattle.plan_verifier.proofs.Tabled.{found, unlabelled}
-use Rattle.plan_runs.specs.Swaps.{IsCommit}
+use Rattle.std.proofs.Common.{◌≡◌, ◌==◌, ℕ, zero, suc, ◌+◌, ◌-◌, ◌<◌, Bool, true, false, cond, List, [], ◌∷◌, ◌++◌}
+use Rattle.std.proofs.Common.{length, take, slice_get, Option, Some, None, option_map, refl, sym, ap, subst, ◌∙◌, arith}
+use Rattle.plan_map.proofs.Names.{filter, same_Some, Configuration, Row, Commit, Beginning, Ways, One, Reached, after}
+use Rattle.plan_map.proofs.Names.{ways_from, lead_of, or_else, declared_by, known_next, opening_of, unless_at_fault}
+use Rattle.plan_map.proofs.Names.{left_by, commits_from, rows_of, HasCommit, RowsAreCommits}
+use Rattle.plan_runs.proofs.Names.{nat_lt, eqb-true, slice_get_within, changed, Plan, Label, Swap, Idle, Within}
+use Rattle.plan_runs.proofs.Names.{Perhaps, Instr, Wait, Until, WaitContact, WaitAny, CommitIn, CommitAt, Settle, Edits}
+use Rattle.plan_runs.proofs.Names.{Line, Program, instr_at, label_at, Known, IsTyping, leaves, known_after_swap}
+use Rattle.plan_runs.proofs.Names.{after_wait, after_pause, after_settle, IsCommit}
 use Rattle.plan_runs.proofs.Lookups.{get_some}
-use Rattle.plan_map.specs.declared.rows.Row.{Row}
-use Rattle.plan_map.specs.declared.rows.RowKind.TheVariants.{Commit}
+use Rattle.plan_verifier.specs.Rules.{commits}
+use Rattle.plan_verifier.specs.Typing.{IsFine, perhaps_swapped}
+use Rattle.plan_verifier.proofs.Tabled.{found, unlabelled}
 use Rattle.plan_map.specs.declared.lead.Lead.{Lead}
-use Rattle.plan_map.specs.declared.lead.Lead.TheVariants.{Begin as Beginning}
-use Rattle.plan_map.specs.declared.lead.Ways.{Ways}
-use Rattle.plan_map.specs.declared.lead.Ways.TheVariants.{One}
-use Rattle.plan_map.specs.declared.lead.Reached.{Reached}
-use Rattle.plan_map.specs.Leads.{after, ways_from, lead_of}
-use Rattle.plan_map.specs.Rows.{or_else, declared_by, known_next, opening_of, unless_at_fault, left_by, commits_from, rows_of}
-use Rattle.plan_map.specs.Committed.{HasCommit, RowsAreCommits}
-
-some_same : {A : Type 0} (x y : A) → Some x ≡ Some y → x ≡ y
-some_same x y e = cc
 
 -- ---- what an instruction leaves
 
 perhaps_next : (hi : ℕ) (t : Known) → (perhaps_swapped hi t).next ≡ t.next
 perhaps_next hi t = by (nat_lt 1 hi)
   where
-    by : (test : Bool) → (let u : Known = cond test (record t { pending = Perhaps (hi - 1) }) (known_after_swap t) in u.next) ≡ t.next
+    by : (test : Bool) → (let u : Known = cond test (record t { pending = Perhaps (hi - 1) }) (known_after_swap t) in
+        u.next) ≡ t.next
     by true = refl
     by false = refl
 
@@ -46,12 +28,14 @@ pub waited_next : (n : ℕ) (q : Swap) (t : Known) → (after_wait n q t).next �
 waited_next n Idle t = refl
 waited_next n (Within lo hi) t = by (nat_lt n lo)
   where
-    by : (test : Bool) → (let u : Known = cond test (record t { pending = Within (lo - n) (hi - n) }) (known_after_swap t) in u.next) ≡ t.next
+    by : (test : Bool) → (let u : Known = cond test (record t { pending = Within (lo - n) (hi - n) })
+        (known_after_swap t) in u.next) ≡ t.next
     by true = refl
     by false = refl
 waited_next n (Perhaps hi) t = by (nat_lt n hi)
   where
-    by : (test : Bool) → (let u : Known = cond test (record t { pending = Perhaps (hi - n) }) (known_after_swap t) in u.next) ≡ t.next
+    by : (test : Bool) → (let u : Known = cond test (record t { pending = Perhaps (hi - n) }) (known_after_swap t) in
+        u.next) ≡ t.next
     by true = refl
     by false = refl
 
@@ -62,25 +46,16 @@ paused_next (Perhaps hi) t = perhaps_next hi t
 
 pub settled_next : (q : Swap) (t : Known) → (after_settle q t).next ≡ t.next
 settled_next Idle t = refl
-settled_next (Within lo hi) t = refl
-settled_next (Perhaps hi) t = refl
+settled_next _ t = refl
 
 left_known : (plan : Plan) (i : Instr) (t : Known) → IsFine plan i t → left_by i t.next ≡ (leaves plan i t).next
 left_known plan (Wait n) t h = sym (waited_next n t.pending t)
 left_known plan (Until d) t h = sym (paused_next t.pending t)
 left_known plan (WaitContact k b) t h = sym (paused_next t.pending t)
 left_known plan (WaitAny closed opened until frames) t h = sym (paused_next t.pending t)
-left_known plan (CommitIn d) t h = refl
-left_known plan (CommitAt n) t h = refl
-left_known plan Join t h = refl
 left_known plan Settle t h = sym (settled_next t.pending t)
-left_known plan End t h = refl
 left_known plan (Edits e) t h = ap (λ o. unless_at_fault o (changed e t.next) t.next) h.1
-left_known plan (Test k u) t h = refl
-left_known plan (TestTime from to u) t h = refl
-left_known plan (Jump u) t h = refl
-left_known plan (Set k n) t h = refl
-left_known plan (Loop k u) t h = refl
+left_known plan _ t h = refl
 
 -- ---- what is known at an instruction
 
@@ -89,28 +64,36 @@ abbrev pub KnowsNext : Program → List Known → ℕ → Configuration → Type
 KnowsNext p typing pc next = (t : Known) → slice_get typing pc ≡ Some t → known_next p pc next ≡ t.next
 
 -- with a label, it is what the label declares
-labelled : (p : Program) (typing : List Known) (pc : ℕ) (label : Label) (next : Configuration) (t : Known) → IsTyping p typing → label_at p pc ≡ Some label → slice_get typing pc ≡ Some t
+labelled : (p : Program) (typing : List Known) (pc : ℕ) (label : Label) (next : Configuration) (t : Known)
+    → IsTyping p typing → label_at p pc ≡ Some label → slice_get typing pc ≡ Some t
     → declared_by p (Some label) next ≡ t.next
 labelled p typing pc label next t h e there =
     let within = found (λ (l : Label). l.pc == pc) p.labels label e in
     let at : label.pc ≡ pc = eqb-true label.pc pc within.1 in
     let typed = h.labels label within.0 in
-    let here : slice_get typing pc ≡ Some typed.known = subst (λ k. slice_get typing k ≡ Some typed.known) at typed.there in
-    let same : typed.known ≡ t = some_same typed.known t (sym here ∙ there) in
+    let here : slice_get typing pc ≡ Some typed.known =
+    subst (λ k. slice_get typing k ≡ Some typed.known) at typed.there in
+    let same : typed.known ≡ t = same_Some typed.known t (sym here ∙ there) in
     ap (λ o. or_else o next) typed.declares.next ∙ ap (λ (k : Known). k.next) same
 
-entering : (p : Program) (typing : List Known) (pc : ℕ) (i : Instr) (t u : Known) (next : Configuration) (o : Option Label) → IsTyping p typing → instr_at p pc ≡ Some i → slice_get typing pc ≡ Some t
-    → next ≡ (leaves p.plan i t).next → label_at p (pc + 1) ≡ o → slice_get typing (pc + 1) ≡ Some u → declared_by p o next ≡ u.next
-entering p typing pc i t u next None h at there left e later = left ∙ ap (λ (k : Known). k.next) (sym (unlabelled p typing pc i t u h at there e later))
+entering : (p : Program) (typing : List Known) (pc : ℕ) (i : Instr) (t u : Known) (next : Configuration)
+    (o : Option Label) → IsTyping p typing → instr_at p pc ≡ Some i → slice_get typing pc ≡ Some t
+    → next ≡ (leaves p.plan i t).next → label_at p (pc + 1) ≡ o → slice_get typing (pc + 1) ≡ Some u
+    → declared_by p o next ≡ u.next
+entering p typing pc i t u next None h at there left e later =
+    left ∙ ap (λ (k : Known). k.next) (sym (unlabelled p typing pc i t u h at there e later))
 entering p typing pc i t u next (Some label) h at there left e later = labelled p typing (pc + 1) label next u h e later
 
 -- from an instruction to the next one
-onward : (p : Program) (typing : List Known) (pc : ℕ) (i : Instr) (t : Known) (next : Configuration) → IsTyping p typing → instr_at p pc ≡ Some i → slice_get typing pc ≡ Some t
+onward : (p : Program) (typing : List Known) (pc : ℕ) (i : Instr) (t : Known) (next : Configuration) → IsTyping p typing
+    → instr_at p pc ≡ Some i → slice_get typing pc ≡ Some t
     → next ≡ (leaves p.plan i t).next → KnowsNext p typing (pc + 1) next
-onward p typing pc i t next h at there left u later = entering p typing pc i t u next (label_at p (pc + 1)) h at there left refl later
+onward p typing pc i t next h at there left u later =
+    entering p typing pc i t u next (label_at p (pc + 1)) h at there left refl later
 
 -- at the first one
-pub at_first : (p : Program) (typing : List Known) (next : Configuration) → IsTyping p typing → KnowsNext p typing 0 next
+pub at_first : (p : Program) (typing : List Known) (next : Configuration) → IsTyping p typing
+    → KnowsNext p typing 0 next
 at_first p typing next h t there =
     let o = h.opening in
     rw o.first (labelled p typing 0 o.label next t h o.first there)
@@ -129,12 +112,14 @@ from_next p pc l ls h k =
     let e : pc + 1 + k ≡ pc + suc k = omega arith in
     ap (λ n. slice_get p.lines n) e ∙ h (suc k)
 
-first_of_them : (p : Program) (pc : ℕ) (l : Line) (ls : List Line) → AreFrom p pc (l ∷ ls) → slice_get p.lines pc ≡ Some l
+first_of_them : (p : Program) (pc : ℕ) (l : Line) (ls : List Line) → AreFrom p pc (l ∷ ls)
+    → slice_get p.lines pc ≡ Some l
 first_of_them p pc l ls h =
     let e : pc ≡ pc + 0 = omega arith in
     ap (λ n. slice_get p.lines n) e ∙ h 0
 
-knows_next : (p : Program) (typing : List Known) (pc : ℕ) (next : Configuration) (l : Line) (ls : List Line) → IsTyping p typing → AreFrom p pc (l ∷ ls) → KnowsNext p typing pc next
+knows_next : (p : Program) (typing : List Known) (pc : ℕ) (next : Configuration) (l : Line) (ls : List Line)
+    → IsTyping p typing → AreFrom p pc (l ∷ ls) → KnowsNext p typing pc next
     → KnowsNext p typing (pc + 1) (left_by l.instr (known_next p pc next))
 knows_next p typing pc next l ls ty rest knows =
     let line : slice_get p.lines pc ≡ Some l = first_of_them p pc l ls rest in
@@ -142,44 +127,22 @@ knows_next p typing pc next l ls ty rest knows =
     let within : pc < length typing = subst (λ n. pc < n) (sym ty.each) (slice_get_within p.lines pc l line) in
     let here = get_some typing pc within in
     let fine = (ty.safe pc l.instr here.0 at here.1).fine in
-    let left : left_by l.instr (known_next p pc next) ≡ (leaves p.plan l.instr here.0).next = ap (λ c. left_by l.instr c) (knows here.0 here.1) ∙ left_known p.plan l.instr here.0 fine in
+    let left : left_by l.instr (known_next p pc next) ≡ (leaves p.plan l.instr here.0).next =
+    ap (λ c. left_by l.instr c) (knows here.0 here.1) ∙ left_known p.plan l.instr here.0 fine in
     onward p typing pc l.instr here.0 (left_by l.instr (known_next p pc next)) ty at here.1 left
 
 -- ---- commits
 
 pub commits_if : (i : Instr) → IsCommit i → commits i ≡ true
-commits_if (Wait n) h = absurd h
-commits_if (Until t) h = absurd h
-commits_if (WaitContact k b) h = absurd h
-commits_if (WaitAny closed opened until frames) h = absurd h
 commits_if (CommitIn d) h = refl
 commits_if (CommitAt n) h = refl
-commits_if Join h = absurd h
-commits_if Settle h = absurd h
-commits_if End h = absurd h
-commits_if (Edits e) h = absurd h
-commits_if (Test k t) h = absurd h
-commits_if (TestTime from to t) h = absurd h
-commits_if (Jump t) h = absurd h
-commits_if (Set k n) h = absurd h
-commits_if (Loop k t) h = absurd h
+commits_if _ h = absurd h
 
 is_commit : (i : Instr) → commits i ≡ true → IsCommit i
-is_commit (Wait n) e = absurd cc
-is_commit (Until t) e = absurd cc
-is_commit (WaitContact k b) e = absurd cc
-is_commit (WaitAny closed opened until frames) e = absurd cc
 is_commit (CommitIn d) e = tt
 is_commit (CommitAt n) e = tt
-is_commit Join e = absurd cc
-is_commit Settle e = absurd cc
-is_commit End e = absurd cc
 is_commit (Edits e) h = absurd cc
-is_commit (Test k t) e = absurd cc
-is_commit (TestTime from to t) e = absurd cc
-is_commit (Jump t) e = absurd cc
-is_commit (Set k n) e = absurd cc
-is_commit (Loop k t) e = absurd cc
+is_commit _ e = absurd cc
 
 -- the number of commits among these instructions
 abbrev pub commit_count : List Line → ℕ
@@ -187,20 +150,25 @@ commit_count ls = length (filter (λ (l : Line). commits l.instr) ls)
 
 -- ---- the row of a commit
 
-past_row : (b : Bool) (r : Row) (rows : List Row) (x : Line) (xs : List Line) → slice_get (cond b (r ∷ []) [] ++ rows) (length (cond b (x ∷ xs) xs)) ≡ slice_get rows (length xs)
+past_row : (b : Bool) (r : Row) (rows : List Row) (x : Line) (xs : List Line)
+    → slice_get (cond b (r ∷ []) [] ++ rows) (length (cond b (x ∷ xs) xs)) ≡ slice_get rows (length xs)
 past_row true r rows x xs = refl
 past_row false r rows x xs = refl
 
-pub row_of : (p : Program) (typing : List Known) → IsTyping p typing → (pc : ℕ) (before : Ways) (passed : List Reached) (next : Configuration) (ls : List Line) → AreFrom p pc ls → KnowsNext p typing pc next
-    → (k : ℕ) (l : Line) (t : Known) → slice_get ls k ≡ Some l → slice_get typing (pc + k) ≡ Some t → commits l.instr ≡ true
+pub row_of : (p : Program) (typing : List Known) → IsTyping p typing
+    → (pc : ℕ) (before : Ways) (passed : List Reached) (next : Configuration) (ls : List Line) → AreFrom p pc ls
+    → KnowsNext p typing pc next
+    → (k : ℕ) (l : Line) (t : Known) → slice_get ls k ≡ Some l → slice_get typing (pc + k) ≡ Some t
+    → commits l.instr ≡ true
     → HasCommit (commits_from p pc before passed next ls) (commit_count (take k ls)) l t.next
 row_of p typing ty pc before passed next [] rest knows k l t at there c = absurd cc
 row_of p typing ty pc before passed next (x ∷ ls) rest knows zero l t at there c =
-    let same : l ≡ x = some_same l x (sym at) in
+    let same : l ≡ x = same_Some l x (sym at) in
     let here : Configuration = known_next p pc next in
     let ways : Ways = ways_from pc before passed in
     let row : Row = record { kind = Commit; line = x.number; block = []; lead = lead_of ways; config = here } in
-    let behind : List Row = commits_from p (pc + 1) (after x.instr ways) (passed ++ record { instr = x.instr; ways = ways } ∷ []) (left_by x.instr here) ls in
+    let behind : List Row = commits_from p (pc + 1) (after x.instr ways)
+    (passed ++ record { instr = x.instr; ways = ways } ∷ []) (left_by x.instr here) ls in
     let on : commits x.instr ≡ true = subst (λ (y : Line). commits y.instr ≡ true) same c in
     let place : pc + 0 ≡ pc = omega arith in
     record {
@@ -214,10 +182,12 @@ row_of p typing ty pc before passed next (x ∷ ls) rest knows (suc k) l t at th
     let here : Configuration = known_next p pc next in
     let ways : Ways = ways_from pc before passed in
     let row : Row = record { kind = Commit; line = x.number; block = []; lead = lead_of ways; config = here } in
-    let behind : List Row = commits_from p (pc + 1) (after x.instr ways) (passed ++ record { instr = x.instr; ways = ways } ∷ []) (left_by x.instr here) ls in
+    let behind : List Row = commits_from p (pc + 1) (after x.instr ways)
+    (passed ++ record { instr = x.instr; ways = ways } ∷ []) (left_by x.instr here) ls in
     let place : pc + suc k ≡ pc + 1 + k = omega arith in
     let more =
-    row_of p typing ty (pc + 1) (after x.instr ways) (passed ++ record { instr = x.instr; ways = ways } ∷ []) (left_by x.instr here) ls (from_next p pc x ls rest) (knows_next p typing pc next x ls ty rest knows) k l t at
+    row_of p typing ty (pc + 1) (after x.instr ways) (passed ++ record { instr = x.instr; ways = ways } ∷ [])
+    (left_by x.instr here) ls (from_next p pc x ls rest) (knows_next p typing pc next x ls ty rest knows) k l t at
     (subst (λ n. slice_get typing n ≡ Some t) place there) c
     in
     record {
@@ -242,7 +212,8 @@ pub record IsFrom (typing : List Known) (pc : ℕ) (ls : List Line) (n : ℕ) (r
   pub line : row.line ≡ instr.number
   pub config : row.config ≡ known.next
 
-from_later : (typing : List Known) (pc : ℕ) (x : Line) (ls : List Line) (b : Bool) (m : ℕ) (row : Row) → commits x.instr ≡ b → IsFrom typing (pc + 1) ls m row → IsFrom typing pc (x ∷ ls) (cond b (suc m) m) row
+from_later : (typing : List Known) (pc : ℕ) (x : Line) (ls : List Line) (b : Bool) (m : ℕ) (row : Row)
+    → commits x.instr ≡ b → IsFrom typing (pc + 1) ls m row → IsFrom typing pc (x ∷ ls) (cond b (suc m) m) row
 from_later typing pc x ls b m row e h =
     let place : pc + 1 + h.at ≡ pc + suc h.at = omega arith in
     record {
@@ -261,12 +232,16 @@ from_later typing pc x ls b m row e h =
     kept : IsFrom typing (pc + 1) ls m row → List Line
     kept g = filter (λ (y : Line). commits y.instr) (take g.at ls)
 
-    counted : (t : Bool) (g : IsFrom typing (pc + 1) ls m row) → length (cond t (x ∷ kept g) (kept g)) ≡ cond t (suc (length (kept g))) (length (kept g))
+    counted : (t : Bool) (g : IsFrom typing (pc + 1) ls m row)
+        → length (cond t (x ∷ kept g) (kept g)) ≡ cond t (suc (length (kept g))) (length (kept g))
     counted true g = refl
     counted false g = refl
 
-from_here : (p : Program) (typing : List Known) (pc : ℕ) (lead : Option Lead) (next : Configuration) (x : Line) (ls : List Line) (t : Known) (row : Row) → slice_get typing pc ≡ Some t
-    → KnowsNext p typing pc next → commits x.instr ≡ true → row ≡ record { kind = Commit; line = x.number; block = []; lead = lead; config = known_next p pc next } → IsFrom typing pc (x ∷ ls) 0 row
+from_here : (p : Program) (typing : List Known) (pc : ℕ) (lead : Option Lead) (next : Configuration) (x : Line)
+    (ls : List Line) (t : Known) (row : Row) → slice_get typing pc ≡ Some t
+    → KnowsNext p typing pc next → commits x.instr ≡ true
+    → row ≡ record { kind = Commit; line = x.number; block = []; lead = lead; config = known_next p pc next }
+    → IsFrom typing pc (x ∷ ls) 0 row
 from_here p typing pc lead next x ls t row there knows c is =
     let place : pc ≡ pc + 0 = omega arith in
     record {
@@ -282,41 +257,55 @@ from_here p typing pc lead next x ls t row there knows c is =
       config = ap (λ (r : Row). r.config) is ∙ knows t there;
     }
 
-from_either : (typing : List Known) (pc : ℕ) (x : Line) (ls : List Line) (r : Row) (rows : List Row) → (commits x.instr ≡ true → (row : Row) → row ≡ r → IsFrom typing pc (x ∷ ls) 0 row)
-    → ((m : ℕ) (row : Row) → slice_get rows m ≡ Some row → IsFrom typing (pc + 1) ls m row) → (b : Bool) → commits x.instr ≡ b → (n : ℕ) (row : Row)
+from_either : (typing : List Known) (pc : ℕ) (x : Line) (ls : List Line) (r : Row) (rows : List Row)
+    → (commits x.instr ≡ true → (row : Row) → row ≡ r → IsFrom typing pc (x ∷ ls) 0 row)
+    → ((m : ℕ) (row : Row) → slice_get rows m ≡ Some row → IsFrom typing (pc + 1) ls m row) → (b : Bool)
+    → commits x.instr ≡ b → (n : ℕ) (row : Row)
     → slice_get (cond b (r ∷ []) [] ++ rows) n ≡ Some row → IsFrom typing pc (x ∷ ls) n row
-from_either typing pc x ls r rows here later true e zero row at = here e row (some_same row r (sym at))
-from_either typing pc x ls r rows here later true e (suc n) row at = from_later typing pc x ls true n row e (later n row at)
+from_either typing pc x ls r rows here later true e zero row at = here e row (same_Some row r (sym at))
+from_either typing pc x ls r rows here later true e (suc n) row at =
+    from_later typing pc x ls true n row e (later n row at)
 from_either typing pc x ls r rows here later false e n row at = from_later typing pc x ls false n row e (later n row at)
 
-of_row : (p : Program) (typing : List Known) → IsTyping p typing → (pc : ℕ) (before : Ways) (passed : List Reached) (next : Configuration) (ls : List Line) → AreFrom p pc ls → KnowsNext p typing pc next
+of_row : (p : Program) (typing : List Known) → IsTyping p typing
+    → (pc : ℕ) (before : Ways) (passed : List Reached) (next : Configuration) (ls : List Line) → AreFrom p pc ls
+    → KnowsNext p typing pc next
     → (n : ℕ) (row : Row) → slice_get (commits_from p pc before passed next ls) n ≡ Some row → IsFrom typing pc ls n row
 of_row p typing ty pc before passed next [] rest knows n row at = absurd cc
 of_row p typing ty pc before passed next (x ∷ ls) rest knows n row at =
     let here : Configuration = known_next p pc next in
     let ways : Ways = ways_from pc before passed in
     let r : Row = record { kind = Commit; line = x.number; block = []; lead = lead_of ways; config = here } in
-    let within : pc < length typing = subst (λ k. pc < k) (sym ty.each) (slice_get_within p.lines pc x (first_of_them p pc x ls rest)) in
+    let within : pc < length typing =
+    subst (λ k. pc < k) (sym ty.each) (slice_get_within p.lines pc x (first_of_them p pc x ls rest)) in
     let known = get_some typing pc within in
-    from_either typing pc x ls r (commits_from p (pc + 1) (after x.instr ways) (passed ++ record { instr = x.instr; ways = ways } ∷ []) (left_by x.instr here) ls)
+    from_either typing pc x ls r
+    (commits_from p (pc + 1) (after x.instr ways) (passed ++ record { instr = x.instr; ways = ways } ∷ [])
+    (left_by x.instr here) ls)
     (λ c given is. from_here p typing pc (lead_of ways) next x ls known.0 given known.1 knows c is)
-    (of_row p typing ty (pc + 1) (after x.instr ways) (passed ++ record { instr = x.instr; ways = ways } ∷ []) (left_by x.instr here) ls (from_next p pc x ls rest) (knows_next p typing pc next x ls ty rest knows))
+    (of_row p typing ty (pc + 1) (after x.instr ways) (passed ++ record { instr = x.instr; ways = ways } ∷ [])
+    (left_by x.instr here) ls (from_next p pc x ls rest) (knows_next p typing pc next x ls ty rest knows))
     (commits x.instr) refl n row at
 
 -- ---- the number of rows
 
-more_rows : (b : Bool) (r : Row) (rows : List Row) (x : Line) (xs : List Line) → length rows ≡ length xs → length (cond b (r ∷ []) [] ++ rows) ≡ length (cond b (x ∷ xs) xs)
+more_rows : (b : Bool) (r : Row) (rows : List Row) (x : Line) (xs : List Line) → length rows ≡ length xs
+    → length (cond b (r ∷ []) [] ++ rows) ≡ length (cond b (x ∷ xs) xs)
 more_rows true r rows x xs e = ap suc e
 more_rows false r rows x xs e = e
 
-row_count : (p : Program) (pc : ℕ) (before : Ways) (passed : List Reached) (next : Configuration) (ls : List Line) → length (commits_from p pc before passed next ls) ≡ commit_count (take (length ls) ls)
+row_count : (p : Program) (pc : ℕ) (before : Ways) (passed : List Reached) (next : Configuration) (ls : List Line)
+    → length (commits_from p pc before passed next ls) ≡ commit_count (take (length ls) ls)
 row_count p pc before passed next [] = refl
 row_count p pc before passed next (x ∷ ls) =
     let here : Configuration = known_next p pc next in
     let ways : Ways = ways_from pc before passed in
     let row : Row = record { kind = Commit; line = x.number; block = []; lead = lead_of ways; config = here } in
-    more_rows (commits x.instr) row (commits_from p (pc + 1) (after x.instr ways) (passed ++ record { instr = x.instr; ways = ways } ∷ []) (left_by x.instr here) ls) x (filter (λ (y : Line). commits y.instr) (take (length ls) ls))
-    (row_count p (pc + 1) (after x.instr ways) (passed ++ record { instr = x.instr; ways = ways } ∷ []) (left_by x.instr here) ls)
+    more_rows (commits x.instr) row
+    (commits_from p (pc + 1) (after x.instr ways) (passed ++ record { instr = x.instr; ways = ways } ∷ [])
+    (left_by x.instr here) ls) x (filter (λ (y : Line). commits y.instr) (take (length ls) ls))
+    (row_count p (pc + 1) (after x.instr ways) (passed ++ record { instr = x.instr; ways = ways } ∷ [])
+    (left_by x.instr here) ls)
 
 -- ---- the law
 
@@ -324,7 +313,8 @@ row_count p pc before passed next (x ∷ ls) =
 abbrev pub later_rows : Program → List Row
 later_rows p = commits_from p 0 (One Beginning) [] (opening_of p) p.lines
 
-later_row : (begin n : ℕ) (p : Program) (row : Row) → slice_get (rows_of begin p) (1 + n) ≡ Some row → slice_get (later_rows p) n ≡ Some row
+later_row : (begin n : ℕ) (p : Program) (row : Row) → slice_get (rows_of begin p) (1 + n) ≡ Some row
+    → slice_get (later_rows p) n ≡ Some row
 later_row begin n p row at =
     let e : 1 + n ≡ suc n = omega arith in
     subst (λ k. slice_get (rows_of begin p) k ≡ Some row) e at
@@ -334,7 +324,8 @@ rows_are_commits begin p typing ty =
     let more : suc (length (later_rows p)) ≡ 1 + length (later_rows p) = omega arith in (
       more ∙ ap (λ n. 1 + n) (row_count p 0 (One Beginning) [] (opening_of p) p.lines),
       λ n row at.
-          let h = of_row p typing ty 0 (One Beginning) [] (opening_of p) p.lines (all_from p) (at_first p typing (opening_of p) ty) n row (later_row begin n p row at) in
+          let h = of_row p typing ty 0 (One Beginning) [] (opening_of p) p.lines (all_from p)
+          (at_first p typing (opening_of p) ty) n row (later_row begin n p row at) in
           let place : 0 + h.at ≡ h.at = omega arith in
           record {
             pc = h.at;

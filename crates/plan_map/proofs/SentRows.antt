@@ -1,30 +1,22 @@
 -- Every frame of a typed code sends the configurations of rows.
-use Rattle.std.specs.Prelude.{IfSome}
-use Rattle.std.proofs.Common.{◌≡◌, ℕ, zero, suc, Bool, true, false, cond, List, [], ◌∷◌, slice_get, Option, Some, None, refl, sym, subst}
-use Rattle.mux_types.specs.Configuration.{Configuration}
-use Rattle.mux_types.proofs.Elements.{contains_first}
-use Rattle.mux_config.specs.Edits.{changed}
-use Rattle.plan_code.specs.declared.plan.Plan.{Plan}
-use Rattle.plan_code.specs.declared.instr.Instr.{Instr}
-use Rattle.plan_code.specs.declared.instr.Instr.TheVariants.{Wait, Until, WaitContact, WaitAny, CommitIn, CommitAt, Join, Settle, End, Edit as Edits, Test, TestTime, Jump, Set, Loop}
-use Rattle.plan_code.specs.declared.instr.Line.{Line}
-use Rattle.plan_code.specs.Program.{Program, instr_at}
-use Rattle.plan_code.specs.Machine.{State, IsAllowed, step, settle, effect}
-use Rattle.plan_verifier.specs.Typing.{Known, IsTyping}
-use Rattle.plan_verifier.proofs.Tabled.{mapped, contains_at}
+use Rattle.std.proofs.Common.{◌≡◌, ℕ, zero, suc, Bool, true, false, cond, List, [], ◌∷◌, slice_get, Option, Some, None}
+use Rattle.std.proofs.Common.{refl, sym, subst}
+use Rattle.plan_map.proofs.Names.{Configuration, Row, rows_of, IsShown, IsCommitted, FramesSendRows}
+use Rattle.plan_runs.proofs.Names.{IfSome, changed, Plan, Instr, CommitIn, CommitAt, Settle, Edits, Line, Program}
+use Rattle.plan_runs.proofs.Names.{instr_at, State, IsAllowed, step, settle, effect, Known, IsTyping}
+use Rattle.plan_runs.proofs.Names.{is_due, with_swap, with_due_swap, is_here, ready, Executes}
+use Rattle.plan_runs.proofs.Names.{after_burst, FrameIsAllowed, is_noticed, is_first_noticed, shown, left_after_frame}
+use Rattle.plan_runs.proofs.Names.{IsStart, EventIsAllowed, RunIsAllowed, happens, run, IsCommit, IsPlayed}
+use Rattle.plan_runs.proofs.Names.{TypedCodeRuns}
+use Rattle.plan_runs.proofs.Reached.{starts_are_reached}
+use Rattle.plan_runs.proofs.Between.{step_is}
 use Rattle.plan_runs.specs.declared.event.Event.{Event}
 use Rattle.plan_runs.specs.declared.event.Event.TheVariants.{Contact, Frame}
 use Rattle.plan_runs.specs.declared.event.Start.{Start}
-use Rattle.plan_runs.specs.Frames.{is_due, with_swap, with_due_swap, is_here, ready, Executes, after_burst, FrameIsAllowed, is_noticed, is_first_noticed, shown, left_after_frame}
-use Rattle.plan_runs.specs.Runs.{IsStart, EventIsAllowed, RunIsAllowed, happens, run}
-use Rattle.plan_runs.specs.Swaps.{IsCommit}
-use Rattle.plan_runs.specs.TypedRuns.{IsPlayed, TypedCodeRuns}
-use Rattle.plan_runs.proofs.Between.{step_is}
-use Rattle.plan_runs.proofs.Reached.{starts_are_reached}
-use Rattle.plan_map.specs.declared.rows.Row.{Row}
-use Rattle.plan_map.specs.Rows.{rows_of}
-use Rattle.plan_map.specs.Committed.{IsShown, IsCommitted, FramesSendRows}
-use Rattle.plan_map.proofs.Executed.{IsAtKnown, step_known, ready_known, happens_known, begins, started_known, played_known, row_at_state}
+use Rattle.plan_map.proofs.Executed.{IsAtKnown, step_known, ready_known, happens_known, begins, started_known}
+use Rattle.plan_map.proofs.Executed.{played_known, row_at_state}
+use Rattle.mux_types.proofs.Elements.{contains_first}
+use Rattle.plan_verifier.proofs.Tabled.{mapped, contains_at}
 
 -- ---- what is on the air
 
@@ -50,24 +42,17 @@ settle_rows : (rows : List Row) (left : Option ℕ) (s : State) → AreRows rows
 settle_rows rows None s h = record { current = h.current; pending = h.pending }
 settle_rows rows (Some k) s h = record { current = h.current; pending = h.pending }
 
-effect_rows : (rows : List Row) (plan : Plan) (i : Instr) (s : State) → IsAllowed plan i s → (IsCommit i → IsCommitted rows s.next) → AreRows rows s → AreRows rows (effect plan i s)
-effect_rows rows plan (Wait n) s a c h = record { current = h.current; pending = h.pending }
-effect_rows rows plan (Until d) s a c h = record { current = h.current; pending = h.pending }
-effect_rows rows plan (WaitContact d b) s a c h = record { current = h.current; pending = h.pending }
-effect_rows rows plan (WaitAny closed opened until frames) s a c h = record { current = h.current; pending = h.pending }
+effect_rows : (rows : List Row) (plan : Plan) (i : Instr) (s : State) → IsAllowed plan i s
+    → (IsCommit i → IsCommitted rows s.next) → AreRows rows s → AreRows rows (effect plan i s)
 effect_rows rows plan (CommitIn k) s a c h = record { current = h.current; pending = c tt }
 effect_rows rows plan (CommitAt n) s a c h = record { current = h.current; pending = c tt }
-effect_rows rows plan Join s a c h = record { current = h.current; pending = h.pending }
 effect_rows rows plan Settle s a c h = settle_rows rows s.left s h
-effect_rows rows plan End s a c h = record { current = h.current; pending = h.pending }
-effect_rows rows plan (Edits e) s a c h = record { current = h.current; pending = subst (λ (o : Option ℕ). IsPending rows o (changed e s.next)) (sym a.0) tt }
-effect_rows rows plan (Test d target) s a c h = record { current = h.current; pending = h.pending }
-effect_rows rows plan (TestTime from to target) s a c h = record { current = h.current; pending = h.pending }
-effect_rows rows plan (Jump target) s a c h = record { current = h.current; pending = h.pending }
-effect_rows rows plan (Set r n) s a c h = record { current = h.current; pending = h.pending }
-effect_rows rows plan (Loop r target) s a c h = record { current = h.current; pending = h.pending }
+effect_rows rows plan (Edits e) s a c h =
+    record { current = h.current; pending = subst (λ (o : Option ℕ). IsPending rows o (changed e s.next)) (sym a.0) tt }
+effect_rows rows plan _ s a c h = record { current = h.current; pending = h.pending }
 
-committed_there : (begin : ℕ) (p : Program) (typing : List Known) → IsTyping p typing → (s : State) (i : Instr) → IsAtKnown typing s → instr_at p s.pc ≡ Some i → IsCommit i
+committed_there : (begin : ℕ) (p : Program) (typing : List Known) → IsTyping p typing → (s : State) (i : Instr)
+    → IsAtKnown typing s → instr_at p s.pc ≡ Some i → IsCommit i
     → IsCommitted (rows_of begin p) s.next
 committed_there begin p typing ty s i h at c =
     let line = mapped (λ (l : Line). l.instr) (slice_get p.lines s.pc) i at in
@@ -76,18 +61,22 @@ committed_there begin p typing ty s i h at c =
     let row = row_at_state begin p typing ty s l h line.1 commits in
     (row.row, contains_at (rows_of begin p) _ row.row row.there, row.kind, row.config)
 
-executes_rows : (begin : ℕ) (p : Program) (typing : List Known) → IsTyping p typing → (s : State) (n : ℕ) (t : State) → Executes p s n t → IsAtKnown typing s → AreRows (rows_of begin p) s
+executes_rows : (begin : ℕ) (p : Program) (typing : List Known) → IsTyping p typing → (s : State) (n : ℕ) (t : State)
+    → Executes p s n t → IsAtKnown typing s → AreRows (rows_of begin p) s
     → AreRows (rows_of begin p) t
 executes_rows begin p typing ty s zero t h k rows = subst (λ (u : State). AreRows (rows_of begin p) u) h.1 rows
 executes_rows begin p typing ty s (suc n) t h k rows =
     let i : Instr = h.1.instr in
-    let one = effect_rows (rows_of begin p) p.plan i s h.1.allowed (committed_there begin p typing ty s i k h.1.within) rows in
-    let first : AreRows (rows_of begin p) (step p s) = subst (λ (u : State). AreRows (rows_of begin p) u) (sym (step_is p s i h.1.within)) one in
+    let one = effect_rows (rows_of begin p) p.plan i s h.1.allowed (committed_there begin p typing ty s i k h.1.within)
+    rows in
+    let first : AreRows (rows_of begin p) (step p s) =
+    subst (λ (u : State). AreRows (rows_of begin p) u) (sym (step_is p s i h.1.within)) one in
     executes_rows begin p typing ty (step p s) n t h.2 (step_known p typing ty s k) first
 
 -- ---- frames and runs
 
-due_shown : (rows : List Row) (left : Option ℕ) (n : Configuration) → is_due left ≡ true → IsPending rows left n → IsShown rows n
+due_shown : (rows : List Row) (left : Option ℕ) (n : Configuration) → is_due left ≡ true → IsPending rows left n
+    → IsShown rows n
 due_shown rows None n due h = absurd cc
 due_shown rows (Some k) n due h = shown_of rows n h
 
@@ -101,20 +90,27 @@ due_rows rows s h = by (is_due s.left) refl
 ready_rows : (rows : List Row) (s : State) → AreRows rows s → AreRows rows (ready s)
 ready_rows rows s h =
     let due : AreRows rows (with_due_swap s) = due_rows rows s h in
-    either_rows rows (is_here (with_due_swap s) (with_due_swap s).hold) _ (with_due_swap s) (record { current = due.current; pending = due.pending }) due
+    either_rows rows (is_here (with_due_swap s) (with_due_swap s).hold) _ (with_due_swap s)
+    (record { current = due.current; pending = due.pending }) due
 
-shown_rows : (begin : ℕ) (p : Program) (typing : List Known) → IsTyping p typing → (s : State) → FrameIsAllowed p s → IsAtKnown typing s → AreRows (rows_of begin p) s
+shown_rows : (begin : ℕ) (p : Program) (typing : List Known) → IsTyping p typing → (s : State) → FrameIsAllowed p s
+    → IsAtKnown typing s → AreRows (rows_of begin p) s
     → AreRows (rows_of begin p) (shown p s)
 shown_rows begin p typing ty s f k h =
     let t : State = after_burst p s in
-    let after : AreRows (rows_of begin p) t = executes_rows begin p typing ty (ready s) f.steps t f.executes (ready_known typing s k) (ready_rows (rows_of begin p) s h) in
-    either_rows (rows_of begin p) (is_first_noticed p.plan.notice t.left) _ t (record { current = after.current; pending = after.pending }) after
+    let after : AreRows (rows_of begin p) t =
+    executes_rows begin p typing ty (ready s) f.steps t f.executes (ready_known typing s k)
+    (ready_rows (rows_of begin p) s h) in
+    either_rows (rows_of begin p) (is_first_noticed p.plan.notice t.left) _ t
+    (record { current = after.current; pending = after.pending }) after
 
-later_pending : (rows : List Row) (left : Option ℕ) (n : Configuration) → IsPending rows left n → IsPending rows (left_after_frame left) n
+later_pending : (rows : List Row) (left : Option ℕ) (n : Configuration) → IsPending rows left n
+    → IsPending rows (left_after_frame left) n
 later_pending rows None n h = tt
 later_pending rows (Some k) n h = h
 
-happens_rows : (begin : ℕ) (p : Program) (typing : List Known) → IsTyping p typing → (s : State) (e : Event) → EventIsAllowed p s e → IsAtKnown typing s → AreRows (rows_of begin p) s
+happens_rows : (begin : ℕ) (p : Program) (typing : List Known) → IsTyping p typing → (s : State) (e : Event)
+    → EventIsAllowed p s e → IsAtKnown typing s → AreRows (rows_of begin p) s
     → AreRows (rows_of begin p) (happens p s e)
 happens_rows begin p typing ty s (Contact c closed) a k h = record { current = h.current; pending = h.pending }
 happens_rows begin p typing ty s Frame a k h =
@@ -122,12 +118,16 @@ happens_rows begin p typing ty s Frame a k h =
     let t : State = shown p s in
     record { current = x.current; pending = later_pending (rows_of begin p) t.left t.next x.pending }
 
-run_rows : (begin : ℕ) (p : Program) (typing : List Known) → IsTyping p typing → (s : State) (events : List Event) → RunIsAllowed p s events → IsAtKnown typing s → AreRows (rows_of begin p) s
+run_rows : (begin : ℕ) (p : Program) (typing : List Known) → IsTyping p typing → (s : State) (events : List Event)
+    → RunIsAllowed p s events → IsAtKnown typing s → AreRows (rows_of begin p) s
     → AreRows (rows_of begin p) (run p s events)
 run_rows begin p typing ty s [] a k h = h
-run_rows begin p typing ty s (e ∷ es) a k h = run_rows begin p typing ty (happens p s e) es a.1 (happens_known p typing ty s e k) (happens_rows begin p typing ty s e a.0 k h)
+run_rows begin p typing ty s (e ∷ es) a k h =
+    run_rows begin p typing ty (happens p s e) es a.1 (happens_known p typing ty s e k)
+    (happens_rows begin p typing ty s e a.0 k h)
 
-started_rows : (begin : ℕ) (p : Program) (typing : List Known) (start : Start) (s : State) → IsTyping p typing → IsStart p start s → AreRows (rows_of begin p) s
+started_rows : (begin : ℕ) (p : Program) (typing : List Known) (start : Start) (s : State) → IsTyping p typing
+    → IsStart p start s → AreRows (rows_of begin p) s
 started_rows begin p typing start s ty st =
     let b = begins p typing start s ty st in
     record {
@@ -142,12 +142,19 @@ played_rows begin p s goes h =
     let r = h.reached in
     let ts : List Known = h.typed.0 in
     let ty : IsTyping p ts = h.typed.1 in
-    let first : IsPlayed p r.first = record { program = h.program; typed = h.typed; reached = starts_are_reached p r.start r.first r.in_range r.started } in
+    let first : IsPlayed p r.first =
+    record {
+      program = h.program;
+      typed = h.typed;
+      reached = starts_are_reached p r.start r.first r.in_range r.started;
+    } in
     let allowed = (goes p r.first r.events first).allowed in
     subst (λ (t : State). AreRows (rows_of begin p) t) r.leads
-    (run_rows begin p ts ty r.first r.events allowed (started_known p ts r.start r.first ty r.started) (started_rows begin p ts r.start r.first ty r.started))
+    (run_rows begin p ts ty r.first r.events allowed (started_known p ts r.start r.first ty r.started)
+    (started_rows begin p ts r.start r.first ty r.started))
 
-sent_next : (rows : List Row) (notice : ℕ) (left : Option ℕ) (n : Configuration) → IsPending rows left n → IfSome (cond (is_noticed notice left) (Some n) None) (IsCommitted rows)
+sent_next : (rows : List Row) (notice : ℕ) (left : Option ℕ) (n : Configuration) → IsPending rows left n
+    → IfSome (cond (is_noticed notice left) (Some n) None) (IsCommitted rows)
 sent_next rows notice None n h = tt
 sent_next rows notice (Some k) n h = by (is_noticed notice (Some k))
   where

@@ -1,10 +1,8 @@
 -- What leads to an instruction where paths meet.
 use Rattle.std.proofs.Common.{◌≡◌, true, false, [], ◌∷◌, Some, None, refl}
-use Rattle.plan_code.specs.declared.instr.Instr.TheVariants.{Wait, Test, Jump}
-use Rattle.plan_map.specs.declared.lead.Lead.TheVariants.{Begin, Wait as Waited, Contact}
-use Rattle.plan_map.specs.declared.lead.Ways.{Ways}
-use Rattle.plan_map.specs.declared.lead.Ways.TheVariants.{Nothing, One, Others}
-use Rattle.plan_map.specs.Leads.{after, ways_from, lead_of}
+use Rattle.plan_map.proofs.Names.{Waited, Contact, Ways, Nothing, One, Others, after, ways_from, lead_of}
+use Rattle.plan_runs.proofs.Names.{Wait, Test, Jump}
+use Rattle.plan_map.specs.declared.lead.Lead.TheVariants.{Begin}
 
 -- behind `if contact 3 { wait 5 } else { .. }`: a test at pc 0, the first wait at 1 and its jump at 2, to pc 4
 abbrev at_end : Ways → Ways
@@ -23,5 +21,6 @@ another_wait : lead_of (at_end (One (Waited 6))) ≡ None
 another_wait = refl
 
 -- the branch behind `else` has the contact open
-of_else : lead_of (ways_from 3 (after (Jump 4) (One (Waited 5))) (record { instr = Test 3 3; ways = One Begin } ∷ [])) ≡ Some (Contact 3 false)
+of_else : lead_of (ways_from 3 (after (Jump 4) (One (Waited 5))) (record { instr = Test 3 3; ways = One Begin } ∷ []))
+    ≡ Some (Contact 3 false)
 of_else = refl

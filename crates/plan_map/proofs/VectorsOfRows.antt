@@ -1,25 +1,15 @@
 -- A code that drops a sub-channel and commits that: for each definition, an example that holds and one that fails.
-use Rattle.std.proofs.Common.{◌≡◌, ℕ, zero, suc, ◌+◌, ◌<◌, List, [], ◌∷◌, length, Some, None, refl, sym, ap, ◌∙◌, arith, inl, inr}
+use Rattle.std.proofs.Common.{◌≡◌, ℕ, zero, suc, ◌+◌, ◌<◌, List, [], ◌∷◌, length, Some, None, refl, sym, ap, ◌∙◌, arith}
+use Rattle.std.proofs.Common.{inl, inr}
+use Rattle.plan_map.proofs.Names.{Sub, Configuration, Row, Begin, Commit, Beginning, rows_of, OpensWith, HasCommit}
+use Rattle.plan_map.proofs.Names.{IsOfCommit, CommitsAt, SendsRows, IsCommitted, commits_before}
+use Rattle.plan_runs.proofs.Names.{Idle, Instr, CommitIn, Join, End, Line, Program, State, Known, ready, burst}
 use Rattle.mux_eep.specs.declared.sizes.EepSet.TheVariants.{A}
-use Rattle.mux_types.specs.declared.parts.Sub.{Sub}
-use Rattle.mux_types.specs.Configuration.{Configuration}
-use Rattle.mux_types.proofs.Elements.{contains_first, contains_later, contains_cases, contains_none}
 use Rattle.mux_config.specs.declared.edit.Edit.TheVariants.{DropSub}
-use Rattle.plan_code.specs.declared.label.Swap.TheVariants.{Idle}
-use Rattle.plan_code.specs.declared.instr.Instr.{Instr}
-use Rattle.plan_code.specs.declared.instr.Instr.TheVariants.{CommitIn, Join, End, Edit}
-use Rattle.plan_code.specs.declared.instr.Line.{Line}
-use Rattle.plan_code.specs.Program.{Program}
-use Rattle.plan_code.specs.Machine.{State}
-use Rattle.plan_verifier.proofs.Samples.{plan, counters, label}
-use Rattle.plan_verifier.specs.Typing.{Known}
-use Rattle.plan_runs.specs.Frames.{ready, burst}
+use Rattle.plan_code.specs.declared.instr.Instr.TheVariants.{Edit}
 use Rattle.plan_runs.proofs.Samples.{first_state}
-use Rattle.plan_map.specs.declared.rows.Row.{Row}
-use Rattle.plan_map.specs.declared.rows.RowKind.TheVariants.{Begin, Commit}
-use Rattle.plan_map.specs.declared.lead.Lead.TheVariants.{Begin as Beginning}
-use Rattle.plan_map.specs.Rows.{rows_of}
-use Rattle.plan_map.specs.Committed.{OpensWith, HasCommit, IsOfCommit, CommitsAt, SendsRows, IsCommitted, commits_before}
+use Rattle.plan_verifier.proofs.Samples.{plan, counters, label}
+use Rattle.mux_types.proofs.Elements.{contains_first, contains_later, contains_cases, contains_none}
 
 -- ---- the code and its rows
 
@@ -132,7 +122,13 @@ sends_both : SendsRows (rows_of 1 drops) plan in_notice
 sends_both =
     record {
       current = (opening, contains_first opening (committed one ∷ []), refl);
-      next = (committed one, contains_later opening (committed one ∷ []) (committed one) (contains_first (committed one) []), refl, refl);
+      next = (
+        committed one,
+        contains_later opening (committed one ∷ []) (committed one)
+            (contains_first (committed one) []),
+        refl,
+        refl,
+      );
     }
 
 is_not_committed : IsCommitted wrong_rows one → ⊥

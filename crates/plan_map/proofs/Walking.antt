@@ -1,27 +1,30 @@
 -- The rows of a code, instruction by instruction.
-use Rattle.std.proofs.Common.{◌≡◌, ℕ, ◌+◌, ◌<◌, ◌≤◌, List, [], ◌∷◌, ◌++◌, length, get_or, drop, refl, sym, ap, ◌∙◌, append_assoc, append-nil}
-use Rattle.std.proofs.lemmas.List.{drop_more, drop_all}
-use Rattle.mux_types.specs.Configuration.{Configuration}
-use Rattle.plan_code.specs.Program.{Program}
-use Rattle.plan_code.specs.declared.instr.Line.{Line}
-use Rattle.plan_map.specs.declared.rows.Row.{Row}
-use Rattle.plan_map.specs.declared.lead.Ways.{Ways}
-use Rattle.plan_map.specs.declared.lead.Reached.{Reached}
-use Rattle.plan_map.specs.Leads.{after, ways_from}
-use Rattle.plan_map.specs.Rows.{known_next, left_by, row_at, commits_from}
+use Rattle.std.proofs.Common.{◌≡◌, ℕ, ◌+◌, ◌<◌, ◌≤◌, List, [], ◌∷◌, ◌++◌, length, get_or, drop, refl, sym, ap, ◌∙◌}
+use Rattle.std.proofs.Common.{append_assoc, append-nil}
+use Rattle.plan_map.proofs.Names.{drop_more, drop_all, Configuration, Row, Ways, Reached, after, ways_from, known_next}
+use Rattle.plan_map.proofs.Names.{left_by, row_at, commits_from}
+use Rattle.plan_runs.proofs.Names.{Program, Line}
 
 -- one more instruction
-pub row_more : (p : Program) (rows more all : List Row) (ls : List Line) (i : ℕ) (l : Line) (before ways onward : Ways) (passed longer : List Reached) (next here : Configuration) → i < length ls → l ≡ get_or ls i l
-    → here ≡ known_next p i next → ways ≡ ways_from i before passed → more ≡ rows ++ row_at l ways here → longer ≡ passed ++ record { instr = l.instr; ways = ways } ∷ [] → onward ≡ after l.instr ways
-    → rows ++ commits_from p i before passed next (drop i ls) ≡ all → more ++ commits_from p (i + 1) onward longer (left_by l.instr here) (drop (i + 1) ls) ≡ all
-row_more p rows more all ls i l before ways onward passed longer next here lt same is leads pushed passes leaves so_far =
-    let cut : drop i ls ≡ l ∷ drop (i + 1) ls = drop_more ls i l lt ∙ ap (λ (x : Line). x ∷ drop (i + 1) ls) (sym same) in
+pub row_more : (p : Program) (rows more all : List Row) (ls : List Line) (i : ℕ) (l : Line) (before ways onward : Ways)
+    (passed longer : List Reached) (next here : Configuration) → i < length ls → l ≡ get_or ls i l
+    → here ≡ known_next p i next → ways ≡ ways_from i before passed → more ≡ rows ++ row_at l ways here
+    → longer ≡ passed ++ record { instr = l.instr; ways = ways } ∷ [] → onward ≡ after l.instr ways
+    → rows ++ commits_from p i before passed next (drop i ls) ≡ all → more
+    ++ commits_from p (i + 1) onward longer (left_by l.instr here) (drop (i + 1) ls) ≡ all
+row_more p rows more all ls i l before ways onward passed longer next here lt same is leads pushed passes leaves
+    so_far =
+    let cut : drop i ls ≡ l ∷ drop (i + 1) ls = drop_more ls i l lt
+    ∙ ap (λ (x : Line). x ∷ drop (i + 1) ls) (sym same) in
     let behind = commits_from p (i + 1) onward longer (left_by l.instr here) (drop (i + 1) ls) in
-    let step : row_at l ways here ++ behind ≡ commits_from p i before passed next (drop i ls) = rw (cut, is, leaves, passes, leads) refl in
-    ap (λ (rs : List Row). rs ++ behind) pushed ∙ append_assoc rows (row_at l ways here) behind ∙ ap (λ (rs : List Row). rows ++ rs) step ∙ so_far
+    let step : row_at l ways here ++ behind ≡ commits_from p i before passed next (drop i ls) =
+    rw (cut, is, leaves, passes, leads) refl in
+    ap (λ (rs : List Row). rs ++ behind) pushed ∙ append_assoc rows (row_at l ways here) behind
+    ∙ ap (λ (rs : List Row). rows ++ rs) step ∙ so_far
 
 -- no instruction is left
-pub rows_all : (p : Program) (rows all : List Row) (ls : List Line) (i : ℕ) (before : Ways) (passed : List Reached) (next : Configuration) → length ls ≤ i → rows ++ commits_from p i before passed next (drop i ls) ≡ all → rows ≡ all
+pub rows_all : (p : Program) (rows all : List Row) (ls : List Line) (i : ℕ) (before : Ways) (passed : List Reached)
+    (next : Configuration) → length ls ≤ i → rows ++ commits_from p i before passed next (drop i ls) ≡ all → rows ≡ all
 rows_all p rows all ls i before passed next past so_far =
     let none : commits_from p i before passed next (drop i ls) ≡ [] = rw (drop_all i ls past) refl in
     sym (append-nil rows) ∙ sym (ap (λ (rs : List Row). rows ++ rs) none) ∙ so_far

@@ -1,5 +1,6 @@
 -- The one layout of sub-channels that serves every configuration of a map's rows, and what stands against one.
-use Rattle.std.specs.Prelude.{◌≡◌, ◌⊎◌, ℕ, ◌≤◌, ◌==◌, ◌&&◌, Bool, true, false, not, if◌then◌else◌, nat_lt, List, [], ◌∷◌, Option, Some, None}
+use Rattle.std.specs.Prelude.{◌≡◌, ◌⊎◌, ℕ, ◌≤◌, ◌==◌, ◌&&◌, Bool, true, false, not, if◌then◌else◌, nat_lt, List, []}
+use Rattle.std.specs.Prelude.{◌∷◌, Option, Some, None}
 use Rattle.std.specs.List.{flat_map, range_with_len, list_any, AllByRecursion}
 use Rattle.mux_types.specs.declared.parts.Sub.{Sub}
 use Rattle.mux_types.specs.Sameness.{is_same_sub}
@@ -20,8 +21,8 @@ subs_of rows = flat_map row_subs rows
 abbrev pub shares : Sub → Sub → Bool
 shares a b = nat_lt a.start (end_of b) && nat_lt b.start (end_of a)
 
--- whether no multiplex carries both all the time: the same sub-channel elsewhere, or with another rate or profile; or two
--- sub-channels that share a unit
+-- whether no multiplex carries both all the time: the same sub-channel elsewhere, or with another rate or profile; or
+-- two sub-channels that share a unit
 abbrev pub clashes : Sub → Sub → Bool
 clashes a b = if a.id == b.id then not (is_same_sub a b) else shares a b
 
@@ -62,8 +63,8 @@ abbrev pub first_clash : List Sub → List Sub → Option Clash
 first_clash layout [] = None
 first_clash layout (s ∷ ss) = clash_of s (clash_with s layout) (first_clash layout ss)
 
--- a layout serves sub-channels: each of them is in it, the same in every field; none clashes with one of it; and it has no
--- other, by ascending SubChId
+-- a layout serves sub-channels: each of them is in it, the same in every field; none clashes with one of it; and it has
+-- no other, by ascending SubChId
 abbrev pub is_served : List Sub → Sub → Bool
 is_served layout s = list_any (λ l. is_same_sub l s) layout
 

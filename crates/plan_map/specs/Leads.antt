@@ -2,10 +2,12 @@
 -- before.
 use Rattle.std.specs.Prelude.{ℕ, ◌==◌, ◌&&◌, not, Bool, true, false, if◌then◌else◌, List, [], ◌∷◌, Option, Some, None}
 use Rattle.plan_code.specs.declared.instr.Instr.{Instr}
-use Rattle.plan_code.specs.declared.instr.Instr.TheVariants.{Wait, Until, WaitContact, WaitAny, CommitIn, CommitAt, Join, Settle, End, Edit, Test, TestTime, Jump, Set, Loop}
+use Rattle.plan_code.specs.declared.instr.Instr.TheVariants.{Wait, Until, WaitContact, WaitAny, Join, Settle, End, Test}
+use Rattle.plan_code.specs.declared.instr.Instr.TheVariants.{TestTime, Jump}
 use Rattle.plan_map.specs.declared.lead.AnyOf.{AnyOf}
 use Rattle.plan_map.specs.declared.lead.Lead.{Lead}
-use Rattle.plan_map.specs.declared.lead.Lead.TheVariants.{Begin, Wait as Waited, Until as IsTime, Contact, Any, Window, Join as Joined, Settle as Settled}
+use Rattle.plan_map.specs.declared.lead.Lead.TheVariants.{Begin, Wait as Waited, Until as IsTime, Contact, Any, Window}
+use Rattle.plan_map.specs.declared.lead.Lead.TheVariants.{Join as Joined, Settle as Settled}
 use Rattle.plan_map.specs.declared.lead.Ways.{Ways}
 use Rattle.plan_map.specs.declared.lead.Ways.TheVariants.{Nothing, One, Others}
 use Rattle.plan_map.specs.declared.lead.Reached.{Reached}
@@ -16,13 +18,13 @@ is_same_level false b = not b
 
 abbrev pub is_same_number : Option ℕ → Option ℕ → Bool
 is_same_number None None = true
-is_same_number None (Some n) = false
-is_same_number (Some m) None = false
 is_same_number (Some m) (Some n) = m == n
+is_same_number _ _ = false
 
 abbrev pub is_same_any : AnyOf → AnyOf → Bool
 is_same_any a b =
-    (a.closed.0 == b.closed.0) && (a.opened.0 == b.opened.0) && is_same_number a.until b.until && is_same_number a.frames b.frames
+    (a.closed.0 == b.closed.0) && (a.opened.0 == b.opened.0) && is_same_number a.until b.until
+    && is_same_number a.frames b.frames
 
 abbrev pub is_same_lead : Lead → Lead → Bool
 is_same_lead Begin Begin = true
@@ -49,18 +51,15 @@ abbrev pub after : Instr → Ways → Ways
 after (Wait n) ways = One (Waited n)
 after (Until t) ways = One (IsTime t)
 after (WaitContact k b) ways = One (Contact k b)
-after (WaitAny closed opened until frames) ways = One (Any (record { closed = closed; opened = opened; until = until; frames = frames }))
+after (WaitAny closed opened until frames) ways =
+    One (Any (record { closed = closed; opened = opened; until = until; frames = frames }))
 after Join ways = One Joined
 after Settle ways = One Settled
 after (Test k t) ways = One (Contact k true)
 after (TestTime from to t) ways = One (Window from to true)
 after End ways = Nothing
 after (Jump t) ways = Nothing
-after (CommitIn d) ways = ways
-after (CommitAt n) ways = ways
-after (Edit e) ways = ways
-after (Set k n) ways = ways
-after (Loop k t) ways = ways
+after _ ways = ways
 
 -- to a pc, with the jump of one more instruction: a test jumps where its contact is open, or outside its window; what
 -- leads to a jump leads to its target
@@ -68,18 +67,7 @@ abbrev pub way_to : ℕ → Instr → Ways → Ways → Ways
 way_to pc (Test k t) its ways = if t == pc then both ways (One (Contact k false)) else ways
 way_to pc (TestTime from to t) its ways = if t == pc then both ways (One (Window from to false)) else ways
 way_to pc (Jump t) its ways = if t == pc then both ways its else ways
-way_to pc (Wait n) its ways = ways
-way_to pc (Until t) its ways = ways
-way_to pc (WaitContact k b) its ways = ways
-way_to pc (WaitAny closed opened until frames) its ways = ways
-way_to pc (CommitIn d) its ways = ways
-way_to pc (CommitAt n) its ways = ways
-way_to pc Join its ways = ways
-way_to pc Settle its ways = ways
-way_to pc End its ways = ways
-way_to pc (Edit e) its ways = ways
-way_to pc (Set k n) its ways = ways
-way_to pc (Loop k t) its ways = ways
+way_to pc _ its ways = ways
 
 -- to a pc: on from the instruction before it, and with the jumps of those before it
 abbrev pub ways_from : ℕ → Ways → List Reached → Ways
@@ -88,6 +76,5 @@ ways_from pc ways (r ∷ rs) = ways_from pc (way_to pc r.instr r.ways ways) rs
 
 -- the same on every path
 abbrev pub lead_of : Ways → Option Lead
-lead_of Nothing = None
 lead_of (One lead) = Some lead
-lead_of Others = None
+lead_of _ = None

@@ -4,7 +4,7 @@ use Rattle.mux_types.specs.Configuration.{Configuration, nothing}
 use Rattle.mux_config.specs.declared.fault.EditFault.{EditFault}
 use Rattle.mux_config.specs.Edits.{edit_fault, changed}
 use Rattle.plan_code.specs.declared.instr.Instr.{Instr}
-use Rattle.plan_code.specs.declared.instr.Instr.TheVariants.{Wait, Until, WaitContact, WaitAny, CommitIn, CommitAt, Join, Settle, End, Edit as Edits, Test, TestTime, Jump, Set, Loop}
+use Rattle.plan_code.specs.declared.instr.Instr.TheVariants.{Edit as Edits}
 use Rattle.plan_code.specs.declared.instr.Line.{Line}
 use Rattle.plan_code.specs.declared.label.Label.{Label}
 use Rattle.plan_code.specs.Program.{Program, label_at}
@@ -42,24 +42,17 @@ unless_at_fault (Some fault) after before = before
 
 abbrev pub left_by : Instr → Configuration → Configuration
 left_by (Edits e) c = unless_at_fault (edit_fault e c) (changed e c) c
-left_by (Wait n) c = c
-left_by (Until t) c = c
-left_by (WaitContact k b) c = c
-left_by (WaitAny closed opened until frames) c = c
-left_by (CommitIn d) c = c
-left_by (CommitAt n) c = c
-left_by Join c = c
-left_by Settle c = c
-left_by End c = c
-left_by (Test k t) c = c
-left_by (TestTime from to t) c = c
-left_by (Jump t) c = c
-left_by (Set k n) c = c
-left_by (Loop k t) c = c
+left_by _ c = c
 
 -- the row of an instruction that commits this configuration, with what leads to it; none for another instruction
 abbrev pub row_at : Line → Ways → Configuration → List Row
-row_at l ways here = if commits l.instr then record { kind = Commit; line = l.number; block = []; lead = lead_of ways; config = here } ∷ [] else []
+row_at l ways here = if commits l.instr then record {
+  kind = Commit;
+  line = l.number;
+  block = [];
+  lead = lead_of ways;
+  config = here;
+} ∷ [] else []
 
 -- the commits among the instructions from a pc on, each with the configuration that it commits; given what leads on
 -- from the instruction before them, those before them, and the next configuration that these leave
@@ -69,7 +62,8 @@ commits_from p pc before passed next (l ∷ ls) =
     let here = known_next p pc next in
     let ways = ways_from pc before passed in
     row_at l ways here
-    ++ commits_from p (pc + 1) (after l.instr ways) (passed ++ record { instr = l.instr; ways = ways } ∷ []) (left_by l.instr here) ls
+    ++ commits_from p (pc + 1) (after l.instr ways) (passed ++ record { instr = l.instr; ways = ways } ∷ [])
+    (left_by l.instr here) ls
 
 abbrev pub rows_of : ℕ → Program → List Row
 rows_of begin p =

@@ -23,7 +23,8 @@ fn hue_of(id: SubId) -> u32 {
     u32::from(id.get()) * 137 % 360
 }
 
-/// The lightness of a sub-channel in percent. Those 21 apart, whose hues are close, are lighter or darker.
+/// The lightness of a sub-channel in percent. Those 21 apart, whose hues are close, are lighter or
+/// darker.
 fn light_of(id: SubId) -> u32 {
     let number = id.get();
     if number < 21 {

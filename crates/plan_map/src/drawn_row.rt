@@ -19,7 +19,8 @@ fn is_used(unit: u32, subs: &[Sub]) -> bool {
     false
 }
 
-/// The first capacity unit, from this one on, at which a sub-channel begins; the end of the multiplex if none does.
+/// The first capacity unit, from this one on, at which a sub-channel begins; the end of the
+/// multiplex if none does.
 fn next_start(from: u32, subs: &[Sub]) -> u32 {
     let mut next = u32::from(CAPACITY_UNITS);
     for sub in subs {
@@ -31,14 +32,16 @@ fn next_start(from: u32, subs: &[Sub]) -> u32 {
     next
 }
 
-/// Writes free units, hatched, with their description for screen readers: `count` from one on, which is at least one.
+/// Writes free units, hatched, with their description for screen readers: `count` from one on,
+/// which is at least one.
 fn draw_hatched<W: Write>(from: u32, count: u32, y: u64, out: &mut W) -> io::Result<()> {
     let x = x_of(from);
     let width = u64::from(count) * 2;
     let last = from.saturating_add(count).saturating_sub(1);
     write!(
         out,
-        "<rect x=\"{x}\" y=\"{y}\" width=\"{width}\" height=\"124\" fill=\"url(#free)\" stroke=\"#888\" stroke-width=\"1\">"
+        "<rect x=\"{x}\" y=\"{y}\" width=\"{width}\" height=\"124\" fill=\"url(#free)\" \
+         stroke=\"#888\" stroke-width=\"1\">"
     )?;
     writeln!(
         out,
@@ -55,7 +58,8 @@ fn draw_free_label<W: Write>(from: u32, count: u32, y: u64, out: &mut W) -> io::
     let base = below(y, 67);
     writeln!(
         out,
-        "<text x=\"{x}\" y=\"{base}\" font-size=\"13\" text-anchor=\"middle\" fill=\"#333\" stroke=\"#f4f4f4\" stroke-width=\"4\" paint-order=\"stroke\">{count} CU free</text>"
+        "<text x=\"{x}\" y=\"{base}\" font-size=\"13\" text-anchor=\"middle\" fill=\"#333\" \
+         stroke=\"#f4f4f4\" stroke-width=\"4\" paint-order=\"stroke\">{count} CU free</text>"
     )
 }
 
@@ -78,7 +82,8 @@ fn draw_gaps<W: Write>(subs: &[Sub], y: u64, out: &mut W) -> io::Result<()> {
     Ok(())
 }
 
-/// Writes the label of a row: its statement and line, above it its block, and below it what leads to it.
+/// Writes the label of a row: its statement and line, above it its block, and below it what leads
+/// to it.
 fn draw_label<W: Write>(row: &Row, base: u64, out: &mut W) -> io::Result<()> {
     let word = kind_text(row.kind);
     let line = row.line;
@@ -108,8 +113,8 @@ fn draw_subs<W: Write>(above: &Config, config: &Config, y: u64, out: &mut W) -> 
     Ok(())
 }
 
-/// Writes a row whose top is at `y`, below one with another configuration: its label, its bar with what is changed
-/// framed in red, and how many capacity units are free.
+/// Writes a row whose top is at `y`, below one with another configuration: its label, its bar with
+/// what is changed framed in red, and how many capacity units are free.
 pub(crate) fn draw_row<W: Write>(above: &Config, row: &Row, y: u64, out: &mut W) -> io::Result<()> {
     let config = &row.config;
     let word = kind_text(row.kind);

@@ -1,7 +1,8 @@
-//! A sub-channel in the drawing of a row: its rectangle, its description, its label, and whether it is changed.
+//! A sub-channel in the drawing of a row: its rectangle, its description, its label, and whether it
+//! is changed.
 
 use crate::cells::{end_of, units_of};
-use crate::changes::{has_sub, print_sid};
+use crate::changes::{has, print_sid};
 use crate::drawn_parts::{WIDE, below, draw_colour, draw_profile, x_of};
 use crate::key::is_carried_by;
 use mux_config::{Config, Service, Sid, Sub, SubId};
@@ -38,9 +39,10 @@ fn is_moved(a: &Config, b: &Config, id: SubId, services: &[Service]) -> bool {
     false
 }
 
-/// Whether a sub-channel differs from that of the configuration above, or carries other services than there.
+/// Whether a sub-channel differs from that of the configuration above, or carries other services
+/// than there.
 fn is_changed(above: &Config, config: &Config, sub: &Sub) -> bool {
-    !has_sub(above.subs(), sub)
+    !has(above.subs(), sub)
         || is_moved(above, config, sub.id, config.services())
         || is_moved(above, config, sub.id, above.services())
 }
@@ -86,11 +88,13 @@ fn draw_wide_label<W: Write>(sub: &Sub, x: u64, y: u64, out: &mut W) -> io::Resu
     let third = below(y, 86);
     writeln!(
         out,
-        "<text x=\"{x}\" y=\"{first}\" font-size=\"18\" font-weight=\"bold\" text-anchor=\"middle\">{id}</text>"
+        "<text x=\"{x}\" y=\"{first}\" font-size=\"18\" font-weight=\"bold\" \
+         text-anchor=\"middle\">{id}</text>"
     )?;
     writeln!(
         out,
-        "<text x=\"{x}\" y=\"{second}\" font-size=\"13\" text-anchor=\"middle\">{kbits} kbit/s</text>"
+        "<text x=\"{x}\" y=\"{second}\" font-size=\"13\" text-anchor=\"middle\">{kbits} \
+         kbit/s</text>"
     )?;
     write!(
         out,
@@ -100,7 +104,8 @@ fn draw_wide_label<W: Write>(sub: &Sub, x: u64, y: u64, out: &mut W) -> io::Resu
     out.write_all(b"</text>\n")
 }
 
-/// Writes the label of a sub-channel in one upright line, with letters as large as the sub-channel has room for.
+/// Writes the label of a sub-channel in one upright line, with letters as large as the sub-channel
+/// has room for.
 fn draw_narrow_label<W: Write>(sub: &Sub, x: u64, y: u64, out: &mut W) -> io::Result<()> {
     let id = sub.id.get();
     let kbits = sub.kbits;
@@ -109,7 +114,8 @@ fn draw_narrow_label<W: Write>(sub: &Sub, x: u64, y: u64, out: &mut W) -> io::Re
     let base = below(y, 62);
     write!(
         out,
-        "<text transform=\"translate({left},{base}) rotate(-90)\" font-size=\"{size}\" text-anchor=\"middle\">"
+        "<text transform=\"translate({left},{base}) rotate(-90)\" font-size=\"{size}\" \
+         text-anchor=\"middle\">"
     )?;
     write!(
         out,

@@ -23,8 +23,8 @@ fn sub_of_packet(packets: &[Packet], scid: ScId) -> Option<SubId> {
     None
 }
 
-/// The sub-channel that carries a component: that of its packet component in packet mode. `None` if that does not
-/// exist.
+/// The sub-channel that carries a component: that of its packet component in packet mode. `None` if
+/// that does not exist.
 fn sub_of(config: &Config, component: Component) -> Option<SubId> {
     match component {
         Component::Sound { ty: _, sub } => Some(sub),
@@ -75,8 +75,8 @@ fn add_config(key: &mut Vec<Use>, config: &Config) -> Result<(), AllocError> {
     Ok(())
 }
 
-/// The key of these rows: each service of any of them with each sub-channel that carries a component of it there, in
-/// the order of their first rows.
+/// The key of these rows: each service of any of them with each sub-channel that carries a
+/// component of it there, in the order of their first rows.
 ///
 /// # Errors
 ///

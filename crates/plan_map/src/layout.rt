@@ -1,10 +1,12 @@
-//! The one layout of sub-channels that serves every configuration of a plan: what a multiplexer carries all the time
-//! whose own layout stays, while the plan changes the FIC alone.
+//! The one layout of sub-channels that serves every configuration of a plan: what a multiplexer
+//! carries all the time whose own layout stays, while the plan changes the FIC alone.
 
-ghost use Rattle.std.specs.Prelude.{◌≡◌, ◌<◌, ◌++◌, ◌∷◌, [], IfOk, IfErr, IfSome, OnOk, IsTrue, Ok, Err, false, Option, Some, None};
-ghost use Rattle.std.specs.List.{AllByRecursion, list_any};
+ghost use Rattle.std.specs.Prelude.{◌≡◌, ◌<◌, ◌++◌, ◌∷◌, [], IfOk, OnOk, Ok, Err, Option, Some};
+ghost use Rattle.std.specs.Prelude.{None};
+ghost use Rattle.std.specs.List.{AllByRecursion};
 ghost use Rattle.mux_types.specs.Sameness.{is_same_sub};
-ghost use Rattle.plan_map.specs.Layout.{Serves, IsClash, IsLayout, is_served, is_refused, Occurs, row_subs, subs_of, shares, clashes, first_with, place_of, places_below, clash_with, in_order, first_clash};
+ghost use Rattle.plan_map.specs.Layout.{IsLayout, subs_of, shares, clashes, first_with, place_of};
+ghost use Rattle.plan_map.specs.Layout.{places_below, clash_with, in_order, first_clash};
 
 use crate::cells::{end_of, units_of};
 use crate::rows::Row;
@@ -14,8 +16,8 @@ use mux_types::sameness::is_same_sub;
 use std::alloc::{AllocError, Global};
 use std::io::{self, Write};
 
-/// Two sub-channels of a plan's configurations that no multiplex carries both all the time: the same SubChId with
-/// another start, rate or profile; or two that have a capacity unit in common.
+/// Two sub-channels of a plan's configurations that no multiplex carries both all the time: the
+/// same SubChId with another start, rate or profile; or two that have a capacity unit in common.
 #[derive(Clone, Copy, Debug, PartialEq, Eq)]
 pub struct Clash {
     /// The one with the lower SubChId; if both are one sub-channel, as the plan has it first.
@@ -159,7 +161,8 @@ fn subs_of(alloc: Global, rows: &[Row]) -> Result<Vec<Sub>, AllocError>
     Ok(subs)
 }
 
-/// The layout of these sub-channels: each as it is first, if none of them clashes with one of these.
+/// The layout of these sub-channels: each as it is first, if none of them clashes with one of
+/// these.
 #[tactic(auto, using(crate::proofs::Places::serves, crate::proofs::Places::is_clash))]
 fn layout_from(alloc: Global, subs: &[Sub]) -> Result<Layout, AllocError>
     requires { AllByRecursion (λ s. s.id < 64) subs.now }
@@ -172,9 +175,10 @@ fn layout_from(alloc: Global, subs: &[Sub]) -> Result<Layout, AllocError>
     }
 }
 
-/// The one layout of sub-channels that serves the configurations of all rows, those that are on air at any time: each
-/// sub-channel of each of them is in it, with the same start, rate and profile, and none shares a capacity unit with
-/// another one. Or two of their sub-channels for which there is none.
+/// The one layout of sub-channels that serves the configurations of all rows, those that are on air
+/// at any time: each sub-channel of each of them is in it, with the same start, rate and profile,
+/// and none shares a capacity unit with another one. Or two of their sub-channels for which there
+/// is none.
 ///
 /// # Errors
 ///
@@ -228,7 +232,8 @@ fn print_other<W: Write>(first: &Sub, other: &Sub, out: &mut W) -> io::Result<()
     }
 }
 
-/// Prints why there is no layout: a sub-channel with its two places, or two sub-channels with theirs.
+/// Prints why there is no layout: a sub-channel with its two places, or two sub-channels with
+/// theirs.
 fn print_clash<W: Write>(clash: &Clash, out: &mut W) -> io::Result<()> {
     out.write_all(b"no one layout: ")?;
     print_sub(&clash.first, out)?;
@@ -237,9 +242,9 @@ fn print_clash<W: Write>(clash: &Clash, out: &mut W) -> io::Result<()> {
     out.write_all(b"\n")
 }
 
-/// Prints a layout: a line for each sub-channel, by ascending SubChId, `sub 1 at 0 size 96 eep 3-A`. Or the line
-/// `no one layout: sub 1 at 0 size 96 eep 3-A and at 0 size 72 eep 3-A`, with two places of one sub-channel or with two
-/// sub-channels that share capacity units.
+/// Prints a layout: a line for each sub-channel, by ascending SubChId, `sub 1 at 0 size 96 eep
+/// 3-A`. Or the line `no one layout: sub 1 at 0 size 96 eep 3-A and at 0 size 72 eep 3-A`, with two
+/// places of one sub-channel or with two sub-channels that share capacity units.
 pub fn print_layout<W: Write>(layout: &Layout, out: &mut W) -> io::Result<()> {
     match layout {
         Layout::One(subs) => print_subs(subs.as_slice(), out),

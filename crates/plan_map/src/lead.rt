@@ -3,7 +3,8 @@
 
 ghost use Rattle.std.specs.Prelude.{◌≡◌};
 ghost use Rattle.plan_map.specs.declared.lead.Ways.TheVariants.{One};
-ghost use Rattle.plan_map.specs.Leads.{after, both, is_same_any, is_same_lead, is_same_level, is_same_number, lead_of, way_to, ways_from};
+ghost use Rattle.plan_map.specs.Leads.{after, both, is_same_any, is_same_lead, is_same_level};
+ghost use Rattle.plan_map.specs.Leads.{is_same_number, lead_of, way_to, ways_from};
 
 use plan_code::{ContactId, Contacts, DayFrame, Frames, Instr};
 
@@ -79,12 +80,10 @@ fn is_same_level(a: bool, b: bool) -> bool
 fn is_same_until(a: Option<DayFrame>, b: Option<DayFrame>) -> bool
     ensures { result ≡ is_same_number a b }
 {
-    match a {
-        None => b.is_none(),
-        Some(s) => match b {
-            None => false,
-            Some(t) => s == t,
-        },
+    match (a, b) {
+        (None, None) => true,
+        (Some(s), Some(t)) => s == t,
+        _ => false,
     }
 }
 
@@ -92,12 +91,10 @@ fn is_same_until(a: Option<DayFrame>, b: Option<DayFrame>) -> bool
 fn is_same_count(a: Option<Frames>, b: Option<Frames>) -> bool
     ensures { result ≡ is_same_number a b }
 {
-    match a {
-        None => b.is_none(),
-        Some(m) => match b {
-            None => false,
-            Some(n) => m == n,
-        },
+    match (a, b) {
+        (None, None) => true,
+        (Some(m), Some(n)) => m == n,
+        _ => false,
     }
 }
 
@@ -220,11 +217,7 @@ pub(crate) fn after(instr: Instr, ways: Ways) -> Ways
         }),
         Instr::End => Ways::Nothing,
         Instr::Jump(_) => Ways::Nothing,
-        Instr::CommitIn(_) => ways,
-        Instr::CommitAt(_) => ways,
-        Instr::Edit(_) => ways,
-        Instr::Set { .. } => ways,
-        Instr::Loop { .. } => ways,
+        _ => ways,
     }
 }
 
@@ -234,44 +227,23 @@ fn way_to(pc: u16, instr: Instr, its: Ways, ways: Ways) -> Ways
     ensures { result ≡ way_to pc instr its ways }
 {
     match instr {
-        Instr::Test { contact, target } => {
-            if target != pc {
-                return ways;
-            }
-            both(
-                ways,
-                Ways::One(Lead::Contact {
-                    contact,
-                    closed: false,
-                }),
-            )
-        }
-        Instr::TestTime { from, to, target } => {
-            if target != pc {
-                return ways;
-            }
-            both(
-                ways,
-                Ways::One(Lead::Window {
-                    from,
-                    to,
-                    inside: false,
-                }),
-            )
-        }
-        Instr::Jump(target) => { if target == pc { both(ways, its) } else { ways } }
-        Instr::Wait(_) => ways,
-        Instr::Until(_) => ways,
-        Instr::WaitContact { .. } => ways,
-        Instr::WaitAny { .. } => ways,
-        Instr::Join => ways,
-        Instr::Settle => ways,
-        Instr::CommitIn(_) => ways,
-        Instr::CommitAt(_) => ways,
-        Instr::End => ways,
-        Instr::Edit(_) => ways,
-        Instr::Set { .. } => ways,
-        Instr::Loop { .. } => ways,
+        Instr::Test { contact, target } if target == pc => both(
+            ways,
+            Ways::One(Lead::Contact {
+                contact,
+                closed: false,
+            }),
+        ),
+        Instr::TestTime { from, to, target } if target == pc => both(
+            ways,
+            Ways::One(Lead::Window {
+                from,
+                to,
+                inside: false,
+            }),
+        ),
+        Instr::Jump(target) if target == pc => both(ways, its),
+        _ => ways,
     }
 }
 
@@ -292,8 +264,7 @@ pub(crate) fn lead_of(ways: Ways) -> Option<Lead>
     ensures { result ≡ lead_of ways }
 {
     match ways {
-        Ways::Nothing => None,
         Ways::One(lead) => Some(lead),
-        Ways::Others => None,
+        _ => None,
     }
 }

@@ -57,12 +57,14 @@ fn draw_sample<W: Write>(x: u64, y: u64, id: SubId, out: &mut W) -> io::Result<(
     let base = below(y, 15);
     write!(
         out,
-        "<rect x=\"{x}\" y=\"{y}\" width=\"34\" height=\"20\" stroke=\"black\" stroke-width=\"1\" fill=\""
+        "<rect x=\"{x}\" y=\"{y}\" width=\"34\" height=\"20\" stroke=\"black\" stroke-width=\"1\" \
+         fill=\""
     )?;
     draw_colour(id, out)?;
     writeln!(
         out,
-        "\"><title>Sub-channel {number}</title></rect><text x=\"{centre}\" y=\"{base}\" text-anchor=\"middle\">{number}</text>"
+        "\"><title>Sub-channel {number}</title></rect><text x=\"{centre}\" y=\"{base}\" \
+         text-anchor=\"middle\">{number}</text>"
     )
 }
 
@@ -112,7 +114,8 @@ pub(crate) fn draw_legend<W: Write>(key: &[Use], top: u64, out: &mut W) -> io::R
     let y = below(top, 24);
     writeln!(
         out,
-        "<g><title>Services</title>\n<text x=\"10\" y=\"{y}\" font-weight=\"bold\">Services and their sub-channels</text>"
+        "<g><title>Services</title>\n<text x=\"10\" y=\"{y}\" font-weight=\"bold\">Services and \
+         their sub-channels</text>"
     )?;
     draw_services(key, below(top, 36), out)?;
     out.write_all(b"</g>\n")

@@ -1,9 +1,10 @@
 //! The map of a plan: which capacity units each sub-channel has, at first and after each commit.
 //!
-//! [`rows_of`] returns the rows of a code, [`print_map`] writes them as text, and [`draw_map`] as a drawing to scale.
-//! Which rows a code has is defined in `specs/Rows.antt`, what leads to a commit in `specs/Leads.antt`, and the one
-//! layout for all of them in `specs/Layout.antt`. [`laws`] says what the rows have to do with the runs of the code. Text
-//! and drawing have no contract; tests print them.
+//! [`rows_of`] returns the rows of a code, [`print_map`] writes them as text, and [`draw_map`] as a
+//! drawing to scale. Which rows a code has is defined in `specs/Rows.antt`, what leads to a commit
+//! in `specs/Leads.antt`, and the one layout for all of them in `specs/Layout.antt`. [`laws`] says
+//! what the rows have to do with the runs of the code. Text and drawing have no contract; tests
+//! print them.
 #![tactic(auto)]
 
 pub mod cells;

@@ -4,7 +4,7 @@ use crate::cells::{HALF, free_units, holder};
 use crate::changes::print_changes;
 use crate::lead::{AnyOf, Lead};
 use crate::rows::{Row, RowKind};
-use mux_config::{Config, Sub};
+use mux_config::Sub;
 use plan_code::{ContactId, DayFrame};
 use std::io::{self, Write};
 
@@ -16,27 +16,13 @@ pub fn kind_text(kind: RowKind) -> &'static str {
     }
 }
 
-/// Prints a number with at least two digits.
-fn print_pair<W: Write>(number: u32, out: &mut W) -> io::Result<()> {
-    if number < 10 {
-        write!(out, "0{number}")
-    } else {
-        write!(out, "{number}")
-    }
-}
-
-/// Prints a time of the day.
-fn print_time<W: Write>(second: u32, out: &mut W) -> io::Result<()> {
-    print_pair(second / 3600, out)?;
-    out.write_all(b":")?;
-    print_pair(second / 60 % 60, out)?;
-    out.write_all(b":")?;
-    print_pair(second % 60, out)
-}
-
 /// Prints a frame of the day as a time.
 fn print_frame<W: Write>(frame: DayFrame, out: &mut W) -> io::Result<()> {
-    print_time(frame.get() * 3 / 125, out)
+    let second = frame.get() * 3 / 125;
+    let hours = second / 3600;
+    let minutes = second / 60 % 60;
+    let seconds = second % 60;
+    write!(out, "{hours:02}:{minutes:02}:{seconds:02}")
 }
 
 /// Prints a wait for a frame of the day.
@@ -143,27 +129,6 @@ pub fn print_lead<W: Write>(lead: Lead, out: &mut W) -> io::Result<()> {
     }
 }
 
-/// Prints what leads to a commit in parentheses, if it is one.
-fn print_led<W: Write>(lead: Option<Lead>, out: &mut W) -> io::Result<()> {
-    match lead {
-        None => Ok(()),
-        Some(lead) => {
-            out.write_all(b" (")?;
-            print_lead(lead, out)?;
-            out.write_all(b")")
-        }
-    }
-}
-
-/// Prints the name of a block, if it is one.
-fn print_block<W: Write>(name: &[u8], out: &mut W) -> io::Result<()> {
-    if name.len() == 0 {
-        return Ok(());
-    }
-    out.write_all(b" in ")?;
-    out.write_all(name)
-}
-
 /// Prints the heading of a row: the statement and its line, its block, what leads to it, and the
 /// number of free capacity units.
 fn print_head<W: Write>(row: &Row, out: &mut W) -> io::Result<()> {
@@ -171,8 +136,16 @@ fn print_head<W: Write>(row: &Row, out: &mut W) -> io::Result<()> {
     let free = free_units(row.config.subs());
     out.write_all(kind_text(row.kind).as_bytes())?;
     write!(out, " {line}")?;
-    print_block(row.block.as_slice(), out)?;
-    print_led(row.lead, out)?;
+    let block = row.block.as_slice();
+    if !block.is_empty() {
+        out.write_all(b" in ")?;
+        out.write_all(block)?;
+    }
+    if let Some(lead) = row.lead {
+        out.write_all(b" (")?;
+        print_lead(lead, out)?;
+        out.write_all(b")")?;
+    }
     writeln!(out, ": free {free}")
 }
 
@@ -208,13 +181,6 @@ fn print_bar<W: Write>(subs: &[Sub], out: &mut W) -> io::Result<()> {
     out.write_all(b"\n")
 }
 
-/// Prints a row below one with another configuration.
-fn print_row<W: Write>(above: &Config, row: &Row, out: &mut W) -> io::Result<()> {
-    print_head(row, out)?;
-    print_bar(row.config.subs(), out)?;
-    print_changes(above, &row.config, out)
-}
-
 /// Prints a map. A row has a heading with the statement, its line, its block, what leads to it, and
 /// the number of free capacity units; two lines of 36 cells of 12 capacity units, in two columns
 /// each; and a line for each part of the configuration above that is left out, and for each that is
@@ -226,7 +192,9 @@ pub fn print_map<W: Write>(rows: &[Row], out: &mut W) -> io::Result<()> {
     };
     let mut above = &first.config;
     for row in rows {
-        print_row(above, row, out)?;
+        print_head(row, out)?;
+        print_bar(row.config.subs(), out)?;
+        print_changes(above, &row.config, out)?;
         above = &row.config;
     }
     Ok(())

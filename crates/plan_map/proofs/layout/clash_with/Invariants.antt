@@ -1,5 +1,5 @@
 use Rattle.std.proofs.Common.{◌≡◌, drop}
-use Rattle.plan_map.specs.Layout.{clash_with}
+use Rattle.plan_map.proofs.Names.{clash_with}
 use Rattle.plan_map.proofs.layout.clash_with.Given as goal
 
 abbrev pub invariant-loop-place : goal.invariant-loop-place

@@ -1,6 +1,5 @@
 use Rattle.std.proofs.Common.{◌≡◌}
-use Rattle.std.specs.List.{flat_map, range_with_len}
-use Rattle.plan_map.specs.Layout.{place_of}
+use Rattle.plan_map.proofs.Names.{flat_map, range_with_len, place_of}
 use Rattle.plan_map.proofs.layout.places_of.Given as goal
 
 -- the places so far

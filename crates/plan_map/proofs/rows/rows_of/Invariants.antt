@@ -1,14 +1,11 @@
 use Rattle.std.proofs.Common.{◌≡◌, ℕ, List, ◌++◌, drop}
-use Rattle.mux_types.specs.Configuration.{Configuration}
-use Rattle.plan_code.specs.Program.{Program}
-use Rattle.plan_map.specs.declared.rows.Row.{Row}
-use Rattle.plan_map.specs.declared.lead.Ways.{Ways}
-use Rattle.plan_map.specs.declared.lead.Reached.{Reached}
-use Rattle.plan_map.specs.Rows.{commits_from, rows_of}
+use Rattle.plan_map.proofs.Names.{Configuration, Row, Ways, Reached, commits_from, rows_of}
+use Rattle.plan_runs.proofs.Names.{Program}
 use Rattle.plan_map.proofs.rows.rows_of.Given as goal
 
 -- the rows so far, and what follows
-pub record SoFar (begin : ℕ) (p : Program) (rows : List Row) (pc at : ℕ) (before : Ways) (passed : List Reached) (next : Configuration) : Type 0 where
+pub record SoFar (begin : ℕ) (p : Program) (rows : List Row) (pc at : ℕ) (before : Ways) (passed : List Reached)
+    (next : Configuration) : Type 0 where
   pub all : rows ++ commits_from p at before passed next (drop at p.lines) ≡ rows_of begin p
   pub place : pc ≡ at
 
