@@ -146,18 +146,24 @@ layout_again total ReserveTwo rest = refl
 pub plan_after_is : (layout : FrameLayout) → IsLawful (plan_after layout) (λ p. IsPlan p × (p.layout ≡ layout))
 plan_after_is layout =
     made_is _ _ (λ p. IsPlan p × (p.layout ≡ layout)) (any_u16_is then byte_is 1 60 then byte_is 12 248 then byte_is 1 255)
-    (λ x is. ((record {
-      ensemble = is.0.0.0;
-      period_from = is.0.0.1.0;
-      period_to = is.0.0.1.1;
-      notice_from = is.0.1.0;
-      notice_to = is.0.1.1;
-      budget_from = is.1.0;
-      budget_to = is.1.1;
-    }, refl), refl))
+    (λ x is. (
+      (
+        record {
+          ensemble = is.0.0.0;
+          period_from = is.0.0.1.0;
+          period_to = is.0.0.1.1;
+          notice_from = is.0.1.0;
+          notice_to = is.0.1.1;
+          budget_from = is.1.0;
+          budget_to = is.1.1;
+        },
+        refl,
+      ),
+      refl,
+    ))
     (λ p is.
-      let q = is.0 in
-      ((((q.ensemble, (q.period_from, q.period_to)), (q.notice_from, q.notice_to)), (q.budget_from, q.budget_to)), ap (λ (l : FrameLayout). let r : Plan = record p { layout = l } in r) (sym is.1)))
+    let q = is.0 in
+    ((((q.ensemble, (q.period_from, q.period_to)), (q.notice_from, q.notice_to)), (q.budget_from, q.budget_to)), ap (λ (l : FrameLayout). let r : Plan = record p { layout = l } in r) (sym is.1)))
 
 plan_front : (total : ℕ) (bytes : List ℕ) (x : Plan × List ℕ) → IsBytes bytes → plan_at total bytes ≡ Ok x → Front bytes (plan_bytes x.0) x.1 × IsPlan x.0
 unfolding plan_at
