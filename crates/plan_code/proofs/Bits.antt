@@ -3,7 +3,8 @@ use Rattle.std.proofs.Common.{◌≡◌, ◌≢◌, ℕ, ◌-◌, ◌<◌, ◌^�
 use Rattle.std.specs.Int.{Width, w8, w16, bit_at, bit_not}
 use Rattle.std.specs.Int.RustNames.{bit_and, bit_or}
 use Rattle.std.proofs.lemmas.Nat.{pow_below}
-use Rattle.std.proofs.lemmas.Nat.Bits.{bit_at-lt, bit_at_and, bit_at_or, bit_at_not, bit_at-pow_same, bit_at-pow_other, same_from_bits}
+use Rattle.std.proofs.lemmas.Nat.Bits.{bit_at-lt, bit_at_and, bit_at_or, bit_at_not, bit_at-pow_same, bit_at-pow_other}
+use Rattle.std.proofs.lemmas.Nat.Bits.{same_from_bits}
 use Rattle.std.proofs.lemmas.Bool.{eqb-true, cases_lt}
 use mir.Val.{bits}
 use Rattle.plan_code.specs.declared.flags.Counters.{Counters}
@@ -15,14 +16,18 @@ bit_set_same n k = omega (arith, bit_at_or n (2 ^ k) k, bit_at-pow_same k, bit_a
 bit_set_other : (n k i : ℕ) → i ≢ k → bit_at (bit_or n (2 ^ k)) i ≡ bit_at n i
 bit_set_other n k i apart = omega (arith, bit_at_or n (2 ^ k) i, bit_at-pow_other k i apart)
 
-bit_cleared : (w : Width) (n k i : ℕ) → k < bits w → i < bits w → bit_at (bit_and n (bit_not w (2 ^ k))) i ≡ min (bit_at n i) (1 - bit_at (2 ^ k) i)
-bit_cleared w n k i within low = bit_at_and n (bit_not w (2 ^ k)) i ∙ ap (λ (b : ℕ). min (bit_at n i) b) (bit_at_not w (2 ^ k) i (pow_below k (bits w) within) low)
+bit_cleared : (w : Width) (n k i : ℕ) → k < bits w → i < bits w
+    → bit_at (bit_and n (bit_not w (2 ^ k))) i ≡ min (bit_at n i) (1 - bit_at (2 ^ k) i)
+bit_cleared w n k i within low = bit_at_and n (bit_not w (2 ^ k)) i
+    ∙ ap (λ (b : ℕ). min (bit_at n i) b) (bit_at_not w (2 ^ k) i (pow_below k (bits w) within) low)
 
 bit_clear_same : (w : Width) (n k : ℕ) → k < bits w → bit_at (bit_and n (bit_not w (2 ^ k))) k ≡ 0
 bit_clear_same w n k within = omega (arith, bit_cleared w n k k within within, bit_at-pow_same k)
 
-bit_clear_other : (w : Width) (n k i : ℕ) → k < bits w → i < bits w → i ≢ k → bit_at (bit_and n (bit_not w (2 ^ k))) i ≡ bit_at n i
-bit_clear_other w n k i within low apart = omega (arith, bit_cleared w n k i within low, bit_at-pow_other k i apart, bit_at-lt n i)
+bit_clear_other : (w : Width) (n k i : ℕ) → k < bits w → i < bits w → i ≢ k
+    → bit_at (bit_and n (bit_not w (2 ^ k))) i ≡ bit_at n i
+bit_clear_other w n k i within low apart =
+    omega (arith, bit_cleared w n k i within low, bit_at-pow_other k i apart, bit_at-lt n i)
 
 -- ---- tests of a bit
 
@@ -39,22 +44,28 @@ pub counters_change_alone : CountersChangeAlone
 counters_change_alone counters r lt = (
   one_is _ (bit_set_same counters.0 r),
   zero_is _ (bit_clear_same w8 counters.0 r lt),
-  λ q within apart.
-      (same_is _ _ (bit_set_other counters.0 r q apart), same_is _ _ (bit_clear_other w8 counters.0 r q lt within apart)),
+  λ q within apart. (
+    same_is _ _ (bit_set_other counters.0 r q apart),
+    same_is _ _ (bit_clear_other w8 counters.0 r q lt within apart),
+  ),
 )
 
 pub contacts_change_alone : ContactsChangeAlone
 contacts_change_alone contacts c true lt =
     (one_is _ (bit_set_same contacts.0 c), λ d within apart. same_is _ _ (bit_set_other contacts.0 c d apart))
-contacts_change_alone contacts c false lt =
-    (zero_is _ (bit_clear_same w16 contacts.0 c lt), λ d within apart. same_is _ _ (bit_clear_other w16 contacts.0 c d lt within apart))
+contacts_change_alone contacts c false lt = (
+  zero_is _ (bit_clear_same w16 contacts.0 c lt),
+  λ d within apart.
+      same_is _ _ (bit_clear_other w16 contacts.0 c d lt within apart),
+)
 
 -- ---- inclusion
 
 pub all_included : (a b : Counters) → eqb (bit_and a.0 b.0) b.0 ≡ true → Includes a b
 all_included a b e = λ r has.
     let same : bit_and a.0 b.0 ≡ b.0 = eqb-true _ _ e in
-    let both : min (bit_at a.0 r) (bit_at b.0 r) ≡ bit_at b.0 r = sym (bit_at_and a.0 b.0 r) ∙ ap (λ (n : ℕ). bit_at n r) same in
+    let both : min (bit_at a.0 r) (bit_at b.0 r) ≡ bit_at b.0 r =
+    sym (bit_at_and a.0 b.0 r) ∙ ap (λ (n : ℕ). bit_at n r) same in
     let here : bit_at b.0 r ≡ 1 = eqb-true _ _ has in
     one_is (bit_at a.0 r) (omega (arith, both, here, bit_at-lt a.0 r))
 

@@ -2,14 +2,16 @@
 use Rattle.std.proofs.Common.{◌≡◌, ℕ, List, [], ◌∷◌, length, Result, Ok, Err, refl, sym, ap, subst, ◌∙◌, arith}
 use Rattle.plan_code.specs.declared.fault.CodeFault.{CodeFault}
 use Rattle.plan_code.specs.Program.{Program}
-use Rattle.plan_code.specs.Faults.{AreBytes, IsNoFile, HasCodeFault, HasOneFault, HasFaultWithoutCode, BytesLackNoMemory}
+use Rattle.plan_code.specs.Faults.{AreBytes, IsNoFile, HasCodeFault, HasOneFault, HasFaultWithoutCode}
+use Rattle.plan_code.specs.Faults.{BytesLackNoMemory}
 use Rattle.plan_code.specs.Reading.{code_of}
 use Rattle.plan_code.proofs.FileLaws.{code_front, code_again}
 use Rattle.plan_code.proofs.PlacedFiles.{EndsWithin, within_code, none_read}
 
 pub lacks_no_memory : BytesLackNoMemory
 lacks_no_memory [] e = let truncated = none_read in absurd (cc)
-lacks_no_memory (b ∷ rest) e = subst (λ (r : Result Program CodeFault). EndsWithin (length (b ∷ rest)) r) e (within_code (b ∷ rest) (omega arith))
+lacks_no_memory (b ∷ rest) e =
+    subst (λ (r : Result Program CodeFault). EndsWithin (length (b ∷ rest)) r) e (within_code (b ∷ rest) (omega arith))
 
 pub one_fault : HasOneFault
 one_fault bytes f g first second =
@@ -17,8 +19,10 @@ one_fault bytes f g first second =
     cc
 
 -- reading gives a code or a fault
-fault_or_code : (bytes : List ℕ) (r : Result Program CodeFault) → code_of bytes ≡ r → AreBytes bytes → IsNoFile bytes → (f : CodeFault) × HasCodeFault bytes f
-fault_or_code bytes (Ok p) e fits none = let read = code_front bytes p fits e in absurd (none p read.formed read.spelled)
+fault_or_code : (bytes : List ℕ) (r : Result Program CodeFault) → code_of bytes ≡ r → AreBytes bytes → IsNoFile bytes
+    → (f : CodeFault) × HasCodeFault bytes f
+fault_or_code bytes (Ok p) e fits none = let read = code_front bytes p fits e in
+    absurd (none p read.formed read.spelled)
 fault_or_code bytes (Err f) e fits none = (f, e)
 
 pub fault_without_code : HasFaultWithoutCode

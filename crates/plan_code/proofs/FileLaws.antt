@@ -1,5 +1,6 @@
 -- Reading a code file and spelling a code are inverse.
-use Rattle.std.proofs.Common.{◌≡◌, ℕ, zero, suc, ◌+◌, ◌≤◌, eqb, not, List, [], ◌∷◌, ◌++◌, length, Result, Ok, Err, IfOk, refl, sym, ap, subst, ◌∙◌, append_assoc, arith}
+use Rattle.std.proofs.Common.{◌≡◌, ℕ, zero, suc, ◌+◌, ◌≤◌, eqb, not, List, [], ◌∷◌, ◌++◌, length, Result, Ok, Err, IfOk}
+use Rattle.std.proofs.Common.{refl, sym, ap, subst, ◌∙◌, append_assoc, arith}
 use Rattle.std.specs.List.{flat_map, AllByRecursion}
 use Rattle.std.proofs.lemmas.Bool.{eqb-true}
 use Rattle.std.proofs.lemmas.List.{append-nil, nil_from_length}
@@ -16,22 +17,27 @@ use Rattle.plan_code.specs.declared.instr.Line.{Line}
 use Rattle.plan_code.specs.Program.{Program, IsProgram, IsPlan, IsLabel, IsLine, label_key}
 use Rattle.plan_code.specs.Spelling.{header_bytes, line_bytes, code_bytes}
 use Rattle.plan_code.specs.Parts.{label, label_bytes, label_from, line}
-use Rattle.plan_code.specs.Reading.{Parses, config_in, line_in, items_at, labels_in, Header, header_at, program_at, code_of, Gives}
+use Rattle.plan_code.specs.Reading.{Parses, config_in, line_in, items_at, labels_in, Header, header_at, program_at}
+use Rattle.plan_code.specs.Reading.{code_of, Gives}
 use Rattle.plan_code.proofs.PartLaws.{label_is, label_formed, formed_label, line_is}
-use Rattle.plan_code.proofs.HeaderLaws.{then_ok, refuse_then, given, given_is, read_ok, ok_read, not_false, IsCount, IsHeaderRead, header_front, header_again}
+use Rattle.plan_code.proofs.HeaderLaws.{then_ok, refuse_then, given, given_is, read_ok, ok_read, not_false, IsCount}
+use Rattle.plan_code.proofs.HeaderLaws.{IsHeaderRead, header_front, header_again}
 
 -- ---- reading and spelling are inverse on well-formed values
 
 pub record IsParsing {T : Type 0} (read : List ℕ → Parses T) (spell : T → List ℕ) (P : T → Type 0) : Type 0 where
-  pub front : (bytes : List ℕ) (x : T × List ℕ) → IsBytes bytes → read bytes ≡ Ok x → Front bytes (spell x.0) x.1 × P x.0
+  pub front : (bytes : List ℕ) (x : T × List ℕ) → IsBytes bytes → read bytes ≡ Ok x → Front bytes (spell x.0) x.1
+      × P x.0
   pub again : (x : T) (rest : List ℕ) → P x → read (spell x ++ rest) ≡ Ok (x, rest)
 
 -- ---- tables
 
 config_parsing : (total : ℕ) → IsParsing (config_in total) config_bytes IsConfiguration
 config_parsing total = record {
-  front = λ bytes x fits e. record_front (length bytes) bytes x fits (read_ok (place total bytes) (config_at bytes) x e);
-  again = λ c rest formed. ok_read (place total (config_bytes c ++ rest)) _ (c, rest) (record_again (length (config_bytes c ++ rest)) c rest formed);
+  front = λ bytes x fits e. record_front (length bytes) bytes x fits
+      (read_ok (place total bytes) (config_at bytes) x e);
+  again = λ c rest formed. ok_read (place total (config_bytes c ++ rest)) _ (c, rest)
+      (record_again (length (config_bytes c ++ rest)) c rest formed);
 }
 
 line_parsing : (total : ℕ) → IsParsing (line_in total) line_bytes IsLine
@@ -41,7 +47,8 @@ line_parsing total = record {
 }
 
 -- what was read extends `before` by `count` items
-pub record AreItemsRead {T : Type 0} (spell : T → List ℕ) (P : T → Type 0) (before : List T) (count : ℕ) (bytes : List ℕ) (x : List T × List ℕ) : Type 0 where
+pub record AreItemsRead {T : Type 0} (spell : T → List ℕ) (P : T → Type 0) (before : List T) (count : ℕ)
+    (bytes : List ℕ) (x : List T × List ℕ) : Type 0 where
   pub more : List T
   pub is : x.0 ≡ before ++ more
   pub front : Front bytes (flat_map spell more) x.1
@@ -49,12 +56,19 @@ pub record AreItemsRead {T : Type 0} (spell : T → List ℕ) (P : T → Type 0)
   pub formed : AllByRecursion P more
 
 items_front : {T : Type 0} (read : List ℕ → Parses T) (spell : T → List ℕ) (P : T → Type 0) → IsParsing read spell P
-    → (before : List T) (count : ℕ) (bytes : List ℕ) (x : List T × List ℕ) → IsBytes bytes → items_at read before count bytes ≡ Ok x → AreItemsRead spell P before count bytes x
+    → (before : List T) (count : ℕ) (bytes : List ℕ) (x : List T × List ℕ) → IsBytes bytes
+    → items_at read before count bytes ≡ Ok x → AreItemsRead spell P before count bytes x
 unfolding items_at
 items_front {T} read spell P parsing before zero bytes x fits e =
     let here : List T × List ℕ = (before, bytes) in
     subst (λ (y : List T × List ℕ). AreItemsRead spell P before 0 bytes y) (given_is here x e)
-    (record { more = []; is = sym (append-nil before); front = record { parts = refl; rest_fits = fits }; many = refl; formed = tt })
+    (record {
+      more = [];
+      is = sym (append-nil before);
+      front = record { parts = refl; rest_fits = fits };
+      many = refl;
+      formed = tt;
+    })
 items_front read spell P parsing before (suc count) bytes x fits e =
     let l = then_ok (read bytes) (λ item. items_at read (before ++ item.0 ∷ []) count item.1) x e in
     let f = parsing.front bytes l.0 fits l.1 in
@@ -68,13 +82,17 @@ items_front read spell P parsing before (suc count) bytes x fits e =
     }
 
 items_again : {T : Type 0} (read : List ℕ → Parses T) (spell : T → List ℕ) (P : T → Type 0) → IsParsing read spell P
-    → (before more : List T) (rest : List ℕ) → AllByRecursion P more → items_at read before (length more) (flat_map spell more ++ rest) ≡ Ok (before ++ more, rest)
+    → (before more : List T) (rest : List ℕ) → AllByRecursion P more
+    → items_at read before (length more) (flat_map spell more ++ rest) ≡ Ok (before ++ more, rest)
 unfolding items_at
-items_again {T} read spell P parsing before [] rest all = ap (λ (ls : List T). let y : List T × List ℕ = (ls, rest) in given y) (sym (append-nil before))
+items_again {T} read spell P parsing before [] rest all =
+    ap (λ (ls : List T). let y : List T × List ℕ = (ls, rest) in given y) (sym (append-nil before))
 items_again {T} read spell P parsing before (l ∷ more) rest all =
-    let grouped : flat_map spell (l ∷ more) ++ rest ≡ spell l ++ (flat_map spell more ++ rest) = append_assoc (spell l) (flat_map spell more) rest in
+    let grouped : flat_map spell (l ∷ more) ++ rest ≡ spell l ++ (flat_map spell more ++ rest) =
+    append_assoc (spell l) (flat_map spell more) rest in
     ap (items_at read before (suc (length more))) grouped
-    ∙ rw (parsing.again l (flat_map spell more ++ rest) all.0) (items_again read spell P parsing (before ++ l ∷ []) more rest all.1
+    ∙ rw (parsing.again l (flat_map spell more ++ rest) all.0)
+    (items_again read spell P parsing (before ++ l ∷ []) more rest all.1
     ∙ ap (λ (ls : List T). let y : List T × List ℕ = (ls, rest) in given y) (append_assoc before (l ∷ []) more))
 
 any_place : (xs : List Label) → AllByRecursion (λ l. 0 ≤ label_key l) xs
@@ -85,7 +103,8 @@ any_place (x ∷ xs) = (omega arith, any_place xs)
 
 -- the tables read match their header
 pub record AreTablesRead (h : Header) (bytes : List ℕ) (p : Program) (rest : List ℕ) : Type 0 where
-  pub front : Front bytes (flat_map config_bytes p.configurations ++ flat_map label_bytes p.labels ++ flat_map line_bytes p.lines) rest
+  pub front : Front bytes (flat_map config_bytes p.configurations ++ flat_map label_bytes p.labels
+      ++ flat_map line_bytes p.lines) rest
   pub plan : p.plan ≡ h.plan
   pub configuration_count : length p.configurations ≡ h.configurations
   pub label_count : length p.labels ≡ h.labels
@@ -99,34 +118,47 @@ none_before : (n m : ℕ) → n ≡ 0 + m → n ≡ m
 none_before n m e = omega (arith, e)
 
 -- a table of `count` items, read from the start
-record IsRow {T : Type 0} (spell : T → List ℕ) (P : T → Type 0) (count : ℕ) (bytes : List ℕ) (xs : List T) (rest : List ℕ) : Type 0 where
+record IsRow {T : Type 0} (spell : T → List ℕ) (P : T → Type 0) (count : ℕ) (bytes : List ℕ) (xs : List T)
+    (rest : List ℕ) : Type 0 where
   front : Front bytes (flat_map spell xs) rest
   many : length xs ≡ count
   formed : AllByRecursion P xs
 
-is_row : {T : Type 0} (spell : T → List ℕ) (P : T → Type 0) (count : ℕ) (bytes : List ℕ) (xs : List T) (rest : List ℕ) → AreItemsRead spell P [] count bytes (xs, rest) → IsRow spell P count bytes xs rest
+is_row : {T : Type 0} (spell : T → List ℕ) (P : T → Type 0) (count : ℕ) (bytes : List ℕ) (xs : List T) (rest : List ℕ)
+    → AreItemsRead spell P [] count bytes (xs, rest) → IsRow spell P count bytes xs rest
 is_row {T} spell P count bytes xs rest r =
-    subst (λ (ys : List T). IsRow spell P count bytes ys rest) (sym r.is) (record { front = r.front; many = r.many; formed = r.formed })
+    subst (λ (ys : List T). IsRow spell P count bytes ys rest) (sym r.is)
+    (record { front = r.front; many = r.many; formed = r.formed })
 
-labels_row : (total count : ℕ) (n : ℕ) (bytes : List ℕ) (ls : List Label) (rest : List ℕ) → IsCount 256 count → IsBytes bytes → labels_in total count n bytes ≡ Ok (ls, rest)
+labels_row : (total count : ℕ) (n : ℕ) (bytes : List ℕ) (ls : List Label) (rest : List ℕ) → IsCount 256 count
+    → IsBytes bytes → labels_in total count n bytes ≡ Ok (ls, rest)
     → IsRow label_bytes (IsLabel count) n bytes ls rest × IsAscending label_key ls
 unfolding label
 labels_row total count n bytes ls rest known fits e =
     let f = members_front label_key label_bytes (IsLabel count) (label_from total count)
-    (λ low b x is h. let r = (label_is count low).front total b x is h in (r.0, r.1.pc.0, label_formed count low x.0 known.0 r.1))
+    (λ low b x is h. let r = (label_is count low).front total b x is h in
+    (r.0, r.1.pc.0, label_formed count low x.0 known.0 r.1))
     0 [] n bytes (ls, rest) fits tt tt tt (read_ok 0 _ (ls, rest) e) in
     let front : Front bytes (flat_map label_bytes ls) rest = subst (λ (t : List ℕ). Front bytes t rest) (sym f.2) f.1 in
     (record { front = front; many = none_before (length ls) n f.3; formed = f.5 }, f.4)
 
-tables_made : (total : ℕ) (h : Header) (b0 b1 b2 b3 : List ℕ) (cs : List Configuration) (ls : List Label) (is : List Line) → IsCount 256 h.configurations → IsBytes b0
-    → items_at (config_in total) [] h.configurations b0 ≡ Ok (cs, b1) → labels_in total h.configurations h.labels b1 ≡ Ok (ls, b2) → items_at (line_in total) [] h.lines b2 ≡ Ok (is, b3)
+tables_made : (total : ℕ) (h : Header) (b0 b1 b2 b3 : List ℕ) (cs : List Configuration) (ls : List Label)
+    (is : List Line) → IsCount 256 h.configurations → IsBytes b0
+    → items_at (config_in total) [] h.configurations b0 ≡ Ok (cs, b1)
+    → labels_in total h.configurations h.labels b1 ≡ Ok (ls, b2)
+    → items_at (line_in total) [] h.lines b2 ≡ Ok (is, b3)
     → AreTablesRead h b0 (record { plan = h.plan; configurations = cs; labels = ls; lines = is }) b3
 tables_made total h b0 b1 b2 b3 cs ls is known fits ec el ei =
-    let fc = is_row config_bytes IsConfiguration h.configurations b0 cs b1 (items_front (config_in total) config_bytes IsConfiguration (config_parsing total) [] h.configurations b0 (cs, b1) fits ec) in
+    let fc = is_row config_bytes IsConfiguration h.configurations b0 cs b1
+    (items_front (config_in total) config_bytes IsConfiguration (config_parsing total) [] h.configurations b0
+    (cs, b1) fits ec) in
     let fl = labels_row total h.configurations h.labels b1 ls b2 known fc.front.rest_fits el in
-    let fi = is_row line_bytes IsLine h.lines b2 is b3 (items_front (line_in total) line_bytes IsLine (line_parsing total) [] h.lines b2 (is, b3) fl.0.front.rest_fits ei) in
+    let fi = is_row line_bytes IsLine h.lines b2 is b3
+    (items_front (line_in total) line_bytes IsLine (line_parsing total) [] h.lines b2 (is, b3) fl.0.front.rest_fits
+    ei) in
     let one = front_then b0 (flat_map config_bytes cs) b1 (flat_map label_bytes ls) b2 fc.front fl.0.front in
-    let all = front_then b0 (flat_map config_bytes cs ++ flat_map label_bytes ls) b2 (flat_map line_bytes is) b3 one fi.front in
+    let all = front_then b0 (flat_map config_bytes cs ++ flat_map label_bytes ls) b2 (flat_map line_bytes is) b3 one
+    fi.front in
     record {
       front = all;
       plan = refl;
@@ -139,13 +171,15 @@ tables_made total h b0 b1 b2 b3 cs ls is known fits ec el ei =
       lines = fi.formed;
     }
 
-tables_front : (total : ℕ) (h : Header) (bytes : List ℕ) (x : Program × List ℕ) → IsCount 256 h.configurations → IsBytes bytes → program_at total h bytes ≡ Ok x → AreTablesRead h bytes x.0 x.1
+tables_front : (total : ℕ) (h : Header) (bytes : List ℕ) (x : Program × List ℕ) → IsCount 256 h.configurations
+    → IsBytes bytes → program_at total h bytes ≡ Ok x → AreTablesRead h bytes x.0 x.1
 unfolding program_at
 tables_front total h bytes x known fits e =
     let c = then_ok (items_at (config_in total) [] h.configurations bytes) _ x e in
     let l = then_ok (labels_in total h.configurations h.labels c.0.1) _ x c.2 in
     let i = then_ok (items_at (line_in total) [] h.lines l.0.1) _ x l.2 in
-    let found : Program × List ℕ = (record { plan = h.plan; configurations = c.0.0; labels = l.0.0; lines = i.0.0 }, i.0.1) in
+    let found : Program × List ℕ =
+    (record { plan = h.plan; configurations = c.0.0; labels = l.0.0; lines = i.0.0 }, i.0.1) in
     subst (λ (y : Program × List ℕ). AreTablesRead h bytes y.0 y.1) (given_is found x i.2)
     (tables_made total h bytes c.0.1 l.0.1 i.0.1 c.0.0 l.0.0 i.0.0 known fits c.1 l.1 i.1)
 
@@ -157,7 +191,8 @@ pub record IsCodeRead (bytes : List ℕ) (p : Program) : Type 0 where
 same_count : (n m limit : ℕ) → n ≡ m → IsCount limit m → IsCount limit n
 same_count n m limit e is = subst (λ (k : ℕ). IsCount limit k) (sym e) is
 
-code_made : (bytes b1 b2 : List ℕ) (h : Header) (p : Program) → IsHeaderRead bytes h b1 → AreTablesRead h b1 p b2 → length b2 ≡ 0 → IsCodeRead bytes p
+code_made : (bytes b1 b2 : List ℕ) (h : Header) (p : Program) → IsHeaderRead bytes h b1 → AreTablesRead h b1 p b2
+    → length b2 ≡ 0 → IsCodeRead bytes p
 code_made bytes b1 b2 h p header tables ended =
     let configurations = flat_map config_bytes p.configurations in
     let labels = flat_map label_bytes p.labels in
@@ -165,17 +200,25 @@ code_made bytes b1 b2 h p header tables ended =
     let none : b2 ≡ [] = nil_from_length b2 ended in
     let head : Front bytes (header_bytes p.plan (length p.configurations) (length p.labels) (length p.lines)) b1 =
     rw (tables.plan, tables.configuration_count, tables.label_count, tables.line_count) header.front in
-    let whole = front_then bytes (header_bytes p.plan (length p.configurations) (length p.labels) (length p.lines)) b1 (configurations ++ labels ++ lines) b2 head tables.front in
-    let grouped : header_bytes p.plan (length p.configurations) (length p.labels) (length p.lines) ++ (configurations ++ labels ++ lines) ≡ code_bytes p =
-    sym (append_assoc (header_bytes p.plan (length p.configurations) (length p.labels) (length p.lines) ++ configurations) labels lines
-    ∙ append_assoc (header_bytes p.plan (length p.configurations) (length p.labels) (length p.lines)) configurations (labels ++ lines)
-    ∙ ap (λ (t : List ℕ). header_bytes p.plan (length p.configurations) (length p.labels) (length p.lines) ++ t) (sym (append_assoc configurations labels lines))) in
+    let whole = front_then bytes (header_bytes p.plan (length p.configurations) (length p.labels) (length p.lines)) b1
+    (configurations ++ labels ++ lines) b2 head tables.front in
+    let grouped : header_bytes p.plan (length p.configurations) (length p.labels) (length p.lines)
+    ++ (configurations ++ labels ++ lines) ≡ code_bytes p =
+    sym (append_assoc (header_bytes p.plan (length p.configurations) (length p.labels) (length p.lines)
+    ++ configurations) labels lines
+    ∙ append_assoc (header_bytes p.plan (length p.configurations) (length p.labels) (length p.lines)) configurations
+    (labels ++ lines)
+    ∙ ap (λ (t : List ℕ). header_bytes p.plan (length p.configurations) (length p.labels) (length p.lines) ++ t)
+    (sym (append_assoc configurations labels lines))) in
     let configuration_count = same_count _ _ 256 tables.configuration_count header.configurations in
     let label_count = same_count _ _ 1024 tables.label_count header.labels in
     let line_count = same_count _ _ 4096 tables.line_count header.lines in
     record {
-      spelled = whole.parts ∙ ap (λ (r : List ℕ). header_bytes p.plan (length p.configurations) (length p.labels) (length p.lines) ++ (configurations ++ labels ++ lines) ++ r) none
-          ∙ append-nil (header_bytes p.plan (length p.configurations) (length p.labels) (length p.lines) ++ (configurations ++ labels ++ lines)) ∙ grouped;
+      spelled = whole.parts ∙ ap
+          (λ (r : List ℕ). header_bytes p.plan (length p.configurations) (length p.labels) (length p.lines)
+          ++ (configurations ++ labels ++ lines) ++ r) none
+          ∙ append-nil (header_bytes p.plan (length p.configurations) (length p.labels) (length p.lines)
+          ++ (configurations ++ labels ++ lines)) ∙ grouped;
       formed = record {
         planned = subst IsPlan (sym tables.plan) header.planned;
         configurations_from = configuration_count.0;
@@ -199,48 +242,65 @@ code_front bytes p fits e =
     let t = then_ok (program_at (length bytes) h.0.0 h.0.1) _ p h.2 in
     let ft = tables_front (length bytes) h.0.0 h.0.1 t.0 fh.configurations fh.front.rest_fits t.1 in
     let z = refuse_then (not (eqb (length t.0.1) 0)) Trailing (λ ended. given t.0.0) p t.2 in
-    subst (λ (q : Program). IsCodeRead bytes q) (given_is t.0.0 p z.1) (code_made bytes h.0.1 t.0.1 h.0.0 t.0.0 fh ft (eqb-true _ _ (not_false _ z.0)))
+    subst (λ (q : Program). IsCodeRead bytes q) (given_is t.0.0 p z.1)
+    (code_made bytes h.0.1 t.0.1 h.0.0 t.0.0 fh ft (eqb-true _ _ (not_false _ z.0)))
 
 -- ---- spelling and reading again
 
-labels_again : (total count : ℕ) (ls : List Label) (rest : List ℕ) → count ≤ 256 → AllByRecursion (IsLabel count) ls → IsAscending label_key ls
+labels_again : (total count : ℕ) (ls : List Label) (rest : List ℕ) → count ≤ 256 → AllByRecursion (IsLabel count) ls
+    → IsAscending label_key ls
     → labels_in total count (length ls) (flat_map label_bytes ls ++ rest) ≡ Ok (ls, rest)
 unfolding label
 labels_again total count ls rest few all up =
-    ok_read 0 _ (ls, rest) (members_again label_key label_bytes (IsLabel count) (label_from total count) (λ low l more is from. (label_is count low).again total l more (formed_label count low l few is from)) 0 [] ls rest up (any_place ls) all)
+    ok_read 0 _ (ls, rest) (members_again label_key label_bytes (IsLabel count) (label_from total count)
+    (λ low l more is from. (label_is count low).again total l more (formed_label count low l few is from)) 0 [] ls
+    rest up (any_place ls) all)
 
 abbrev header_of : Program → Header
-header_of p = record { plan = p.plan; configurations = length p.configurations; labels = length p.labels; lines = length p.lines }
+header_of p = record {
+  plan = p.plan;
+  configurations = length p.configurations;
+  labels = length p.labels;
+  lines = length p.lines;
+}
 
 tables_again : (total : ℕ) (p : Program) (rest : List ℕ) → IsProgram p
-    → program_at total (header_of p) (flat_map config_bytes p.configurations ++ (flat_map label_bytes p.labels ++ (flat_map line_bytes p.lines ++ rest))) ≡ Ok (p, rest)
+    → program_at total (header_of p) (flat_map config_bytes p.configurations
+    ++ (flat_map label_bytes p.labels ++ (flat_map line_bytes p.lines ++ rest))) ≡ Ok (p, rest)
 unfolding program_at
 tables_again total p rest is =
     let b2 : List ℕ = flat_map line_bytes p.lines ++ rest in
     let b1 : List ℕ = flat_map label_bytes p.labels ++ b2 in
     rw (
-      items_again (config_in total) config_bytes IsConfiguration (config_parsing total) [] p.configurations b1 is.configurations_formed,
+      items_again (config_in total) config_bytes IsConfiguration (config_parsing total) [] p.configurations b1
+          is.configurations_formed,
       labels_again total (length p.configurations) p.labels b2 is.configurations_to is.labels_formed is.labels_ascend,
       items_again (line_in total) line_bytes IsLine (line_parsing total) [] p.lines rest is.lines_formed,
     ) refl
 
 parted : (p : Program) → code_bytes p ≡ header_bytes p.plan (length p.configurations) (length p.labels) (length p.lines)
-    ++ (flat_map config_bytes p.configurations ++ (flat_map label_bytes p.labels ++ (flat_map line_bytes p.lines ++ [])))
+    ++ (flat_map config_bytes p.configurations
+    ++ (flat_map label_bytes p.labels ++ (flat_map line_bytes p.lines ++ [])))
 parted p =
     let h : List ℕ = header_bytes p.plan (length p.configurations) (length p.labels) (length p.lines) in
     let c = flat_map config_bytes p.configurations in
     let l = flat_map label_bytes p.labels in
     let i = flat_map line_bytes p.lines in
-    append_assoc (h ++ c) l i ∙ append_assoc h c (l ++ i) ∙ ap (λ (t : List ℕ). h ++ (c ++ (l ++ t))) (sym (append-nil i))
+    append_assoc (h ++ c) l i ∙ append_assoc h c (l ++ i)
+    ∙ ap (λ (t : List ℕ). h ++ (c ++ (l ++ t))) (sym (append-nil i))
 
-whole_again : (bytes : List ℕ) (p : Program) → IsProgram p → bytes ≡ header_bytes p.plan (length p.configurations) (length p.labels) (length p.lines)
-    ++ (flat_map config_bytes p.configurations ++ (flat_map label_bytes p.labels ++ (flat_map line_bytes p.lines ++ []))) → code_of bytes ≡ Ok p
+whole_again : (bytes : List ℕ) (p : Program) → IsProgram p
+    → bytes ≡ header_bytes p.plan (length p.configurations) (length p.labels) (length p.lines)
+    ++ (flat_map config_bytes p.configurations
+    ++ (flat_map label_bytes p.labels ++ (flat_map line_bytes p.lines ++ []))) → code_of bytes ≡ Ok p
 unfolding code_of
 whole_again bytes p is e =
-    let rest : List ℕ = flat_map config_bytes p.configurations ++ (flat_map label_bytes p.labels ++ (flat_map line_bytes p.lines ++ [])) in
+    let rest : List ℕ = flat_map config_bytes p.configurations
+    ++ (flat_map label_bytes p.labels ++ (flat_map line_bytes p.lines ++ [])) in
     let head : header_at (length bytes) bytes ≡ Ok (header_of p, rest) =
     ap (λ (b : List ℕ). header_at (length bytes) b) e
-    ∙ header_again (length bytes) (header_of p) rest is.planned (is.configurations_from, is.configurations_to) (is.labels_from, is.labels_to) (is.lines_from, is.lines_to) in
+    ∙ header_again (length bytes) (header_of p) rest is.planned (is.configurations_from, is.configurations_to)
+    (is.labels_from, is.labels_to) (is.lines_from, is.lines_to) in
     rw (head, tables_again (length bytes) p [] is) refl
 
 pub code_again : (p : Program) → IsProgram p → code_of (code_bytes p) ≡ Ok p
@@ -249,9 +309,11 @@ code_again p is = whole_again (code_bytes p) p is (parted p)
 -- ---- one reader after the other
 
 -- the readings of a file, each by a reader that continues where the previous one ended
-pub read_in_turn : (bytes b0 b1 b2 b3 b4 : List ℕ) (t0 t1 t2 t3 : ℕ) (h : Header) (cs : List Configuration) (ls : List Label) (is : List Line)
+pub read_in_turn : (bytes b0 b1 b2 b3 b4 : List ℕ) (t0 t1 t2 t3 : ℕ) (h : Header) (cs : List Configuration)
+    (ls : List Label) (is : List Line)
     → b0 ≡ bytes → t0 ≡ length bytes → t1 ≡ t0 → t2 ≡ t1 → t3 ≡ t2
-    → header_at t0 b0 ≡ Ok (h, b1) → items_at (config_in t1) [] h.configurations b1 ≡ Ok (cs, b2) → labels_in t2 h.configurations h.labels b2 ≡ Ok (ls, b3)
+    → header_at t0 b0 ≡ Ok (h, b1) → items_at (config_in t1) [] h.configurations b1 ≡ Ok (cs, b2)
+    → labels_in t2 h.configurations h.labels b2 ≡ Ok (ls, b3)
     → items_at (line_in t3) [] h.lines b3 ≡ Ok (is, b4) → length b4 ≡ 0
     → code_of bytes ≡ Ok (record { plan = h.plan; configurations = cs; labels = ls; lines = is })
 unfolding code_of program_at
@@ -259,25 +321,35 @@ read_in_turn bytes b0 b1 b2 b3 b4 t0 t1 t2 t3 h cs ls is start all s1 s2 s3 rh r
     let e1 : t1 ≡ length bytes = s1 ∙ all in
     let e2 : t2 ≡ length bytes = s2 ∙ e1 in
     let e3 : t3 ≡ length bytes = s3 ∙ e2 in
-    let qh : header_at (length bytes) bytes ≡ Ok (h, b1) = subst (λ (b : List ℕ). header_at (length bytes) b ≡ Ok (h, b1)) start (subst (λ (t : ℕ). header_at t b0 ≡ Ok (h, b1)) all rh) in
-    let qc : items_at (config_in (length bytes)) [] h.configurations b1 ≡ Ok (cs, b2) = subst (λ (t : ℕ). items_at (config_in t) [] h.configurations b1 ≡ Ok (cs, b2)) e1 rc in
-    let ql : labels_in (length bytes) h.configurations h.labels b2 ≡ Ok (ls, b3) = subst (λ (t : ℕ). labels_in t h.configurations h.labels b2 ≡ Ok (ls, b3)) e2 rl in
-    let qi : items_at (line_in (length bytes)) [] h.lines b3 ≡ Ok (is, b4) = subst (λ (t : ℕ). items_at (line_in t) [] h.lines b3 ≡ Ok (is, b4)) e3 ri in
+    let qh : header_at (length bytes) bytes ≡ Ok (h, b1) =
+    subst (λ (b : List ℕ). header_at (length bytes) b ≡ Ok (h, b1)) start
+    (subst (λ (t : ℕ). header_at t b0 ≡ Ok (h, b1)) all rh) in
+    let qc : items_at (config_in (length bytes)) [] h.configurations b1 ≡ Ok (cs, b2) =
+    subst (λ (t : ℕ). items_at (config_in t) [] h.configurations b1 ≡ Ok (cs, b2)) e1 rc in
+    let ql : labels_in (length bytes) h.configurations h.labels b2 ≡ Ok (ls, b3) =
+    subst (λ (t : ℕ). labels_in t h.configurations h.labels b2 ≡ Ok (ls, b3)) e2 rl in
+    let qi : items_at (line_in (length bytes)) [] h.lines b3 ≡ Ok (is, b4) =
+    subst (λ (t : ℕ). items_at (line_in t) [] h.lines b3 ≡ Ok (is, b4)) e3 ri in
     rw (qh, qc, ql, qi, ended) refl
 
 -- ---- results of calls
 
-pub found_so : (bytes : List ℕ) (r : Result Program CodeFault) → IsBytes bytes → Gives (λ (p : Program). p) r (code_of bytes) → IfOk r (λ p. bytes ≡ code_bytes p)
+pub found_so : (bytes : List ℕ) (r : Result Program CodeFault) → IsBytes bytes
+    → Gives (λ (p : Program). p) r (code_of bytes) → IfOk r (λ p. bytes ≡ code_bytes p)
 found_so bytes (Ok p) fits given = (code_front bytes p fits given).spelled
 found_so bytes (Err e) fits given = tt
 
-pub formed_so : (bytes : List ℕ) (r : Result Program CodeFault) → IsBytes bytes → Gives (λ (p : Program). p) r (code_of bytes) → IfOk r (λ p. IsProgram p)
+pub formed_so : (bytes : List ℕ) (r : Result Program CodeFault) → IsBytes bytes
+    → Gives (λ (p : Program). p) r (code_of bytes) → IfOk r (λ p. IsProgram p)
 formed_so bytes (Ok p) fits given = (code_front bytes p fits given).formed
 formed_so bytes (Err e) fits given = tt
 
-pub read_so : (bytes : List ℕ) (r : Result Program CodeFault) (p : Program) → IsProgram p → bytes ≡ code_bytes p → Gives (λ (q : Program). q) r (code_of bytes) → Gives (λ (q : Program). q) r (Ok p)
-read_so bytes r p is e given = subst (λ (f : Result Program CodeFault). Gives (λ (q : Program). q) r f) (ap code_of e ∙ code_again p is) given
+pub read_so : (bytes : List ℕ) (r : Result Program CodeFault) (p : Program) → IsProgram p → bytes ≡ code_bytes p
+    → Gives (λ (q : Program). q) r (code_of bytes) → Gives (λ (q : Program). q) r (Ok p)
+read_so bytes r p is e given =
+    subst (λ (f : Result Program CodeFault). Gives (λ (q : Program). q) r f) (ap code_of e ∙ code_again p is) given
 
-pub written_again : {V E : Type 0} (items : V → List ℕ) (r : Result V E) (p : Program) → IsProgram p → IfOk r (λ v. items v ≡ code_bytes p) → IfOk r (λ v. code_of (items v) ≡ Ok p)
+pub written_again : {V E : Type 0} (items : V → List ℕ) (r : Result V E) (p : Program) → IsProgram p
+    → IfOk r (λ v. items v ≡ code_bytes p) → IfOk r (λ v. code_of (items v) ≡ Ok p)
 written_again items (Ok v) p is spelled = ap code_of spelled ∙ code_again p is
 written_again items (Err e) p is spelled = tt

@@ -6,18 +6,21 @@ use Rattle.plan_code.specs.declared.plan.Plan.{Plan}
 use Rattle.plan_code.specs.declared.instr.Instr.TheVariants.{Set, Loop}
 use Rattle.plan_code.specs.Machine.{State, effect, counter_of, looped, LoopsAsSet, LoopsRun}
 
-same_length : (plan : Plan) (r target k : ℕ) (s : State) → length (looped plan r target k s).counters ≡ length s.counters
+same_length : (plan : Plan) (r target k : ℕ) (s : State)
+    → length (looped plan r target k s).counters ≡ length s.counters
 same_length plan r target zero s = refl
 same_length plan r target (suc k) s =
     let before = looped plan r target k s in
     length-set before.counters r (counter_of before r - 1) ∙ same_length plan r target k s
 
-left_of : (plan : Plan) (r target n k : ℕ) (s : State) → r < length s.counters → counter_of s r ≡ n → counter_of (looped plan r target k s) r ≡ n - k
+left_of : (plan : Plan) (r target n k : ℕ) (s : State) → r < length s.counters → counter_of s r ≡ n
+    → counter_of (looped plan r target k s) r ≡ n - k
 left_of plan r target n zero s inside set = set ∙ omega arith
 left_of plan r target n (suc k) s inside set =
     let before = looped plan r target k s in
     let here : r < length before.counters = omega (arith, inside, same_length plan r target k s) in
-    let lowered : counter_of (looped plan r target (suc k) s) r ≡ counter_of before r - 1 = get_or-set_same before.counters r (counter_of before r - 1) 0 here in
+    let lowered : counter_of (looped plan r target (suc k) s) r ≡ counter_of before r - 1 =
+    get_or-set_same before.counters r (counter_of before r - 1) 0 here in
     let so_far : counter_of before r ≡ n - k = left_of plan r target n k s inside set in
     omega (arith, lowered, so_far)
 
@@ -27,16 +30,20 @@ jump plan r target s more = rw (lt-ltb 1 (counter_of s r) more) refl
 pass : (plan : Plan) (r target : ℕ) (s : State) → counter_of s r ≤ 1 → (effect plan (Loop r target) s).pc ≡ s.pc + 1
 pass plan r target s few = rw (le-ltb 1 (counter_of s r) few) refl
 
-as_set : (plan : Plan) (r target n : ℕ) (s : State) → r < length s.counters → 1 ≤ n → counter_of s r ≡ n → LoopsAsSet plan r target n s
+as_set : (plan : Plan) (r target n : ℕ) (s : State) → r < length s.counters → 1 ≤ n → counter_of s r ≡ n
+    → LoopsAsSet plan r target n s
 as_set plan r target n s inside some set = record {
   jumps = λ k lt.
       let left : counter_of (looped plan r target k s) r ≡ n - k = left_of plan r target n k s inside set in
       let next : k + 1 ≡ suc k = omega arith in
-      ap (λ (m : ℕ). (looped plan r target m s).pc) next ∙ jump plan r target (looped plan r target k s) (omega (arith, left, lt));
+      ap (λ (m : ℕ). (looped plan r target m s).pc) next
+      ∙ jump plan r target (looped plan r target k s) (omega (arith, left, lt));
   ends =
-      let left : counter_of (looped plan r target (n - 1) s) r ≡ n - (n - 1) = left_of plan r target n (n - 1) s inside set in
+      let left : counter_of (looped plan r target (n - 1) s) r ≡ n - (n - 1) =
+      left_of plan r target n (n - 1) s inside set in
       let last : n ≡ suc (n - 1) = omega (arith, some) in
-      ap (λ (m : ℕ). (looped plan r target m s).pc) last ∙ pass plan r target (looped plan r target (n - 1) s) (omega (arith, left, some));
+      ap (λ (m : ℕ). (looped plan r target m s).pc) last
+      ∙ pass plan r target (looped plan r target (n - 1) s) (omega (arith, left, some));
   set = λ k lt.
       let left : counter_of (looped plan r target k s) r ≡ n - k = left_of plan r target n k s inside set in
       omega (arith, left, lt);

@@ -1,13 +1,16 @@
 -- One iteration of the loops that read tables: reading the remaining items gives the same result as reading all.
-use Rattle.std.proofs.Common.{◌≡◌, ℕ, suc, ◌+◌, ◌-◌, ◌<◌, ◌≤◌, List, [], ◌∷◌, ◌++◌, Result, Ok, Err, refl, sym, ap, subst, ◌∙◌, arith}
+use Rattle.std.proofs.Common.{◌≡◌, ℕ, suc, ◌+◌, ◌-◌, ◌<◌, ◌≤◌, List, [], ◌∷◌, ◌++◌, Result, Ok, Err, refl, sym, ap}
+use Rattle.std.proofs.Common.{subst, ◌∙◌, arith}
 use Rattle.mux_config.specs.declared.record.RecordFault.{RecordFault}
 use Rattle.mux_config.specs.declared.record.RecordFault.TheVariants.{Short, Field as FieldOfRecord, Order}
 use Rattle.plan_code.specs.declared.fault.CodeFault.{CodeFault}
-use Rattle.plan_code.specs.declared.fault.CodeFault.TheVariants.{Magic, Version, Truncated, Field, Limit, Trailing, Memory}
+use Rattle.plan_code.specs.declared.fault.CodeFault.TheVariants.{Magic, Version, Truncated, Field, Limit, Trailing}
+use Rattle.plan_code.specs.declared.fault.CodeFault.TheVariants.{Memory}
 use Rattle.plan_code.specs.Reading.{Parses, ◌>>=◌, Fails, fault_from, in_file, items_at}
 
 -- the fault of a step is the fault of the whole
-pub fails_then : {A B : Type 0} (e : CodeFault) (r : Result A CodeFault) (f : A → Result B CodeFault) → Fails e r → Fails e (r >>= f)
+pub fails_then : {A B : Type 0} (e : CodeFault) (r : Result A CodeFault) (f : A → Result B CodeFault) → Fails e r
+    → Fails e (r >>= f)
 fails_then Magic r f h = rw h refl
 fails_then Version r f h = rw h refl
 fails_then Truncated r f h = rw h refl
@@ -18,25 +21,32 @@ fails_then Memory r f h = tt
 
 -- items read by a reader over `total` bytes, which still has this total at `t`
 module _ {T : Type 0} (item_at : ℕ → List ℕ → Parses T) (total t : ℕ) (same : t ≡ total) where
-  pub items_next : (before : List T) (count i : ℕ) (bytes : List ℕ) (whole : Parses (List T)) (x : T) (rest : List ℕ) → i < count
-      → items_at (item_at total) before (count - i) bytes ≡ whole → item_at t bytes ≡ Ok (x, rest) → items_at (item_at total) (before ++ x ∷ []) (count - (i + 1)) rest ≡ whole
+  pub items_next : (before : List T) (count i : ℕ) (bytes : List ℕ) (whole : Parses (List T)) (x : T) (rest : List ℕ)
+      → i < count
+      → items_at (item_at total) before (count - i) bytes ≡ whole → item_at t bytes ≡ Ok (x, rest)
+      → items_at (item_at total) (before ++ x ∷ []) (count - (i + 1)) rest ≡ whole
   unfolding items_at
   items_next before count i bytes whole x rest lt so_far read =
       let more : count - i ≡ suc (count - (i + 1)) = omega (arith, lt) in
       let here : item_at total bytes ≡ Ok (x, rest) = subst (λ (n : ℕ). item_at n bytes ≡ Ok (x, rest)) same read in
-      let one : items_at (item_at total) before (count - i) bytes ≡ items_at (item_at total) (before ++ x ∷ []) (count - (i + 1)) rest = rw (more, here) refl in
+      let one : items_at (item_at total) before (count - i) bytes
+      ≡ items_at (item_at total) (before ++ x ∷ []) (count - (i + 1)) rest = rw (more, here) refl in
       sym one ∙ so_far
 
-  pub items_fault : (before : List T) (count i : ℕ) (bytes : List ℕ) (whole : Parses (List T)) (e : CodeFault) → i < count
+  pub items_fault : (before : List T) (count i : ℕ) (bytes : List ℕ) (whole : Parses (List T)) (e : CodeFault)
+      → i < count
       → items_at (item_at total) before (count - i) bytes ≡ whole → Fails e (item_at t bytes) → Fails e whole
   unfolding items_at
   items_fault before count i bytes whole e lt so_far fault =
       let more : count - i ≡ suc (count - (i + 1)) = omega (arith, lt) in
       let at_total : Fails e (item_at total bytes) = subst (λ (n : ℕ). Fails e (item_at n bytes)) same fault in
-      let here : Fails e (items_at (item_at total) before (suc (count - (i + 1))) bytes) = fails_then e (item_at total bytes) _ at_total in
-      subst (λ (r : Parses (List T)). Fails e r) (ap (λ (n : ℕ). items_at (item_at total) before n bytes) (sym more) ∙ so_far) here
+      let here : Fails e (items_at (item_at total) before (suc (count - (i + 1))) bytes) =
+      fails_then e (item_at total bytes) _ at_total in
+      subst (λ (r : Parses (List T)). Fails e r) (ap (λ (n : ℕ). items_at (item_at total) before n bytes) (sym more)
+      ∙ so_far) here
 
-pub items_done : {T : Type 0} (item_at : List ℕ → Parses T) (before : List T) (count i : ℕ) (bytes : List ℕ) (whole : Parses (List T)) → count ≤ i
+pub items_done : {T : Type 0} (item_at : List ℕ → Parses T) (before : List T) (count i : ℕ) (bytes : List ℕ)
+    (whole : Parses (List T)) → count ≤ i
     → items_at item_at before (count - i) bytes ≡ whole → whole ≡ Ok (before, bytes)
 unfolding items_at
 items_done item_at before count i bytes whole past so_far =
@@ -44,7 +54,8 @@ items_done item_at before count i bytes whole past so_far =
     sym so_far ∙ rw none refl
 
 -- a fault of a field is a fault of the file
-pub fails_in_file : {T : Type 0} (e : RecordFault) (r : Result T RecordFault) → r ≡ Err e → Fails (fault_from 0 e) (in_file r)
+pub fails_in_file : {T : Type 0} (e : RecordFault) (r : Result T RecordFault) → r ≡ Err e
+    → Fails (fault_from 0 e) (in_file r)
 fails_in_file Short r h = rw h refl
 fails_in_file (FieldOfRecord at) r h = rw h refl
 fails_in_file Order r h = rw h refl

@@ -1,6 +1,7 @@
 -- Whether one of a set of contacts is closed, or open, as a test of bits.
 use Rattle.std.specs.Prelude.{◌⊎◌}
-use Rattle.std.proofs.Common.{◌≡◌, ℕ, zero, suc, ◌+◌, ◌<◌, ◌≤◌, ◌&&◌, ◌||◌, Bool, true, false, eqb, not, min, refl, sym, ap, ◌∙◌, arith, inl, inr}
+use Rattle.std.proofs.Common.{◌≡◌, ℕ, zero, suc, ◌+◌, ◌<◌, ◌≤◌, ◌&&◌, ◌||◌, Bool, true, false, eqb, not, min, refl, sym}
+use Rattle.std.proofs.Common.{ap, ◌∙◌, arith, inl, inr}
 use Rattle.std.specs.List.{list_any, range_with_len}
 use Rattle.std.specs.Int.{bit_at}
 use Rattle.std.specs.Int.RustNames.{bit_and}
@@ -42,12 +43,14 @@ some_in p (suc n) a e =
 
 holds_in : (p : ℕ → Bool) (c : ℕ) → c < 16 → p c ≡ true → (any : Bool) → list_any p contact_ids ≡ any → any ≡ true
 holds_in p c low holds true found = refl
-holds_in p c low holds false found = absurd (false≢true (sym (none_in p 16 0 c found (omega arith) (omega (arith, low))) ∙ holds))
+holds_in p c low holds false found =
+    absurd (false≢true (sym (none_in p 16 0 c found (omega arith) (omega (arith, low))) ∙ holds))
 
 -- where two numbers have the same bits exactly if no contact passes the test
 tested_bits : (p : ℕ → Bool) (x y : ℕ)
     → ((i : ℕ) → i < 16 → p i ≡ false → bit_at x i ≡ bit_at y i) → ((i : ℕ) → 16 ≤ i → bit_at x i ≡ bit_at y i)
-    → ((i : ℕ) → bit_at x i ≡ bit_at y i → p i ≡ false) → (same any : Bool) → eqb x y ≡ same → list_any p contact_ids ≡ any → not same ≡ any
+    → ((i : ℕ) → bit_at x i ≡ bit_at y i → p i ≡ false) → (same any : Bool) → eqb x y ≡ same
+    → list_any p contact_ids ≡ any → not same ≡ any
 tested_bits p x y below above none true true is found =
     let alike : x ≡ y = eqb-true x y is in
     let not_found = all_none p 16 0 (λ i. none i (ap (λ (n : ℕ). bit_at n i) alike)) in
@@ -56,7 +59,10 @@ tested_bits p x y below above none true false is found = refl
 tested_bits p x y below above none false true is found = refl
 tested_bits p x y below above none false false is found =
     let bits : (i : ℕ) → bit_at x i ≡ bit_at y i =
-    λ i. elim (cases_lt i 16) [ inl low ↦ below i low (none_in p 16 0 i found (omega arith) (omega (arith, low))) | inr high ↦ above i high ] in
+    λ i. elim (cases_lt i 16) [
+      | inl low ↦ below i low (none_in p 16 0 i found (omega arith) (omega (arith, low)))
+      | inr high ↦ above i high
+    ] in
     let alike : x ≡ y = same_from_bits x y bits in
     absurd (grind (arith, alike, is))
 
@@ -74,28 +80,35 @@ not_true : (b : Bool) → not b ≡ true → b ≡ false
 not_true false e = refl
 not_true true e = absurd (false≢true e)
 
-pub closed_is : (set contacts : Contacts) → any_closed set contacts ≡ true → (c : ℕ) × (c < 16) × (is_in set c ≡ true) × (is_closed contacts c ≡ true)
+pub closed_is : (set contacts : Contacts) → any_closed set contacts ≡ true → (c : ℕ) × (c < 16) × (is_in set c ≡ true)
+    × (is_closed contacts c ≡ true)
 unfolding any_closed
 closed_is set contacts e =
     let found = some_in (λ c. is_in set c && is_closed contacts c) 16 0 e in
     let both = both_by (is_in set found.0) (is_closed contacts found.0) found.2 in
     (found.0, omega (arith, found.1), both.0, both.1)
 
-pub is_closed_one : (set contacts : Contacts) (c : ℕ) → c < 16 → is_in set c ≡ true → is_closed contacts c ≡ true → any_closed set contacts ≡ true
+pub is_closed_one : (set contacts : Contacts) (c : ℕ) → c < 16 → is_in set c ≡ true → is_closed contacts c ≡ true
+    → any_closed set contacts ≡ true
 unfolding any_closed
-is_closed_one set contacts c low has level = holds_in (λ k. is_in set k && is_closed contacts k) c low (by_both (is_in set c) (is_closed contacts c) has level) _ refl
+is_closed_one set contacts c low has level =
+    holds_in (λ k. is_in set k && is_closed contacts k) c low (by_both (is_in set c) (is_closed contacts c) has level) _
+    refl
 
-pub open_is : (set contacts : Contacts) → any_open set contacts ≡ true → (c : ℕ) × (c < 16) × (is_in set c ≡ true) × (is_closed contacts c ≡ false)
+pub open_is : (set contacts : Contacts) → any_open set contacts ≡ true → (c : ℕ) × (c < 16) × (is_in set c ≡ true)
+    × (is_closed contacts c ≡ false)
 unfolding any_open
 open_is set contacts e =
     let found = some_in (λ c. is_in set c && not (is_closed contacts c)) 16 0 e in
     let both = both_by (is_in set found.0) (not (is_closed contacts found.0)) found.2 in
     (found.0, omega (arith, found.1), both.0, not_true (is_closed contacts found.0) both.1)
 
-pub is_open_one : (set contacts : Contacts) (c : ℕ) → c < 16 → is_in set c ≡ true → is_closed contacts c ≡ false → any_open set contacts ≡ true
+pub is_open_one : (set contacts : Contacts) (c : ℕ) → c < 16 → is_in set c ≡ true → is_closed contacts c ≡ false
+    → any_open set contacts ≡ true
 unfolding any_open
 is_open_one set contacts c low has level =
-    holds_in (λ k. is_in set k && not (is_closed contacts k)) c low (by_both (is_in set c) (not (is_closed contacts c)) has (ap not level)) _ refl
+    holds_in (λ k. is_in set k && not (is_closed contacts k)) c low
+    (by_both (is_in set c) (not (is_closed contacts c)) has (ap not level)) _ refl
 
 -- ---- bits of both sets
 
@@ -112,17 +125,20 @@ not_both a b lt lt' =
 both_none : (a b : ℕ) → a < 2 → b < 2 → min a b ≡ 0 → (eqb a 1 && eqb b 1) ≡ false
 both_none a b lt lt' =
     bit_cases (λ n. min n b ≡ 0 → (eqb n 1 && eqb b 1) ≡ false) a lt (λ e. refl)
-    (bit_cases (λ n. min 1 n ≡ 0 → (eqb 1 1 && eqb n 1) ≡ false) b lt' (λ e. refl) (λ e. absurd (let wrong : 1 ≡ 0 = e in omega (arith, wrong))))
+    (bit_cases (λ n. min 1 n ≡ 0 → (eqb 1 1 && eqb n 1) ≡ false) b lt' (λ e. refl)
+    (λ e. absurd (let wrong : 1 ≡ 0 = e in omega (arith, wrong))))
 
 not_left : (a b : ℕ) → a < 2 → b < 2 → (eqb b 1 && not (eqb a 1)) ≡ false → min a b ≡ b
 not_left a b lt lt' =
     bit_cases (λ n. (eqb n 1 && not (eqb a 1)) ≡ false → min a n ≡ n) b lt' (λ e. omega arith)
-    (bit_cases (λ n. (eqb 1 1 && not (eqb n 1)) ≡ false → min n 1 ≡ 1) a lt (λ e. absurd (false≢true (sym e))) (λ e. refl))
+    (bit_cases (λ n. (eqb 1 1 && not (eqb n 1)) ≡ false → min n 1 ≡ 1) a lt (λ e. absurd (false≢true (sym e)))
+    (λ e. refl))
 
 left_none : (a b : ℕ) → a < 2 → b < 2 → min a b ≡ b → (eqb b 1 && not (eqb a 1)) ≡ false
 left_none a b lt lt' =
     bit_cases (λ n. min a n ≡ n → (eqb n 1 && not (eqb a 1)) ≡ false) b lt' (λ e. refl)
-    (bit_cases (λ n. min n 1 ≡ 1 → (eqb 1 1 && not (eqb n 1)) ≡ false) a lt (λ e. absurd (let wrong : 0 ≡ 1 = e in omega (arith, wrong))) (λ e. refl))
+    (bit_cases (λ n. min n 1 ≡ 1 → (eqb 1 1 && not (eqb n 1)) ≡ false) a lt
+    (λ e. absurd (let wrong : 0 ≡ 1 = e in omega (arith, wrong))) (λ e. refl))
 
 -- ---- the tests
 
@@ -130,20 +146,25 @@ pub meets : (set contacts : Contacts) → set.0 < 65536 → not (eqb (bit_and se
 unfolding any_closed
 meets set contacts small =
     tested_bits (λ c. is_in set c && is_closed contacts c) (bit_and set.0 contacts.0) 0
-    (λ i low e. bit_at_and set.0 contacts.0 i ∙ not_both (bit_at set.0 i) (bit_at contacts.0 i) (bit_at-lt set.0 i) (bit_at-lt contacts.0 i) e ∙ sym (bit_at-zero i))
+    (λ i low e. bit_at_and set.0 contacts.0 i ∙ not_both (bit_at set.0 i) (bit_at contacts.0 i) (bit_at-lt set.0 i)
+    (bit_at-lt contacts.0 i) e ∙ sym (bit_at-zero i))
     (λ i high.
     let none = bit_at_above set.0 16 i small high in
     bit_at_and set.0 contacts.0 i ∙ omega (arith, none) ∙ sym (bit_at-zero i))
-    (λ i e. both_none (bit_at set.0 i) (bit_at contacts.0 i) (bit_at-lt set.0 i) (bit_at-lt contacts.0 i) (sym (bit_at_and set.0 contacts.0 i) ∙ e ∙ bit_at-zero i))
+    (λ i e. both_none (bit_at set.0 i) (bit_at contacts.0 i) (bit_at-lt set.0 i) (bit_at-lt contacts.0 i)
+    (sym (bit_at_and set.0 contacts.0 i) ∙ e ∙ bit_at-zero i))
     _ _ refl refl
 
-pub lacks : (set contacts : Contacts) → set.0 < 65536 → not (eqb (bit_and contacts.0 set.0) set.0) ≡ any_open set contacts
+pub lacks : (set contacts : Contacts) → set.0 < 65536 → not (eqb (bit_and contacts.0 set.0) set.0)
+    ≡ any_open set contacts
 unfolding any_open
 lacks set contacts small =
     tested_bits (λ c. is_in set c && not (is_closed contacts c)) (bit_and contacts.0 set.0) set.0
-    (λ i low e. bit_at_and contacts.0 set.0 i ∙ not_left (bit_at contacts.0 i) (bit_at set.0 i) (bit_at-lt contacts.0 i) (bit_at-lt set.0 i) e)
+    (λ i low e. bit_at_and contacts.0 set.0 i ∙ not_left (bit_at contacts.0 i) (bit_at set.0 i) (bit_at-lt contacts.0 i)
+    (bit_at-lt set.0 i) e)
     (λ i high.
     let none = bit_at_above set.0 16 i small high in
     bit_at_and contacts.0 set.0 i ∙ omega (arith, none))
-    (λ i e. left_none (bit_at contacts.0 i) (bit_at set.0 i) (bit_at-lt contacts.0 i) (bit_at-lt set.0 i) (sym (bit_at_and contacts.0 set.0 i) ∙ e))
+    (λ i e. left_none (bit_at contacts.0 i) (bit_at set.0 i) (bit_at-lt contacts.0 i) (bit_at-lt set.0 i)
+    (sym (bit_at_and contacts.0 set.0 i) ∙ e))
     _ _ refl refl

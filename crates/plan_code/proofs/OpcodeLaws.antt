@@ -40,7 +40,8 @@ opcode_again Opcode.TestTime = refl
 some_is : (x y : Opcode) → Some x ≡ Some y → x ≡ y
 some_is x y e = cc
 
-has_byte : (byte : ℕ) (xs : List Opcode) (opcode : Opcode) → find (λ o. eqb byte (opcode_byte o)) xs ≡ Some opcode → byte ≡ opcode_byte opcode
+has_byte : (byte : ℕ) (xs : List Opcode) (opcode : Opcode) → find (λ o. eqb byte (opcode_byte o)) xs ≡ Some opcode
+    → byte ≡ opcode_byte opcode
 has_byte byte [] opcode e = absurd cc
 has_byte byte (x ∷ xs) opcode e =
     elim (cases_eq byte (opcode_byte x)) [
@@ -55,6 +56,7 @@ opcode_only byte opcode e = has_byte byte opcodes opcode e
 pub opcodes_agree : OpcodesAgree
 opcodes_agree = record { again = opcode_again; only = opcode_only }
 
-pub some_given : {E : Type 0} (o : Option Opcode) (fault : E) (opcode : Opcode) → ok_or o fault ≡ Ok opcode → o ≡ Some opcode
+pub some_given : {E : Type 0} (o : Option Opcode) (fault : E) (opcode : Opcode) → ok_or o fault ≡ Ok opcode
+    → o ≡ Some opcode
 some_given None fault opcode e = absurd cc
 some_given (Some x) fault opcode e = cc

@@ -1,11 +1,13 @@
 -- The laws of the formats of labels, instructions and lines.
-use Rattle.std.proofs.Common.{◌≡◌, ℕ, zero, suc, ◌-◌, ◌<◌, ◌≤◌, Bool, true, false, eqb, ltb, Option, Some, None, List, [], ◌∷◌, ◌++◌, length, Ok, refl, sym, ap, subst, arith}
+use Rattle.std.proofs.Common.{◌≡◌, ℕ, zero, suc, ◌-◌, ◌<◌, ◌≤◌, Bool, true, false, eqb, ltb, Option, Some, None, List}
+use Rattle.std.proofs.Common.{[], ◌∷◌, ◌++◌, length, Ok, refl, sym, ap, subst, arith}
 use Rattle.std.specs.Prelude.{IfSome, ok_or}
 use Rattle.std.specs.Int.{w32, to_be_bytes}
 use Rattle.std.proofs.lemmas.Bool.{eqb-true, le-ltb, ne_eqb}
 use Rattle.mux_types.specs.declared.parts.Carrier.{Carrier}
 use Rattle.mux_types.specs.declared.parts.Carrier.TheVariants.{Sub as BySub, Packet as ByPacket}
-use Rattle.mux_config.specs.declared.edit.Edit.TheVariants.{AddSub, DropSub, MoveSub, RateSub, AddService, DropService, AddComponent, DropComponent, AddPacket, DropPacket}
+use Rattle.mux_config.specs.declared.edit.Edit.TheVariants.{AddSub, DropSub, MoveSub, RateSub, AddService, DropService}
+use Rattle.mux_config.specs.declared.edit.Edit.TheVariants.{AddComponent, DropComponent, AddPacket, DropPacket}
 use Rattle.mux_config.specs.declared.record.RecordFault.TheVariants.{Field}
 use Rattle.mux_config.specs.FieldReading.{◌>>=◌, place, byte_at, number_at, judged}
 use Rattle.mux_config.proofs.FieldLaws.{Front, bind_ok, ok_is, byte_front, long_front, long_again}
@@ -15,13 +17,22 @@ use Rattle.plan_code.specs.declared.label.Label.{Label}
 use Rattle.plan_code.specs.declared.label.Swap.{Swap}
 use Rattle.plan_code.specs.declared.label.Swap.TheVariants.{Idle, Within, Perhaps}
 use Rattle.plan_code.specs.declared.instr.Instr.{Instr}
-use Rattle.plan_code.specs.declared.instr.Instr.TheVariants.{Wait, Until, WaitContact, WaitAny, CommitIn, CommitAt, Join, Settle, End, Edit as Edits, Test, TestTime, Jump, Set, Loop}
+use Rattle.plan_code.specs.declared.instr.Instr.TheVariants.{Wait, Until, WaitContact, WaitAny, CommitIn, CommitAt}
+use Rattle.plan_code.specs.declared.instr.Instr.TheVariants.{Join, Settle, End, Edit as Edits, Test, TestTime, Jump}
+use Rattle.plan_code.specs.declared.instr.Instr.TheVariants.{Set, Loop}
 use Rattle.plan_code.specs.declared.opcode.Opcode.{Opcode}
 use Rattle.plan_code.specs.Opcodes.{opcode_byte, opcode_of}
-use Rattle.plan_code.specs.Program.{IsLabel, AreBounds, IsNewSub, IsNewPacket, IsCarrier, IsDayFrame, IsFrames, IsInstr, IsLine}
+use Rattle.plan_code.specs.Program.{IsLabel, AreBounds, IsNewSub, IsNewPacket, IsCarrier, IsDayFrame, IsFrames, IsInstr}
+use Rattle.plan_code.specs.Program.{IsLine}
 use Rattle.plan_code.specs.Formats.{◌▸◌, byte_of, any_u16, u16_from}
-use Rattle.plan_code.specs.Parts.{bounds, no_bound, swap_kind, swap_bytes, swap, label, counter, contacts, times, delay, day_frame, no_day_frame, day_frame_number, some_or_none, day_frame_or_none, frames_number, some_number, frames_or_none, new_sub, new_packet, carrier_kind, carrier_bytes, carrier, instr_kind, instr_bytes, opcode, instr, line}
-use Rattle.plan_code.proofs.FormatLaws.{IsLawful, adapted, follows_is, ◌then◌, made_is, IsKind, kind_is, IsTagged, tagged_is, nothing_is, any_byte_is, byte_is, byte_below, any_u16_is, judged_is, IsFrom, u16_is, u32_is, u16_below, wide32, placed_wide, flag_is, protection_is, sid_is, component_is}
+use Rattle.plan_code.specs.Parts.{bounds, no_bound, swap_kind, swap_bytes, swap, label, counter, contacts, times, delay}
+use Rattle.plan_code.specs.Parts.{day_frame, no_day_frame, day_frame_number, some_or_none, day_frame_or_none}
+use Rattle.plan_code.specs.Parts.{frames_number, some_number, frames_or_none, new_sub, new_packet, carrier_kind}
+use Rattle.plan_code.specs.Parts.{carrier_bytes, carrier, instr_kind, instr_bytes, opcode, instr, line}
+use Rattle.plan_code.proofs.FormatLaws.{IsLawful, adapted, follows_is, ◌then◌, made_is, IsKind, kind_is, IsTagged}
+use Rattle.plan_code.proofs.FormatLaws.{tagged_is, nothing_is, any_byte_is, byte_is, byte_below, any_u16_is, judged_is}
+use Rattle.plan_code.proofs.FormatLaws.{IsFrom, u16_is, u32_is, u16_below, wide32, placed_wide, flag_is, protection_is}
+use Rattle.plan_code.proofs.FormatLaws.{sid_is, component_is}
 use Rattle.plan_code.proofs.OpcodeLaws.{taken, some_given, opcode_only, opcode_again}
 
 -- ---- labels
@@ -31,23 +42,28 @@ AreWithin b = (1 ≤ b.0) × (b.0 ≤ b.1) × (b.1 < 65536)
 
 bounds_is : IsLawful bounds AreWithin
 bounds_is =
-    adapted AreWithin (follows_is (λ low. u16_from low 65535) (λ low. IsFrom 65536 low 65535) (u16_is 1 65535) (λ low. u16_is low 65535))
-    (λ b is. (is.0.0, is.1.0, is.1.2)) (λ b is. ((is.0, omega (arith, is.1, is.2), omega (arith, is.1, is.2)), (is.1, omega (arith, is.2), is.2)))
+    adapted AreWithin (follows_is (λ low. u16_from low 65535) (λ low. IsFrom 65536 low 65535) (u16_is 1 65535)
+    (λ low. u16_is low 65535))
+    (λ b is. (is.0.0, is.1.0, is.1.2))
+    (λ b is. ((is.0, omega (arith, is.1, is.2), omega (arith, is.1, is.2)), (is.1, omega (arith, is.2), is.2)))
 
 no_frames : IsFrom 65536 0 0 0
 no_frames = (omega arith, omega arith, omega arith)
 
 no_bound_is : IsLawful no_bound (λ _. Unit {0})
-no_bound_is = made_is (λ _. tt) (λ _. 0) (λ _. Unit {0}) (u16_is 0 0) (λ n is. (tt, omega (arith, is.1))) (λ u _. (no_frames, refl))
+no_bound_is = made_is (λ _. tt) (λ _. 0) (λ _. Unit {0}) (u16_is 0 0) (λ n is. (tt, omega (arith, is.1)))
+    (λ u _. (no_frames, refl))
 
 perhaps_is : IsLawful (no_bound ▸ u16_from 1 65535) (λ x. (1 ≤ x.1) × (x.1 < 65536))
-perhaps_is = adapted _ (no_bound_is then u16_is 1 65535) (λ x is. (is.1.0, is.1.2)) (λ x is. (tt, (is.0, omega (arith, is.1), is.1)))
+perhaps_is = adapted _ (no_bound_is then u16_is 1 65535) (λ x is. (is.1.0, is.1.2))
+    (λ x is. (tt, (is.0, omega (arith, is.1), is.1)))
 
 abbrev IsSwapNumber : ℕ → Type 0
 IsSwapNumber n = (0 ≤ n) × (n ≤ 2)
 
 swap_kind_is : (n : ℕ) → IsKind (swap_kind n) (IsSwapNumber n) (byte_of n) swap_bytes AreBounds
-swap_kind_is zero = kind_is (adapted (λ _. Unit {0}) (no_bound_is then no_bound_is) (λ x is. tt) (λ x is. (tt, tt))) (λ known x. refl)
+swap_kind_is zero = kind_is (adapted (λ _. Unit {0}) (no_bound_is then no_bound_is) (λ x is. tt) (λ x is. (tt, tt)))
+    (λ known x. refl)
 swap_kind_is (suc zero) = kind_is bounds_is (λ known x. refl)
 swap_kind_is (suc (suc zero)) = kind_is perhaps_is (λ known x. refl)
 swap_kind_is (suc (suc (suc more))) = kind_is perhaps_is (λ known x. absurd (omega (arith, known.1)))
@@ -73,8 +89,20 @@ pub record IsLabelFrom (count low : ℕ) (l : Label) : Type 0 where
 pub label_is : (count low : ℕ) → IsLawful (label count low) (IsLabelFrom count low)
 unfolding label
 label_is count low =
-    made_is _ _ (IsLabelFrom count low) (u16_is low 65535 then u16_is 0 (count - 1) then u16_is 0 (count - 1) then swap_is then any_byte_is then byte_is 1 255)
-    (λ x is. (record { pc = is.0.0.0.0.0; cur = is.0.0.0.0.1; next = is.0.0.0.1; pending = is.0.0.1; counters = is.0.1; cost = is.1 }, refl))
+    made_is _ _ (IsLabelFrom count low)
+    (u16_is low 65535 then u16_is 0 (count - 1) then u16_is 0 (count - 1) then swap_is then any_byte_is then byte_is
+    1 255)
+    (λ x is. (
+      record {
+        pc = is.0.0.0.0.0;
+        cur = is.0.0.0.0.1;
+        next = is.0.0.0.1;
+        pending = is.0.0.1;
+        counters = is.0.1;
+        cost = is.1;
+      },
+      refl,
+    ))
     (λ l is. ((((((is.pc, is.cur), is.next), is.pending), is.counters), is.cost), refl))
 
 pub label_formed : (count low : ℕ) (l : Label) → 1 ≤ count → IsLabelFrom count low l → IsLabel count l
@@ -104,10 +132,12 @@ times_is : IsLawful times IsFrames
 times_is = adapted IsFrames (u16_is 1 65535) (λ n is. (is.0, is.2)) (λ n is. (is.0, omega (arith, is.1), is.1))
 
 delay_is : IsLawful delay (λ n. (1 ≤ n) × (n ≤ 60000))
-delay_is = adapted (λ n. (1 ≤ n) × (n ≤ 60000)) (u16_is 1 60000) (λ n is. (is.0, is.1)) (λ n is. (is.0, is.1, omega (arith, is.1)))
+delay_is = adapted (λ n. (1 ≤ n) × (n ≤ 60000)) (u16_is 1 60000) (λ n is. (is.0, is.1))
+    (λ n is. (is.0, is.1, omega (arith, is.1)))
 
 day_frame_is : IsLawful day_frame IsDayFrame
-day_frame_is = adapted IsDayFrame (u32_is 0 3599999) (λ n is. omega (arith, is.1)) (λ n is. (omega arith, omega (arith, is), omega (arith, is)))
+day_frame_is = adapted IsDayFrame (u32_is 0 3599999) (λ n is. omega (arith, is.1))
+    (λ n is. (omega arith, omega (arith, is), omega (arith, is)))
 
 contacts_is : IsLawful contacts (λ set. set.0 < 65536)
 contacts_is = made_is _ _ (λ set. set.0 < 65536) any_u16_is (λ n is. (is, refl)) (λ set is. (is, refl))
@@ -121,18 +151,25 @@ record IsNumbered (n : ℕ × List ℕ) (x : Option ℕ × List ℕ) : Type 0 wh
   rest : n.1 ≡ x.1
   formed : IsDayFrameOrNone x.0
 
-numbered_by : (at : ℕ) (n : ℕ × List ℕ) (x : Option ℕ × List ℕ) (none : Bool) → (none ≡ true → n.0 ≡ no_day_frame) → some_or_none at n none ≡ Ok x → IsNumbered n x
+numbered_by : (at : ℕ) (n : ℕ × List ℕ) (x : Option ℕ × List ℕ) (none : Bool) → (none ≡ true → n.0 ≡ no_day_frame)
+    → some_or_none at n none ≡ Ok x → IsNumbered n x
 numbered_by at n x true is e =
     let found : Option ℕ × List ℕ = (None, n.1) in
-    subst (λ (y : Option ℕ × List ℕ). IsNumbered n y) (ok_is found x e) (record { number = sym (is refl); rest = refl; formed = tt })
+    subst (λ (y : Option ℕ × List ℕ). IsNumbered n y) (ok_is found x e)
+    (record { number = sym (is refl); rest = refl; formed = tt })
 numbered_by at n x false is e =
     let b = bind_ok (judged at 0 3599999 n) _ x e in
     let j = judged_is at 0 3599999 n b.0 b.1 in
     let found : Option ℕ × List ℕ = (Some b.0.0, b.0.1) in
     subst (λ (y : Option ℕ × List ℕ). IsNumbered n y) (ok_is found x b.2)
-    (record { number = ap (λ (m : ℕ × List ℕ). m.0) (sym j.0); rest = ap (λ (m : ℕ × List ℕ). m.1) j.0; formed = omega (arith, j.2) })
+    (record {
+      number = ap (λ (m : ℕ × List ℕ). m.0) (sym j.0);
+      rest = ap (λ (m : ℕ × List ℕ). m.1) j.0;
+      formed = omega (arith, j.2);
+    })
 
-day_frame_or_none_again : (total : ℕ) (frame : Option ℕ) (rest : List ℕ) → IsDayFrameOrNone frame → day_frame_or_none.read total (day_frame_or_none.spell frame ++ rest) ≡ Ok (frame, rest)
+day_frame_or_none_again : (total : ℕ) (frame : Option ℕ) (rest : List ℕ) → IsDayFrameOrNone frame
+    → day_frame_or_none.read total (day_frame_or_none.spell frame ++ rest) ≡ Ok (frame, rest)
 day_frame_or_none_again total None rest is = rw (long_again no_day_frame rest (omega arith)) refl
 day_frame_or_none_again total (Some t) rest is =
     let apart : eqb t no_day_frame ≡ false = ne_eqb _ _ (λ e. omega (arith, e, is)) in
@@ -140,28 +177,37 @@ day_frame_or_none_again total (Some t) rest is =
     let from : ltb t 0 ≡ false = le-ltb _ _ (omega arith) in
     rw (long_again t rest (omega (arith, is)), apart, from, small) refl
 
-goes_none : (more : List ℕ) (at by n : ℕ) (rest : List ℕ) (none : Bool) → at ≡ by → Goes more (some_or_none at (n, rest) none) (some_or_none by (n, rest ++ more) none)
+goes_none : (more : List ℕ) (at by n : ℕ) (rest : List ℕ) (none : Bool) → at ≡ by
+    → Goes more (some_or_none at (n, rest) none) (some_or_none by (n, rest ++ more) none)
 goes_none more at by n rest true e = refl
-goes_none more at by n rest false e = goes_bind more _ _ _ _ (goes_judged more at by 0 3599999 n rest e) (λ frame last. refl)
+goes_none more at by n rest false e =
+    goes_bind more _ _ _ _ (goes_judged more at by 0 3599999 n rest e) (λ frame last. refl)
 
-placed_none : (total at n : ℕ) (rest : List ℕ) (none : Bool) → at < total → length rest ≤ total → Placed total (some_or_none at (n, rest) none)
+placed_none : (total at n : ℕ) (rest : List ℕ) (none : Bool) → at < total → length rest ≤ total
+    → Placed total (some_or_none at (n, rest) none)
 placed_none total at n rest true within left = left
-placed_none total at n rest false within left = placed_bind total _ _ (placed_judged total at 0 3599999 n rest within left) (λ frame last after. after)
+placed_none total at n rest false within left =
+    placed_bind total _ _ (placed_judged total at 0 3599999 n rest within left) (λ frame last after. after)
 
-placed_day_frame_or_none : (total : ℕ) (bytes : List ℕ) → length bytes ≤ total → Placed total (day_frame_or_none.read total bytes)
+placed_day_frame_or_none : (total : ℕ) (bytes : List ℕ) → length bytes ≤ total
+    → Placed total (day_frame_or_none.read total bytes)
 placed_day_frame_or_none total bytes left =
-    placed_wide w32 4294967296 total bytes _ wide32 left (λ within n rest after. placed_none total (place total bytes) n rest (eqb n no_day_frame) within after)
+    placed_wide w32 4294967296 total bytes _ wide32 left
+    (λ within n rest after. placed_none total (place total bytes) n rest (eqb n no_day_frame) within after)
 
 day_frame_or_none_is : IsLawful day_frame_or_none IsDayFrameOrNone
 day_frame_or_none_is = record {
   front = λ total bytes x fits e.
       let b = bind_ok (number_at w32 bytes) _ x e in
       let f = long_front bytes b.0 fits b.1 in
-      let n = numbered_by (place total bytes) b.0 x (eqb b.0.0 no_day_frame) (λ same. eqb-true b.0.0 no_day_frame same) b.2 in
-      let here : Front bytes (day_frame_or_none.spell x.0) b.0.1 = subst (λ (m : ℕ). Front bytes (to_be_bytes w32 m) b.0.1) (sym n.number) f.0 in
+      let n = numbered_by (place total bytes) b.0 x (eqb b.0.0 no_day_frame) (λ same. eqb-true b.0.0 no_day_frame same)
+      b.2 in
+      let here : Front bytes (day_frame_or_none.spell x.0) b.0.1 =
+      subst (λ (m : ℕ). Front bytes (to_be_bytes w32 m) b.0.1) (sym n.number) f.0 in
       (subst (λ (rest : List ℕ). Front bytes (day_frame_or_none.spell x.0) rest) n.rest here, n.formed);
   again = day_frame_or_none_again;
-  goes = λ total bytes more. goes_bind more _ _ _ _ (goes_number w32 bytes more) (λ n rest. goes_none more _ _ n rest (eqb n no_day_frame) (place_same total bytes more));
+  goes = λ total bytes more. goes_bind more _ _ _ _ (goes_number w32 bytes more)
+      (λ n rest. goes_none more _ _ n rest (eqb n no_day_frame) (place_same total bytes more));
   placed = placed_day_frame_or_none;
 }
 
@@ -175,7 +221,8 @@ frames_numbered : (n : ℕ) → n < 65536 → IsFramesOrNone (some_number n) × 
 frames_numbered zero lt = (tt, refl)
 frames_numbered (suc n) lt = rw (some_frames n) ((omega arith, lt), refl)
 
-frames_again : (frames : Option ℕ) → IsFramesOrNone frames → (frames_number frames < 65536) × (some_number (frames_number frames) ≡ frames)
+frames_again : (frames : Option ℕ) → IsFramesOrNone frames → (frames_number frames < 65536)
+    × (some_number (frames_number frames) ≡ frames)
 frames_again None is = (omega arith, refl)
 frames_again (Some zero) is = absurd (omega (arith, is.0))
 frames_again (Some (suc n)) is = (is.1, some_frames n)
@@ -187,13 +234,17 @@ new_sub_is : IsLawful new_sub IsNewSub
 unfolding new_sub
 new_sub_is =
     made_is _ _ IsNewSub (byte_below 63 then u16_below 1023 (omega arith) then protection_is then any_u16_is)
-    (λ x is. (record { named = is.0.0.0; start = is.0.0.1; from_one = is.0.1.0; to_four = is.0.1.1; rate = is.1 }, refl))
+    (λ x is. (
+      record { named = is.0.0.0; start = is.0.0.1; from_one = is.0.1.0; to_four = is.0.1.1; rate = is.1 },
+      refl,
+    ))
     (λ s is. ((((is.named, is.start), (is.from_one, is.to_four)), is.rate), refl))
 
 new_packet_is : IsLawful new_packet IsNewPacket
 unfolding new_packet
 new_packet_is =
-    made_is _ _ IsNewPacket (u16_below 4095 (omega arith) then flag_is then byte_below 63 then byte_below 63 then any_u16_is)
+    made_is _ _ IsNewPacket (u16_below 4095 (omega arith) then flag_is then byte_below 63 then byte_below 63 then
+    any_u16_is)
     (λ x is. (record { named = is.0.0.0.0; typed = is.0.0.1; carried = is.0.1; to_last = is.1 }, refl))
     (λ p is. (((((is.named, tt), is.typed), is.carried), is.to_last), refl))
 
@@ -225,7 +276,8 @@ set_is : IsLawful (counter ▸ times) (λ x. (x.0 < 8) × (1 ≤ x.1) × (x.1 < 
 set_is = adapted _ (byte_below 7 then times_is) (λ x is. (is.0, is.1.0, is.1.1)) (λ x is. (is.0, (is.1, is.2)))
 
 test_time_is : IsLawful (day_frame ▸ day_frame ▸ any_u16) (λ x. IsDayFrame x.0.0 × IsDayFrame x.0.1 × (x.1 < 65536))
-test_time_is = adapted _ (day_frame_is then day_frame_is then any_u16_is) (λ x is. (is.0.0, is.0.1, is.1)) (λ x is. ((is.0, is.1), is.2))
+test_time_is = adapted _ (day_frame_is then day_frame_is then any_u16_is) (λ x is. (is.0.0, is.0.1, is.1))
+    (λ x is. ((is.0, is.1), is.2))
 
 -- every opcode
 abbrev IsKnown : Opcode → Type 0
@@ -237,7 +289,8 @@ IsInstrKind o = IsKind (instr_kind o) (IsKnown o) (opcode_byte o ∷ []) instr_b
 instr_kind_is : (o : Opcode) → IsInstrKind o
 instr_kind_is Opcode.Wait = kind_is times_is (λ known x. refl)
 instr_kind_is Opcode.Until = kind_is day_frame_is (λ known x. refl)
-instr_kind_is Opcode.WaitContact = kind_is (adapted (λ x. x.0 < 16) (byte_below 15 then flag_is) (λ x is. is.0) (λ x is. (is, tt))) (λ known x. refl)
+instr_kind_is Opcode.WaitContact =
+    kind_is (adapted (λ x. x.0 < 16) (byte_below 15 then flag_is) (λ x is. is.0) (λ x is. (is, tt))) (λ known x. refl)
 instr_kind_is Opcode.CommitIn = kind_is delay_is (λ known x. refl)
 instr_kind_is Opcode.CommitAt = kind_is any_u16_is (λ known x. refl)
 instr_kind_is Opcode.Join = kind_is nothing_is (λ known x. refl)
@@ -265,7 +318,8 @@ instr_tagged : (i : Instr) → IsInstr i → IsTagged IsKnown instr_kind i
 instr_tagged (Wait n) is = record { tag = Opcode.Wait; parts = n; known = tt; is = refl }
 instr_tagged (Until t) is = record { tag = Opcode.Until; parts = t; known = tt; is = refl }
 instr_tagged (WaitContact c closed) is = record { tag = Opcode.WaitContact; parts = (c, closed); known = tt; is = refl }
-instr_tagged (WaitAny closed opened until frames) is = record { tag = Opcode.WaitAny; parts = (((closed, opened), until), frames); known = tt; is = refl }
+instr_tagged (WaitAny closed opened until frames) is =
+    record { tag = Opcode.WaitAny; parts = (((closed, opened), until), frames); known = tt; is = refl }
 instr_tagged (CommitIn k) is = record { tag = Opcode.CommitIn; parts = k; known = tt; is = refl }
 instr_tagged (CommitAt n) is = record { tag = Opcode.CommitAt; parts = n; known = tt; is = refl }
 instr_tagged Join is = record { tag = Opcode.Join; parts = tt; known = tt; is = refl }
@@ -278,27 +332,32 @@ instr_tagged (Edits (RateSub id kbits)) is = record { tag = Opcode.RateSub; part
 instr_tagged (Edits (AddService s)) is = record { tag = Opcode.AddService; parts = s; known = tt; is = refl }
 instr_tagged (Edits (DropService s)) is = record { tag = Opcode.DropService; parts = s; known = tt; is = refl }
 instr_tagged (Edits (AddComponent s m)) is = record { tag = Opcode.AddComponent; parts = (s, m); known = tt; is = refl }
-instr_tagged (Edits (DropComponent s c)) is = record { tag = Opcode.DropComponent; parts = (s, c); known = tt; is = refl }
+instr_tagged (Edits (DropComponent s c)) is =
+    record { tag = Opcode.DropComponent; parts = (s, c); known = tt; is = refl }
 instr_tagged (Edits (AddPacket p)) is = record { tag = Opcode.AddPacket; parts = p; known = tt; is = refl }
 instr_tagged (Edits (DropPacket id)) is = record { tag = Opcode.DropPacket; parts = id; known = tt; is = refl }
 instr_tagged (Test c target) is = record { tag = Opcode.Test; parts = (c, target); known = tt; is = refl }
 instr_tagged (Jump target) is = record { tag = Opcode.Jump; parts = target; known = tt; is = refl }
 instr_tagged (Set r n) is = record { tag = Opcode.Set; parts = (r, n); known = tt; is = refl }
 instr_tagged (Loop r target) is = record { tag = Opcode.Loop; parts = (r, target); known = tt; is = refl }
-instr_tagged (TestTime from to target) is = record { tag = Opcode.TestTime; parts = ((from, to), target); known = tt; is = refl }
+instr_tagged (TestTime from to target) is =
+    record { tag = Opcode.TestTime; parts = ((from, to), target); known = tt; is = refl }
 
 -- the opcode of a byte, or a fault at its offset
-goes_known : (more rest : List ℕ) (o : Option Opcode) (at by : ℕ) → at ≡ by → Goes more (ok_or o (Field at) >>= λ k. taken (k, rest)) (ok_or o (Field by) >>= λ k. taken (k, rest ++ more))
+goes_known : (more rest : List ℕ) (o : Option Opcode) (at by : ℕ) → at ≡ by
+    → Goes more (ok_or o (Field at) >>= λ k. taken (k, rest)) (ok_or o (Field by) >>= λ k. taken (k, rest ++ more))
 goes_known more rest None at by e = goes_fault Opcode more (Field at) (Field by) (ap Field e)
 goes_known more rest (Some o) at by e = refl
 
-placed_known : (total : ℕ) (rest : List ℕ) (o : Option Opcode) (at : ℕ) → at < total → length rest ≤ total → Placed total (ok_or o (Field at) >>= λ k. taken (k, rest))
+placed_known : (total : ℕ) (rest : List ℕ) (o : Option Opcode) (at : ℕ) → at < total → length rest ≤ total
+    → Placed total (ok_or o (Field at) >>= λ k. taken (k, rest))
 placed_known total rest None at within left = within
 placed_known total rest (Some o) at within left = left
 
 placed_opcode : (total : ℕ) (bytes : List ℕ) → length bytes ≤ total → Placed total (opcode.read total bytes)
 placed_opcode total [] left = tt
-placed_opcode total (b ∷ rest) left = placed_known total rest (opcode_of b) (place total (b ∷ rest)) (omega (arith, left)) (omega (arith, left))
+placed_opcode total (b ∷ rest) left =
+    placed_known total rest (opcode_of b) (place total (b ∷ rest)) (omega (arith, left)) (omega (arith, left))
 
 opcode_is : IsLawful opcode IsKnown
 opcode_is = record {
@@ -311,7 +370,8 @@ opcode_is = record {
       let found : Opcode × List ℕ = (o.0, b.0.1) in
       subst (λ (y : Opcode × List ℕ). Front bytes (opcode_byte y.0 ∷ []) y.1 × Unit {0}) (ok_is found x o.2) (here, tt);
   again = λ total o rest is. rw (opcode_again o) refl;
-  goes = λ total bytes more. goes_bind more _ _ _ _ (goes_byte bytes more) (λ byte rest. goes_known more rest (opcode_of byte) _ _ (place_same total bytes more));
+  goes = λ total bytes more. goes_bind more _ _ _ _ (goes_byte bytes more)
+      (λ byte rest. goes_known more rest (opcode_of byte) _ _ (place_same total bytes more));
   placed = placed_opcode;
 }
 

@@ -66,7 +66,8 @@ commits_in_mode_one = refl
 commits_a_turn_later : (effect (plan I) (CommitAt 24) changed).left ≡ Some 5023
 commits_a_turn_later = refl
 
-loops_back : effect (plan I) (Loop 2 4) idle ≡ (let s : State = record idle { counters = 0 ∷ 0 ∷ 2 ∷ 0 ∷ 0 ∷ 0 ∷ 0 ∷ 1 ∷ []; pc = 4 } in s)
+loops_back : effect (plan I) (Loop 2 4) idle
+    ≡ (let s : State = record idle { counters = 0 ∷ 0 ∷ 2 ∷ 0 ∷ 0 ∷ 0 ∷ 0 ∷ 1 ∷ []; pc = 4 } in s)
 loops_back = refl
 
 -- ---- traps

@@ -1,5 +1,5 @@
--- Waits with alternatives and windows of the day: for each definition, an example that holds and one that fails; and the
--- bytes of both instructions.
+-- Waits with alternatives and windows of the day: for each definition, an example that holds and one that fails; and
+-- the bytes of both instructions.
 use Rattle.std.proofs.Common.{◌≡◌, ℕ, ◌<◌, ◌≤◌, true, false, List, [], ◌∷◌, Some, None, Ok, Err, refl, arith}
 use Rattle.mux_config.specs.FieldReading.{Reads}
 use Rattle.mux_config.specs.declared.record.RecordFault.TheVariants.{Field}
@@ -53,7 +53,12 @@ no_window_past_the_day h =
 -- ---- limits
 
 any_is : IsInstr (WaitAny (contacts 65535) no_contacts (Some 3599999) (Some 65535))
-any_is = record { closed_within = omega arith; opened_within = omega arith; until_within = omega arith; frames_within = (omega arith, omega arith) }
+any_is = record {
+  closed_within = omega arith;
+  opened_within = omega arith;
+  until_within = omega arith;
+  frames_within = (omega arith, omega arith);
+}
 
 not_past_the_day : IsInstr (WaitAny no_contacts no_contacts (Some 3600000) None) → ⊥
 not_past_the_day h = let e : 3600000 < 3600000 = h.until_within in omega (arith, e)
@@ -64,13 +69,15 @@ not_no_frames h = let e : 1 ≤ 0 = h.frames_within.0 in omega (arith, e)
 -- ---- bytes
 
 -- contact 3 closed, frame 42 of the day, 750 frames
-any_bytes : instr_bytes (WaitAny (contacts 8) no_contacts (Some 42) (Some 750)) ≡ 0x09 ∷ 0 ∷ 8 ∷ 0 ∷ 0 ∷ 0 ∷ 0 ∷ 0 ∷ 0x2a ∷ 2 ∷ 0xee ∷ []
+any_bytes : instr_bytes (WaitAny (contacts 8) no_contacts (Some 42) (Some 750)) ≡ 0x09 ∷ 0 ∷ 8 ∷ 0 ∷ 0 ∷ 0 ∷ 0 ∷ 0
+    ∷ 0x2a ∷ 2 ∷ 0xee ∷ []
 any_bytes = refl
 
 abbrev read : ℕ → List ℕ → Reads Instr
 read total bytes = instr.read total bytes
 
-any_read : read 11 (0x09 ∷ 0 ∷ 8 ∷ 0 ∷ 8 ∷ 0xff ∷ 0xff ∷ 0xff ∷ 0xff ∷ 0 ∷ 0 ∷ []) ≡ Ok (WaitAny (contacts 8) (contacts 8) None None, [])
+any_read : read 11 (0x09 ∷ 0 ∷ 8 ∷ 0 ∷ 8 ∷ 0xff ∷ 0xff ∷ 0xff ∷ 0xff ∷ 0 ∷ 0 ∷ [])
+    ≡ Ok (WaitAny (contacts 8) (contacts 8) None None, [])
 unfolding opcode_of instr
 any_read = refl
 

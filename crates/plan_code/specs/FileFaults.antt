@@ -8,7 +8,8 @@ use Rattle.plan_code.specs.Faults.{HasCodeFault, IsNoFile}
 
 -- a code file that is cut off at any offset is truncated
 abbrev pub CutsAreTruncated : Type 0
-CutsAreTruncated = (p : Program) (n : ℕ) → IsProgram p → n < length (code_bytes p) → HasCodeFault (take n (code_bytes p)) Truncated
+CutsAreTruncated = (p : Program) (n : ℕ) → IsProgram p → n < length (code_bytes p)
+    → HasCodeFault (take n (code_bytes p)) Truncated
 
 -- any other fault lies in the bytes that were read: it persists whatever follows them, and nothing that begins with
 -- them is a code file
@@ -27,4 +28,5 @@ FileFaultsAreFirst =
 -- fault
 abbrev pub TruncatedBeforePlaces : Type 0
 TruncatedBeforePlaces =
-    (bytes : List ℕ) (place : ℕ) → HasCodeFault bytes (Field place) → (place < length bytes) × HasCodeFault (take place bytes) Truncated
+    (bytes : List ℕ) (place : ℕ) → HasCodeFault bytes (Field place) → (place < length bytes)
+    × HasCodeFault (take place bytes) Truncated

@@ -6,7 +6,8 @@ use Rattle.mux_eep.specs.Sizes.{Profile}
 use Rattle.mux_types.specs.declared.parts.Component.{Component}
 use Rattle.mux_types.specs.declared.numbers.Sid.{Sid}
 use Rattle.mux_config.specs.declared.record.RecordFault.{RecordFault}
-use Rattle.mux_config.specs.FieldReading.{Reads, Unread, Takes, ◌>>=◌, place, byte_at, number_at, judged, byte_within, flag_at, protection_at, sid_at, component_at}
+use Rattle.mux_config.specs.FieldReading.{Reads, Unread, Takes, ◌>>=◌, place, byte_at, number_at, judged, byte_within}
+use Rattle.mux_config.specs.FieldReading.{flag_at, protection_at, sid_at, component_at}
 use Rattle.mux_config.specs.FieldSpelling.{flag_byte, protection_bytes, sid_field, component_bytes}
 
 pub record Format (T : Type 0) : Type 0 where
@@ -15,7 +16,8 @@ pub record Format (T : Type 0) : Type 0 where
   pub spell : T → List ℕ
 
 -- a call that reads so: its result, and the bytes that it leaves
-pub record Reading {T : Type 0} (read : (total : ℕ) → List ℕ → Reads T) (before : Unread) (result : Result T RecordFault) (after : Unread) : Type 0 where
+pub record Reading {T : Type 0} (read : (total : ℕ) → List ℕ → Reads T) (before : Unread)
+    (result : Result T RecordFault) (after : Unread) : Type 0 where
   pub taken : Takes (read before.total before.rest) result after
   pub total : after.total ≡ before.total
 
@@ -80,7 +82,11 @@ abbrev pub any_u16 : Format ℕ
 any_u16 = record { read = λ total bytes. number_at w16 bytes; spell = to_be_bytes w16 }
 
 abbrev pub number_from : Width → (low high : ℕ) → Format ℕ
-number_from w low high = record { read = λ total bytes. number_at w bytes >>= judged (place total bytes) low high; spell = to_be_bytes w }
+number_from w low high = record {
+  read = λ total bytes. number_at w bytes
+      >>= judged (place total bytes) low high;
+  spell = to_be_bytes w;
+}
 
 abbrev pub u16_from : (low high : ℕ) → Format ℕ
 u16_from low high = number_from w16 low high

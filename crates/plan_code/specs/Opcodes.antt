@@ -1,7 +1,10 @@
 -- The opcodes: the first byte of each instruction.
 use Rattle.std.specs.Prelude.{◌≡◌, ℕ, ◌==◌, List, [], ◌∷◌, Option, Some, find}
 use Rattle.plan_code.specs.declared.opcode.Opcode.{Opcode}
-use Rattle.plan_code.specs.declared.opcode.Opcode.TheVariants.{Wait, Until, WaitContact, CommitIn, CommitAt, Join, End, Settle, WaitAny, AddSub, DropSub, MoveSub, RateSub, AddService, DropService, AddComponent, DropComponent, AddPacket, DropPacket, Test, Jump, Set, Loop, TestTime}
+use Rattle.plan_code.specs.declared.opcode.Opcode.TheVariants.{Wait, Until, WaitContact, CommitIn, CommitAt, Join, End}
+use Rattle.plan_code.specs.declared.opcode.Opcode.TheVariants.{Settle, WaitAny, AddSub, DropSub, MoveSub, RateSub}
+use Rattle.plan_code.specs.declared.opcode.Opcode.TheVariants.{AddService, DropService, AddComponent, DropComponent}
+use Rattle.plan_code.specs.declared.opcode.Opcode.TheVariants.{AddPacket, DropPacket, Test, Jump, Set, Loop, TestTime}
 
 abbrev pub opcode_byte : Opcode → ℕ
 opcode_byte Wait = 0x01
@@ -31,7 +34,8 @@ opcode_byte TestTime = 0x24
 
 abbrev pub opcodes : List Opcode
 opcodes = Wait ∷ Until ∷ WaitContact ∷ CommitIn ∷ CommitAt ∷ Join ∷ End ∷ Settle ∷ WaitAny
-    ∷ AddSub ∷ DropSub ∷ MoveSub ∷ RateSub ∷ AddService ∷ DropService ∷ AddComponent ∷ DropComponent ∷ AddPacket ∷ DropPacket
+    ∷ AddSub ∷ DropSub ∷ MoveSub ∷ RateSub ∷ AddService ∷ DropService ∷ AddComponent ∷ DropComponent ∷ AddPacket
+    ∷ DropPacket
     ∷ Test ∷ Jump ∷ Set ∷ Loop ∷ TestTime ∷ []
 
 -- the opcode of a byte; any other byte has none

@@ -1,5 +1,6 @@
 -- The formats of a label, of an instruction and of a line: the fields of each in order, with their ranges.
-use Rattle.std.specs.Prelude.{ℕ, zero, suc, ◌-◌, ◌==◌, if◌then◌else◌, Bool, true, false, List, [], ◌∷◌, ◌++◌, Option, Some, None, ok_or, Ok}
+use Rattle.std.specs.Prelude.{ℕ, zero, suc, ◌-◌, ◌==◌, if◌then◌else◌, Bool, true, false, List, [], ◌∷◌, ◌++◌, Option}
+use Rattle.std.specs.Prelude.{Some, None, ok_or, Ok}
 use Rattle.std.specs.Int.{w32, to_be_bytes}
 use Rattle.mux_config.specs.FieldReading.{Reads, ◌>>=◌, place, byte_at, number_at, judged}
 use Rattle.mux_config.specs.FieldSpelling.{u16_bytes}
@@ -9,18 +10,22 @@ use Rattle.mux_types.specs.declared.parts.Carrier.{Carrier}
 use Rattle.mux_types.specs.declared.parts.Carrier.TheVariants.{Sub as BySub, Packet as ByPacket}
 use Rattle.mux_types.specs.declared.parts.Packet.{Packet}
 use Rattle.mux_config.specs.declared.edit.Edit.{Edit}
-use Rattle.mux_config.specs.declared.edit.Edit.TheVariants.{AddSub, DropSub, MoveSub, RateSub, AddService, DropService, AddComponent, DropComponent, AddPacket, DropPacket}
+use Rattle.mux_config.specs.declared.edit.Edit.TheVariants.{AddSub, DropSub, MoveSub, RateSub, AddService, DropService}
+use Rattle.mux_config.specs.declared.edit.Edit.TheVariants.{AddComponent, DropComponent, AddPacket, DropPacket}
 use Rattle.plan_code.specs.declared.limits.TheConstants.{LONGEST_DELAY, CONTACTS, COUNTERS, FRAMES_A_DAY}
 use Rattle.plan_code.specs.declared.flags.Contacts.{Contacts}
 use Rattle.plan_code.specs.declared.label.Label.{Label}
 use Rattle.plan_code.specs.declared.label.Swap.{Swap}
 use Rattle.plan_code.specs.declared.label.Swap.TheVariants.{Idle, Within, Perhaps}
 use Rattle.plan_code.specs.declared.instr.Instr.{Instr}
-use Rattle.plan_code.specs.declared.instr.Instr.TheVariants.{Wait, Until, WaitContact, WaitAny, CommitIn, CommitAt, Join, Settle, End, Edit as Edits, Test, TestTime, Jump, Set, Loop}
+use Rattle.plan_code.specs.declared.instr.Instr.TheVariants.{Wait, Until, WaitContact, WaitAny, CommitIn, CommitAt}
+use Rattle.plan_code.specs.declared.instr.Instr.TheVariants.{Join, Settle, End, Edit as Edits, Test, TestTime, Jump}
+use Rattle.plan_code.specs.declared.instr.Instr.TheVariants.{Set, Loop}
 use Rattle.plan_code.specs.declared.instr.Line.{Line}
 use Rattle.plan_code.specs.declared.opcode.Opcode.{Opcode}
 use Rattle.plan_code.specs.Opcodes.{opcode_byte, opcode_of}
-use Rattle.plan_code.specs.Formats.{Format, follows, ◌▸◌, made, Kind, kind, tagged_at, nothing, any_byte, byte_from, any_u16, number_from, u16_from, flag, protection, sid, component}
+use Rattle.plan_code.specs.Formats.{Format, follows, ◌▸◌, made, Kind, kind, tagged_at, nothing, any_byte, byte_from}
+use Rattle.plan_code.specs.Formats.{any_u16, number_from, u16_from, flag, protection, sid, component}
 
 -- ---- labels
 
@@ -49,7 +54,14 @@ swap = record { read = tagged_at (byte_from 0 2) swap_kind; spell = swap_bytes }
 -- a label with a pc of at least `low`, with this many configurations in the table
 unfoldable pub label : (count low : ℕ) → Format Label
 label count low =
-    made (λ x. record { pc = x.0.0.0.0.0; cur = x.0.0.0.0.1; next = x.0.0.0.1; pending = x.0.0.1; counters = record { 0 = x.0.1 }; cost = x.1 })
+    made (λ x. record {
+      pc = x.0.0.0.0.0;
+      cur = x.0.0.0.0.1;
+      next = x.0.0.0.1;
+      pending = x.0.0.1;
+      counters = record { 0 = x.0.1 };
+      cost = x.1;
+    })
     (λ l. (((((l.pc, l.cur), l.next), l.pending), l.counters.0), l.cost))
     (u16_from low 65535 ▸ u16_from 0 (count - 1) ▸ u16_from 0 (count - 1) ▸ swap ▸ any_byte ▸ byte_from 1 255)
 
@@ -122,12 +134,14 @@ frames_or_none = made some_number frames_number any_u16
 
 unfoldable pub new_sub : Format Sub
 new_sub =
-    made (λ x. record { id = x.0.0.0; start = x.0.0.1; protection = x.0.1; kbits = x.1 }) (λ s. (((s.id, s.start), s.protection), s.kbits))
+    made (λ x. record { id = x.0.0.0; start = x.0.0.1; protection = x.0.1; kbits = x.1 })
+    (λ s. (((s.id, s.start), s.protection), s.kbits))
     (sub_id ▸ start ▸ protection ▸ any_u16)
 
 unfoldable pub new_packet : Format Packet
 new_packet =
-    made (λ x. record { scid = x.0.0.0.0; dg = x.0.0.0.1; ty = x.0.0.1; sub = x.0.1; address = x.1 }) (λ p. ((((p.scid, p.dg), p.ty), p.sub), p.address))
+    made (λ x. record { scid = x.0.0.0.0; dg = x.0.0.0.1; ty = x.0.0.1; sub = x.0.1; address = x.1 })
+    (λ p. ((((p.scid, p.dg), p.ty), p.sub), p.address))
     (scid ▸ flag ▸ byte_from 0 63 ▸ sub_id ▸ any_u16)
 
 -- a carrier by its number: the identifier of a sub-channel has two bytes here
@@ -154,7 +168,8 @@ instr_kind Opcode.CommitAt = kind any_u16 CommitAt
 instr_kind Opcode.Join = kind nothing (λ _. Join)
 instr_kind Opcode.End = kind nothing (λ _. End)
 instr_kind Opcode.Settle = kind nothing (λ _. Settle)
-instr_kind Opcode.WaitAny = kind (contacts ▸ contacts ▸ day_frame_or_none ▸ frames_or_none) (λ x. WaitAny x.0.0.0 x.0.0.1 x.0.1 x.1)
+instr_kind Opcode.WaitAny = kind (contacts ▸ contacts ▸ day_frame_or_none ▸ frames_or_none)
+    (λ x. WaitAny x.0.0.0 x.0.0.1 x.0.1 x.1)
 instr_kind Opcode.AddSub = kind new_sub (λ s. Edits (AddSub s))
 instr_kind Opcode.DropSub = kind sub_id (λ id. Edits (DropSub id))
 instr_kind Opcode.MoveSub = kind (sub_id ▸ start) (λ x. Edits (MoveSub x.0 x.1))

@@ -1,5 +1,6 @@
 -- Reading a code file in order, up to the first fault.
-use Rattle.std.specs.Prelude.{◌≡◌, ℕ, zero, suc, ◌+◌, ◌-◌, ◌==◌, nat_lt, if◌then◌else◌, List, [], ◌∷◌, ◌++◌, length, Bool, not, Result, Ok, Err}
+use Rattle.std.specs.Prelude.{◌≡◌, ℕ, zero, suc, ◌+◌, ◌-◌, ◌==◌, nat_lt, if◌then◌else◌, List, [], ◌∷◌, ◌++◌, length}
+use Rattle.std.specs.Prelude.{Bool, not, Result, Ok, Err}
 use Rattle.std.specs.Int.{w16, w32}
 use Rattle.fib_codec.specs.declared.modes.Mode.{Mode}
 use Rattle.fib_codec.specs.declared.modes.Mode.TheVariants.{I, II, III, IV}
@@ -12,7 +13,8 @@ use Rattle.mux_config.specs.Reading.{config_at, members_at}
 use Rattle.mux_config.specs.declared.record.RecordFault.{RecordFault}
 use Rattle.mux_config.specs.declared.record.RecordFault.TheVariants.{Short, Field as FieldOfRecord, Order}
 use Rattle.plan_code.specs.declared.fault.CodeFault.{CodeFault}
-use Rattle.plan_code.specs.declared.fault.CodeFault.TheVariants.{Magic, Version, Truncated, Field, Limit, Trailing, Memory}
+use Rattle.plan_code.specs.declared.fault.CodeFault.TheVariants.{Magic, Version, Truncated, Field, Limit, Trailing}
+use Rattle.plan_code.specs.declared.fault.CodeFault.TheVariants.{Memory}
 use Rattle.plan_code.specs.declared.instr.Line.{Line}
 use Rattle.plan_code.specs.declared.label.Label.{Label}
 use Rattle.plan_code.specs.declared.plan.Plan.{Plan}
@@ -92,7 +94,8 @@ reserving_at total bytes = do
 abbrev pub layout_in : (total version : ℕ) → List ℕ → Parses FrameLayout
 layout_in total version bytes =
     if version == 1 then Ok (Whole I, bytes)
-    else if version == 2 then (in_file (byte_within total 2 4 bytes) >>= λ number. Ok (Whole (mode_of number.0), number.1))
+    else if version == 2 then (in_file (byte_within total 2 4 bytes)
+    >>= λ number. Ok (Whole (mode_of number.0), number.1))
     else if version == 3 then reserving_at total bytes
     else Err Version
 
@@ -139,14 +142,16 @@ abbrev pub line_in : (total : ℕ) → List ℕ → Parses Line
 line_in total bytes = in_file (line.read total bytes)
 
 -- `count` more items after those in `before`
-unfoldable pub items_at : {T : Type 0} → (item_at : List ℕ → Parses T) → (before : List T) → (count : ℕ) → List ℕ → Parses (List T)
+unfoldable pub items_at : {T : Type 0} → (item_at : List ℕ → Parses T) → (before : List T) → (count : ℕ) → List ℕ
+    → Parses (List T)
 items_at item_at before zero bytes = Ok (before, bytes)
 items_at item_at before (suc count) bytes = do
   item ← item_at bytes
   items_at item_at (before ++ item.0 ∷ []) count item.1
 
 abbrev pub labels_in : (total configurations count : ℕ) → List ℕ → Parses (List Label)
-labels_in total configurations count bytes = in_file (members_at label_key (label_from total configurations) 0 [] count bytes)
+labels_in total configurations count bytes =
+    in_file (members_at label_key (label_from total configurations) 0 [] count bytes)
 
 unfoldable pub program_at : (total : ℕ) → Header → List ℕ → Parses Program
 program_at total header bytes = do

@@ -41,7 +41,8 @@ layout_bytes ReserveTwo = 3 ∷ mode_number III ∷ 2 ∷ []
 -- the fields of a plan after its layout
 abbrev pub plan_after : FrameLayout → Format Plan
 plan_after layout =
-    made (λ x. record { eid = x.0.0.0; layout = layout; period = x.0.0.1; notice = x.0.1; budget = x.1 }) (λ p. (((p.eid, p.period), p.notice), p.budget))
+    made (λ x. record { eid = x.0.0.0; layout = layout; period = x.0.0.1; notice = x.0.1; budget = x.1 })
+    (λ p. (((p.eid, p.period), p.notice), p.budget))
     (any_u16 ▸ byte_from 1 LONGEST_PERIOD ▸ byte_from SHORTEST_NOTICE LONGEST_NOTICE ▸ byte_from 1 255)
 
 abbrev pub plan_bytes : Plan → List ℕ

@@ -1,10 +1,12 @@
 //! Plan codes as values.
 
-ghost use Rattle.std.specs.Prelude.{◌≡◌, ◌≤◌, ◌<◌, ◌↔◌, IsTrue, IsSome, IfSome, length, slice_get, ◌==◌, find};
+ghost use Rattle.std.specs.Prelude.{◌≡◌, ◌≤◌, ◌<◌, ◌↔◌, IsTrue, IsSome, IfSome, length, slice_get};
+ghost use Rattle.std.specs.Prelude.{◌==◌, find};
 ghost use Rattle.std.specs.Option.{option_copied};
 ghost use Rattle.mux_config.specs.Configuration.{IsAscending, IsConfiguration};
 ghost use Rattle.std.specs.List.{AllByRecursion};
-ghost use Rattle.plan_code.specs.Program.{Program, IsProgram, IsLabel, IsLine, label_key, label_at, instr_at, line_at};
+ghost use Rattle.plan_code.specs.Program.{Program, IsProgram, IsLabel, IsLine, label_key, label_at};
+ghost use Rattle.plan_code.specs.Program.{instr_at, line_at};
 
 use crate::instr::{Instr, Line};
 use crate::label::Label;
@@ -14,8 +16,8 @@ use crate::ranges::{configs_in_range, lines_in_range};
 use mux_config::Config;
 use std::marker::Model;
 
-/// A plan code: a plan, a table of configurations, labels in ascending order of their pc, and instructions. Every field
-/// is within its limits.
+/// A plan code: a plan, a table of configurations, labels in ascending order of their pc, and
+/// instructions. Every field is within its limits.
 #[derive(Drop)]
 pub struct Code {
     plan: Plan,
@@ -92,8 +94,9 @@ fn search(labels: &[Label], pc: u16) -> Option<Label>
 }
 
 impl Code {
-    /// Builds a code from its parts; None exactly where a field or a length is outside its limits, and then the vectors
-    /// are dropped. Configurations and lines are within their limits by their types.
+    /// Builds a code from its parts; None exactly where a field or a length is outside its limits,
+    /// and then the vectors are dropped. Configurations and lines are within their limits by their
+    /// types.
     pub fn new(
         plan: Plan,
         configs: Vec<Config>,

@@ -3,7 +3,9 @@
 ghost use Rattle.std.specs.Prelude.{◌≡◌, ◌≤◌, ◌<◌, [], length, IfOk, Ok, Err};
 ghost use Rattle.plan_code.specs.Program.{Program, IsProgram};
 ghost use Rattle.plan_code.specs.Spelling.{code_bytes};
-ghost use Rattle.plan_code.specs.Reading.{Gives, GivesNext, magic_at, mode_of, reserving_at, layout_at, plan_at, count_at, header_at, config_in, line_in, items_at, labels_in, code_of};
+ghost use Rattle.plan_code.specs.Reading.{Gives, GivesNext, magic_at, mode_of, reserving_at};
+ghost use Rattle.plan_code.specs.Reading.{layout_at, plan_at, count_at, header_at, config_in};
+ghost use Rattle.plan_code.specs.Reading.{line_in, items_at, labels_in, code_of};
 
 use crate::code::Code;
 use crate::fault::{CodeFault, fault_from};
@@ -58,8 +60,8 @@ fn reserving(reader: &mut Reader) -> Result<FrameLayout, CodeFault>
     }
 }
 
-/// Reads the version, in version 2 the mode, and in version 3 the mode and the reserve. Version 1 implies mode I, and
-/// versions 1 and 2 no reserve.
+/// Reads the version, in version 2 the mode, and in version 3 the mode and the reserve. Version 1
+/// implies mode I, and versions 1 and 2 no reserve.
 #[tactic(auto, unfolding(crate::specs::Reading::layout_at))]
 fn layout(reader: &mut Reader) -> Result<FrameLayout, CodeFault>
     ensures read { GivesNext (λ l. l) result reader.new
@@ -114,7 +116,8 @@ fn count(reader: &mut Reader, limit: u16) -> Result<u16, CodeFault>
     Ok(number)
 }
 
-/// The header of a file: the plan, and the numbers of configurations, labels and instructions that follow.
+/// The header of a file: the plan, and the numbers of configurations, labels and instructions that
+/// follow.
 #[derive(Clone, Copy)]
 struct Opening {
     plan: Plan,
@@ -238,10 +241,11 @@ fn whole(alloc: Global, bytes: &[u8]) -> Result<Code, CodeFault>
 
 /// Decodes a code file.
 ///
-/// The error is the first fault in file order, reported as soon as its field is read: `Truncated` where bytes of a
-/// field are missing; `Magic` and `Version` where these are wrong; `Limit` where a count of the header is above its
-/// limit; `Field` with the offset of the first byte of a field that is out of range; `Trailing` where bytes follow the
-/// last instruction. `Memory` may occur at any point.
+/// The error is the first fault in file order, reported as soon as its field is read: `Truncated`
+/// where bytes of a field are missing; `Magic` and `Version` where these are wrong; `Limit` where a
+/// count of the header is above its limit; `Field` with the offset of the first byte of a field
+/// that is out of range; `Trailing` where bytes follow the last instruction. `Memory` may occur at
+/// any point.
 pub fn decode(alloc: Global, bytes: &[u8]) -> Result<Code, CodeFault>
     // What is decoded is within the limits of codes, and encodes to these bytes.
     ensures formed { IfOk result (λ c. IsProgram c) }

@@ -7,8 +7,11 @@ ghost use Rattle.mux_config.specs.Spelling.{config_bytes};
 ghost use Rattle.plan_code.specs.Opcodes.{opcode_byte};
 ghost use Rattle.plan_code.specs.Program.{IsProgram};
 ghost use Rattle.plan_code.specs.declared.instr.Instr.TheVariants.{WaitAny, TestTime};
-ghost use Rattle.plan_code.specs.Spelling.{mode_bytes, layout_bytes, mode_number, plan_bytes, line_bytes, code_bytes};
-ghost use Rattle.plan_code.specs.Parts.{swap_bytes, label_bytes, carrier_bytes, new_sub, new_packet, edit_bytes, day_frame_number, frames_number, instr_bytes};
+ghost use Rattle.plan_code.specs.Spelling.{mode_bytes, layout_bytes, mode_number, plan_bytes};
+ghost use Rattle.plan_code.specs.Spelling.{line_bytes, code_bytes};
+ghost use Rattle.plan_code.specs.Parts.{swap_bytes, label_bytes, carrier_bytes, new_sub};
+ghost use Rattle.plan_code.specs.Parts.{new_packet, edit_bytes, day_frame_number, frames_number};
+ghost use Rattle.plan_code.specs.Parts.{instr_bytes};
 ghost use Rattle.plan_code.specs.Reading.{code_of};
 
 use crate::code::Code;

@@ -34,7 +34,8 @@ pub enum CodeFault {
     Memory,
 }
 
-/// The fault of a part of a file that begins at `start`; offsets within the part are counted from there.
+/// The fault of a part of a file that begins at `start`; offsets within the part are counted from
+/// there.
 pub(crate) fn fault_from(start: usize, fault: RecordFault) -> CodeFault
     requires { (place : ℕ) → fault ≡ RecordFault.Field place → start + place < 2 ^ 64 }
     ensures { result ≡ fault_of_part start fault }

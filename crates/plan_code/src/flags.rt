@@ -1,7 +1,8 @@
 //! Sets of counters and of contacts, as bit sets.
 
 ghost use Rattle.std.specs.Prelude.{⊤, ◌≡◌, ◌<◌, ◌↔◌, IsTrue, [], ◌∷◌, codes};
-ghost use Rattle.plan_code.specs.Flags.{is_set, is_closed, with_counter, without_counter, with_contact, any_closed, any_open, Includes};
+ghost use Rattle.plan_code.specs.Flags.{is_set, is_closed, with_counter, without_counter};
+ghost use Rattle.plan_code.specs.Flags.{with_contact, any_closed, any_open, Includes};
 
 use crate::numbers::{ContactId, CounterId};
 use bitflags::{Flag, Flags, bitflag_items};
@@ -78,7 +79,8 @@ impl Counters {
     }
 }
 
-/// A set of contacts: bit `c` is set where contact `c` is in it. The contacts of a player are those that are closed.
+/// A set of contacts: bit `c` is set where contact `c` is in it. The contacts of a player are those
+/// that are closed.
 #[derive(Clone, Copy, Debug, PartialEq, Eq)]
 pub struct Contacts(pub u16);
 

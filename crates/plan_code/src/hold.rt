@@ -17,8 +17,9 @@ pub enum Hold {
         contact: ContactId,
         closed: bool,
     },
-    /// A later frame in which one of the contacts of `closed` is closed, or one of those of `opened` is open, or that
-    /// is this frame of the day; or a number of frames: when none is left, the wait ends with the next frame.
+    /// A later frame in which one of the contacts of `closed` is closed, or one of those of
+    /// `opened` is open, or that is this frame of the day; or a number of frames: when none is
+    /// left, the wait ends with the next frame.
     WaitsAny {
         closed: Contacts,
         opened: Contacts,

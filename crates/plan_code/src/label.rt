@@ -9,18 +9,19 @@ use crate::flags::Counters;
 pub enum Swap {
     /// No swap is pending.
     Idle,
-    /// A swap is pending and falls after at least and at most this many frames; the least is 1 or more, and not above
-    /// the greatest.
+    /// A swap is pending and falls after at least and at most this many frames; the least is 1 or
+    /// more, and not above the greatest.
     Within(u16, u16),
-    /// A swap is pending and falls after at most this many frames, 1 or more; or it has been made, and the label's next
-    /// configuration is the current one.
+    /// A swap is pending and falls after at most this many frames, 1 or more; or it has been made,
+    /// and the label's next configuration is the current one.
     Perhaps(u16),
 }
 
 impl Swap {
     ghost use Rattle.plan_code.specs.Program.{AreBounds};
 
-    /// Whether its bounds are within their limits: the least is 1 or more, and not above the greatest.
+    /// Whether its bounds are within their limits: the least is 1 or more, and not above the
+    /// greatest.
     pub fn is_within_limits(&self) -> bool
         ensures { IsTrue result ↔ AreBounds self.now }
     {

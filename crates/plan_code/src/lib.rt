@@ -1,9 +1,10 @@
-//! Plan codes: the compact code that a reconfiguration script compiles to, as a value and as a file.
+//! Plan codes: the compact code that a reconfiguration script compiles to, as a value and as a
+//! file.
 //!
-//! Every field of the value is within its limits. `Code` is a plan, a table of configurations, a table of labels and
-//! the instructions; `decode` and `encode` read and write its file. What an instruction does, and what it needs so as
-//! not to trap, is defined in `specs/Machine.antt`; the file format in `specs/Parts.antt`, `specs/Spelling.antt` and
-//! `specs/Reading.antt`.
+//! Every field of the value is within its limits. `Code` is a plan, a table of configurations, a
+//! table of labels and the instructions; `decode` and `encode` read and write its file. What an
+//! instruction does, and what it needs so as not to trap, is defined in `specs/Machine.antt`; the
+//! file format in `specs/Parts.antt`, `specs/Spelling.antt` and `specs/Reading.antt`.
 #![tactic(auto)]
 
 pub mod code;

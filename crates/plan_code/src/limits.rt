@@ -17,8 +17,8 @@ pub const LONGEST_PERIOD: u8 = 60;
 /// The shortest notice of a plan, in frames: it contains three FIG 0/0 in every transmission mode.
 pub const SHORTEST_NOTICE: u8 = 12;
 
-/// The longest notice of a plan, in frames: below 250, so that the low part of a CIF count identifies one frame
-/// of a notice.
+/// The longest notice of a plan, in frames: below 250, so that the low part of a CIF count
+/// identifies one frame of a notice.
 pub const LONGEST_NOTICE: u8 = 248;
 
 /// The longest delay of a commit, in frames; the shortest is 1.

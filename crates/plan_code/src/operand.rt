@@ -1,7 +1,9 @@
 //! Reading the operands of instructions.
 
 ghost use Rattle.plan_code.specs.Formats.{Reading, u16_from};
-ghost use Rattle.plan_code.specs.Parts.{contact, contacts, counter, start, times, delay, day_frame, day_frame_or_none, frames_or_none, new_sub, new_packet, carrier};
+ghost use Rattle.plan_code.specs.Parts.{contact, contacts, counter, start, times, delay, day_frame};
+ghost use Rattle.plan_code.specs.Parts.{day_frame_or_none, frames_or_none, new_sub, new_packet};
+ghost use Rattle.plan_code.specs.Parts.{carrier};
 
 use crate::flags::Contacts;
 use crate::numbers::{ContactId, CounterId, DayFrame, Delay, Frames, Times};

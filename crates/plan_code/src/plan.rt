@@ -10,11 +10,12 @@ use fib_codec::FrameLayout;
 pub struct Plan {
     /// The identifier of the ensemble, EId (EN 300 401 clause 6.4).
     pub eid: u16,
-    /// The layout of a frame: the transmission mode, which says how many FIBs a frame has, and on which CIF counts
-    /// FIG 0/0 and swaps fall; and the reserve, the number of FIBs of each frame that carry no FIG of the plan.
+    /// The layout of a frame: the transmission mode, which says how many FIBs a frame has, and on
+    /// which CIF counts FIG 0/0 and swaps fall; and the reserve, the number of FIBs of each frame
+    /// that carry no FIG of the plan.
     pub layout: FrameLayout,
-    /// The period P, in frames, 1 to 60 in a code: any P successive frames of one phase carry the whole current
-    /// configuration.
+    /// The period P, in frames, 1 to 60 in a code: any P successive frames of one phase carry the
+    /// whole current configuration.
     pub period: u8,
     /// The notice, in frames, 12 to 248 in a code: how long a swap is announced before it is made.
     pub notice: u8,

@@ -1,9 +1,10 @@
-//! Range facts of operand types. These functions do nothing; their contracts state the ranges for a caller's proof: a
-//! value's invariant is known where a pattern binds it.
+//! Range facts of operand types. These functions do nothing; their contracts state the ranges for a
+//! caller's proof: a value's invariant is known where a pattern binds it.
 ghost use Rattle.mux_config.specs.Configuration.{IsConfiguration, IsSid, IsComponent};
 ghost use Rattle.std.specs.List.{AllByRecursion};
 ghost use Rattle.std.specs.Prelude.{IfSome};
-ghost use Rattle.plan_code.specs.Program.{IsNewSub, IsNewPacket, IsCarrier, IsEdit, IsDayFrame, IsFrames, AreAlternatives, IsInstr, IsLine};
+ghost use Rattle.plan_code.specs.Program.{IsNewSub, IsNewPacket, IsCarrier, IsEdit, IsDayFrame};
+ghost use Rattle.plan_code.specs.Program.{IsFrames, AreAlternatives, IsInstr, IsLine};
 
 use crate::flags::Contacts;
 use crate::instr::{Instr, Line};

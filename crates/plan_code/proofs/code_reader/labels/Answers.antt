@@ -10,16 +10,26 @@ use Rattle.plan_code.proofs.code_reader.labels.Goals as goal
 pub returns-in_err-label-clause-read : goal.returns-in_err-label-clause-read
 returns-in_err-label-clause-read c =
     let p = err_from_is_err_and c.from_residual.result c.from_residual.ensures.1 in
-    let read = subst (λ (t : ℕ). label_from t c.args.configs c.loop.low c.loop.reader.rest ≡ Err c.in_err-label.field-0.0) c.loop.invariant.total c.in_err-label.ensures.taken in
-    rw (p.1, p.2) (fails_in_file c.in_err-label.field-0.0 _ (member_fault label_key (label_from c.args.reader.now.total c.args.configs) c.loop.low c.loop.labels.items c.args.count c.loop.counter c.loop.reader.rest _ c.in_err-label.field-0.0 c.loop-test.true c.loop.invariant.given read))
+    let read = subst (λ (t : ℕ). label_from t c.args.configs c.loop.low c.loop.reader.rest
+    ≡ Err c.in_err-label.field-0.0) c.loop.invariant.total c.in_err-label.ensures.taken in
+    rw (p.1, p.2) (fails_in_file c.in_err-label.field-0.0 _
+    (member_fault label_key (label_from c.args.reader.now.total c.args.configs) c.loop.low c.loop.labels.items
+    c.args.count c.loop.counter c.loop.reader.rest _ c.in_err-label.field-0.0 c.loop-test.true
+    c.loop.invariant.given read))
 
 pub loop-preserved : goal.loop-preserved
 loop-preserved c =
-    let read = subst (λ (t : ℕ). label_from t c.args.configs c.loop.low c.loop.reader.rest ≡ Ok (c.in_ok-label.label, c.label.new.reader.rest)) c.loop.invariant.total c.in_ok-label.ensures.taken in
+    let read = subst (λ (t : ℕ). label_from t c.args.configs c.loop.low c.loop.reader.rest
+    ≡ Ok (c.in_ok-label.label, c.label.new.reader.rest)) c.loop.invariant.total c.in_ok-label.ensures.taken in
     record {
       total = c.in_ok-label.ensures.total ∙ c.loop.invariant.total;
-      given = rw (c.in_ok-push.ensures.items, c.from-low.ensures) (member_next label_key (label_from c.args.reader.now.total c.args.configs) c.loop.low c.loop.labels.items c.args.count c.loop.counter c.loop.reader.rest _ c.in_ok-label.label c.label.new.reader.rest c.loop-test.true c.loop.invariant.given read);
+      given = rw (c.in_ok-push.ensures.items, c.from-low.ensures)
+          (member_next label_key (label_from c.args.reader.now.total c.args.configs) c.loop.low c.loop.labels.items
+          c.args.count c.loop.counter c.loop.reader.rest _ c.in_ok-label.label c.label.new.reader.rest c.loop-test.true
+          c.loop.invariant.given read);
     }
 
 pub returns-clause-read : goal.returns-clause-read
-returns-clause-read c = ap in_file (members_done label_key (label_from c.args.reader.now.total c.args.configs) c.loop.low c.loop.labels.items c.args.count c.loop.counter c.loop.reader.rest _ c.loop-test.false c.loop.invariant.given)
+returns-clause-read c = ap in_file
+    (members_done label_key (label_from c.args.reader.now.total c.args.configs) c.loop.low c.loop.labels.items
+    c.args.count c.loop.counter c.loop.reader.rest _ c.loop-test.false c.loop.invariant.given)

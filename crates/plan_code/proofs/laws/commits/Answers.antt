@@ -13,4 +13,8 @@ pub returns-clause-in_time : goal.returns-clause-in_time
 returns-clause-in_time c = in_time
 
 pub returns-clause-at_count : goal.returns-clause-at_count
-returns-clause-at_count c = λ count least at lt. record { reached = omega arith; holds = omega arith; first = λ q from here. omega arith }
+returns-clause-at_count c = λ count least at lt. record {
+  reached = omega arith;
+  holds = omega arith;
+  first = λ q from here. omega arith;
+}
