@@ -97,10 +97,7 @@ pub(crate) fn change(reader: &mut TokenReader) -> Result<(ContactId, bool), Wron
         → reader.old.lexemes ≢ decimal c ∷ level_text closed ∷ rest) }
     ensures wrong { IfErr result (λ e. IsNoChange reader.old.lexemes e) }
 {
-    let contact = match contact_number(reader) {
-        Ok(contact) => contact,
-        Err(wrong) => return Err(wrong),
-    };
+    let contact = contact_number(reader)?;
     match level(reader) {
         Ok(closed) => Ok((contact, closed)),
         Err(_other) => Err(Wrong {

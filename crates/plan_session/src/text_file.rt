@@ -25,10 +25,7 @@ pub fn read_text<R: Read + Drop>(alloc: Global, source: R) -> Result<String, Tex
         (λ whole. IsUtf8 whole → ⊥)) }
 {
     let mut source = source;
-    let bytes = match read_bytes(alloc, &mut source) {
-        Ok(bytes) => bytes,
-        Err(fault) => return Err(fault),
-    };
+    let bytes = read_bytes(alloc, &mut source)?;
     match String::from_utf8(bytes) {
         Ok(text) => Ok(text),
         Err(_) => Err(TextFault::NotUtf8),

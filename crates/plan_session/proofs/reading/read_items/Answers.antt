@@ -12,5 +12,5 @@ loop-item-preserved g c =
     let on = c.in-Some.ensures.item.on left.0 left.2 in
     let moved = ap (λ (l : List g.row.T.Denot). so_far ++ l) on.1
     ∙ sym (append_assoc so_far (item ∷ []) on.0)
-    ∙ ap (λ (l : List g.row.T.Denot). l ++ on.0) (sym c.in-Ok-push.ensures.added) in
+    ∙ ap (λ (l : List g.row.T.Denot). l ++ on.0) (sym c.in_ok-push.ensures.added) in
     (on.0, subst (HoldsItems spelled is c.args.text.now) moved left.1, on.2)
