@@ -1,5 +1,5 @@
 //! Range facts of operand types. These functions do nothing; their contracts state the ranges for a
-//! caller's proof.
+//! caller's proof: a value's invariant is known where a pattern binds it.
 ghost use Rattle.mux_config.specs.Configuration.{IsConfiguration, IsSid, IsComponent};
 ghost use Rattle.std.specs.List.{AllByRecursion};
 ghost use Rattle.std.specs.Prelude.{IfSome};
@@ -24,13 +24,8 @@ fn component_in_range(component: Component)
     ensures { IsComponent component }
 {
     match component {
-        Component::Sound { ty, sub } | Component::Stream { ty, sub } => {
-            ty.get();
-            sub.get();
-        }
-        Component::Packet { scid } => {
-            scid.get();
-        }
+        Component::Sound { ty: _ty, sub: _sub } | Component::Stream { ty: _ty, sub: _sub } => {}
+        Component::Packet { scid: _scid } => {}
     }
 }
 
@@ -38,12 +33,8 @@ fn carrier_in_range(carrier: Carrier)
     ensures { IsCarrier carrier }
 {
     match carrier {
-        Carrier::Sub(id) => {
-            id.get();
-        }
-        Carrier::Packet(scid) => {
-            scid.get();
-        }
+        Carrier::Sub(_id) => {}
+        Carrier::Packet(_scid) => {}
     }
 }
 
@@ -68,16 +59,12 @@ fn edit_in_range(edit: Edit)
 {
     match edit {
         Edit::AddSub(sub) => new_sub_in_range(sub),
-        Edit::DropSub(id) => {
-            id.get();
-        }
-        Edit::MoveSub { id, start } => {
-            id.get();
-            start.get();
-        }
-        Edit::RateSub { id, .. } => {
-            id.get();
-        }
+        Edit::DropSub(_id) => {}
+        Edit::MoveSub {
+            id: _id,
+            start: _start,
+        } => {}
+        Edit::RateSub { id: _id, .. } => {}
         Edit::AddService(sid) => sid_in_range(sid),
         Edit::DropService(sid) => sid_in_range(sid),
         Edit::AddComponent { sid, component } => {
@@ -89,26 +76,20 @@ fn edit_in_range(edit: Edit)
             carrier_in_range(carrier);
         }
         Edit::AddPacket(packet) => new_packet_in_range(packet),
-        Edit::DropPacket(scid) => {
-            scid.get();
-        }
+        Edit::DropPacket(_scid) => {}
     }
 }
 
 fn day_frame_in_range(frame: Option<DayFrame>)
     ensures { IfSome frame IsDayFrame }
 {
-    if let Some(frame) = frame {
-        frame.get();
-    }
+    if let Some(_frame) = frame {}
 }
 
 fn frames_in_range(frames: Option<Frames>)
     ensures { IfSome frames IsFrames }
 {
-    if let Some(frames) = frames {
-        frames.get();
-    }
+    if let Some(_frames) = frames {}
 }
 
 fn alternatives_in_range(
@@ -130,42 +111,40 @@ fn instr_in_range(instr: Instr)
     ensures { IsInstr instr }
 {
     match instr {
-        Instr::Wait(frames) => {
-            frames.get();
-        }
-        Instr::Until(frame) => {
-            frame.get();
-        }
-        Instr::WaitContact { contact, .. } => {
-            contact.get();
-        }
+        Instr::Wait(_frames) => {}
+        Instr::Until(_frame) => {}
+        Instr::WaitContact {
+            contact: _contact,
+            ..
+        } => {}
         Instr::WaitAny {
             closed,
             opened,
             until,
             frames,
         } => alternatives_in_range(closed, opened, until, frames),
-        Instr::CommitIn(delay) => {
-            delay.get();
-        }
+        Instr::CommitIn(_delay) => {}
         Instr::CommitAt(_) => {}
         Instr::Join | Instr::Settle | Instr::End => {}
         Instr::Edit(edit) => edit_in_range(edit),
-        Instr::Test { contact, .. } => {
-            contact.get();
-        }
+        Instr::Test {
+            contact: _contact,
+            ..
+        } => {}
         Instr::Jump(_) => {}
-        Instr::Set { counter, times } => {
-            counter.get();
-            times.get();
-        }
-        Instr::Loop { counter, .. } => {
-            counter.get();
-        }
-        Instr::TestTime { from, to, .. } => {
-            from.get();
-            to.get();
-        }
+        Instr::Set {
+            counter: _counter,
+            times: _times,
+        } => {}
+        Instr::Loop {
+            counter: _counter,
+            ..
+        } => {}
+        Instr::TestTime {
+            from: _from,
+            to: _to,
+            ..
+        } => {}
     }
 }
 

@@ -1,20 +1,12 @@
 -- The announcements of a debugger are exactly the flagged FIG 0/0 in the bytes of its frames.
-use Rattle.std.specs.Prelude.{◌==◌}
-use Rattle.std.proofs.Common.{◌≡◌, ℕ, ◌≤◌, Bool, true, false, cond, List, [], ◌∷◌, ◌++◌, Option, Some, None, refl, sym, ap, ◌∙◌, arith, inl, inr}
-use Rattle.std.proofs.lemmas.Bool.{eqb-true, eqb-false}
-use Rattle.mux_types.specs.Entries.{EnsembleInformation}
-use Rattle.plan_code.specs.declared.plan.Plan.{Plan}
-use Rattle.plan_code.specs.Program.{Program}
-use Rattle.plan_code.specs.Machine.{State}
-use Rattle.plan_runs.specs.declared.event.Event.{Event}
-use Rattle.plan_runs.specs.declared.event.Event.TheVariants.{Contact, Frame}
-use Rattle.plan_runs.specs.Frames.{ensemble_sent, shown, frame_bytes, after_frame}
-use Rattle.plan_runs.specs.Runs.{IsEvent, happens, run_frames}
+use Rattle.plan_debug.proofs.Words.{[], ◌++◌, ◌==◌, ◌∙◌, ◌∷◌, ◌≡◌, ◌≤◌, Announcement, AnnouncementsAreFlagged}
+use Rattle.plan_debug.proofs.Words.{AreFlaggedIn, Bool, Contact, EnsembleInformation, Event, Frame, HasHeaderOf}
+use Rattle.plan_debug.proofs.Words.{HeadersAreSent, IsEvent, IsFlaggedIn, IsFlaggedOnly, IsUnflagged, List, None}
+use Rattle.plan_debug.proofs.Words.{Option, Plan, Program, Some, State, after_frame, announced, announced_by}
+use Rattle.plan_debug.proofs.Words.{announced_for, announcement_list, ap, arith, cond, ensemble_sent, eqb-false}
+use Rattle.plan_debug.proofs.Words.{eqb-true, false, frame_announcement, frame_bytes, happens, inl, inr, refl}
+use Rattle.plan_debug.proofs.Words.{run_frames, shown, shown_announcement, sym, true, ℕ}
 use Rattle.plan_runs.specs.TypedRuns.{IsPlayed, ReachedIsKept}
-use Rattle.plan_runs.specs.SentHeaders.{HasHeaderOf, HeadersAreSent}
-use Rattle.plan_debug.specs.declared.announcement.Announcement.{Announcement}
-use Rattle.plan_debug.specs.Announcements.{announced_for, announced_by, shown_announcement, frame_announcement, announcement_list, announced}
-use Rattle.plan_debug.specs.Flagged.{IsFlaggedIn, IsUnflagged, IsFlaggedOnly, AreFlaggedIn, AnnouncementsAreFlagged}
 
 -- ---- ensemble information
 
@@ -43,11 +35,13 @@ says e a h =
 same_announcement : (a b : Announcement) → Some a ≡ Some b → a ≡ b
 same_announcement a b e = cc e
 
-announces_by : (e : EnsembleInformation) (a : Announcement) (low : ℕ) (none : Bool) → e.occurrence ≡ Some low → (e.change == 0) ≡ none
+announces_by : (e : EnsembleInformation) (a : Announcement) (low : ℕ) (none : Bool) → e.occurrence ≡ Some low
+    → (e.change == 0) ≡ none
     → cond none None (Some (announcement_as e.count low e.change)) ≡ Some a → Announces e a
 announces_by e a low true o flags is = absurd cc
 announces_by e a low false o flags is =
-    let same : announcement_as e.count low e.change ≡ a = same_announcement (announcement_as e.count low e.change) a is in
+    let same : announcement_as e.count low e.change ≡ a =
+    same_announcement (announcement_as e.count low e.change) a is in
     let apart = eqb-false e.change 0 flags in
     record {
       flags = omega (arith, apart);
@@ -56,7 +50,8 @@ announces_by e a low false o flags is =
       count = sym (ap (λ (x : Announcement). x.count) same);
     }
 
-announces_for : (e : EnsembleInformation) (a : Announcement) (occurrence : Option ℕ) → e.occurrence ≡ occurrence → announced_for e occurrence ≡ Some a → Announces e a
+announces_for : (e : EnsembleInformation) (a : Announcement) (occurrence : Option ℕ) → e.occurrence ≡ occurrence
+    → announced_for e occurrence ≡ Some a → Announces e a
 announces_for e a None o is = absurd cc
 announces_for e a (Some low) o is = announces_by e a low (e.change == 0) o refl is
 
@@ -67,13 +62,16 @@ abbrev pub SaysOf : List ℕ → Option Announcement → Type 0
 SaysOf frame None = IsUnflagged frame
 SaysOf frame (Some a) = IsFlaggedOnly frame a
 
-heard_says : (plan : Plan) (s : State) (frame : List ℕ) (a : Announcement) → HasHeaderOf plan s frame → IsFlaggedIn frame a → shown_announcement plan s ≡ Some a
+heard_says : (plan : Plan) (s : State) (frame : List ℕ) (a : Announcement) → HasHeaderOf plan s frame
+    → IsFlaggedIn frame a → shown_announcement plan s ≡ Some a
 heard_says plan s frame a has h =
     let sent = (has h.next h.information).0 h.heard in
-    let fields : Announces h.information a = record { flags = h.flags; change = h.change; occurrence = h.occurrence; count = h.count } in
+    let fields : Announces h.information a =
+    record { flags = h.flags; change = h.change; occurrence = h.occurrence; count = h.count } in
     ap announced_by sent.1 ∙ says h.information a fields
 
-said_by : (plan : Plan) (s : State) (frame : List ℕ) (a : Announcement) (sent : Option EnsembleInformation) → HasHeaderOf plan s frame → ensemble_sent plan s ≡ sent → announced_by sent ≡ Some a → IsFlaggedIn frame a
+said_by : (plan : Plan) (s : State) (frame : List ℕ) (a : Announcement) (sent : Option EnsembleInformation)
+    → HasHeaderOf plan s frame → ensemble_sent plan s ≡ sent → announced_by sent ≡ Some a → IsFlaggedIn frame a
 said_by plan s frame a None has is e = absurd cc
 said_by plan s frame a (Some information) has is e =
     let fields = announces_for information a information.occurrence refl e in
@@ -90,7 +88,8 @@ said_by plan s frame a (Some information) has is e =
 none_some : (a : Announcement) → None ≡ Some a → ⊥
 none_some a e = absurd cc
 
-pub frame_says : (plan : Plan) (s : State) (frame : List ℕ) (x : Option Announcement) → HasHeaderOf plan s frame → shown_announcement plan s ≡ x → SaysOf frame x
+pub frame_says : (plan : Plan) (s : State) (frame : List ℕ) (x : Option Announcement) → HasHeaderOf plan s frame
+    → shown_announcement plan s ≡ x → SaysOf frame x
 frame_says plan s frame None has e = λ a flagged. none_some a (sym e ∙ heard_says plan s frame a has flagged)
 frame_says plan s frame (Some a) has e = (
   said_by plan s frame a (ensemble_sent plan s) has refl e,
@@ -100,17 +99,24 @@ frame_says plan s frame (Some a) has e = (
 -- ---- the frames of a run
 
 later : ReachedIsKept → (p : Program) (s : State) (e : Event) → IsPlayed p s → IsEvent e → IsPlayed p (happens p s e)
-later kept p s e h within = record { program = h.program; typed = h.typed; reached = kept p s (e ∷ []) h.reached (within, tt) }
+later kept p s e h within = record {
+  program = h.program;
+  typed = h.typed;
+  reached = kept p s (e ∷ []) h.reached (within, tt);
+}
 
-frame_first : (frame : List ℕ) (frames : List (List ℕ)) (x : Option Announcement) (rest : List Announcement) → SaysOf frame x → AreFlaggedIn frames rest → AreFlaggedIn (frame ∷ frames) (announcement_list x ++ rest)
+frame_first : (frame : List ℕ) (frames : List (List ℕ)) (x : Option Announcement) (rest : List Announcement)
+    → SaysOf frame x → AreFlaggedIn frames rest → AreFlaggedIn (frame ∷ frames) (announcement_list x ++ rest)
 frame_first frame frames None rest says h = inl (says, h)
 frame_first frame frames (Some a) rest says h = inr (a, rest, refl, says, h)
 
 pub announcements_are_flagged : HeadersAreSent → ReachedIsKept → AnnouncementsAreFlagged
 announcements_are_flagged headers kept p s [] h within = refl
 announcements_are_flagged headers kept p s (Contact c closed ∷ es) h within =
-    announcements_are_flagged headers kept p (happens p s (Contact c closed)) es (later kept p s (Contact c closed) h within.0) within.1
+    announcements_are_flagged headers kept p (happens p s (Contact c closed)) es
+    (later kept p s (Contact c closed) h within.0) within.1
 announcements_are_flagged headers kept p s (Frame ∷ es) h within =
-    frame_first (frame_bytes p s) (run_frames p (after_frame p s) es) (frame_announcement p s) (announced p (after_frame p s) es)
+    frame_first (frame_bytes p s) (run_frames p (after_frame p s) es) (frame_announcement p s)
+    (announced p (after_frame p s) es)
     (frame_says p.plan (shown p s) (frame_bytes p s) (frame_announcement p s) (headers p s h) refl)
     (announcements_are_flagged headers kept p (after_frame p s) es (later kept p s Frame h within.0) within.1)

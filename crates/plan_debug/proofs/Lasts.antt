@@ -1,7 +1,7 @@
 -- The last of a list.
-use Rattle.std.proofs.Common.{◌≡◌, ℕ, ◌+◌, ◌-◌, ◌≤◌, List, [], ◌∷◌, ◌++◌, length, drop, refl, sym, ap, ◌∙◌, arith, length-append, length-drop, drop-drop}
+use Rattle.plan_debug.proofs.Words.{[], ◌++◌, ◌+◌, ◌-◌, ◌∙◌, ◌∷◌, ◌≡◌, ◌≤◌, List, ap, arith, drop, drop-drop, keep_last}
+use Rattle.plan_debug.proofs.Words.{length, length-append, length-drop, refl, sym, ℕ}
 use Rattle.std.proofs.lemmas.List.{drop-append-le}
-use Rattle.circular_buffer.specs.Buffer.{keep_last}
 
 module _ {X : Type 0} where
   append_none : (xs : List X) → xs ++ [] ≡ xs
@@ -27,4 +27,5 @@ module _ {X : Type 0} where
       let long : length all ≡ length xs + length ys = length-append xs ys in
       let rest : length (drop d all) ≡ length all - d = length-drop d all in
       let sum : d + (length (drop d all) - n) ≡ length all - n = omega (arith, long, rest) in
-      ap (λ (l : List X). keep_last n l) cut ∙ drop-drop (length (drop d all) - n) d all ∙ ap (λ (k : ℕ). drop k all) sum
+      ap (λ (l : List X). keep_last n l) cut ∙ drop-drop (length (drop d all) - n) d all
+      ∙ ap (λ (k : ℕ). drop k all) sum

@@ -3,3 +3,4 @@ pub mod Lasts
 pub mod Stretches
 pub mod Flagged
 mod Vectors
+mod Words

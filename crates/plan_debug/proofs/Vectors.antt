@@ -1,14 +1,11 @@
 -- Flagged FIG 0/0, in bytes that have the FIG 0/0 of a known state: each definition where it holds, and where it fails.
-use Rattle.std.proofs.Common.{◌≡◌, ℕ, false, List, [], ◌∷◌, Some, None, replicate, refl, ap, arith, inl, inr}
+use Rattle.plan_debug.proofs.Words.{[], ◌∷◌, ◌≡◌, Announcement, AreFlaggedIn, HasHeaderOf, IsFlaggedIn, IsFlaggedOnly}
+use Rattle.plan_debug.proofs.Words.{IsUnflagged, List, None, Plan, Some, State, ap, arith, false, inl, inr, refl}
+use Rattle.plan_debug.proofs.Words.{replicate, ℕ}
 use Rattle.fib_codec.specs.declared.frame_layout.FrameLayout.TheVariants.{Whole}
 use Rattle.mux_config.specs.Configuration.{nothing}
 use Rattle.fib_codec.specs.declared.modes.Mode.TheVariants.{I}
-use Rattle.plan_code.specs.declared.plan.Plan.{Plan}
 use Rattle.plan_code.specs.declared.hold.Hold.TheVariants.{Ended}
-use Rattle.plan_code.specs.Machine.{State}
-use Rattle.plan_runs.specs.SentHeaders.{HasHeaderOf}
-use Rattle.plan_debug.specs.declared.announcement.Announcement.{Announcement}
-use Rattle.plan_debug.specs.Flagged.{IsFlaggedIn, IsUnflagged, IsFlaggedOnly, AreFlaggedIn}
 use Rattle.plan_debug.proofs.Flagged.{announcement_as, frame_says}
 
 abbrev plan : Plan
@@ -19,7 +16,12 @@ abbrev before_swap : ℕ → State
 before_swap left =
     record {
       current = nothing;
-      next = record { subs = []; services = []; packets = record { scid = 1; dg = false; ty = 60; sub = 5; address = 1 } ∷ [] };
+      next = record {
+        subs = [];
+        services = [];
+        packets = record { scid = 1; dg = false; ty = 60; sub = 5; address = 1 }
+            ∷ [];
+      };
       left = Some left;
       pc = 0;
       hold = Ended;
@@ -50,7 +52,8 @@ unflagged frame has = frame_says plan (before_swap 13) frame None has refl
 not_unflagged : (frame : List ℕ) → HasHeaderOf plan (before_swap 12) frame → IsUnflagged frame → ⊥
 not_unflagged frame has h = h (told 0) (flagged frame has).0
 
-one_of_two : (before frame : List ℕ) → HasHeaderOf plan (before_swap 13) before → HasHeaderOf plan (before_swap 12) frame → AreFlaggedIn (before ∷ frame ∷ []) (told 0 ∷ [])
+one_of_two : (before frame : List ℕ) → HasHeaderOf plan (before_swap 13) before
+    → HasHeaderOf plan (before_swap 12) frame → AreFlaggedIn (before ∷ frame ∷ []) (told 0 ∷ [])
 one_of_two before frame none some = inl (unflagged before none, inr (told 0, [], refl, flagged frame some, refl))
 
 left_out : (frame : List ℕ) → HasHeaderOf plan (before_swap 12) frame → AreFlaggedIn (frame ∷ []) [] → ⊥

@@ -13,7 +13,8 @@ use Rattle.plan_debug.specs.declared.announcement.Announcement.{Announcement}
 -- the announcement of ensemble information with this occurrence change
 abbrev pub announced_for : EnsembleInformation → Option ℕ → Option Announcement
 announced_for e None = None
-announced_for e (Some low) = if e.change == 0 then None else Some (record { count = e.count; occurrence = low; change = e.change })
+announced_for e (Some low) = if e.change == 0 then None else Some
+    (record { count = e.count; occurrence = low; change = e.change })
 
 -- the announcement of this FIG 0/0, if any
 abbrev pub announced_by : Option EnsembleInformation → Option Announcement

@@ -1,5 +1,6 @@
 -- The debugger commands: how many frames each plays, and the debugger after it.
-use Rattle.std.specs.Prelude.{◌≡◌, ◌≢◌, ◌↔◌, ◌⊎◌, ℕ, zero, suc, ◌<◌, ◌≤◌, List, [], ◌∷◌, ◌++◌, replicate, Option, Some, None, IsTrue}
+use Rattle.std.specs.Prelude.{◌≡◌, ◌≢◌, ◌↔◌, ◌⊎◌, ℕ, zero, suc, ◌<◌, ◌≤◌, List, [], ◌∷◌, ◌++◌, replicate, Option, Some}
+use Rattle.std.specs.Prelude.{None, IsTrue}
 use Rattle.circular_buffer.specs.Buffer.{keep_last}
 use Rattle.plan_code.specs.Program.{Program, line_at}
 use Rattle.plan_code.specs.Machine.{State}

@@ -33,7 +33,8 @@ abbrev pub AreFlaggedIn : List (List ℕ) → List Announcement → Type 0
 AreFlaggedIn [] noted = noted ≡ []
 AreFlaggedIn (frame ∷ frames) noted =
     (IsUnflagged frame × AreFlaggedIn frames noted)
-    ⊎ ((a : Announcement) × (rest : List Announcement) × (noted ≡ a ∷ rest) × IsFlaggedOnly frame a × AreFlaggedIn frames rest)
+    ⊎ ((a : Announcement) × (rest : List Announcement) × (noted ≡ a ∷ rest) × IsFlaggedOnly frame a
+    × AreFlaggedIn frames rest)
 
 -- ---- the law
 

@@ -7,6 +7,7 @@ pub struct Announcement {
     pub count: u16,
     /// The occurrence change: the low part of the CIF count of the swap, 0 to 249.
     pub occurrence: u8,
-    /// The change flags, 1 to 3: 1 for the sub-channel organization, 2 for the service organization.
+    /// The change flags, 1 to 3: 1 for the sub-channel organization, 2 for the service
+    /// organization.
     pub change: u8,
 }

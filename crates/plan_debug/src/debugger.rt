@@ -1,12 +1,15 @@
 //! Drives a player with debugger commands.
 
-ghost use Rattle.std.specs.Prelude.{◌≡◌, false, ◌↔◌, ◌≤◌, [], ◌∷◌, ◌++◌, length, Some, None, IsTrue, IfOk, IfErr, slice_get};
+ghost use Rattle.std.specs.Prelude.{◌≡◌, false, ◌↔◌, ◌≤◌, [], ◌∷◌, ◌++◌, length, Some, None};
+ghost use Rattle.std.specs.Prelude.{IsTrue, IfOk, IfErr, slice_get};
 ghost use Rattle.circular_buffer.specs.Buffer.{keep_last};
 ghost use Rattle.plan_runs.specs.declared.event.Event.TheVariants.{Frame};
 ghost use Rattle.plan_runs.specs.Frames.{frame_bytes};
 ghost use Rattle.plan_player.specs.Playing.{played};
 ghost use Rattle.plan_debug.specs.Announcements.{announced};
-ghost use Rattle.plan_debug.specs.Commands.{Ends, EndsAt, IsCount, IsBroken, IsView, events_of_command, most_frames, stop_after, last_bytes, frames};
+ghost use Rattle.plan_debug.specs.Commands.{Ends, EndsAt, IsCount, IsBroken, IsView};
+ghost use Rattle.plan_debug.specs.Commands.{events_of_command, most_frames, stop_after, last_bytes};
+ghost use Rattle.plan_debug.specs.Commands.{frames};
 
 use crate::announcement::Announcement;
 use crate::decoding::announcement_in;
@@ -41,7 +44,8 @@ impl<'a, S: Store> Model for Debugger<'a, S> {
     ghost invariant = { λ d. length d.log ≤ 64 };
 }
 
-/// The frames that a command played: their number, the last of them, and whether it ended the command.
+/// The frames that a command played: their number, the last of them, and whether it ended the
+/// command.
 #[derive(Clone, Copy)]
 struct Stretch {
     frames: u32,
@@ -143,8 +147,8 @@ fn report_here<'a, S: Store>(player: &Player<'a, S>) -> Report
 }
 
 impl<'a, S: Store> Debugger<'a, S> {
-    /// A debugger of this player, without a break line and without announcements. `Err` returns the player if out of
-    /// memory.
+    /// A debugger of this player, without a break line and without announcements. `Err` returns the
+    /// player if out of memory.
     pub fn new(alloc: Global, player: Player<'a, S>) -> Result<Debugger<'a, S>, Player<'a, S>>
         ensures begins { IfOk result (λ d.
             d ≡ record { player = player.entry; stop = None; announcements = [] }) }
@@ -187,8 +191,9 @@ impl<'a, S: Store> Debugger<'a, S> {
 
     /// Executes a command, and reports the player's state after it. It does not allocate.
     ///
-    /// `Contact` sets a contact; `Run` and `Next` play frames up to one that ends them, as [`Command`] defines; `Break`
-    /// sets the break line and `Clear` removes it; `Show` changes nothing. Only frames change the announcements.
+    /// `Contact` sets a contact; `Run` and `Next` play frames up to one that ends them, as
+    /// [`Command`] defines; `Break` sets the break line and `Clear` removes it; `Show` changes
+    /// nothing. Only frames change the announcements.
     pub fn command(&mut self, command: Command) -> Report
         ensures count { let p = self.old.player in
             IsCount p.code self.old.stop command p.state result.frames }

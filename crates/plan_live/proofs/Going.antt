@@ -1,17 +1,10 @@
 -- A live run continues over events, and then over more.
-use Rattle.std.proofs.Common.{◌≡◌, ℕ, suc, ◌-◌, Bool, List, [], ◌∷◌, ◌++◌, length, drop, Option, Result, Ok, Err, refl, sym, ap, subst, ◌∙◌, arith, append-nil, inl, inr}
-use Rattle.std.specs.Prelude.{OnOk}
-use Rattle.std.specs.List.{concat}
-use Rattle.std.specs.Io.KnownBytes.{Appends, Keeps}
-use Rattle.std.proofs.KnownBytes.{Appends-trans, Appends-nil, Appends-kept}
+use Rattle.plan_live.proofs.Words.{[], ◌++◌, ◌-◌, ◌∙◌, ◌∷◌, ◌≡◌, Appends, Appends-kept, Appends-nil, Appends-trans}
+use Rattle.plan_live.proofs.Words.{Bool, Contact, Err, Event, Frame, FrameWent, Keeps, List, Ok, OnOk, Option, Playing}
+use Rattle.plan_live.proofs.Words.{Result, Streamed, Went, ap, append-nil, arith, concat, drop, frames_of, inl, inr}
+use Rattle.plan_live.proofs.Words.{kept, kept_bytes, length, next_frame, played, refl, subst, suc, sym, ℕ}
 use Rattle.std.proofs.lemmas.Bool.{cases_lt, lt-ltb, le-ltb}
-use Rattle.plan_runs.specs.declared.event.Event.{Event}
-use Rattle.plan_runs.specs.declared.event.Event.TheVariants.{Contact, Frame}
-use Rattle.plan_player.specs.Playing.{Playing, played}
-use Rattle.plan_player.specs.Delivery.{frames_of, next_frame}
 use Rattle.plan_live.specs.declared.fault.Stop.{Stop}
-use Rattle.plan_live.specs.Going.{kept, FrameWent, Went}
-use Rattle.plan_live.specs.Living.{Streamed, kept_bytes}
 use Rattle.plan_live.proofs.Joining.{played_join, counts_join, drop_none, kept_none, kept_from}
 
 pub appends_as : (a b : Option (List ℕ)) (xs ys : List ℕ) → xs ≡ ys → Appends a b xs → Appends a b ys
@@ -19,42 +12,50 @@ appends_as a b xs ys e p = subst (λ (l : List ℕ). Appends a b l) e p
 
 -- ---- no event, a contact, a frame
 
-pub went_none : (skip : ℕ) (p : Playing) (n : ℕ) (a b : Streamed) → b.left ≡ a.left → Keeps a.written b.written → Went skip p n [] p n a b
+pub went_none : (skip : ℕ) (p : Playing) (n : ℕ) (a b : Streamed) → b.left ≡ a.left → Keeps a.written b.written
+    → Went skip p n [] p n a b
 went_none skip p n a b left keeps = record {
   state = refl;
   count = omega arith;
   left = left;
-  out = appends_as a.written b.written [] (kept_bytes (skip - n) p []) (sym (kept_none (skip - n) p)) (Appends-kept a.written a.written b.written [] (Appends-nil a.written) keeps);
+  out = appends_as a.written b.written [] (kept_bytes (skip - n) p []) (sym (kept_none (skip - n) p))
+      (Appends-kept a.written a.written b.written [] (Appends-nil a.written) keeps);
 }
 
-pub went_contact : (skip : ℕ) (p q : Playing) (n c : ℕ) (closed : Bool) (a : Streamed) → q ≡ played p (Contact c closed ∷ []) → Went skip p n (Contact c closed ∷ []) q n a a
+pub went_contact : (skip : ℕ) (p q : Playing) (n c : ℕ) (closed : Bool) (a : Streamed)
+    → q ≡ played p (Contact c closed ∷ []) → Went skip p n (Contact c closed ∷ []) q n a a
 went_contact skip p q n c closed a state = record {
   state = state;
   count = omega arith;
   left = refl;
-  out = appends_as a.written a.written [] (kept_bytes (skip - n) p (Contact c closed ∷ [])) (sym (kept_none (skip - n) p)) (Appends-nil a.written);
+  out = appends_as a.written a.written [] (kept_bytes (skip - n) p (Contact c closed ∷ []))
+      (sym (kept_none (skip - n) p)) (Appends-nil a.written);
 }
 
 kept_one : (skip n : ℕ) (frame : List ℕ) → kept skip n frame ≡ concat (drop (skip - n) (frame ∷ []))
 kept_one skip n frame = elim (cases_lt n skip) [
   | inl lt ↦
       let some : skip - n ≡ suc (skip - n - 1) = omega (arith, lt) in
-      rw (lt-ltb n skip lt) (sym (ap (λ (fs : List (List ℕ)). concat fs) (drop_none (skip - n - 1) [] refl)) ∙ ap (λ (k : ℕ). concat (drop k (frame ∷ []))) (sym some))
+      rw (lt-ltb n skip lt) (sym (ap (λ (fs : List (List ℕ)). concat fs) (drop_none (skip - n - 1) [] refl))
+      ∙ ap (λ (k : ℕ). concat (drop k (frame ∷ []))) (sym some))
   | inr ge ↦
       let none : skip - n ≡ 0 = omega (arith, ge) in
       rw (le-ltb n skip ge) (sym (append-nil frame) ∙ ap (λ (k : ℕ). concat (drop k (frame ∷ []))) (sym none))
 ]
 
-pub frame_went : (skip : ℕ) (p q : Playing) (n m : ℕ) (a b c : Streamed) (bytes : List ℕ) → bytes ≡ next_frame p → q ≡ played p (Frame ∷ []) → FrameWent skip bytes n m a b
+pub frame_went : (skip : ℕ) (p q : Playing) (n m : ℕ) (a b c : Streamed) (bytes : List ℕ) → bytes ≡ next_frame p
+    → q ≡ played p (Frame ∷ []) → FrameWent skip bytes n m a b
     → c.left ≡ b.left → c.written ≡ b.written → Went skip p n (Frame ∷ []) q m a c
 frame_went skip p q n m a b c bytes is state h left written =
     let out : Appends a.written c.written (kept skip n (next_frame p)) =
-    subst (λ (o : Option (List ℕ)). Appends a.written o (kept skip n (next_frame p))) (sym written) (subst (λ (l : List ℕ). Appends a.written b.written (kept skip n l)) is h.out) in
+    subst (λ (o : Option (List ℕ)). Appends a.written o (kept skip n (next_frame p))) (sym written)
+    (subst (λ (l : List ℕ). Appends a.written b.written (kept skip n l)) is h.out) in
     record {
       state = state;
       count = h.count;
       left = left ∙ h.left;
-      out = appends_as a.written c.written (kept skip n (next_frame p)) (kept_bytes (skip - n) p (Frame ∷ [])) (kept_one skip n (next_frame p)) out;
+      out = appends_as a.written c.written (kept skip n (next_frame p)) (kept_bytes (skip - n) p (Frame ∷ []))
+          (kept_one skip n (next_frame p)) out;
     }
 
 -- ---- events, and then more
@@ -63,17 +64,21 @@ pub went_join : (skip : ℕ) (p q r : Playing) (n m k : ℕ) (xs ys : List Event
     → Went skip p n xs q m a b → Went skip q m ys r k b c → Went skip p n (xs ++ ys) r k a c
 went_join skip p q r n m k xs ys a b c h g =
     let both = counts_join p xs ys in
-    let later : length (frames_of q ys) ≡ length (frames_of (played p xs) ys) = ap (λ (x : Playing). length (frames_of x ys)) h.state in
+    let later : length (frames_of q ys) ≡ length (frames_of (played p xs) ys) =
+    ap (λ (x : Playing). length (frames_of x ys)) h.state in
     record {
       state = g.state ∙ ap (λ (x : Playing). played x ys) h.state ∙ sym (played_join p xs ys);
       count = omega (arith, h.count, g.count, both, later);
       left = g.left ∙ h.left;
-      out = appends_as a.written c.written (kept_bytes (skip - n) p xs ++ kept_bytes (skip - m) q ys) (kept_bytes (skip - n) p (xs ++ ys)) (kept_from skip p q n m xs ys h.state h.count)
-          (Appends-trans a.written b.written c.written (kept_bytes (skip - n) p xs) (kept_bytes (skip - m) q ys) h.out g.out);
+      out = appends_as a.written c.written (kept_bytes (skip - n) p xs ++ kept_bytes (skip - m) q ys)
+          (kept_bytes (skip - n) p (xs ++ ys)) (kept_from skip p q n m xs ys h.state h.count)
+          (Appends-trans a.written b.written c.written (kept_bytes (skip - n) p xs) (kept_bytes (skip - m) q ys) h.out
+          g.out);
     }
 
 -- the output is flushed after them
-pub went_flushed : (skip : ℕ) (p q : Playing) (n m : ℕ) (events : List Event) (a b c : Streamed) → Went skip p n events q m a b
+pub went_flushed : (skip : ℕ) (p q : Playing) (n m : ℕ) (events : List Event) (a b c : Streamed)
+    → Went skip p n events q m a b
     → c.left ≡ b.left → Keeps b.written c.written → Went skip p n events q m a c
 went_flushed skip p q n m events a b c h left keeps = record {
   state = h.state;

@@ -1,8 +1,8 @@
 -- A list that grows, and then grows by more.
-use Rattle.std.proofs.Common.{List, [], ◌++◌, Option, None, Some, sym, ap, ◌∙◌, append_assoc, append-nil}
-use Rattle.plan_live.specs.Growing.{Grows}
+use Rattle.plan_live.proofs.Words.{[], ◌++◌, ◌∙◌, Grows, List, None, Option, Some, ap, append-nil, append_assoc, sym}
 
-pub grows_more : {A : Type 0} (a b c : Option (List A)) (xs ys : List A) → Grows a b xs → Grows b c ys → Grows a c (xs ++ ys)
+pub grows_more : {A : Type 0} (a b c : Option (List A)) (xs ys : List A) → Grows a b xs → Grows b c ys
+    → Grows a c (xs ++ ys)
 grows_more None b c xs ys p q = tt
 grows_more (Some x) None c xs ys p q = absurd p
 grows_more (Some x) (Some y) None xs ys p q = absurd q

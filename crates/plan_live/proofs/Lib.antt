@@ -8,3 +8,4 @@ mod Vectors
 mod VectorsOfGoing
 mod VectorsOfOneFile
 mod VectorsOfRuns
+mod Words

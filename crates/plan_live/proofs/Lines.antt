@@ -1,27 +1,20 @@
 -- Lines, and then one more.
-use Rattle.std.proofs.Common.{◌≡◌, ℕ, ◌+◌, ◌-◌, ◌<◌, List, [], ◌∷◌, ◌++◌, length, Option, None, Some, refl, sym, ap, subst, ◌∙◌, arith, append_assoc, append-nil, inr}
-use Rattle.std.specs.List.{AllByRecursion}
-use Rattle.std.specs.Io.KnownBytes.{Appends, Keeps, IsAtEnd}
-use Rattle.std.proofs.KnownBytes.{Appends-trans, Appends-nil}
-use Rattle.console.specs.Lines.{lines_of, GivesLines, GivesLine}
-use Rattle.plan_runs.specs.declared.event.Event.{Event}
-use Rattle.plan_player.specs.Playing.{Playing, played}
-use Rattle.plan_player.specs.Delivery.{frames_of}
-use Rattle.plan_session.specs.declared.step.Step.{Step}
-use Rattle.plan_session.specs.Events.{events_of}
-use Rattle.plan_live.specs.Going.{LineWent, Going}
-use Rattle.plan_live.specs.Growing.{Grows}
-use Rattle.plan_live.specs.Lines.{ListsNone, LineDoes, LinesDo}
-use Rattle.plan_live.specs.Living.{Streamed, streamed, kept_bytes, Whole, AreDone, IsPrompt}
+use Rattle.plan_live.proofs.Words.{[], ◌++◌, ◌+◌, ◌-◌, ◌<◌, ◌∙◌, ◌∷◌, ◌≡◌, AllByRecursion, Appends, Appends-nil}
+use Rattle.plan_live.proofs.Words.{Appends-trans, AreDone, Event, GivesLine, GivesLines, Going, Grows, IsAtEnd}
+use Rattle.plan_live.proofs.Words.{IsPrompt, Keeps, LineDoes, LineWent, LinesDo, List, ListsNone, None, Option, Playing}
+use Rattle.plan_live.proofs.Words.{Some, Step, Streamed, Whole, ap, append-nil, append_assoc, arith, events_of}
+use Rattle.plan_live.proofs.Words.{frames_of, inr, kept_bytes, length, lines_of, played, refl, streamed, subst, sym, ℕ}
 use Rattle.plan_live.proofs.Joining.{played_join, counts_join, kept_none, kept_from, events_join}
 use Rattle.plan_live.proofs.Growing.{grows_more, grows_none}
 use Rattle.plan_live.proofs.Going.{appends_as}
 
-gives_more : (a b c : Option (List ℕ)) (lines : List (List ℕ)) (line : List ℕ) → GivesLines a lines b → GivesLine b line c → GivesLines a (lines ++ line ∷ []) c
+gives_more : (a b c : Option (List ℕ)) (lines : List (List ℕ)) (line : List ℕ) → GivesLines a lines b
+    → GivesLine b line c → GivesLines a (lines ++ line ∷ []) c
 gives_more None b c lines line p q = tt
 gives_more (Some x) None c lines line p q = absurd p
 gives_more (Some x) (Some y) None lines line p q = absurd q
-gives_more (Some x) (Some y) (Some z) lines line p q = p ∙ ap (λ (l : List (List ℕ)). lines ++ l) q ∙ sym (append_assoc lines (line ∷ []) (lines_of z))
+gives_more (Some x) (Some y) (Some z) lines line p q =
+    p ∙ ap (λ (l : List (List ℕ)). lines ++ l) q ∙ sym (append_assoc lines (line ∷ []) (lines_of z))
 
 gives_none : (a : Option (List ℕ)) → GivesLines a [] a
 gives_none None = tt
@@ -35,7 +28,8 @@ gives_kept (Some x) (Some y) (Some z) lines p q = p ∙ ap (λ (l : List ℕ). l
 
 -- ---- the steps of lines, and of one more
 
-do_more : (lines : List (List ℕ)) (line : List ℕ) (steps more : List Step) → LinesDo lines steps → LineDoes line more → LinesDo (lines ++ line ∷ []) (steps ++ more)
+do_more : (lines : List (List ℕ)) (line : List ℕ) (steps more : List Step) → LinesDo lines steps → LineDoes line more
+    → LinesDo (lines ++ line ∷ []) (steps ++ more)
 do_more [] line steps more h does = (more, [], ap (λ (l : List Step). l ++ more) h ∙ sym (append-nil more), does, refl)
 do_more (x ∷ xs) line steps more (first, rest, cut, one, others) does = (
   first,
@@ -61,32 +55,41 @@ going_first skip p a = record {
 }
 
 going_more : (skip : ℕ) (p q r : Playing) (m k : ℕ) (line : List ℕ) (old now after : Streamed) (rest : Option (List ℕ))
-    → Going skip p old now q m → GivesLine now.left line rest → LineWent skip q m line r k (streamed rest now.written) after → Going skip p old after r k
+    → Going skip p old now q m → GivesLine now.left line rest
+    → LineWent skip q m line r k (streamed rest now.written) after → Going skip p old after r k
 going_more skip p q r m k line old now after rest h given w =
     let steps : List Step = h.reached.steps in
     let more : List Step = w.steps in
     let events : events_of (steps ++ more) ≡ events_of steps ++ events_of more = events_join steps more in
     let at : r ≡ played p (events_of (steps ++ more)) =
-    w.went.state ∙ ap (λ (x : Playing). played x (events_of more)) h.player ∙ sym (played_join p (events_of steps) (events_of more)) ∙ ap (λ (l : List Event). played p l) (sym events) in
-    let sum : length (frames_of p (events_of (steps ++ more))) ≡ length (frames_of p (events_of steps)) + length (frames_of (played p (events_of steps)) (events_of more)) =
+    w.went.state ∙ ap (λ (x : Playing). played x (events_of more)) h.player
+    ∙ sym (played_join p (events_of steps) (events_of more)) ∙ ap (λ (l : List Event). played p l) (sym events) in
+    let sum : length (frames_of p (events_of (steps ++ more))) ≡ length (frames_of p (events_of steps))
+    + length (frames_of (played p (events_of steps)) (events_of more)) =
     ap (λ (l : List Event). length (frames_of p l)) events ∙ counts_join p (events_of steps) (events_of more) in
-    let later : length (frames_of q (events_of more)) ≡ length (frames_of (played p (events_of steps)) (events_of more)) = ap (λ (x : Playing). length (frames_of x (events_of more))) h.player in
+    let later : length (frames_of q (events_of more)) ≡ length
+    (frames_of (played p (events_of steps)) (events_of more)) =
+    ap (λ (x : Playing). length (frames_of x (events_of more))) h.player in
     let counted : m ≡ 0 + length (frames_of p (events_of steps)) = omega (arith, h.count) in
     let all : skip - 0 ≡ skip = omega arith in
-    let bytes : kept_bytes skip p (events_of steps) ++ kept_bytes (skip - m) q (events_of more) ≡ kept_bytes skip p (events_of (steps ++ more)) =
+    let bytes : kept_bytes skip p (events_of steps) ++ kept_bytes (skip - m) q (events_of more)
+    ≡ kept_bytes skip p (events_of (steps ++ more)) =
     ap (λ (j : ℕ). kept_bytes j p (events_of steps) ++ kept_bytes (skip - m) q (events_of more)) (sym all)
     ∙ kept_from skip p q 0 m (events_of steps) (events_of more) h.player counted
     ∙ ap (λ (j : ℕ). kept_bytes j p (events_of steps ++ events_of more)) all
     ∙ ap (λ (l : List Event). kept_bytes skip p l) (sym events) in
-    let last : GivesLine now.left line after.left = subst (λ (o : Option (List ℕ)). GivesLine now.left line o) (sym w.went.left) given in
+    let last : GivesLine now.left line after.left =
+    subst (λ (o : Option (List ℕ)). GivesLine now.left line o) (sym w.went.left) given in
     record {
       lines = h.lines ++ line ∷ [];
       reached = record {
         given = gives_more old.left now.left after.left h.lines line h.reached.given last;
         steps = steps ++ more;
         does = do_more h.lines line steps more h.reached.does w.does;
-        out = appends_as old.written after.written (kept_bytes skip p (events_of steps) ++ kept_bytes (skip - m) q (events_of more)) (kept_bytes skip p (events_of (steps ++ more))) bytes
-            (Appends-trans old.written now.written after.written (kept_bytes skip p (events_of steps)) (kept_bytes (skip - m) q (events_of more)) h.reached.out w.went.out);
+        out = appends_as old.written after.written (kept_bytes skip p (events_of steps)
+            ++ kept_bytes (skip - m) q (events_of more)) (kept_bytes skip p (events_of (steps ++ more))) bytes
+            (Appends-trans old.written now.written after.written (kept_bytes skip p (events_of steps))
+            (kept_bytes (skip - m) q (events_of more)) h.reached.out w.went.out);
       };
       player = at;
       count = omega (arith, w.went.count, h.count, sum, later);
@@ -94,7 +97,8 @@ going_more skip p q r m k line old now after rest h given w =
 
 -- ---- a line that lists no steps
 
-pub line_bad : (skip : ℕ) (q : Playing) (m : ℕ) (line : List ℕ) (a b : Streamed) → ListsNone line → b.left ≡ a.left → b.written ≡ a.written → LineWent skip q m line q m a b
+pub line_bad : (skip : ℕ) (q : Playing) (m : ℕ) (line : List ℕ) (a b : Streamed) → ListsNone line → b.left ≡ a.left
+    → b.written ≡ a.written → LineWent skip q m line q m a b
 line_bad skip q m line a b none left written = record {
   steps = [];
   does = inr (none, refl);
@@ -102,7 +106,8 @@ line_bad skip q m line a b none left written = record {
     state = refl;
     count = omega arith;
     left = left;
-    out = appends_as a.written b.written [] (kept_bytes (skip - m) q []) (sym (kept_none (skip - m) q)) (subst (λ (o : Option (List ℕ)). Appends a.written o []) (sym written) (Appends-nil a.written));
+    out = appends_as a.written b.written [] (kept_bytes (skip - m) q []) (sym (kept_none (skip - m) q))
+        (subst (λ (o : Option (List ℕ)). Appends a.written o []) (sym written) (Appends-nil a.written));
   };
 }
 
@@ -111,15 +116,18 @@ too_long line long = λ steps h. let short = h.short in absurd (omega (arith, lo
 
 -- ---- with the input after the line, and everything else unchanged
 
-pub going_line : (skip : ℕ) (p q r : Playing) (m k : ℕ) (line : List ℕ) (old now after : Streamed) (rest w : Option (List ℕ))
-    → Going skip p old now q m → GivesLine now.left line rest → w ≡ now.written → LineWent skip q m line r k (streamed rest w) after → Going skip p old after r k
+pub going_line : (skip : ℕ) (p q r : Playing) (m k : ℕ) (line : List ℕ) (old now after : Streamed)
+    (rest w : Option (List ℕ))
+    → Going skip p old now q m → GivesLine now.left line rest → w ≡ now.written
+    → LineWent skip q m line r k (streamed rest w) after → Going skip p old after r k
 going_line skip p q r m k line old now after rest w h given e went =
     going_more skip p q r m k line old now after rest h given
     (subst (λ (o : Option (List ℕ)). LineWent skip q m line r k (streamed rest o) after) e went)
 
 -- the input ends
 pub whole_at : (skip : ℕ) (p q : Playing) (m : ℕ) (old now : Streamed) (rest w : Option (List ℕ))
-    → Going skip p old now q m → Keeps now.left rest → IsAtEnd rest → w ≡ now.written → Whole skip p old (streamed rest w)
+    → Going skip p old now q m → Keeps now.left rest → IsAtEnd rest → w ≡ now.written
+    → Whole skip p old (streamed rest w)
 whole_at skip p q m old now rest w h kept end e =
     let there : Whole skip p old (streamed rest now.written) = (
       h.lines,
@@ -135,15 +143,19 @@ whole_at skip p q m old now rest w h kept end e =
 
 -- ---- the requests for lines
 
-pub prompt_first : (skip : ℕ) (p : Playing) (old : Streamed) (before : Option (List Streamed)) → IsPrompt skip p old before before
+pub prompt_first : (skip : ℕ) (p : Playing) (old : Streamed) (before : Option (List Streamed))
+    → IsPrompt skip p old before before
 prompt_first skip p old before = record { moments = []; grows = grows_none before; done = tt }
 
-each_more : (P : Streamed → Type 0) (xs : List Streamed) (x : Streamed) → AllByRecursion P xs → P x → AllByRecursion P (xs ++ x ∷ [])
+each_more : (P : Streamed → Type 0) (xs : List Streamed) (x : Streamed) → AllByRecursion P xs → P x
+    → AllByRecursion P (xs ++ x ∷ [])
 each_more P [] x all one = (one, tt)
 each_more P (y ∷ ys) x all one = (all.0, each_more P ys x all.1 one)
 
-pub prompt_more : (skip : ℕ) (p q : Playing) (m : ℕ) (old now : Streamed) (before there mid after : Option (List Streamed))
-    → Going skip p old now q m → IsPrompt skip p old before there → Grows there mid (now ∷ []) → after ≡ mid → IsPrompt skip p old before after
+pub prompt_more : (skip : ℕ) (p q : Playing) (m : ℕ) (old now : Streamed)
+    (before there mid after : Option (List Streamed))
+    → Going skip p old now q m → IsPrompt skip p old before there → Grows there mid (now ∷ []) → after ≡ mid
+    → IsPrompt skip p old before after
 prompt_more skip p q m old now before there mid after h prompt more same =
     let here : IsPrompt skip p old before mid = record {
       moments = prompt.moments ++ now ∷ [];

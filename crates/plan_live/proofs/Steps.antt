@@ -1,10 +1,6 @@
 -- Frames one after another, and the events of steps: those of the first, of the next, and of the rest.
-use Rattle.std.specs.Prelude.{replicate}
-use Rattle.std.proofs.Common.{◌≡◌, ℕ, zero, suc, ◌+◌, List, [], ◌∷◌, ◌++◌, take, drop, sym, ap, ◌∙◌, arith, take-append-drop, append-nil}
-use Rattle.plan_runs.specs.declared.event.Event.{Event}
-use Rattle.plan_runs.specs.declared.event.Event.TheVariants.{Frame}
-use Rattle.plan_session.specs.declared.step.Step.{Step}
-use Rattle.plan_session.specs.Events.{events_of_step, events_of}
+use Rattle.plan_live.proofs.Words.{[], ◌++◌, ◌+◌, ◌∙◌, ◌∷◌, ◌≡◌, Event, Frame, List, Step, ap, append-nil, arith, drop}
+use Rattle.plan_live.proofs.Words.{events_of, events_of_step, replicate, suc, sym, take, take-append-drop, zero, ℕ}
 use Rattle.plan_live.proofs.Joining.{events_join}
 
 pub replicate_more : (m n : ℕ) → replicate (m + n) Frame ≡ replicate m Frame ++ replicate n Frame
@@ -16,7 +12,8 @@ replicate_more (suc m) n =
     ap (λ (k : ℕ). replicate k Frame) next ∙ ap (λ (l : List Event). Frame ∷ l) (replicate_more m n)
 
 -- the events of one more step
-pub events_more : (steps : List Step) (i : ℕ) (step : Step) → take (i + 1) steps ≡ take i steps ++ step ∷ [] → events_of (take (i + 1) steps) ≡ events_of (take i steps) ++ events_of_step step
+pub events_more : (steps : List Step) (i : ℕ) (step : Step) → take (i + 1) steps ≡ take i steps ++ step ∷ []
+    → events_of (take (i + 1) steps) ≡ events_of (take i steps) ++ events_of_step step
 events_more steps i step more =
     ap (λ (l : List Step). events_of l) more ∙ events_join (take i steps) (step ∷ [])
     ∙ ap (λ (l : List Event). events_of (take i steps) ++ l) (append-nil (events_of_step step))
@@ -25,4 +22,5 @@ pub events_cut : (steps : List Step) (i : ℕ) (step : Step) → take (i + 1) st
     → (events_of (take i steps) ++ events_of_step step) ++ events_of (drop (i + 1) steps) ≡ events_of steps
 events_cut steps i step more =
     ap (λ (l : List Event). l ++ events_of (drop (i + 1) steps)) (sym (events_more steps i step more))
-    ∙ sym (events_join (take (i + 1) steps) (drop (i + 1) steps)) ∙ ap (λ (l : List Step). events_of l) (take-append-drop (i + 1) steps)
+    ∙ sym (events_join (take (i + 1) steps) (drop (i + 1) steps))
+    ∙ ap (λ (l : List Step). events_of l) (take-append-drop (i + 1) steps)

@@ -1,28 +1,18 @@
 -- Lines and the steps that they list: each definition where it holds, and where it fails.
-use Rattle.std.specs.Prelude.{codes, replicate}
-use Rattle.std.proofs.Common.{◌≡◌, ℕ, List, [], ◌∷◌, length, Result, Ok, Err, Some, refl, sym, ap, arith, inl}
+use Rattle.plan_live.proofs.Words.{[], ◌∷◌, ◌≡◌, Err, Event, Frame, Frames, Grows, HoldsOneList, LineDoes, LineHolds}
+use Rattle.plan_live.proofs.Words.{LinesDo, List, ListsNone, Ok, Playing, Program, Result, Some, State, Step, ap, arith}
+use Rattle.plan_live.proofs.Words.{code, codes, first_state, inl, label, length, refl, replicate, sym, ℕ}
 use Rattle.std.proofs.lemmas.Fmt.{decimal_digit}
 use Rattle.script_tokens.specs.declared.fault.ScriptFault.{ScriptFault}
-use Rattle.script_tokens.specs.declared.fault.ScriptFault.TheVariants.{Byte as ByteAt}
 use Rattle.script_tokens.specs.declared.token.Token.{Token}
 use Rattle.script_tokens.specs.declared.token.Inside.TheVariants.{Nothing}
 use Rattle.script_tokens.specs.declared.token.TheConstants.{NO_LIMITS}
 use Rattle.script_tokens.specs.Bytes.{first_position}
-use Rattle.script_tokens.specs.Lexing.{lexed}
-use Rattle.plan_code.specs.Machine.{State}
-use Rattle.plan_runs.specs.declared.event.Event.{Event}
-use Rattle.plan_runs.specs.declared.event.Event.TheVariants.{Frame}
 use Rattle.mux_config.specs.Configuration.{nothing}
 use Rattle.plan_code.specs.declared.instr.Line.{Line}
 use Rattle.plan_code.specs.declared.instr.Instr.TheVariants.{Wait, End as EndOfPlan}
-use Rattle.plan_code.specs.Program.{Program}
-use Rattle.plan_runs.proofs.Samples.{label, code, first_state}
-use Rattle.plan_player.specs.Playing.{Playing}
-use Rattle.plan_session.specs.declared.step.Step.{Step}
-use Rattle.plan_session.specs.declared.step.Step.TheVariants.{Frames}
-use Rattle.plan_session.specs.Events.{HoldsOneList}
-use Rattle.plan_live.specs.Growing.{Grows}
-use Rattle.plan_live.specs.Lines.{LineHolds, ListsNone, LineDoes, LinesDo}
+use Rattle.script_tokens.specs.declared.fault.ScriptFault.TheVariants.{Byte as ByteAt}
+use Rattle.script_tokens.specs.Lexing.{lexed}
 
 -- ---- values shared by these vectors: a code of an empty multiplex that waits for a frame and ends
 
@@ -62,7 +52,8 @@ two_are_held =
       short = omega (arith, n);
       text = (two_frames, (refl, refl));
       holds = record {
-        tokens = record { start = 0; end = 6; position = record { line = 1; column = 1 } } ∷ record { start = 7; end = 8; position = record { line = 1; column = 8 } } ∷ [];
+        tokens = record { start = 0; end = 6; position = record { line = 1; column = 1 } }
+            ∷ record { start = 7; end = 8; position = record { line = 1; column = 8 } } ∷ [];
         cut = refl;
         lexemes = ap (λ (digits : List ℕ). codes "frames" ∷ digits ∷ []) (sym (decimal_digit 2 (omega arith)));
         in_range = ((omega arith, omega arith), tt);

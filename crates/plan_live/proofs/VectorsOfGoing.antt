@@ -1,14 +1,8 @@
 -- A live run from one point to the next, by the line `frames 2`: each definition where it holds, and where it
 -- fails.
-use Rattle.std.proofs.Common.{◌≡◌, ℕ, ◌+◌, List, [], ◌∷◌, length, Some, None, refl, ap, ◌∙◌, arith, inl, inr}
-use Rattle.plan_player.specs.Playing.{Playing, played}
-use Rattle.plan_player.specs.Delivery.{frames_of}
-use Rattle.plan_session.specs.declared.step.Step.{Step}
-use Rattle.plan_session.specs.declared.step.Step.TheVariants.{Frames}
-use Rattle.plan_session.specs.Events.{events_of}
-use Rattle.plan_live.specs.Going.{kept, FrameWent, Went, LineWent, Going}
-use Rattle.plan_live.specs.Lines.{LineDoes}
-use Rattle.plan_live.specs.Living.{Streamed, streamed, streams_at}
+use Rattle.plan_live.proofs.Words.{[], ◌+◌, ◌∙◌, ◌∷◌, ◌≡◌, FrameWent, Frames, Going, LineDoes, LineWent, List, None}
+use Rattle.plan_live.proofs.Words.{Playing, Some, Step, Streamed, Went, ap, arith, events_of, frames_of, inl, inr, kept}
+use Rattle.plan_live.proofs.Words.{length, played, refl, streamed, streams_at, ℕ}
 use Rattle.plan_live.proofs.Vectors.{fresh, frames, two_frames, at_sign, no_steps, two_are_played}
 use Rattle.plan_live.proofs.VectorsOfRuns.{input, before, after, one, reached}
 
@@ -53,7 +47,8 @@ line_went = record { steps = Frames 2 ∷ []; does = two_are_played; went = went
 
 at_no_frame : (steps : List Step) → LineDoes at_sign steps → 1 ≡ 0 + length (frames_of fresh (events_of steps)) → ⊥
 at_no_frame steps (inl h) count = no_steps steps h
-at_no_frame steps (inr h) count = let n : length (frames_of fresh (events_of steps)) ≡ 0 = ap (λ (l : List Step). length (frames_of fresh (events_of l))) h.1 in omega (arith, n, count)
+at_no_frame steps (inr h) count = let n : length (frames_of fresh (events_of steps)) ≡ 0 =
+    ap (λ (l : List Step). length (frames_of fresh (events_of l))) h.1 in omega (arith, n, count)
 
 -- a line that lists no steps counts no frame
 bad_counted : LineWent 1 fresh 0 at_sign fresh 1 before before → ⊥
@@ -66,4 +61,5 @@ goes = record { lines = one; reached = reached; player = refl; count = refl }
 
 -- the line was not read
 line_invented : (h : Going 1 fresh before before fresh 2) → h.reached.steps ≡ [] → ⊥
-line_invented h none = let n : 2 ≡ 0 = h.count ∙ ap (λ (l : List Step). length (frames_of fresh (events_of l))) none in omega (arith, n)
+line_invented h none = let n : 2 ≡ 0 = h.count ∙ ap (λ (l : List Step). length (frames_of fresh (events_of l))) none in
+    omega (arith, n)

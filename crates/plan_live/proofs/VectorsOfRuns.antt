@@ -1,17 +1,12 @@
 -- The outcome of a live run, by the line `frames 2` and a code that waits for a frame and ends: each definition
 -- where it holds, and where it fails.
-use Rattle.std.proofs.Common.{◌≡◌, ℕ, List, [], ◌∷◌, ◌++◌, length, Option, Some, None, Ok, Err, refl, sym, ap, subst, ◌∙◌, arith, inl, inr, append-nil}
-use Rattle.std.specs.List.{AllByRecursion}
-use Rattle.plan_code.specs.declared.fault.CodeFault.TheVariants.{Memory as NoMemoryForCode, Magic}
-use Rattle.plan_runs.proofs.Samples.{all_open}
+use Rattle.plan_live.proofs.Words.{[], ◌++◌, ◌∙◌, ◌∷◌, ◌≡◌, AllByRecursion, AreDone, Err, Frames, HoldsOneList}
+use Rattle.plan_live.proofs.Words.{IsPrompt, LinesDo, List, None, Ok, Option, Reached, Request, Some, Step, Streamed}
+use Rattle.plan_live.proofs.Words.{Whole, all_open, ap, append-nil, arith, asked, events_of, inl, inr, kept_bytes}
+use Rattle.plan_live.proofs.Words.{length, refl, streamed, subst, sym, ℕ}
+use Rattle.plan_code.specs.declared.fault.CodeFault.TheVariants.{Magic, Memory as NoMemoryForCode}
 use Rattle.plan_session.specs.declared.run_fault.RunFault.TheVariants.{Code}
-use Rattle.plan_session.specs.declared.step.Step.{Step}
-use Rattle.plan_session.specs.declared.step.Step.TheVariants.{Frames}
-use Rattle.plan_session.specs.Events.{events_of, HoldsOneList}
-use Rattle.plan_session.specs.Playback.{Request, asked}
 use Rattle.plan_live.specs.declared.fault.LiveFault.TheVariants.{Playback}
-use Rattle.plan_live.specs.Lines.{LinesDo}
-use Rattle.plan_live.specs.Living.{kept_bytes, Streamed, streamed, Reached, AreDone, Whole, IsPrompt}
 use Rattle.plan_live.specs.Beginning.{Lives, IsLiveFault}
 use Rattle.plan_live.proofs.Vectors.{fresh, frames, two_frames, two_are_played, only_two, some_steps}
 
@@ -75,12 +70,14 @@ not_done law lines h =
     let all : lines ≡ one = sym (append-nil lines) ∙ sym h.given in
     let does : LinesDo one h.steps = subst (λ (l : List (List ℕ)). LinesDo l h.steps) all h.does in
     let none : 0 ≡ length (kept_bytes 1 fresh (events_of h.steps)) = ap (λ (l : List ℕ). length l) h.out in
-    let some : length (kept_bytes 1 fresh (events_of h.steps)) ≡ 96 = ap (λ (l : List Step). length (kept_bytes 1 fresh (events_of l))) (steps_of_one law h.steps does) in
+    let some : length (kept_bytes 1 fresh (events_of h.steps)) ≡ 96 =
+    ap (λ (l : List Step). length (kept_bytes 1 fresh (events_of l))) (steps_of_one law h.steps does) in
     omega (arith, none, some)
 
 not_prompt : HoldsOneList → IsPrompt 1 fresh before (Some []) (Some (late ∷ [])) → ⊥
 not_prompt law h =
-    let done : AreDone 1 fresh before late × Unit {0} = subst (λ (l : List Streamed). AllByRecursion (AreDone 1 fresh before) l) (sym h.grows) h.done in
+    let done : AreDone 1 fresh before late × Unit {0} =
+    subst (λ (l : List Streamed). AllByRecursion (AreDone 1 fresh before) l) (sym h.grows) h.done in
     not_done law done.0.0 done.0.1
 
 -- ---- how a run begins

@@ -21,7 +21,8 @@ pub record FrameWent (skip : ℕ) (bytes : List ℕ) (n m : ℕ) (before after :
 
 -- these events take a player whose next frame has number n to another, whose next frame has number m; their
 -- frames were written, except those skipped
-pub record Went (skip : ℕ) (old : Playing) (n : ℕ) (events : List Event) (new : Playing) (m : ℕ) (before after : Streamed)
+pub record Went (skip : ℕ) (old : Playing) (n : ℕ) (events : List Event) (new : Playing) (m : ℕ)
+    (before after : Streamed)
     : Type 0 where
   pub state : new ≡ played old events
   pub count : m ≡ n + length (frames_of old events)

@@ -15,13 +15,15 @@ use Rattle.plan_live.specs.Living.{Streamed, Whole}
 abbrev pub AreListing : (lines listing : List (List ℕ)) → Type 0
 AreListing [] listing = listing ≡ []
 AreListing (line ∷ lines) listing =
-    ((steps : List Step) × (others : List (List ℕ)) × LineHolds line steps × (listing ≡ line ∷ others) × AreListing lines others)
+    ((steps : List Step) × (others : List (List ℕ)) × LineHolds line steps × (listing ≡ line ∷ others)
+    × AreListing lines others)
     ⊎ (ListsNone line × AreListing lines listing)
 
 -- each of the lines lists steps, and these are the steps of all, one after another
 abbrev pub ListInTurn : List (List ℕ) → List Step → Type 0
 ListInTurn [] steps = steps ≡ []
-ListInTurn (line ∷ lines) steps = (first : List Step) × (rest : List Step) × LineHolds line first × (steps ≡ first ++ rest) × ListInTurn lines rest
+ListInTurn (line ∷ lines) steps = (first : List Step) × (rest : List Step) × LineHolds line first
+    × (steps ≡ first ++ rest) × ListInTurn lines rest
 
 -- ---- one event file
 
@@ -32,7 +34,8 @@ Fits text = length text ≤ 18446744073709551615
 -- a text lists the steps that its lines list, one after another, if each of them lists some; its last line may end
 -- without a line feed
 abbrev pub LinesListInTurn : Type 0
-LinesListInTurn = (lines : List (List ℕ)) (steps : List Step) (text : List ℕ) → ListInTurn lines steps → AreLinesOf text lines → Fits text → Holds text steps
+LinesListInTurn = (lines : List (List ℕ)) (steps : List Step) (text : List ℕ) → ListInTurn lines steps
+    → AreLinesOf text lines → Fits text → Holds text steps
 
 -- ---- the run over the lines, and over the event file
 
@@ -56,10 +59,13 @@ pub record IsPlayedAs (r : Request) (p : Playing) (old new : Streamed) : Type 0 
 
 -- a live run to the end of its input that skips nothing is the playback of one event file
 abbrev pub LiveIsPlayback : Type 0
-LiveIsPlayback = (r : Request) (p : Playing) (old new : Streamed) → Begins r p → Whole 0 p old new → IsPlayedAs r p old new
+LiveIsPlayback = (r : Request) (p : Playing) (old new : Streamed) → Begins r p → Whole 0 p old new
+    → IsPlayedAs r p old new
 
 -- where each line of the input lists steps, the input is that event file
 abbrev pub InputIsPlayback : Type 0
-InputIsPlayback = (r : Request) (p : Playing) (old new : Streamed) (input : List ℕ) (steps : List Step) → Begins r p → Whole 0 p old new
+InputIsPlayback = (r : Request) (p : Playing) (old new : Streamed) (input : List ℕ) (steps : List Step) → Begins r p
+    → Whole 0 p old new
     → old.left ≡ Some input → ListInTurn (lines_of input) steps → Fits input
-    → IsPlayback (over input r) p steps × Delivers p (events_of steps) old.written new.written (Ok (length (frames_of p (events_of steps))))
+    → IsPlayback (over input r) p steps × Delivers p (events_of steps) old.written new.written
+    (Ok (length (frames_of p (events_of steps))))

@@ -3,7 +3,8 @@
 ghost use Rattle.std.specs.Prelude.{◌≡◌, ◌<◌, ◌≤◌, ℕ, List, ◌∷◌, [], length, true, OnOk};
 ghost use Rattle.std.specs.Io.KnownBytes.{Appends, Keeps, IsAtEnd};
 ghost use Rattle.console.specs.Lines.{GivesLine};
-ghost use Rattle.console.specs.declared.lines.Heard.TheVariants.{Line as IsLine, Long as IsLong, End as IsEnd};
+ghost use Rattle.console.specs.declared.lines.Heard.TheVariants.{Line as IsLine, Long as IsLong};
+ghost use Rattle.console.specs.declared.lines.Heard.TheVariants.{End as IsEnd};
 ghost use Rattle.plan_live.specs.Growing.{Grows};
 ghost use Rattle.plan_live.specs.Living.{streamed};
 

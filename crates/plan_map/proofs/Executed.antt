@@ -1,21 +1,15 @@
 -- The next configuration of the machine is the one that is known at its pc, in every state of every run.
-use Rattle.std.proofs.Common.{◌≡◌, ◌==◌, ℕ, zero, suc, ◌+◌, ◌<◌, Bool, true, false, cond, List, [], ◌∷◌, length}
-use Rattle.std.proofs.Common.{slice_get, Option, Some, None, option_map, refl, sym, ap, subst, ◌∙◌, arith}
-use Rattle.plan_map.proofs.Names.{same_Some, Configuration, nothing, Row, Begin, Beginning, One, opening_of, rows_of}
-use Rattle.plan_map.proofs.Names.{HasCommit, commits_before, RunsBeginWithTheFirst, CommitsAreRows}
-use Rattle.plan_runs.proofs.Names.{eqb-true, slice_get_within, changed, Label, Instr, Wait, Until, WaitContact, WaitAny}
-use Rattle.plan_runs.proofs.Names.{CommitIn, CommitAt, Join, Settle, End, Edits, Test, TestTime, Jump, Set, Loop, Line}
-use Rattle.plan_runs.proofs.Names.{Program, instr_at, label_at, State, step, settle, effect, is_in_window, is_closed}
-use Rattle.plan_runs.proofs.Names.{Known, IsTyping, IsSafe, Arrives, leaves, spent, target_of}
-use Rattle.plan_runs.proofs.Names.{is_due, with_swap, with_due_swap, is_running, is_here, ready, burst}
-use Rattle.plan_runs.proofs.Names.{after_burst, is_first_noticed, shown, IsStart, happens, run, IsCommit, IsPlayed}
-use Rattle.plan_runs.proofs.Lookups.{get_some}
-use Rattle.plan_runs.proofs.Between.{step_is}
-use Rattle.plan_runs.specs.declared.event.Event.{Event}
-use Rattle.plan_runs.specs.declared.event.Event.TheVariants.{Contact, Frame}
-use Rattle.plan_runs.specs.declared.event.Start.{Start}
+use Rattle.plan_map.proofs.Words.{[], ◌+◌, ◌<◌, ◌==◌, ◌∙◌, ◌∷◌, ◌≡◌, Arrives, Begin, Beginning, Bool, CommitsAreRows}
+use Rattle.plan_map.proofs.Words.{Configuration, Contact, Edits, End, Event, Frame, HasCommit, Instr, IsCommit}
+use Rattle.plan_map.proofs.Words.{IsPlayed, IsSafe, IsStart, IsTyping, Jump, Known, Label, Line, List, Loop, None, One}
+use Rattle.plan_map.proofs.Words.{Option, Program, Row, RunsBeginWithTheFirst, Settle, Some, Start, State, Test}
+use Rattle.plan_map.proofs.Words.{TestTime, Until, Wait, WaitAny, WaitContact, after_burst, ap, arith, burst, changed}
+use Rattle.plan_map.proofs.Words.{commits_before, cond, effect, eqb-true, false, found, get_some, happens, instr_at}
+use Rattle.plan_map.proofs.Words.{is_closed, is_due, is_first_noticed, is_here, is_in_window, is_running, label_at}
+use Rattle.plan_map.proofs.Words.{leaves, length, nothing, opening_of, option_map, ready, refl, rows_of, run, same_Some}
+use Rattle.plan_map.proofs.Words.{settle, shown, slice_get, slice_get_within, spent, step, step_is, subst, suc, sym}
+use Rattle.plan_map.proofs.Words.{target_of, true, with_due_swap, with_swap, zero, ℕ}
 use Rattle.plan_verifier.proofs.Moving.{next_fits}
-use Rattle.plan_verifier.proofs.Tabled.{found}
 use Rattle.plan_map.proofs.KnownRows.{waited_next, paused_next, settled_next, at_first, all_from, commits_if, row_of}
 
 -- ---- what is known where a state arrives

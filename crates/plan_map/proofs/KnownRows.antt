@@ -1,17 +1,15 @@
 -- The rows of a typed code have the next configuration that is known at each of its commits.
-use Rattle.std.proofs.Common.{◌≡◌, ◌==◌, ℕ, zero, suc, ◌+◌, ◌-◌, ◌<◌, Bool, true, false, cond, List, [], ◌∷◌, ◌++◌}
-use Rattle.std.proofs.Common.{length, take, slice_get, Option, Some, None, option_map, refl, sym, ap, subst, ◌∙◌, arith}
-use Rattle.plan_map.proofs.Names.{filter, same_Some, Configuration, Row, Commit, Beginning, Ways, One, Reached, after}
-use Rattle.plan_map.proofs.Names.{ways_from, lead_of, or_else, declared_by, known_next, opening_of, unless_at_fault}
-use Rattle.plan_map.proofs.Names.{left_by, commits_from, rows_of, HasCommit, RowsAreCommits}
-use Rattle.plan_runs.proofs.Names.{nat_lt, eqb-true, slice_get_within, changed, Plan, Label, Swap, Idle, Within}
-use Rattle.plan_runs.proofs.Names.{Perhaps, Instr, Wait, Until, WaitContact, WaitAny, CommitIn, CommitAt, Settle, Edits}
-use Rattle.plan_runs.proofs.Names.{Line, Program, instr_at, label_at, Known, IsTyping, leaves, known_after_swap}
-use Rattle.plan_runs.proofs.Names.{after_wait, after_pause, after_settle, IsCommit}
-use Rattle.plan_runs.proofs.Lookups.{get_some}
+use Rattle.plan_map.proofs.Words.{[], ◌++◌, ◌+◌, ◌-◌, ◌<◌, ◌==◌, ◌∙◌, ◌∷◌, ◌≡◌, Beginning, Bool, Commit, CommitAt}
+use Rattle.plan_map.proofs.Words.{CommitIn, Configuration, Edits, HasCommit, Idle, Instr, IsCommit, IsTyping, Known}
+use Rattle.plan_map.proofs.Words.{Label, Line, List, None, One, Option, Perhaps, Plan, Program, Reached, Row}
+use Rattle.plan_map.proofs.Words.{RowsAreCommits, Settle, Some, Swap, Until, Wait, WaitAny, WaitContact, Ways, Within}
+use Rattle.plan_map.proofs.Words.{after, after_pause, after_settle, after_wait, ap, arith, changed, commits_from, cond}
+use Rattle.plan_map.proofs.Words.{declared_by, eqb-true, false, filter, found, get_some, instr_at, known_after_swap}
+use Rattle.plan_map.proofs.Words.{known_next, label_at, lead_of, leaves, left_by, length, nat_lt, opening_of}
+use Rattle.plan_map.proofs.Words.{option_map, or_else, refl, rows_of, same_Some, slice_get, slice_get_within, subst}
+use Rattle.plan_map.proofs.Words.{suc, sym, take, true, unlabelled, unless_at_fault, ways_from, zero, ℕ}
 use Rattle.plan_verifier.specs.Rules.{commits}
 use Rattle.plan_verifier.specs.Typing.{IsFine, perhaps_swapped}
-use Rattle.plan_verifier.proofs.Tabled.{found, unlabelled}
 use Rattle.plan_map.specs.declared.lead.Lead.{Lead}
 
 -- ---- what an instruction leaves

@@ -1,4 +1,4 @@
-pub mod Names
+mod Words
 pub mod Pieces
 pub mod Walking
 pub mod Places

@@ -1,7 +1,6 @@
 -- Texts and ranges, one element after another.
-use Rattle.std.proofs.Common.{◌≡◌, ℕ, zero, suc, ◌+◌, ◌<◌, List, [], ◌∷◌, ◌++◌, length, get_or, take, sym, ap, ◌∙◌}
-use Rattle.std.proofs.Common.{append_assoc, append-nil, arith}
-use Rattle.plan_map.proofs.Names.{take_more, flat_map, range_with_len}
+use Rattle.plan_map.proofs.Words.{[], ◌++◌, ◌+◌, ◌<◌, ◌∙◌, ◌∷◌, ◌≡◌, List, ap, append-nil, append_assoc, arith}
+use Rattle.plan_map.proofs.Words.{flat_map, get_or, length, range_with_len, suc, sym, take, take_more, zero, ℕ}
 use Rattle.std.proofs.lemmas.Grind.{flat_map-append}
 
 -- one more element

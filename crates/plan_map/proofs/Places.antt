@@ -1,19 +1,19 @@
 -- The places of sub-channels: those that serve all of them, and what clashes otherwise.
-use Rattle.std.proofs.Common.{◌≡◌, ◌⊎◌, ℕ, zero, suc, ◌+◌, ◌<◌, ◌≤◌, ◌==◌, ◌||◌, Bool, true, false, not, if◌then◌else◌}
-use Rattle.std.proofs.Common.{ltb, List, [], ◌∷◌, ◌++◌, Option, Some, None, refl, sym, ap, ◌∙◌, subst, append_assoc}
-use Rattle.std.proofs.Common.{arith, inl, inr, length, get_or, take}
-use Rattle.plan_map.proofs.Names.{flat_map, range_with_len, list_any, Sub, IsPlaced, IsConfiguration, Row, row_subs}
-use Rattle.plan_map.proofs.Names.{subs_of, clashes, first_with, listed, place_of, places, shares, clash_with, clash_of}
-use Rattle.plan_map.proofs.Names.{in_order, first_clash, is_served, is_refused, Serves, Occurs, IsClash}
-use Rattle.plan_runs.proofs.Names.{eq-eqb, ne_eqb, lt-ltb, AllByRecursion}
+use Rattle.plan_map.proofs.Words.{[], ◌++◌, ◌+◌, ◌<◌, ◌==◌, ◌||◌, ◌∙◌, ◌∷◌, ◌≡◌, ◌≤◌, ◌⊎◌, AllByRecursion, Bool}
+use Rattle.plan_map.proofs.Words.{IsClash, IsConfiguration, IsPlaced, List, None, Occurs, Option, Row, Serves, Some}
+use Rattle.plan_map.proofs.Words.{Sub, ap, append_assoc, arith, clash_of, clash_with, clashes, eq-eqb, false}
+use Rattle.plan_map.proofs.Words.{first_clash, first_with, flat_map, get_or, if◌then◌else◌, in_order, inl, inr}
+use Rattle.plan_map.proofs.Words.{is_refused, is_served, length, list_any, listed, lt-ltb, ltb, ne_eqb, not, place_of}
+use Rattle.plan_map.proofs.Words.{places, range_with_len, refl, row_subs, shares, subs_of, subst, suc, sym, take, true}
+use Rattle.plan_map.proofs.Words.{zero, ℕ}
 use Rattle.std.proofs.lemmas.Bool.{cases_lt, le-ltb, not-false}
 use Rattle.std.proofs.Math.Bool.{and_comm}
 use Rattle.std.proofs.lemmas.List.Folds.{list_any-append}
 use Rattle.mux_types.specs.Sameness.{is_same_sub}
 use Rattle.plan_map.specs.declared.layout.Clash.{Clash}
 use Rattle.plan_map.specs.Cells.{end_of}
-use Rattle.plan_map.proofs.Pieces.{texts_more}
 use Rattle.plan_map.specs.Layout.{places_below}
+use Rattle.plan_map.proofs.Pieces.{texts_more}
 
 same_number : (n : ℕ) → n == n ≡ true
 same_number n = eq-eqb n n refl

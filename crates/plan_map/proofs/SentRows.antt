@@ -1,22 +1,15 @@
 -- Every frame of a typed code sends the configurations of rows.
-use Rattle.std.proofs.Common.{◌≡◌, ℕ, zero, suc, Bool, true, false, cond, List, [], ◌∷◌, slice_get, Option, Some, None}
-use Rattle.std.proofs.Common.{refl, sym, subst}
-use Rattle.plan_map.proofs.Names.{Configuration, Row, rows_of, IsShown, IsCommitted, FramesSendRows}
-use Rattle.plan_runs.proofs.Names.{IfSome, changed, Plan, Instr, CommitIn, CommitAt, Settle, Edits, Line, Program}
-use Rattle.plan_runs.proofs.Names.{instr_at, State, IsAllowed, step, settle, effect, Known, IsTyping}
-use Rattle.plan_runs.proofs.Names.{is_due, with_swap, with_due_swap, is_here, ready, Executes}
-use Rattle.plan_runs.proofs.Names.{after_burst, FrameIsAllowed, is_noticed, is_first_noticed, shown, left_after_frame}
-use Rattle.plan_runs.proofs.Names.{IsStart, EventIsAllowed, RunIsAllowed, happens, run, IsCommit, IsPlayed}
-use Rattle.plan_runs.proofs.Names.{TypedCodeRuns}
+use Rattle.plan_map.proofs.Words.{[], ◌∷◌, ◌≡◌, Bool, CommitAt, CommitIn, Configuration, Contact, Edits, Event}
+use Rattle.plan_map.proofs.Words.{EventIsAllowed, Executes, Frame, FrameIsAllowed, FramesSendRows, IfSome, Instr}
+use Rattle.plan_map.proofs.Words.{IsAllowed, IsCommit, IsCommitted, IsPlayed, IsShown, IsStart, IsTyping, Known, Line}
+use Rattle.plan_map.proofs.Words.{List, None, Option, Plan, Program, Row, RunIsAllowed, Settle, Some, Start, State}
+use Rattle.plan_map.proofs.Words.{TypedCodeRuns, after_burst, changed, cond, contains_at, contains_first, effect, false}
+use Rattle.plan_map.proofs.Words.{happens, instr_at, is_due, is_first_noticed, is_here, is_noticed, left_after_frame}
+use Rattle.plan_map.proofs.Words.{mapped, ready, refl, rows_of, run, settle, shown, slice_get, step, step_is, subst}
+use Rattle.plan_map.proofs.Words.{suc, sym, true, with_due_swap, with_swap, zero, ℕ}
 use Rattle.plan_runs.proofs.Reached.{starts_are_reached}
-use Rattle.plan_runs.proofs.Between.{step_is}
-use Rattle.plan_runs.specs.declared.event.Event.{Event}
-use Rattle.plan_runs.specs.declared.event.Event.TheVariants.{Contact, Frame}
-use Rattle.plan_runs.specs.declared.event.Start.{Start}
 use Rattle.plan_map.proofs.Executed.{IsAtKnown, step_known, ready_known, happens_known, begins, started_known}
 use Rattle.plan_map.proofs.Executed.{played_known, row_at_state}
-use Rattle.mux_types.proofs.Elements.{contains_first}
-use Rattle.plan_verifier.proofs.Tabled.{mapped, contains_at}
 
 -- ---- what is on the air
 

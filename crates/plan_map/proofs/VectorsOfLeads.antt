@@ -1,8 +1,7 @@
 -- What leads to an instruction where paths meet.
-use Rattle.std.proofs.Common.{◌≡◌, true, false, [], ◌∷◌, Some, None, refl}
-use Rattle.plan_map.proofs.Names.{Waited, Contact, Ways, Nothing, One, Others, after, ways_from, lead_of}
-use Rattle.plan_runs.proofs.Names.{Wait, Test, Jump}
-use Rattle.plan_map.specs.declared.lead.Lead.TheVariants.{Begin}
+use Rattle.plan_map.proofs.Words.{[], ◌∷◌, ◌≡◌, Jump, None, One, Some, Test, Wait, Waited, Ways, after, false, lead_of}
+use Rattle.plan_map.proofs.Words.{refl, true, ways_from}
+use Rattle.plan_map.specs.declared.lead.Lead.TheVariants.{Contact, Begin}
 
 -- behind `if contact 3 { wait 5 } else { .. }`: a test at pc 0, the first wait at 1 and its jump at 2, to pc 4
 abbrev at_end : Ways → Ways

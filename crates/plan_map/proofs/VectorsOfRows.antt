@@ -1,15 +1,14 @@
 -- A code that drops a sub-channel and commits that: for each definition, an example that holds and one that fails.
-use Rattle.std.proofs.Common.{◌≡◌, ℕ, zero, suc, ◌+◌, ◌<◌, List, [], ◌∷◌, length, Some, None, refl, sym, ap, ◌∙◌, arith}
-use Rattle.std.proofs.Common.{inl, inr}
-use Rattle.plan_map.proofs.Names.{Sub, Configuration, Row, Begin, Commit, Beginning, rows_of, OpensWith, HasCommit}
-use Rattle.plan_map.proofs.Names.{IsOfCommit, CommitsAt, SendsRows, IsCommitted, commits_before}
-use Rattle.plan_runs.proofs.Names.{Idle, Instr, CommitIn, Join, End, Line, Program, State, Known, ready, burst}
+use Rattle.plan_map.proofs.Words.{[], ◌+◌, ◌<◌, ◌∙◌, ◌∷◌, ◌≡◌, Begin, Beginning, Commit, CommitIn, CommitsAt}
+use Rattle.plan_map.proofs.Words.{Configuration, End, HasCommit, Idle, Instr, IsCommitted, IsOfCommit, Join, Known}
+use Rattle.plan_map.proofs.Words.{Line, List, None, OpensWith, Program, Row, SendsRows, Some, State, Sub, ap, arith}
+use Rattle.plan_map.proofs.Words.{burst, commits_before, contains_cases, contains_first, contains_later, contains_none}
+use Rattle.plan_map.proofs.Words.{inl, inr, length, ready, refl, rows_of, suc, sym, zero, ℕ}
 use Rattle.mux_eep.specs.declared.sizes.EepSet.TheVariants.{A}
 use Rattle.mux_config.specs.declared.edit.Edit.TheVariants.{DropSub}
 use Rattle.plan_code.specs.declared.instr.Instr.TheVariants.{Edit}
 use Rattle.plan_runs.proofs.Samples.{first_state}
 use Rattle.plan_verifier.proofs.Samples.{plan, counters, label}
-use Rattle.mux_types.proofs.Elements.{contains_first, contains_later, contains_cases, contains_none}
 
 -- ---- the code and its rows
 

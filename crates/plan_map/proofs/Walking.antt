@@ -1,9 +1,7 @@
 -- The rows of a code, instruction by instruction.
-use Rattle.std.proofs.Common.{◌≡◌, ℕ, ◌+◌, ◌<◌, ◌≤◌, List, [], ◌∷◌, ◌++◌, length, get_or, drop, refl, sym, ap, ◌∙◌}
-use Rattle.std.proofs.Common.{append_assoc, append-nil}
-use Rattle.plan_map.proofs.Names.{drop_more, drop_all, Configuration, Row, Ways, Reached, after, ways_from, known_next}
-use Rattle.plan_map.proofs.Names.{left_by, row_at, commits_from}
-use Rattle.plan_runs.proofs.Names.{Program, Line}
+use Rattle.plan_map.proofs.Words.{[], ◌++◌, ◌+◌, ◌<◌, ◌∙◌, ◌∷◌, ◌≡◌, ◌≤◌, Configuration, Line, List, Program, Reached}
+use Rattle.plan_map.proofs.Words.{Row, Ways, after, ap, append-nil, append_assoc, commits_from, drop, drop_all}
+use Rattle.plan_map.proofs.Words.{drop_more, get_or, known_next, left_by, length, refl, row_at, sym, ways_from, ℕ}
 
 -- one more instruction
 pub row_more : (p : Program) (rows more all : List Row) (ls : List Line) (i : ℕ) (l : Line) (before ways onward : Ways)

@@ -1,16 +1,11 @@
 -- The tokens of commands identify them.
-use Rattle.std.proofs.Common.{◌≡◌, ◌≢◌, ℕ, ◌<◌, ◌++◌, Bool, List, [], ◌∷◌, refl, sym, ap, ◌∙◌, arith}
-use Rattle.std.specs.Prelude.{get_or}
-use Rattle.std.specs.Fmt.{decimal}
-use Rattle.std.proofs.lemmas.Fmt.{decimal_injective}
-use Rattle.script_tokens.specs.Spelling.{level_text}
-use Rattle.script_tokens.proofs.Keys.{one_level}
-use Rattle.plan_session.specs.declared.command.Command.{Command}
-use Rattle.plan_session.specs.declared.command.Command.TheVariants.{Contact, Run, Next, Break, Clear, Show}
-use Rattle.plan_session.specs.declared.commands.Keyword.{Keyword}
-use Rattle.plan_session.specs.declared.commands.Keyword.TheVariants.{Contact as ContactWord, Run as RunWord, Next as NextWord, Break as BreakWord, Clear as ClearWord, Show as ShowWord}
-use Rattle.plan_session.specs.Commands.{IsCommand, command_lexemes}
-use Rattle.plan_session.specs.Keywords.{keyword_text}
+use Rattle.plan_session.proofs.Words.{[], ◌++◌, ◌<◌, ◌∙◌, ◌∷◌, ◌≡◌, ◌≢◌, Bool, Break, Clear, Command, IsCommand}
+use Rattle.plan_session.proofs.Words.{Keyword, List, Next, Run, Show, ap, arith, command_lexemes, decimal}
+use Rattle.plan_session.proofs.Words.{decimal_injective, get_or, keyword_text, level_text, one_level, refl, sym, ℕ}
+use Rattle.plan_session.specs.declared.command.Command.TheVariants.{Contact}
+use Rattle.plan_session.specs.declared.commands.Keyword.TheVariants.{Contact as ContactWord, Run as RunWord}
+use Rattle.plan_session.specs.declared.commands.Keyword.TheVariants.{Next as NextWord, Break as BreakWord}
+use Rattle.plan_session.specs.declared.commands.Keyword.TheVariants.{Clear as ClearWord, Show as ShowWord}
 use Rattle.plan_session.proofs.ItemTexts.{head_told}
 
 -- the keyword of a command, and the tokens after it
@@ -33,7 +28,8 @@ tail_words Show = []
 cons_not_empty : {T : Type 0} {x : T} {xs : List T} → x ∷ xs ≡ [] → ⊥
 cons_not_empty e = absurd (cc)
 
-split : (s : Command) (xs : List (List ℕ)) → command_lexemes s ++ xs ≡ keyword_text (keyword_in s) ∷ (tail_words s ++ xs)
+split : (s : Command) (xs : List (List ℕ)) → command_lexemes s
+    ++ xs ≡ keyword_text (keyword_in s) ∷ (tail_words s ++ xs)
 split (Contact c closed) xs = refl
 split (Run n) xs = refl
 split Next xs = refl
@@ -63,7 +59,8 @@ seconds BreakWord = refl
 seconds ClearWord = refl
 seconds ShowWord = refl
 
-told_by : (s t : Command) (xs ys : List (List ℕ)) → command_lexemes s ++ xs ≡ command_lexemes t ++ ys → (number_of (keyword_in s) ≡ number_of (keyword_in t)) × (tail_words s ++ xs ≡ tail_words t ++ ys)
+told_by : (s t : Command) (xs ys : List (List ℕ)) → command_lexemes s ++ xs ≡ command_lexemes t ++ ys
+    → (number_of (keyword_in s) ≡ number_of (keyword_in t)) × (tail_words s ++ xs ≡ tail_words t ++ ys)
 told_by s t xs ys e =
     let both = head_told _ _ _ _ (sym (split s xs) ∙ e ∙ split t ys) in
     (sym (seconds (keyword_in s)) ∙ ap second both.0 ∙ seconds (keyword_in t), both.1)
@@ -77,14 +74,16 @@ whole Clear = refl
 whole Show = refl
 
 -- a command that begins with a keyword
-pub keyword_told : (s : Command) (k : Keyword) (more : List (List ℕ)) → command_lexemes s ≡ keyword_text k ∷ more → (number_of (keyword_in s) ≡ number_of k) × (tail_words s ≡ more)
+pub keyword_told : (s : Command) (k : Keyword) (more : List (List ℕ)) → command_lexemes s ≡ keyword_text k ∷ more
+    → (number_of (keyword_in s) ≡ number_of k) × (tail_words s ≡ more)
 keyword_told s k more e =
     let both = head_told _ _ _ _ (sym (whole s) ∙ e) in
     (sym (seconds (keyword_in s)) ∙ ap second both.0 ∙ seconds k, both.1)
 
 -- ---- one command
 
-same_contact : (c d : ℕ) (b e : Bool) (xs ys : List (List ℕ)) → c < 16 → d < 16 → decimal c ∷ level_text b ∷ xs ≡ decimal d ∷ level_text e ∷ ys → (Contact c b ≡ Contact d e) × (xs ≡ ys)
+same_contact : (c d : ℕ) (b e : Bool) (xs ys : List (List ℕ)) → c < 16 → d < 16
+    → decimal c ∷ level_text b ∷ xs ≡ decimal d ∷ level_text e ∷ ys → (Contact c b ≡ Contact d e) × (xs ≡ ys)
 same_contact c d b e xs ys h k same =
     let number = head_told _ _ _ _ same in
     let level = head_told _ _ _ _ number.1 in
@@ -93,11 +92,14 @@ same_contact c d b e xs ys h k same =
     (cc, level.1)
 
 -- the first tokens identify the command
-pub one_command : (s t : Command) (xs ys : List (List ℕ)) → IsCommand s → IsCommand t → command_lexemes s ++ xs ≡ command_lexemes t ++ ys → (s ≡ t) × (xs ≡ ys)
-one_command (Contact c b) (Contact d e) xs ys h k same = same_contact c d b e xs ys h k (told_by (Contact c b) (Contact d e) xs ys same).1
+pub one_command : (s t : Command) (xs ys : List (List ℕ)) → IsCommand s → IsCommand t → command_lexemes s
+    ++ xs ≡ command_lexemes t ++ ys → (s ≡ t) × (xs ≡ ys)
+one_command (Contact c b) (Contact d e) xs ys h k same =
+    same_contact c d b e xs ys h k (told_by (Contact c b) (Contact d e) xs ys same).1
 one_command (Contact c b) (Run n) xs ys h k same = absurd (omega (arith, (told_by (Contact c b) (Run n) xs ys same).0))
 one_command (Contact c b) Next xs ys h k same = absurd (omega (arith, (told_by (Contact c b) Next xs ys same).0))
-one_command (Contact c b) (Break n) xs ys h k same = absurd (omega (arith, (told_by (Contact c b) (Break n) xs ys same).0))
+one_command (Contact c b) (Break n) xs ys h k same =
+    absurd (omega (arith, (told_by (Contact c b) (Break n) xs ys same).0))
 one_command (Contact c b) Clear xs ys h k same = absurd (omega (arith, (told_by (Contact c b) Clear xs ys same).0))
 one_command (Contact c b) Show xs ys h k same = absurd (omega (arith, (told_by (Contact c b) Show xs ys same).0))
 one_command (Run m) (Contact d e) xs ys h k same = absurd (omega (arith, (told_by (Run m) (Contact d e) xs ys same).0))
@@ -115,7 +117,8 @@ one_command Next Next xs ys h k same = (refl, (told_by Next Next xs ys same).1)
 one_command Next (Break n) xs ys h k same = absurd (omega (arith, (told_by Next (Break n) xs ys same).0))
 one_command Next Clear xs ys h k same = absurd (omega (arith, (told_by Next Clear xs ys same).0))
 one_command Next Show xs ys h k same = absurd (omega (arith, (told_by Next Show xs ys same).0))
-one_command (Break m) (Contact d e) xs ys h k same = absurd (omega (arith, (told_by (Break m) (Contact d e) xs ys same).0))
+one_command (Break m) (Contact d e) xs ys h k same =
+    absurd (omega (arith, (told_by (Break m) (Contact d e) xs ys same).0))
 one_command (Break m) (Run n) xs ys h k same = absurd (omega (arith, (told_by (Break m) (Run n) xs ys same).0))
 one_command (Break m) Next xs ys h k same = absurd (omega (arith, (told_by (Break m) Next xs ys same).0))
 one_command (Break m) (Break n) xs ys h k same =
@@ -142,5 +145,8 @@ pub some_words : (s : Command) (xs : List (List ℕ)) → command_lexemes s ++ x
 some_words s xs e = absurd (cons_not_empty (sym (split s xs) ∙ e))
 
 -- no command comes first where the first token begins none
-pub no_command : (lexemes : List (List ℕ)) (word : List ℕ) (left : List (List ℕ)) → lexemes ≡ word ∷ left → ((k : Keyword) → word ≢ keyword_text k) → (s : Command) (rest : List (List ℕ)) → lexemes ≡ command_lexemes s ++ rest → ⊥
-no_command lexemes word left front other s rest e = other (keyword_in s) (head_told _ _ _ _ (sym front ∙ e ∙ split s rest)).0
+pub no_command : (lexemes : List (List ℕ)) (word : List ℕ) (left : List (List ℕ)) → lexemes ≡ word ∷ left
+    → ((k : Keyword) → word ≢ keyword_text k) → (s : Command) (rest : List (List ℕ)) → lexemes ≡ command_lexemes s
+    ++ rest → ⊥
+no_command lexemes word left front other s rest e =
+    other (keyword_in s) (head_told _ _ _ _ (sym front ∙ e ∙ split s rest)).0

@@ -1,12 +1,6 @@
 -- The tokens of items, and the texts that list them.
-use Rattle.std.proofs.Common.{◌≡◌, ℕ, Ok, List, ◌∷◌, sym, ap, ◌∙◌}
-use Rattle.script_tokens.specs.declared.token.Token.{Token}
-use Rattle.script_tokens.specs.declared.token.Inside.TheVariants.{Nothing}
-use Rattle.script_tokens.specs.declared.token.TheConstants.{NO_LIMITS}
-use Rattle.script_tokens.specs.Bytes.{first_position}
-use Rattle.script_tokens.specs.Lexing.{lexed}
-use Rattle.script_tokens.specs.Reading.{lexemes_of}
-use Rattle.plan_session.specs.Items.{HoldsOneListOf, AreUnique, HasLexemes}
+use Rattle.plan_session.proofs.Words.{◌∙◌, ◌∷◌, ◌≡◌, AreUnique, HasLexemes, HoldsOneListOf, List, NO_LIMITS, Nothing}
+use Rattle.plan_session.proofs.Words.{Ok, Token, ap, first_position, lexed, lexemes_of, sym, ℕ}
 use Rattle.plan_session.proofs.Listed.{one_list}
 
 -- ---- tokens
@@ -16,11 +10,14 @@ head_told x y xs ys e = (cc, cc)
 
 -- ---- texts
 
-same_tokens : (text : List ℕ) (ts us : List Token) → lexed NO_LIMITS Nothing first_position text ≡ Ok ts → lexed NO_LIMITS Nothing first_position text ≡ Ok us → ts ≡ us
+same_tokens : (text : List ℕ) (ts us : List Token) → lexed NO_LIMITS Nothing first_position text ≡ Ok ts
+    → lexed NO_LIMITS Nothing first_position text ≡ Ok us → ts ≡ us
 same_tokens text ts us h k = cc
 
 -- where tokens identify items, a text has at most one list
-pub holds_one_list : {T : Type 0} (spelled : T → List (List ℕ)) (IsItem : T → Type 0) → AreUnique spelled IsItem → HasLexemes spelled → HoldsOneListOf spelled IsItem
+pub holds_one_list : {T : Type 0} (spelled : T → List (List ℕ)) (IsItem : T → Type 0) → AreUnique spelled IsItem
+    → HasLexemes spelled → HoldsOneListOf spelled IsItem
 holds_one_list spelled IsItem unique has text items others h k =
     let same : h.tokens ≡ k.tokens = same_tokens text h.tokens k.tokens h.cut k.cut in
-    one_list spelled IsItem unique has items others h.in_range k.in_range (sym h.lexemes ∙ ap (lexemes_of text) same ∙ k.lexemes)
+    one_list spelled IsItem unique has items others h.in_range k.in_range
+    (sym h.lexemes ∙ ap (lexemes_of text) same ∙ k.lexemes)

@@ -1,23 +1,15 @@
 -- Two texts with a byte between them that ends each token and each comment: the items of the first, and then those of
 -- the second. No token of the first goes on in the second.
-use Rattle.std.proofs.Common.{◌≡◌, ◌⊎◌, inl, ℕ, ◌+◌, ◌-◌, ◌≤◌, Bool, true, false, subst, List, [], ◌∷◌, ◌++◌, length, take, drop, flat_map, Ok, refl, sym, ap, ◌∙◌, arith, inr, append_assoc, length-append}
-use Rattle.std.specs.Prelude.{slice_range}
-use Rattle.std.specs.List.{AllByRecursion}
-use Rattle.std.proofs.lemmas.Bool.{le-leb}
+use Rattle.plan_session.proofs.Words.{[], ◌++◌, ◌+◌, ◌-◌, ◌∙◌, ◌∷◌, ◌≡◌, ◌≤◌, ◌⊎◌, AllByRecursion, Bad, Blank, Bool}
+use Rattle.plan_session.proofs.Words.{Brace, Hash, HoldsItems, Kind, Letter, LineEnd, List, NO_LIMITS, Nothing, Ok}
+use Rattle.plan_session.proofs.Words.{Place, Token, ap, append_assoc, arith, drop, drop-append_seam, false}
+use Rattle.plan_session.proofs.Words.{first_position, fits, flat_map, inl, inr, kind_of, le-leb, length, length-append}
+use Rattle.plan_session.proofs.Words.{lexed, lexemes_of, position_after, position_past, refl, slice_range, subst, sym}
+use Rattle.plan_session.proofs.Words.{take, take-append_seam, token_at, true, ℕ}
 use Rattle.std.proofs.lemmas.Grind.{flat_map-append}
-use Rattle.std.proofs.Math.Seq.{take-append_seam, drop-append_seam}
-use Rattle.script_tokens.specs.declared.token.Token.{Token}
-use Rattle.script_tokens.specs.declared.token.Kind.{Kind}
-use Rattle.script_tokens.specs.declared.token.Kind.TheVariants.{Blank, LineEnd, Hash, Brace, Letter, Bad}
-use Rattle.script_tokens.specs.declared.token.Inside.TheVariants.{Nothing}
-use Rattle.script_tokens.specs.declared.token.Place.{Place}
-use Rattle.script_tokens.specs.declared.token.TheConstants.{NO_LIMITS}
-use Rattle.script_tokens.specs.Bytes.{kind_of, position_after, position_past, first_position, token_at}
-use Rattle.script_tokens.specs.Lexing.{fits, lexed}
-use Rattle.script_tokens.specs.Reading.{lexemes_of}
-use Rattle.script_tokens.specs.Texts.{Piece, blank, comment, brace, atom, text_of, AreLetters, HaveNoLineEnd, IsPiece, CanPrecede, AreText, tokens_of, TokensFit, IsCutInto}
+use Rattle.script_tokens.specs.Texts.{Piece, blank, comment, brace, atom, text_of, AreLetters, HaveNoLineEnd, IsPiece}
+use Rattle.script_tokens.specs.Texts.{CanPrecede, AreText, tokens_of, TokensFit, IsCutInto}
 use Rattle.script_tokens.proofs.Pieces.{texts_are_cut, cut_into}
-use Rattle.plan_session.specs.Items.{HoldsItems}
 
 -- ---- where a text can be cut
 
@@ -91,7 +83,8 @@ words_of (brace b ∷ ps) = (b ∷ []) ∷ words_of ps
 words_of (atom bs ∷ ps) = bs ∷ words_of ps
 
 -- bytes within a text
-word_at : (front bs rest : List ℕ) (n m : ℕ) → n ≡ length front → m ≡ n + length bs → slice_range (front ++ (bs ++ rest)) n m ≡ bs
+word_at : (front bs rest : List ℕ) (n m : ℕ) → n ≡ length front → m ≡ n + length bs
+    → slice_range (front ++ (bs ++ rest)) n m ≡ bs
 word_at front bs rest n m at to =
     let long : m - n ≡ length bs = omega (arith, to) in
     ap (λ (k : ℕ). take k (drop n (front ++ (bs ++ rest)))) long
@@ -105,38 +98,50 @@ further front bs p at =
     let long = length-append front bs in
     omega (arith, past, long, at)
 
-words_are : (front : List ℕ) (p : Place) (ps : List Piece) → p.at ≡ length front → lexemes_of (front ++ text_of ps) (tokens_of p ps) ≡ words_of ps
+words_are : (front : List ℕ) (p : Place) (ps : List Piece) → p.at ≡ length front
+    → lexemes_of (front ++ text_of ps) (tokens_of p ps) ≡ words_of ps
 words_are front p [] at = refl
 words_are front p (blank b ∷ ps) at =
-    ap (λ (l : List ℕ). lexemes_of l (tokens_of (position_past p (b ∷ [])) ps)) (sym (append_assoc front (b ∷ []) (text_of ps)))
+    ap (λ (l : List ℕ). lexemes_of l (tokens_of (position_past p (b ∷ [])) ps))
+    (sym (append_assoc front (b ∷ []) (text_of ps)))
     ∙ words_are (front ++ b ∷ []) (position_past p (b ∷ [])) ps (further front (b ∷ []) p at)
 words_are front p (comment bs ∷ ps) at =
-    ap (λ (l : List ℕ). lexemes_of l (tokens_of (position_past p (35 ∷ bs)) ps)) (sym (append_assoc front (35 ∷ bs) (text_of ps)))
+    ap (λ (l : List ℕ). lexemes_of l (tokens_of (position_past p (35 ∷ bs)) ps))
+    (sym (append_assoc front (35 ∷ bs) (text_of ps)))
     ∙ words_are (front ++ 35 ∷ bs) (position_past p (35 ∷ bs)) ps (further front (35 ∷ bs) p at)
 words_are front p (brace b ∷ ps) at =
-    ap (λ (w : List ℕ). w ∷ lexemes_of (front ++ (b ∷ text_of ps)) (tokens_of (position_past p (b ∷ [])) ps)) (word_at front (b ∷ []) (text_of ps) p.at (p.at + 1) at refl)
+    ap (λ (w : List ℕ). w ∷ lexemes_of (front ++ (b ∷ text_of ps)) (tokens_of (position_past p (b ∷ [])) ps))
+    (word_at front (b ∷ []) (text_of ps) p.at (p.at + 1) at refl)
     ∙ ap (λ (ws : List (List ℕ)). (b ∷ []) ∷ ws)
-    (ap (λ (l : List ℕ). lexemes_of l (tokens_of (position_past p (b ∷ [])) ps)) (sym (append_assoc front (b ∷ []) (text_of ps)))
+    (ap (λ (l : List ℕ). lexemes_of l (tokens_of (position_past p (b ∷ [])) ps))
+    (sym (append_assoc front (b ∷ []) (text_of ps)))
     ∙ words_are (front ++ b ∷ []) (position_past p (b ∷ [])) ps (further front (b ∷ []) p at))
 words_are front p (atom bs ∷ ps) at =
-    ap (λ (w : List ℕ). w ∷ lexemes_of (front ++ (bs ++ text_of ps)) (tokens_of (position_past p bs) ps)) (word_at front bs (text_of ps) p.at (p.at + length bs) at refl)
+    ap (λ (w : List ℕ). w ∷ lexemes_of (front ++ (bs ++ text_of ps)) (tokens_of (position_past p bs) ps))
+    (word_at front bs (text_of ps) p.at (p.at + length bs) at refl)
     ∙ ap (λ (ws : List (List ℕ)). bs ∷ ws)
     (ap (λ (l : List ℕ). lexemes_of l (tokens_of (position_past p bs) ps)) (sym (append_assoc front bs (text_of ps)))
     ∙ words_are (front ++ bs) (position_past p bs) ps (further front bs p at))
 
 -- ---- no token of a text of at most 2^64 - 1 bytes is past a limit
 
-pub fits_here : (p : Place) (to : ℕ) → to ≤ p.at + 18446744073709551615 → p.position.line ≤ 18446744073709551615 → fits NO_LIMITS (token_at p to) ≡ true
-fits_here p to short near = rw (le-leb to (p.at + 18446744073709551615) short, le-leb p.position.line 18446744073709551615 near) refl
+pub fits_here : (p : Place) (to : ℕ) → to ≤ p.at + 18446744073709551615 → p.position.line ≤ 18446744073709551615
+    → fits NO_LIMITS (token_at p to) ≡ true
+fits_here p to short near = rw (
+  le-leb to (p.at + 18446744073709551615) short,
+  le-leb p.position.line 18446744073709551615 near,
+) refl
 
 -- where the line of the place is at most one more than its offset, so is that of the place after these bytes
-near_past : (p : Place) (bs : List ℕ) → p.position.line ≤ p.at + 1 → (position_past p bs).position.line ≤ (position_past p bs).at + 1
+near_past : (p : Place) (bs : List ℕ) → p.position.line ≤ p.at + 1
+    → (position_past p bs).position.line ≤ (position_past p bs).at + 1
 near_past p bs near =
     let at = at_past p bs in
     let line = line_past p bs in
     omega (arith, at, line, near)
 
-all_fit : (p : Place) (ps : List Piece) → AreText ps → p.position.line ≤ p.at + 1 → p.at + length (text_of ps) ≤ 18446744073709551615 → TokensFit NO_LIMITS (tokens_of p ps)
+all_fit : (p : Place) (ps : List Piece) → AreText ps → p.position.line ≤ p.at + 1
+    → p.at + length (text_of ps) ≤ 18446744073709551615 → TokensFit NO_LIMITS (tokens_of p ps)
 all_fit p [] formed near short = tt
 all_fit p (blank b ∷ ps) formed near short =
     let at = at_past p (b ∷ []) in
@@ -166,9 +171,11 @@ joined g ps qs = ps ++ blank g ∷ qs
 text_joined : (g : ℕ) (ps qs : List Piece) → text_of (joined g ps qs) ≡ text_of ps ++ g ∷ text_of qs
 text_joined g [] qs = refl
 text_joined g (blank b ∷ ps) qs = ap (λ (l : List ℕ). b ∷ l) (text_joined g ps qs)
-text_joined g (comment bs ∷ ps) qs = ap (λ (l : List ℕ). (35 ∷ bs) ++ l) (text_joined g ps qs) ∙ sym (append_assoc (35 ∷ bs) (text_of ps) (g ∷ text_of qs))
+text_joined g (comment bs ∷ ps) qs = ap (λ (l : List ℕ). (35 ∷ bs) ++ l) (text_joined g ps qs)
+    ∙ sym (append_assoc (35 ∷ bs) (text_of ps) (g ∷ text_of qs))
 text_joined g (brace b ∷ ps) qs = ap (λ (l : List ℕ). b ∷ l) (text_joined g ps qs)
-text_joined g (atom bs ∷ ps) qs = ap (λ (l : List ℕ). bs ++ l) (text_joined g ps qs) ∙ sym (append_assoc bs (text_of ps) (g ∷ text_of qs))
+text_joined g (atom bs ∷ ps) qs = ap (λ (l : List ℕ). bs ++ l) (text_joined g ps qs)
+    ∙ sym (append_assoc bs (text_of ps) (g ∷ text_of qs))
 
 words_joined : (g : ℕ) (ps qs : List Piece) → words_of (joined g ps qs) ≡ words_of ps ++ words_of qs
 words_joined g [] qs = refl
@@ -194,7 +201,8 @@ precede_more : (p : Piece) (ps : List Piece) (g : ℕ) → Precede (p ∷ []) g 
 precede_more p [] g h k = h
 precede_more p (q ∷ ps) g h k = k
 
-can_precede : (g : ℕ) (p : Piece) (ps qs : List Piece) → CanPrecede p ps → Precede (p ∷ ps) g → CanPrecede p (joined g ps qs)
+can_precede : (g : ℕ) (p : Piece) (ps qs : List Piece) → CanPrecede p ps → Precede (p ∷ ps) g
+    → CanPrecede p (joined g ps qs)
 can_precede g (blank b) [] qs h e = tt
 can_precede g (comment bs) [] qs h e = e
 can_precede g (brace b) [] qs h e = tt
@@ -210,9 +218,11 @@ can_precede g (atom bs) (comment cs ∷ ps) qs h e = tt
 can_precede g (atom bs) (brace b ∷ ps) qs h e = tt
 can_precede g (atom bs) (atom cs ∷ ps) qs h e = absurd h
 
-formed_joined : (g : ℕ) (ps qs : List Piece) → IsPiece (blank g) → AreText ps → Precede ps g → AreText qs → AreText (joined g ps qs)
+formed_joined : (g : ℕ) (ps qs : List Piece) → IsPiece (blank g) → AreText ps → Precede ps g → AreText qs
+    → AreText (joined g ps qs)
 formed_joined g [] qs is h e k = (is, tt, k)
-formed_joined g (p ∷ ps) qs is h e k = (h.0, can_precede g p ps qs h.1 e, formed_joined g ps qs is h.2 (precede_later p ps g e) k)
+formed_joined g (p ∷ ps) qs is h e k =
+    (h.0, can_precede g p ps qs h.1 e, formed_joined g ps qs is h.2 (precede_later p ps g e) k)
 
 -- ---- where a text ends outside comments
 
@@ -234,7 +244,8 @@ inside_still Bad other = refl
 
 comment_inside : (bs : List ℕ) → HaveNoLineEnd bs → is_outside false bs ≡ false
 comment_inside [] h = refl
-comment_inside (b ∷ bs) h = ap (λ (out : Bool). is_outside out bs) (inside_still (kind_of b) h.0) ∙ comment_inside bs h.1
+comment_inside (b ∷ bs) h = ap (λ (out : Bool). is_outside out bs) (inside_still (kind_of b) h.0)
+    ∙ comment_inside bs h.1
 
 pub blank_outside : (k : Kind) → (k ≡ Blank) ⊎ (k ≡ LineEnd) → outside_after true k ≡ true
 blank_outside k (inl e) = ap (λ (j : Kind). outside_after true j) e
@@ -260,26 +271,33 @@ pub through_comment : (bs ps : List ℕ) → HaveNoLineEnd bs → is_outside fal
 through_comment bs ps h = outside_join false bs ps ∙ ap (λ (o : Bool). is_outside o ps) (comment_inside bs h)
 
 -- a byte that separates follows a comment only as a line end
-ends_before : (ps : List Piece) (g : ℕ) → AreText ps → separates (is_outside true (text_of ps)) (kind_of g) ≡ true → Precede ps g
+ends_before : (ps : List Piece) (g : ℕ) → AreText ps → separates (is_outside true (text_of ps)) (kind_of g) ≡ true
+    → Precede ps g
 ends_before [] g h e = tt
 ends_before (blank b ∷ ps) g h e =
     let out : outside_after true (kind_of b) ≡ true = blank_outside (kind_of b) h.0 in
-    precede_more (blank b) ps g tt (ends_before ps g h.2 (subst (λ (o : Bool). separates (is_outside o (text_of ps)) (kind_of g) ≡ true) out e))
+    precede_more (blank b) ps g tt
+    (ends_before ps g h.2 (subst (λ (o : Bool). separates (is_outside o (text_of ps)) (kind_of g) ≡ true) out e))
 ends_before (comment bs ∷ []) g h e =
     only_line_end (kind_of g) (subst (λ (o : Bool). separates o (kind_of g) ≡ true) (through_comment bs [] h.0) e)
 ends_before (comment bs ∷ blank b ∷ ps) g h e =
     let out : outside_after false (kind_of b) ≡ true = ap (λ (k : Kind). outside_after false k) h.1 in
     let here = subst (λ (o : Bool). separates o (kind_of g) ≡ true) (through_comment bs (b ∷ text_of ps) h.0) e in
-    precede_more (blank b) ps g tt (ends_before ps g h.2.2 (subst (λ (o : Bool). separates (is_outside o (text_of ps)) (kind_of g) ≡ true) out here))
+    precede_more (blank b) ps g tt
+    (ends_before ps g h.2.2 (subst (λ (o : Bool). separates (is_outside o (text_of ps)) (kind_of g) ≡ true) out
+    here))
 ends_before (comment bs ∷ comment cs ∷ ps) g h e = absurd h.1
 ends_before (comment bs ∷ brace b ∷ ps) g h e = absurd h.1
 ends_before (comment bs ∷ atom cs ∷ ps) g h e = absurd h.1
 ends_before (brace b ∷ ps) g h e =
     let out : outside_after true (kind_of b) ≡ true = ap (λ (k : Kind). outside_after true k) h.0 in
-    precede_more (brace b) ps g tt (ends_before ps g h.2 (subst (λ (o : Bool). separates (is_outside o (text_of ps)) (kind_of g) ≡ true) out e))
+    precede_more (brace b) ps g tt
+    (ends_before ps g h.2 (subst (λ (o : Bool). separates (is_outside o (text_of ps)) (kind_of g) ≡ true) out e))
 ends_before (atom bs ∷ ps) g h e =
-    let through : is_outside true (bs ++ text_of ps) ≡ is_outside true (text_of ps) = outside_join true bs (text_of ps) ∙ ap (λ (o : Bool). is_outside o (text_of ps)) (letters_outside bs h.0.1) in
-    precede_more (atom bs) ps g tt (ends_before ps g h.2 (subst (λ (o : Bool). separates o (kind_of g) ≡ true) through e))
+    let through : is_outside true (bs ++ text_of ps) ≡ is_outside true (text_of ps) =
+    outside_join true bs (text_of ps) ∙ ap (λ (o : Bool). is_outside o (text_of ps)) (letters_outside bs h.0.1) in
+    precede_more (atom bs) ps g tt
+    (ends_before ps g h.2 (subst (λ (o : Bool). separates o (kind_of g) ≡ true) through e))
 
 -- ---- texts with such a byte between them
 
@@ -290,23 +308,29 @@ pub record Cut (text : List ℕ) (words : List (List ℕ)) : Type 0 where
   pub whole : text_of pieces ≡ text
   pub are : words_of pieces ≡ words
 
-pub cut_of_tokens : (text : List ℕ) (tokens : List Token) → lexed NO_LIMITS Nothing first_position text ≡ Ok tokens → Cut text (lexemes_of text tokens)
+pub cut_of_tokens : (text : List ℕ) (tokens : List Token) → lexed NO_LIMITS Nothing first_position text ≡ Ok tokens
+    → Cut text (lexemes_of text tokens)
 cut_of_tokens text tokens e =
     let h : IsCutInto NO_LIMITS text tokens = cut_into NO_LIMITS text tokens e in
     record {
       pieces = h.pieces;
       formed = h.formed;
       whole = h.whole;
-      are = sym (words_are [] first_position h.pieces refl) ∙ ap (λ (l : List ℕ). lexemes_of l (tokens_of first_position h.pieces)) h.whole ∙ ap (lexemes_of text) h.are;
+      are = sym (words_are [] first_position h.pieces refl)
+          ∙ ap (λ (l : List ℕ). lexemes_of l (tokens_of first_position h.pieces)) h.whole ∙ ap (lexemes_of text) h.are;
     }
 
-cut_joined : (g : ℕ) (a b : List ℕ) (xs ys : List (List ℕ)) → separates (is_outside true a) (kind_of g) ≡ true → Cut a xs → Cut b ys → Cut (a ++ g ∷ b) (xs ++ ys)
+cut_joined : (g : ℕ) (a b : List ℕ) (xs ys : List (List ℕ)) → separates (is_outside true a) (kind_of g) ≡ true
+    → Cut a xs → Cut b ys → Cut (a ++ g ∷ b) (xs ++ ys)
 cut_joined g a b xs ys e h k = record {
   pieces = joined g h.pieces k.pieces;
   formed = formed_joined g h.pieces k.pieces (separator (is_outside true a) (kind_of g) e) h.formed
-      (ends_before h.pieces g h.formed (subst (λ (l : List ℕ). separates (is_outside true l) (kind_of g) ≡ true) (sym h.whole) e)) k.formed;
-  whole = text_joined g h.pieces k.pieces ∙ ap (λ (l : List ℕ). l ++ g ∷ text_of k.pieces) h.whole ∙ ap (λ (l : List ℕ). a ++ g ∷ l) k.whole;
-  are = words_joined g h.pieces k.pieces ∙ ap (λ (ws : List (List ℕ)). ws ++ words_of k.pieces) h.are ∙ ap (λ (ws : List (List ℕ)). xs ++ ws) k.are;
+      (ends_before h.pieces g h.formed
+      (subst (λ (l : List ℕ). separates (is_outside true l) (kind_of g) ≡ true) (sym h.whole) e)) k.formed;
+  whole = text_joined g h.pieces k.pieces ∙ ap (λ (l : List ℕ). l ++ g ∷ text_of k.pieces) h.whole
+      ∙ ap (λ (l : List ℕ). a ++ g ∷ l) k.whole;
+  are = words_joined g h.pieces k.pieces ∙ ap (λ (ws : List (List ℕ)). ws ++ words_of k.pieces) h.are
+      ∙ ap (λ (ws : List (List ℕ)). xs ++ ws) k.are;
 }
 
 -- the tokens of a text that is short enough
@@ -315,38 +339,49 @@ pub record Tokens (text : List ℕ) (words : List (List ℕ)) : Type 0 where
   pub cut : lexed NO_LIMITS Nothing first_position text ≡ Ok tokens
   pub are : lexemes_of text tokens ≡ words
 
-pub tokens_of_cut : (text : List ℕ) (words : List (List ℕ)) → length text ≤ 18446744073709551615 → Cut text words → Tokens text words
+pub tokens_of_cut : (text : List ℕ) (words : List (List ℕ)) → length text ≤ 18446744073709551615 → Cut text words
+    → Tokens text words
 tokens_of_cut text words short h =
     let ts : List Token = tokens_of first_position h.pieces in
     let long : length (text_of h.pieces) ≡ length text = ap (λ (l : List ℕ). length l) h.whole in
-    let all : TokensFit NO_LIMITS ts = all_fit first_position h.pieces h.formed (omega arith) (omega (arith, long, short)) in
+    let all : TokensFit NO_LIMITS ts =
+    all_fit first_position h.pieces h.formed (omega arith) (omega (arith, long, short)) in
     record {
       tokens = ts;
-      cut = (texts_are_cut NO_LIMITS text ts).1 (record { pieces = h.pieces; formed = h.formed; whole = h.whole; are = refl; within = all });
+      cut = (texts_are_cut NO_LIMITS text ts).1
+          (record { pieces = h.pieces; formed = h.formed; whole = h.whole; are = refl; within = all });
       are = ap (λ (l : List ℕ). lexemes_of l ts) (sym h.whole) ∙ words_are [] first_position h.pieces refl ∙ h.are;
     }
 
 -- ---- texts that list items
 
-all_both : {T : Type 0} (P : T → Type 0) (xs ys : List T) → AllByRecursion P xs → AllByRecursion P ys → AllByRecursion P (xs ++ ys)
+all_both : {T : Type 0} (P : T → Type 0) (xs ys : List T) → AllByRecursion P xs → AllByRecursion P ys
+    → AllByRecursion P (xs ++ ys)
 all_both P [] ys h k = k
 all_both P (x ∷ xs) ys h k = (h.0, all_both P xs ys h.1 k)
 
 -- two texts that list items, with a byte between them that ends each token and each comment, list the items of both
-pub holds_parted : {T : Type 0} (spelled : T → List (List ℕ)) (IsItem : T → Type 0) (g : ℕ) (a b : List ℕ) (xs ys : List T) → length (a ++ g ∷ b) ≤ 18446744073709551615
-    → separates (is_outside true a) (kind_of g) ≡ true → HoldsItems spelled IsItem a xs → HoldsItems spelled IsItem b ys → HoldsItems spelled IsItem (a ++ g ∷ b) (xs ++ ys)
+pub holds_parted : {T : Type 0} (spelled : T → List (List ℕ)) (IsItem : T → Type 0) (g : ℕ) (a b : List ℕ)
+    (xs ys : List T) → length (a ++ g ∷ b) ≤ 18446744073709551615
+    → separates (is_outside true a) (kind_of g) ≡ true → HoldsItems spelled IsItem a xs → HoldsItems spelled IsItem b ys
+    → HoldsItems spelled IsItem (a ++ g ∷ b) (xs ++ ys)
 holds_parted spelled IsItem g a b xs ys short ends h k =
     let both : Cut (a ++ g ∷ b) (lexemes_of a h.tokens ++ lexemes_of b k.tokens) =
-    cut_joined g a b (lexemes_of a h.tokens) (lexemes_of b k.tokens) ends (cut_of_tokens a h.tokens h.cut) (cut_of_tokens b k.tokens k.cut) in
-    let all : Tokens (a ++ g ∷ b) (lexemes_of a h.tokens ++ lexemes_of b k.tokens) = tokens_of_cut (a ++ g ∷ b) (lexemes_of a h.tokens ++ lexemes_of b k.tokens) short both in
+    cut_joined g a b (lexemes_of a h.tokens) (lexemes_of b k.tokens) ends (cut_of_tokens a h.tokens h.cut)
+    (cut_of_tokens b k.tokens k.cut) in
+    let all : Tokens (a ++ g ∷ b) (lexemes_of a h.tokens ++ lexemes_of b k.tokens) =
+    tokens_of_cut (a ++ g ∷ b) (lexemes_of a h.tokens ++ lexemes_of b k.tokens) short both in
     record {
       tokens = all.tokens;
       cut = all.cut;
-      lexemes = all.are ∙ ap (λ (ws : List (List ℕ)). ws ++ lexemes_of b k.tokens) h.lexemes ∙ ap (λ (ws : List (List ℕ)). flat_map spelled xs ++ ws) k.lexemes ∙ sym (flat_map-append spelled xs ys);
+      lexemes = all.are ∙ ap (λ (ws : List (List ℕ)). ws ++ lexemes_of b k.tokens) h.lexemes
+          ∙ ap (λ (ws : List (List ℕ)). flat_map spelled xs ++ ws) k.lexemes ∙ sym (flat_map-append spelled xs ys);
       in_range = all_both IsItem xs ys h.in_range k.in_range;
     }
 
 -- the same with a line feed
-pub holds_joined : {T : Type 0} (spelled : T → List (List ℕ)) (IsItem : T → Type 0) (a b : List ℕ) (xs ys : List T) → length (a ++ 10 ∷ b) ≤ 18446744073709551615
-    → HoldsItems spelled IsItem a xs → HoldsItems spelled IsItem b ys → HoldsItems spelled IsItem (a ++ 10 ∷ b) (xs ++ ys)
+pub holds_joined : {T : Type 0} (spelled : T → List (List ℕ)) (IsItem : T → Type 0) (a b : List ℕ) (xs ys : List T)
+    → length (a ++ 10 ∷ b) ≤ 18446744073709551615
+    → HoldsItems spelled IsItem a xs → HoldsItems spelled IsItem b ys
+    → HoldsItems spelled IsItem (a ++ 10 ∷ b) (xs ++ ys)
 holds_joined spelled IsItem a b xs ys short h k = holds_parted spelled IsItem 10 a b xs ys short refl h k

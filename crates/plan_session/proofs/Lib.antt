@@ -18,3 +18,4 @@ mod VectorsOfSessions
 mod WrongCommands
 mod WrongItems
 mod WrongSteps
+mod Words

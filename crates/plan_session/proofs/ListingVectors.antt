@@ -1,13 +1,7 @@
 -- A short text that lists a command, and a list that is not its own.
-use Rattle.std.proofs.Common.{◌≡◌, ℕ, List, [], ◌∷◌, refl}
-use Rattle.std.specs.Prelude.{codes, None, Result, Ok}
-use Rattle.script_tokens.specs.declared.token.TheConstants.{NO_LIMITS}
-use Rattle.script_tokens.specs.declared.fault.ScriptFault.{ScriptFault}
-use Rattle.script_tokens.specs.Bytes.{first_position}
+use Rattle.plan_session.proofs.Words.{[], ◌∷◌, ◌≡◌, Clear, List, ListsCommands, NO_LIMITS, None, Ok, Result, Scan}
+use Rattle.plan_session.proofs.Words.{ScriptFault, TakesCommand, codes, first_position, refl, ℕ}
 use Rattle.script_tokens.specs.Lexing.{lexed}
-use Rattle.script_tokens.specs.Scanning.{Scan}
-use Rattle.plan_session.specs.declared.command.Command.TheVariants.{Clear}
-use Rattle.plan_session.specs.Listing.{ListsCommands, TakesCommand}
 
 -- `clear`
 abbrev clear : Scan

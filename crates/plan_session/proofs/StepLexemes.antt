@@ -1,14 +1,12 @@
 -- The tokens of steps identify them.
-use Rattle.std.proofs.Common.{◌≡◌, ◌≢◌, ℕ, ◌++◌, Bool, true, false, List, [], ◌∷◌, length, sym, ap, ◌∙◌, arith}
-use Rattle.std.proofs.lemmas.Fmt.{decimal_injective}
-use Rattle.script_tokens.proofs.Keys.{one_level}
-use Rattle.plan_session.specs.declared.step.Step.{Step}
-use Rattle.plan_session.specs.declared.step.Step.TheVariants.{Contact, Frames}
-use Rattle.plan_session.specs.Events.{IsStep, step_lexemes, first_lexeme}
+use Rattle.plan_session.proofs.Words.{[], ◌++◌, ◌∙◌, ◌∷◌, ◌≡◌, ◌≢◌, Bool, Contact, Frames, IsStep, List, Step, ap}
+use Rattle.plan_session.proofs.Words.{arith, decimal_injective, false, first_lexeme, length, one_level, step_lexemes}
+use Rattle.plan_session.proofs.Words.{sym, true, ℕ}
 use Rattle.plan_session.proofs.ItemTexts.{head_told}
 
 -- the first tokens identify the step
-pub one_step : (s t : Step) (xs ys : List (List ℕ)) → IsStep s → IsStep t → step_lexemes s ++ xs ≡ step_lexemes t ++ ys → (s ≡ t) × (xs ≡ ys)
+pub one_step : (s t : Step) (xs ys : List (List ℕ)) → IsStep s → IsStep t → step_lexemes s ++ xs ≡ step_lexemes t ++ ys
+    → (s ≡ t) × (xs ≡ ys)
 one_step (Contact c b) (Contact d e) xs ys h k same =
     let first = head_told _ _ _ _ same in
     let number = head_told _ _ _ _ first.1 in
@@ -36,6 +34,8 @@ some_words (Contact c b) xs e = absurd (cc)
 some_words (Frames n) xs e = absurd (cc)
 
 -- no step comes first where the first token begins none
-pub no_step : (lexemes : List (List ℕ)) (word : List ℕ) (left : List (List ℕ)) → lexemes ≡ word ∷ left → ((frames : Bool) → word ≢ first_lexeme frames) → (s : Step) (rest : List (List ℕ)) → lexemes ≡ step_lexemes s ++ rest → ⊥
+pub no_step : (lexemes : List (List ℕ)) (word : List ℕ) (left : List (List ℕ)) → lexemes ≡ word ∷ left
+    → ((frames : Bool) → word ≢ first_lexeme frames) → (s : Step) (rest : List (List ℕ)) → lexemes ≡ step_lexemes s
+    ++ rest → ⊥
 no_step lexemes word left front other (Contact c b) rest e = other false (head_told _ _ _ _ (sym front ∙ e)).0
 no_step lexemes word left front other (Frames n) rest e = other true (head_told _ _ _ _ (sym front ∙ e)).0

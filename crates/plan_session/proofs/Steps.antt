@@ -1,29 +1,31 @@
 -- The events of steps, and of more steps.
-use Rattle.std.proofs.Common.{◌≡◌, ◌⊎◌, inl, inr, ◌<◌, ◌≤◌, List, [], ◌∷◌, ◌++◌, length, refl, sym, ap, subst, ◌∙◌, arith, append_assoc, append-nil}
-use Rattle.plan_runs.specs.declared.event.Event.{Event}
-use Rattle.script_tokens.specs.Scanning.{Scan, bytes_left}
-use Rattle.plan_session.specs.declared.step.Step.{Step}
-use Rattle.plan_session.specs.declared.step.Step.TheVariants.{Contact, Frames}
-use Rattle.plan_session.specs.Events.{IsStep, events_of_step, events_of}
-use Rattle.plan_player.proofs.Joining.{length_replicate}
+use Rattle.plan_session.proofs.Words.{[], ◌++◌, ◌<◌, ◌∙◌, ◌∷◌, ◌≡◌, ◌≤◌, ◌⊎◌, Contact, Event, Frames, IsStep, List}
+use Rattle.plan_session.proofs.Words.{Scan, Step, ap, append-nil, append_assoc, arith, bytes_left, events_of}
+use Rattle.plan_session.proofs.Words.{events_of_step, inl, inr, length, length_replicate, refl, subst, sym}
 
 pub events_join : (xs ys : List Step) → events_of (xs ++ ys) ≡ events_of xs ++ events_of ys
 events_join [] ys = refl
-events_join (x ∷ xs) ys = ap (λ (l : List Event). events_of_step x ++ l) (events_join xs ys) ∙ sym (append_assoc (events_of_step x) (events_of xs) (events_of ys))
+events_join (x ∷ xs) ys = ap (λ (l : List Event). events_of_step x ++ l) (events_join xs ys)
+    ∙ sym (append_assoc (events_of_step x) (events_of xs) (events_of ys))
 
 -- the events of one more step
-pub events_more : (done : List Step) (step : Step) → events_of done ++ events_of_step step ≡ events_of (done ++ step ∷ [])
-events_more done step = ap (λ (l : List Event). events_of done ++ l) (sym (append-nil (events_of_step step))) ∙ sym (events_join done (step ∷ []))
+pub events_more : (done : List Step) (step : Step) → events_of done
+    ++ events_of_step step ≡ events_of (done ++ step ∷ [])
+events_more done step = ap (λ (l : List Event). events_of done ++ l) (sym (append-nil (events_of_step step)))
+    ∙ sym (events_join done (step ∷ []))
 
 -- and of those that follow it
-pub events_cut : (done : List Step) (step : Step) (rest : List Step) → (events_of done ++ events_of_step step) ++ events_of rest ≡ events_of (done ++ step ∷ rest)
-events_cut done step rest = append_assoc (events_of done) (events_of_step step) (events_of rest) ∙ sym (events_join done (step ∷ rest))
+pub events_cut : (done : List Step) (step : Step) (rest : List Step) → (events_of done ++ events_of_step step)
+    ++ events_of rest ≡ events_of (done ++ step ∷ rest)
+events_cut done step rest = append_assoc (events_of done) (events_of_step step) (events_of rest)
+    ∙ sym (events_join done (step ∷ rest))
 
 pub few_events : (step : Step) → IsStep step → length (events_of_step step) ≤ 3600000
 few_events (Contact c closed) h = omega arith
 few_events (Frames n) h = omega (arith, length_replicate n, h.1)
 
 -- a bound on what is left at first, from one on what is left now, which may be the same
-pub first_bound : (now first : Scan) → (now ≡ first) ⊎ (bytes_left first < 18446744073709551616) → bytes_left now < 18446744073709551616 → bytes_left first < 18446744073709551616
+pub first_bound : (now first : Scan) → (now ≡ first) ⊎ (bytes_left first < 18446744073709551616)
+    → bytes_left now < 18446744073709551616 → bytes_left first < 18446744073709551616
 first_bound now first (inl same) bound = subst (λ (s : Scan). bytes_left s < 18446744073709551616) same bound
 first_bound now first (inr known) bound = known

@@ -1,10 +1,7 @@
 -- The position just past a text, byte by byte.
-use Rattle.std.proofs.Common.{◌≡◌, ℕ, ◌+◌, ◌<◌, ◌≤◌, List, ◌∷◌, length, drop, get_or, add-one, refl, sym, ap, ◌∙◌, arith}
-use Rattle.std.proofs.Math.Seq.{drop-cons}
-use Rattle.script_tokens.specs.declared.token.Kind.{Kind}
-use Rattle.script_tokens.specs.declared.token.Kind.TheVariants.{Blank, LineEnd, Hash, Brace, Letter, Bad}
-use Rattle.script_tokens.specs.declared.token.Place.{Place}
-use Rattle.script_tokens.specs.Bytes.{kind_of, position_after, position_past}
+use Rattle.plan_session.proofs.Words.{◌+◌, ◌<◌, ◌∙◌, ◌∷◌, ◌≡◌, ◌≤◌, Bad, Blank, Brace, Hash, Kind, Letter, LineEnd}
+use Rattle.plan_session.proofs.Words.{List, Place, add-one, ap, arith, drop, drop-cons, get_or, kind_of, length}
+use Rattle.plan_session.proofs.Words.{position_after, position_past, refl, sym, ℕ}
 
 pub record Follows (p q : Place) : Type 0 where
   pub at : q.at ≡ p.at + 1
@@ -19,9 +16,11 @@ follows p q Brace e = rw (e) (record { at = refl; line = omega arith; column = o
 follows p q Letter e = rw (e) (record { at = refl; line = omega arith; column = omega arith })
 follows p q Bad e = rw (e) (record { at = refl; line = omega arith; column = omega arith })
 
-pub position_on : (p q : Place) (text : List ℕ) (k : Kind) → p.at < length text → k ≡ kind_of (get_or text p.at 0) → q ≡ position_after p k → q.at ≡ p.at + 1 → position_past p (drop p.at text) ≡ position_past q (drop q.at text)
+pub position_on : (p q : Place) (text : List ℕ) (k : Kind) → p.at < length text → k ≡ kind_of (get_or text p.at 0)
+    → q ≡ position_after p k → q.at ≡ p.at + 1 → position_past p (drop p.at text) ≡ position_past q (drop q.at text)
 position_on p q text k lt is after at =
-    let cut : drop p.at text ≡ get_or text p.at 0 ∷ drop (p.at + 1) text = rw (add-one, drop-cons text p.at 0 lt) refl in
+    let cut : drop p.at text ≡ get_or text p.at 0 ∷ drop (p.at + 1) text =
+    rw (add-one, drop-cons text p.at 0 lt) refl in
     ap (position_past p) cut
     ∙ ap (λ (x : Kind). position_past (position_after p x) (drop (p.at + 1) text)) (sym is)
     ∙ ap (λ (x : Place). position_past x (drop (p.at + 1) text)) (sym after)

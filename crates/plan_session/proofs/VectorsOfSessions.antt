@@ -1,15 +1,13 @@
 -- How a session begins: each definition where it holds, and where it fails.
-use Rattle.std.proofs.Common.{◌≡◌, [], ◌∷◌, None, Some, refl, arith}
-use Rattle.mux_config.specs.Configuration.{nothing}
-use Rattle.plan_code.specs.declared.fault.CodeFault.TheVariants.{Memory as NoMemoryForCode}
+use Rattle.plan_session.proofs.Words.{[], ◌∷◌, ◌≡◌, CanStart, Code, IsAtStart, IsBeginFault, IsSessionOf, IsTypedFileOf}
+use Rattle.plan_session.proofs.Words.{None, Opened, Playing, Program, Request, Some, Write, arith, asked, nothing}
+use Rattle.plan_session.proofs.Words.{played, refl, start_fault, start_of}
 use Rattle.plan_code.specs.declared.instr.Instr.TheVariants.{Wait, End}
-use Rattle.plan_code.specs.Program.{Program}
 use Rattle.plan_runs.proofs.Samples.{label, code, first_state, all_open, it_starts}
 use Rattle.plan_runs.specs.declared.event.Event.TheVariants.{Frame}
 use Rattle.plan_player.specs.declared.fault.StartFault.TheVariants.{Count}
-use Rattle.plan_player.specs.Playing.{Playing, IsAtStart, played, start_fault}
-use Rattle.plan_session.specs.declared.run_fault.RunFault.TheVariants.{Code, Write}
-use Rattle.plan_session.specs.Playback.{Request, Opened, asked, start_of, IsTypedFileOf, CanStart, Begins, IsSessionOf, IsBeginFault}
+use Rattle.plan_session.specs.Playback.{Begins}
+use Rattle.plan_code.specs.declared.fault.CodeFault.TheVariants.{Memory as NoMemoryForCode}
 use Rattle.plan_session.proofs.Sessions.{session_of}
 
 -- a code of an empty multiplex that waits for a frame and ends, and its player before the first frame
@@ -34,7 +32,8 @@ begins h = record { ready = h; begins = at_start }
 begins_later : Begins request (played fresh (Frame ∷ [])) → ⊥
 begins_later h = let e : 1 ≡ 0 = h.begins.none_yet in omega (arith, e)
 
-of_the_request : IsTypedFileOf waits [] → ((other : Program) → IsTypedFileOf other [] → waits ≡ other) → IsSessionOf request opened
+of_the_request : IsTypedFileOf waits [] → ((other : Program) → IsTypedFileOf other [] → waits ≡ other)
+    → IsSessionOf request opened
 of_the_request file only = session_of request opened file only refl refl
 
 -- a session that starts at the count 0 is none of a request for the count 5000

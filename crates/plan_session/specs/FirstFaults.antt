@@ -4,7 +4,9 @@ use Rattle.script_tokens.specs.declared.token.Token.{Token}
 use Rattle.script_tokens.specs.declared.token.Inside.TheVariants.{Nothing}
 use Rattle.script_tokens.specs.declared.token.TheConstants.{NO_LIMITS}
 use Rattle.script_tokens.specs.declared.fault.ScriptFault.{ScriptFault}
-use Rattle.script_tokens.specs.declared.fault.ScriptFault.TheVariants.{Byte as ByteOfText, Number as NumberInText, Expected as ExpectedInText, Depth, NameUsed, NameUnknown, Limit, Memory as NoMemory}
+use Rattle.script_tokens.specs.declared.fault.ScriptFault.TheVariants.{Byte as ByteOfText, Number as NumberInText}
+use Rattle.script_tokens.specs.declared.fault.ScriptFault.TheVariants.{Expected as ExpectedInText, Depth, NameUsed}
+use Rattle.script_tokens.specs.declared.fault.ScriptFault.TheVariants.{NameUnknown, Limit, Memory as NoMemory}
 use Rattle.script_tokens.specs.Bytes.{first_position}
 use Rattle.script_tokens.specs.Lexing.{lexed}
 use Rattle.plan_session.specs.declared.event_fault.EventFault.{EventFault}

@@ -1,12 +1,14 @@
 -- The fault of a text that is cut into tokens but lists no items: it is at the first token with which no list of items
 -- can go on, or at the end of the text.
-use Rattle.std.specs.Prelude.{◌≡◌, ◌≢◌, ◌⊎◌, ℕ, ◌≤◌, ◌<◌, Bool, true, false, List, [], ◌∷◌, ◌++◌, length, flat_map, codes, slice_range, Ok, Option, None, Some}
+use Rattle.std.specs.Prelude.{◌≡◌, ◌≢◌, ◌⊎◌, ℕ, ◌≤◌, ◌<◌, Bool, true, false, List, [], ◌∷◌, ◌++◌, length, flat_map}
+use Rattle.std.specs.Prelude.{codes, slice_range, Ok, Option, None, Some}
 use Rattle.std.specs.List.{AllByRecursion, slice_get}
 use Rattle.std.specs.Str.{all_ascii_digits}
 use Rattle.std.specs.Fmt.{decimal}
 use Rattle.script_tokens.specs.declared.fault.Position.{Position}
 use Rattle.script_tokens.specs.declared.fault.ScriptFault.{ScriptFault}
-use Rattle.script_tokens.specs.declared.fault.ScriptFault.TheVariants.{Number as NumberInText, Expected as ExpectedInText}
+use Rattle.script_tokens.specs.declared.fault.ScriptFault.TheVariants.{Number as NumberInText}
+use Rattle.script_tokens.specs.declared.fault.ScriptFault.TheVariants.{Expected as ExpectedInText}
 use Rattle.script_tokens.specs.declared.token.Token.{Token}
 use Rattle.script_tokens.specs.Bytes.{first_position, position_past}
 use Rattle.script_tokens.specs.Reading.{lexemes_of}
@@ -22,7 +24,8 @@ use Rattle.plan_session.specs.FirstFaults.{cut_of, ReportsFirstFault}
 -- ---- tokens with which a list of items begins
 
 -- some list of items, each in its ranges, begins with these tokens
-pub record Begins {T : Type 0} (spelled : T → List (List ℕ)) (IsItem : T → Type 0) (front : List (List ℕ)) : Type 0 where
+pub record Begins {T : Type 0} (spelled : T → List (List ℕ)) (IsItem : T → Type 0) (front : List (List ℕ)) : Type
+    0 where
   pub items : List T
   pub more : List (List ℕ)
   pub in_range : AllByRecursion IsItem items
@@ -33,7 +36,8 @@ pub record IsDigits (word : List ℕ) : Type 0 where
   pub digits : all_ascii_digits word ≡ true
 
 -- a list of items can go on with a number after these tokens
-pub record WantsNumber {T : Type 0} (spelled : T → List (List ℕ)) (IsItem : T → Type 0) (front : List (List ℕ)) : Type 0 where
+pub record WantsNumber {T : Type 0} (spelled : T → List (List ℕ)) (IsItem : T → Type 0) (front : List (List ℕ)) : Type
+    0 where
   pub number : List ℕ
   pub digits : IsDigits number
   pub begins : Begins spelled IsItem (front ++ number ∷ [])
@@ -52,20 +56,25 @@ word_at text t = slice_range text t.start t.end
 
 -- after these tokens of a text the next is at fault: no list of items goes on with it. It is an atom in the place of
 -- a number; or it is no atom, or no number can come in its place. Or the text ends there, within a list of items
-abbrev pub IsFaultAfter : {T : Type 0} → (T → List (List ℕ)) → (T → Type 0) → (text : List ℕ) → (front : List (List ℕ)) → (rest : List Token) → EventFault → Type 0
-IsFaultAfter {T} spelled IsItem text front [] (Expected position) = (position ≡ end_position text) × ((items : List T) → AllByRecursion IsItem items → front ≢ flat_map spelled items)
+abbrev pub IsFaultAfter : {T : Type 0} → (T → List (List ℕ)) → (T → Type 0) → (text : List ℕ) → (front : List (List ℕ))
+    → (rest : List Token) → EventFault → Type 0
+IsFaultAfter {T} spelled IsItem text front [] (Expected position) =
+    (position ≡ end_position text) × ((items : List T) → AllByRecursion IsItem items → front ≢ flat_map spelled items)
 IsFaultAfter {T} spelled IsItem text front [] (Number position) = ⊥
 IsFaultAfter {T} spelled IsItem text front [] (Byte position) = ⊥
 IsFaultAfter {T} spelled IsItem text front [] Memory = ⊥
 IsFaultAfter {T} spelled IsItem text front (t ∷ ts) (Number position) =
-    (position ≡ t.position) × (Begins spelled IsItem (front ++ word_at text t ∷ []) → ⊥) × WantsNumber spelled IsItem front × (IsBrace (word_at text t) → ⊥)
+    (position ≡ t.position) × (Begins spelled IsItem (front ++ word_at text t ∷ []) → ⊥)
+    × WantsNumber spelled IsItem front × (IsBrace (word_at text t) → ⊥)
 IsFaultAfter {T} spelled IsItem text front (t ∷ ts) (Expected position) =
-    (position ≡ t.position) × (Begins spelled IsItem (front ++ word_at text t ∷ []) → ⊥) × (WantsNumber spelled IsItem front → IsBrace (word_at text t))
+    (position ≡ t.position) × (Begins spelled IsItem (front ++ word_at text t ∷ []) → ⊥)
+    × (WantsNumber spelled IsItem front → IsBrace (word_at text t))
 IsFaultAfter {T} spelled IsItem text front (t ∷ ts) (Byte position) = ⊥
 IsFaultAfter {T} spelled IsItem text front (t ∷ ts) Memory = ⊥
 
 -- the fault of these tokens of a text: a list of items begins with those before it
-pub record HasItemFault {T : Type 0} (spelled : T → List (List ℕ)) (IsItem : T → Type 0) (text : List ℕ) (tokens : List Token) (fault : EventFault) : Type 0 where
+pub record HasItemFault {T : Type 0} (spelled : T → List (List ℕ)) (IsItem : T → Type 0) (text : List ℕ)
+    (tokens : List Token) (fault : EventFault) : Type 0 where
   pub front : List Token
   pub rest : List Token
   pub whole : tokens ≡ front ++ rest
@@ -74,7 +83,8 @@ pub record HasItemFault {T : Type 0} (spelled : T → List (List ℕ)) (IsItem :
 
 -- where the text is cut into tokens, this is their fault
 abbrev pub ReportsItemFault : {T : Type 0} → (T → List (List ℕ)) → (T → Type 0) → List ℕ → EventFault → Type 0
-ReportsItemFault {T} spelled IsItem text fault = (tokens : List Token) → cut_of text ≡ Ok tokens → HasItemFault spelled IsItem text tokens fault
+ReportsItemFault {T} spelled IsItem text fault = (tokens : List Token) → cut_of text ≡ Ok tokens
+    → HasItemFault spelled IsItem text tokens fault
 
 -- the same of event files and of command files
 abbrev pub ReportsStepFault : List ℕ → EventFault → Type 0
@@ -87,8 +97,10 @@ ReportsCommandFault text fault = ReportsItemFault command_lexemes IsCommand text
 
 -- a text has at most one fault, and lists no items then
 pub record HasOneItemFault {T : Type 0} (spelled : T → List (List ℕ)) (IsItem : T → Type 0) : Type 0 where
-  pub one : (text : List ℕ) (e f : EventFault) → ReportsFirstFault text e → ReportsItemFault spelled IsItem text e → ReportsFirstFault text f → ReportsItemFault spelled IsItem text f → e ≡ f
-  pub none : (text : List ℕ) (e : EventFault) (items : List T) → ReportsItemFault spelled IsItem text e → HoldsItems spelled IsItem text items → ⊥
+  pub one : (text : List ℕ) (e f : EventFault) → ReportsFirstFault text e → ReportsItemFault spelled IsItem text e
+      → ReportsFirstFault text f → ReportsItemFault spelled IsItem text f → e ≡ f
+  pub none : (text : List ℕ) (e : EventFault) (items : List T) → ReportsItemFault spelled IsItem text e
+      → HoldsItems spelled IsItem text items → ⊥
 
 abbrev pub EventFilesHaveOneFault : Type 0
 EventFilesHaveOneFault = HasOneItemFault step_lexemes IsStep
@@ -110,15 +122,20 @@ IsAtomNext (w ∷ ws) false = IsBrace w
 
 -- what the token is where no item goes on with it: an atom in the place of a number, or not
 abbrev pub IsNumberFault : {T : Type 0} → (T → List (List ℕ)) → (T → Type 0) → List (List ℕ) → List ℕ → Bool → Type 0
-IsNumberFault {T} spelled IsItem front w true = ((number : List ℕ) × IsDigits number × BeginsItem spelled IsItem (front ++ number ∷ [])) × (IsBrace w → ⊥)
-IsNumberFault {T} spelled IsItem front w false = (number : List ℕ) → IsDigits number → BeginsItem spelled IsItem (front ++ number ∷ []) → IsBrace w
+IsNumberFault {T} spelled IsItem front w true =
+    ((number : List ℕ) × IsDigits number × BeginsItem spelled IsItem (front ++ number ∷ [])) × (IsBrace w → ⊥)
+IsNumberFault {T} spelled IsItem front w false = (number : List ℕ) → IsDigits number
+    → BeginsItem spelled IsItem (front ++ number ∷ []) → IsBrace w
 
-abbrev pub IsWrongAfter : {T : Type 0} → (T → List (List ℕ)) → (T → Type 0) → (front rest : List (List ℕ)) → Bool → Type 0
+abbrev pub IsWrongAfter : {T : Type 0} → (T → List (List ℕ)) → (T → Type 0) → (front rest : List (List ℕ)) → Bool
+    → Type 0
 IsWrongAfter {T} spelled IsItem front [] is_number = is_number ≡ false
-IsWrongAfter {T} spelled IsItem front (w ∷ ws) is_number = (BeginsItem spelled IsItem (front ++ w ∷ []) → ⊥) × IsNumberFault spelled IsItem front w is_number
+IsWrongAfter {T} spelled IsItem front (w ∷ ws) is_number =
+    (BeginsItem spelled IsItem (front ++ w ∷ []) → ⊥) × IsNumberFault spelled IsItem front w is_number
 
 -- of these tokens an item begins with those before the wrong one, and goes on after them, but not so
-pub record IsWrongItem {T : Type 0} (spelled : T → List (List ℕ)) (IsItem : T → Type 0) (words : List (List ℕ)) (wrong : Wrong) : Type 0 where
+pub record IsWrongItem {T : Type 0} (spelled : T → List (List ℕ)) (IsItem : T → Type 0) (words : List (List ℕ))
+    (wrong : Wrong) : Type 0 where
   pub front : List (List ℕ)
   pub rest : List (List ℕ)
   pub whole : words ≡ front ++ rest

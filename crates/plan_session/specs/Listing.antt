@@ -1,5 +1,6 @@
 -- The items of a text one by one, from the tokens that are left to a scanner.
-use Rattle.std.specs.Prelude.{◌≡◌, ◌≢◌, ◌⊎◌, ℕ, ◌<◌, ◌≤◌, List, [], ◌∷◌, ◌++◌, length, flat_map, Option, None, Some, Result, Ok, Err}
+use Rattle.std.specs.Prelude.{◌≡◌, ◌≢◌, ◌⊎◌, ℕ, ◌<◌, ◌≤◌, List, [], ◌∷◌, ◌++◌, length, flat_map, Option, None, Some}
+use Rattle.std.specs.Prelude.{Result, Ok, Err}
 use Rattle.std.specs.List.{AllByRecursion}
 use Rattle.script_tokens.specs.declared.fault.ScriptFault.{ScriptFault}
 use Rattle.script_tokens.specs.declared.fault.ScriptFault.TheVariants.{Memory}
@@ -27,7 +28,8 @@ lexemes_left s = as_lexemes s.text (tokens_left s)
 -- ---- lists of items
 
 -- the tokens that are left spell these items, each in its ranges
-pub record Lists {T : Type 0} (spelled : T → List (List ℕ)) (IsItem : T → Type 0) (s : Scan) (items : List T) : Type 0 where
+pub record Lists {T : Type 0} (spelled : T → List (List ℕ)) (IsItem : T → Type 0) (s : Scan) (items : List T) : Type
+    0 where
   pub left : lexemes_left s ≡ Ok (flat_map spelled items)
   pub in_range : AllByRecursion IsItem items
 
@@ -38,9 +40,11 @@ abbrev pub ListsCommands : Scan → List Command → Type 0
 ListsCommands s commands = Lists command_lexemes IsCommand s commands
 
 -- the item comes first in every list, and the others are listed after it
-pub record TakesFirst {T : Type 0} (spelled : T → List (List ℕ)) (IsItem : T → Type 0) (old new : Scan) (item : T) : Type 0 where
+pub record TakesFirst {T : Type 0} (spelled : T → List (List ℕ)) (IsItem : T → Type 0) (old new : Scan)
+    (item : T) : Type 0 where
   pub in_range : IsItem item
-  pub on : (items : List T) → Lists spelled IsItem old items → (rest : List T) × (items ≡ item ∷ rest) × Lists spelled IsItem new rest
+  pub on : (items : List T) → Lists spelled IsItem old items → (rest : List T) × (items ≡ item ∷ rest)
+      × Lists spelled IsItem new rest
   pub bytes : bytes_left new < bytes_left old
   pub bound : bytes_left old < 18446744073709551616
 
@@ -80,12 +84,15 @@ pub record TakesUpTo (count : ℕ) (old new : Scan) (tokens : List Token) : Type
   pub bytes : bytes_left new ≤ bytes_left old
 
 abbrev pub TakesTokens : ℕ → Scan → Scan → (before after : List Token) → Result (Unit {0}) ScriptFault → Type 0
-TakesTokens count old new before after (Ok done) = (tokens : List Token) × (after ≡ before ++ tokens) × TakesUpTo count old new tokens
+TakesTokens count old new before after (Ok done) = (tokens : List Token) × (after ≡ before ++ tokens)
+    × TakesUpTo count old new tokens
 TakesTokens count old new before after (Err e) = (e ≢ Memory) × HasNoTokens old
 
 -- the tokens begin with the item; or they begin with none, and this is the fault of the first that is wrong
-abbrev pub ReadsItem : {T : Type 0} → (T → List (List ℕ)) → (T → Type 0) → List ℕ → List Token → Result T ScriptFault → Type 0
-ReadsItem {T} spelled IsItem text tokens (Ok item) = IsItem item × ((rest : List (List ℕ)) × (lexemes_of text tokens ≡ spelled item ++ rest))
+abbrev pub ReadsItem : {T : Type 0} → (T → List (List ℕ)) → (T → Type 0) → List ℕ → List Token → Result T ScriptFault
+    → Type 0
+ReadsItem {T} spelled IsItem text tokens (Ok item) = IsItem item
+    × ((rest : List (List ℕ)) × (lexemes_of text tokens ≡ spelled item ++ rest))
 ReadsItem {T} spelled IsItem text tokens (Err e) =
     (e ≢ Memory) × ((item : T) (rest : List (List ℕ)) → IsItem item → lexemes_of text tokens ≢ spelled item ++ rest)
     × ((wrong : Wrong) × IsWrongItem spelled IsItem (lexemes_of text tokens) wrong × (e ≡ fault_at text tokens wrong))
@@ -99,11 +106,15 @@ pub record PassesItem {T : Type 0} (spelled : T → List (List ℕ)) (old new : 
 
 -- where tokens are left, and none is refused, this is their fault
 abbrev pub HasFaultLeft : {T : Type 0} → (T → List (List ℕ)) → (T → Type 0) → Scan → ScriptFault → Type 0
-HasFaultLeft {T} spelled IsItem s e = (tokens : List Token) → tokens_left s ≡ Ok tokens → HasItemFault spelled IsItem s.text tokens (reported_fault e)
+HasFaultLeft {T} spelled IsItem s e = (tokens : List Token) → tokens_left s ≡ Ok tokens
+    → HasItemFault spelled IsItem s.text tokens (reported_fault e)
 
 -- the next item, if no token is at fault; none at the end of the text; or the fault of a text that lists no items
-abbrev pub FindsItem : {T : Type 0} → (T → List (List ℕ)) → (T → Type 0) → Scan → Scan → Result (Option T) ScriptFault → Type 0
+abbrev pub FindsItem : {T : Type 0} → (T → List (List ℕ)) → (T → Type 0) → Scan → Scan → Result (Option T) ScriptFault
+    → Type 0
 FindsItem {T} spelled IsItem old new (Ok None) = (lexemes_left old ≡ Ok []) × (new ≡ old)
 FindsItem {T} spelled IsItem old new (Ok (Some item)) =
-    IsItem item × (lexemes_left old ≡ preceded (spelled item) (lexemes_left new)) × (bytes_left new < bytes_left old) × (bytes_left old < 18446744073709551616) × PassesItem spelled old new item
-FindsItem {T} spelled IsItem old new (Err e) = (e ≢ Memory) × ((items : List T) → Lists spelled IsItem old items → ⊥) × HasFaultLeft spelled IsItem old e
+    IsItem item × (lexemes_left old ≡ preceded (spelled item) (lexemes_left new)) × (bytes_left new < bytes_left old)
+    × (bytes_left old < 18446744073709551616) × PassesItem spelled old new item
+FindsItem {T} spelled IsItem old new (Err e) = (e ≢ Memory) × ((items : List T) → Lists spelled IsItem old items → ⊥)
+    × HasFaultLeft spelled IsItem old e

@@ -11,7 +11,8 @@ use Rattle.plan_session.specs.Playback.{IsFileOf, or_zero}
 -- what holds where a file is not played because of its code
 abbrev pub IsCodeFault : List ℕ → RunFault → Type 0
 IsCodeFault file (Code fault) = fault ≢ NoMemoryForCode → HasCodeFault file fault
-IsCodeFault file (Refused pc line cause) = (code : Program) × IsFileOf code file × IsRefused code pc cause × (line ≡ or_zero (line_at code pc))
+IsCodeFault file (Refused pc line cause) = (code : Program) × IsFileOf code file × IsRefused code pc cause
+    × (line ≡ or_zero (line_at code pc))
 IsCodeFault file (Start fault) = ⊥
 IsCodeFault file (Events fault) = ⊥
 IsCodeFault file (Write frames bytes) = ⊥

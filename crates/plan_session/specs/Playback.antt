@@ -61,7 +61,8 @@ pub record IsPlayback (r : Request) (p : Playing) (steps : List Step) : Type 0 w
   pub holds : Holds r.text steps
 
 -- the start is in range, this is a player of the code at it, and the text lists these steps
-pub record IsStarted (code : Program) (start : Starting) (text : List ℕ) (p : Playing) (steps : List Step) : Type 0 where
+pub record IsStarted (code : Program) (start : Starting) (text : List ℕ) (p : Playing) (steps : List Step) : Type
+    0 where
   pub in_range : start_fault start ≡ None
   pub begins : IsAtStart code start p
   pub holds : Holds text steps
@@ -86,12 +87,14 @@ IsSessionOf r s = (p : Playing) → Begins r p ↔ IsAtStart s.code s.start p
 
 -- all bytes of the playback, and the number of its frames; or the part that the sink took; barring allocation failure
 abbrev pub Delivers : Playing → List Event → Option (List ℕ) → Option (List ℕ) → Result ℕ RunFault → Type 0
-Delivers p events before after (Ok frames) = (frames ≡ length (frames_of p events)) × Appends before after (played_bytes p events)
+Delivers p events before after (Ok frames) = (frames ≡ length (frames_of p events))
+    × Appends before after (played_bytes p events)
 Delivers p events before after (Err (Code fault)) = fault ≡ NoMemoryForCode
 Delivers p events before after (Err (Refused pc line cause)) = ⊥
 Delivers p events before after (Err (Start fault)) = ⊥
 Delivers p events before after (Err (Events fault)) = fault ≡ NoMemoryForEvents
-Delivers p events before after (Err (Write frames bytes)) = (new : Playing) × Stopped p new events before after frames bytes
+Delivers p events before after (Err (Write frames bytes)) =
+    (new : Playing) × Stopped p new events before after frames bytes
 
 -- ---- faults
 
@@ -102,16 +105,20 @@ or_zero (Some n) = n
 -- what holds where a fault is returned: it is a fault of the request, and none of those before it is
 abbrev pub IsRunFault : Request → RunFault → Type 0
 IsRunFault r (Code fault) = fault ≢ NoMemoryForCode → HasCodeFault r.file fault
-IsRunFault r (Refused pc line cause) = (code : Program) × IsFileOf code r.file × IsRefused code pc cause × (line ≡ or_zero (line_at code pc))
+IsRunFault r (Refused pc line cause) = (code : Program) × IsFileOf code r.file × IsRefused code pc cause
+    × (line ≡ or_zero (line_at code pc))
 IsRunFault r (Start fault) = (code : Program) × IsTypedFileOf code r.file × (start_fault (start_of code r) ≡ Some fault)
-IsRunFault r (Events fault) = (code : Program) × CanStart code r × (fault ≢ NoMemoryForEvents → (steps : List Step) → Holds r.text steps → ⊥)
+IsRunFault r (Events fault) = (code : Program) × CanStart code r
+    × (fault ≢ NoMemoryForEvents → (steps : List Step) → Holds r.text steps → ⊥)
 IsRunFault r (Write frames bytes) = (p : Playing) × (steps : List Step) × IsPlayback r p steps
 
 -- the fault with which a request does not begin
 abbrev pub IsBeginFault : Request → RunFault → Type 0
 IsBeginFault r (Code fault) = fault ≢ NoMemoryForCode → HasCodeFault r.file fault
-IsBeginFault r (Refused pc line cause) = (code : Program) × IsFileOf code r.file × IsRefused code pc cause × (line ≡ or_zero (line_at code pc))
-IsBeginFault r (Start fault) = (code : Program) × IsTypedFileOf code r.file × (start_fault (start_of code r) ≡ Some fault)
+IsBeginFault r (Refused pc line cause) = (code : Program) × IsFileOf code r.file × IsRefused code pc cause
+    × (line ≡ or_zero (line_at code pc))
+IsBeginFault r (Start fault) = (code : Program) × IsTypedFileOf code r.file
+    × (start_fault (start_of code r) ≡ Some fault)
 IsBeginFault r (Events fault) = ⊥
 IsBeginFault r (Write frames bytes) = ⊥
 
@@ -120,8 +127,10 @@ abbrev pub IsPlayFault : Program → Starting → List ℕ → RunFault → Type
 IsPlayFault code start text (Code fault) = ⊥
 IsPlayFault code start text (Refused pc line cause) = ⊥
 IsPlayFault code start text (Start fault) = start_fault start ≡ Some fault
-IsPlayFault code start text (Events fault) = (start_fault start ≡ None) × (fault ≢ NoMemoryForEvents → (steps : List Step) → Holds text steps → ⊥)
-IsPlayFault code start text (Write frames bytes) = (p : Playing) × (steps : List Step) × IsStarted code start text p steps
+IsPlayFault code start text (Events fault) = (start_fault start ≡ None)
+    × (fault ≢ NoMemoryForEvents → (steps : List Step) → Holds text steps → ⊥)
+IsPlayFault code start text (Write frames bytes) = (p : Playing) × (steps : List Step)
+    × IsStarted code start text p steps
 
 abbrev pub is_write : Result ℕ RunFault → Bool
 is_write (Ok frames) = false

@@ -56,10 +56,8 @@ impl<'a> CommandList<'a> {
         ensures fault { IfErr result (λ e. ReportsCommandFault text.now e) }
         ensures named { IfErr result (λ e. e ≢ Memory) }
     {
-        match list_items::<Command>(text) {
-            Ok(scanner) => Ok(CommandList { scanner }),
-            Err(fault) => Err(fault),
-        }
+        let scanner = list_items::<Command>(text)?;
+        Ok(CommandList { scanner })
     }
 
     /// The next of the commands that are left; None if there is none.

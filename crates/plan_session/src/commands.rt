@@ -57,6 +57,7 @@ fn tokens_after(keyword: Keyword) -> usize
 }
 
 /// The rest of a command, after its keyword.
+#[tactic(auto, using(crate::proofs::WrongCommands::no_contact, crate::proofs::WrongCommands::no_run, crate::proofs::WrongCommands::no_break))]
 fn command_after(keyword: Keyword, reader: &mut TokenReader) -> Result<Command, Wrong>
     ensures read { IfOk result (λ s. keyword_text keyword ∷ reader.old.lexemes
         ≡ command_lexemes s ++ reader.new.lexemes) }
@@ -67,19 +68,13 @@ fn command_after(keyword: Keyword, reader: &mut TokenReader) -> Result<Command, 
         IsWrongItem command_lexemes IsCommand (keyword_text keyword ∷ reader.old.lexemes) e) }
 {
     match keyword {
-        Keyword::Contact => match change(reader) {
-            Ok((contact, closed)) => Ok(Command::Contact(contact, closed)),
-            Err(wrong) => Err(wrong),
-        },
-        Keyword::Run => match number(reader, 1, FRAMES_A_DAY) {
-            Ok(frames) => Ok(Command::Run(frames)),
-            Err(wrong) => Err(wrong),
-        },
+        Keyword::Contact => {
+            let (contact, closed) = change(reader)?;
+            Ok(Command::Contact(contact, closed))
+        }
+        Keyword::Run => Ok(Command::Run(number(reader, 1, FRAMES_A_DAY)?)),
         Keyword::Next => Ok(Command::Next),
-        Keyword::Break => match number(reader, 1, 65_535) {
-            Ok(line) => Ok(Command::Break(line as u16)),
-            Err(wrong) => Err(wrong),
-        },
+        Keyword::Break => Ok(Command::Break(number(reader, 1, u32::from(u16::MAX))? as u16)),
         Keyword::Clear => Ok(Command::Clear),
         Keyword::Show => Ok(Command::Show),
     }

@@ -1,6 +1,7 @@
 //! Reading event files.
 
-ghost use Rattle.std.specs.Prelude.{◌≡◌, ◌≢◌, Bool, List, ℕ, ◌∷◌, ◌++◌, codes, IfOk, IfErr, IfSome, IfNone};
+ghost use Rattle.std.specs.Prelude.{◌≡◌, ◌≢◌, Bool, List, ℕ, ◌∷◌, ◌++◌, codes, IfOk, IfErr, IfSome};
+ghost use Rattle.std.specs.Prelude.{IfNone};
 ghost use Rattle.plan_session.specs.declared.event_fault.EventFault.TheVariants.{Memory};
 ghost use Rattle.plan_session.specs.declared.step.Step.{Step};
 ghost use Rattle.plan_session.specs.Events.{IsStep, step_lexemes, first_lexeme, Holds};
@@ -17,6 +18,7 @@ use script_tokens::TokenReader;
 use std::alloc::Global;
 
 /// The rest of a step, after the token `frames`, or otherwise `contact`.
+#[tactic(auto, using(crate::proofs::WrongSteps::no_frames, crate::proofs::WrongSteps::no_contact))]
 fn step_after(of_frames: bool, reader: &mut TokenReader) -> Result<Step, Wrong>
     ensures read { IfOk result (λ s. first_lexeme of_frames ∷ reader.old.lexemes
         ≡ step_lexemes s ++ reader.new.lexemes) }
@@ -27,15 +29,10 @@ fn step_after(of_frames: bool, reader: &mut TokenReader) -> Result<Step, Wrong>
         IsWrongItem step_lexemes IsStep (first_lexeme of_frames ∷ reader.old.lexemes) e) }
 {
     if of_frames {
-        match number(reader, 1, FRAMES_A_DAY) {
-            Ok(frames) => Ok(Step::Frames(frames)),
-            Err(wrong) => Err(wrong),
-        }
+        Ok(Step::Frames(number(reader, 1, FRAMES_A_DAY)?))
     } else {
-        match change(reader) {
-            Ok((contact, closed)) => Ok(Step::Contact(contact, closed)),
-            Err(wrong) => Err(wrong),
-        }
+        let (contact, closed) = change(reader)?;
+        Ok(Step::Contact(contact, closed))
     }
 }
 

@@ -1,6 +1,7 @@
 //! Reading an item that a text lists: a step of an event file, or a command of a command file.
 
-ghost use Rattle.std.specs.Prelude.{◌≡◌, ◌≢◌, ℕ, ◌<◌, ◌≤◌, Bool, List, ◌∷◌, ◌++◌, length, [], IfOk, IfErr};
+ghost use Rattle.std.specs.Prelude.{◌≡◌, ◌≢◌, ℕ, ◌<◌, ◌≤◌, Bool, List, ◌∷◌, ◌++◌, length, [], IfOk};
+ghost use Rattle.std.specs.Prelude.{IfErr};
 ghost use Rattle.std.specs.Fmt.{decimal};
 ghost use Rattle.script_tokens.specs.Reading.{Passes};
 ghost use Rattle.script_tokens.specs.Spelling.{level_text};
@@ -97,10 +98,7 @@ pub(crate) fn change(reader: &mut TokenReader) -> Result<(ContactId, bool), Wron
         → reader.old.lexemes ≢ decimal c ∷ level_text closed ∷ rest) }
     ensures wrong { IfErr result (λ e. IsNoChange reader.old.lexemes e) }
 {
-    let contact = match contact_number(reader) {
-        Ok(contact) => contact,
-        Err(wrong) => return Err(wrong),
-    };
+    let contact = contact_number(reader)?;
     match level(reader) {
         Ok(closed) => Ok((contact, closed)),
         Err(_other) => Err(Wrong {

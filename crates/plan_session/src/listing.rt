@@ -1,6 +1,7 @@
 //! The items of a text one by one, of which none is kept.
 
-ghost use Rattle.std.specs.Prelude.{◌≡◌, ◌≢◌, ◌+◌, ◌≤◌, ℕ, List, length, Ok, Err, OnOk, IfOk, IfErr};
+ghost use Rattle.std.specs.Prelude.{◌≡◌, ◌≢◌, ◌+◌, ◌≤◌, ℕ, List, length, Ok, Err, OnOk, IfOk};
+ghost use Rattle.std.specs.Prelude.{IfErr};
 ghost use Rattle.script_tokens.specs.declared.fault.ScriptFault.TheVariants.{Memory as NoMemory};
 ghost use Rattle.script_tokens.specs.declared.token.Token.{Token};
 ghost use Rattle.script_tokens.specs.Reading.{AreWithin, lexemes_of};
@@ -8,7 +9,8 @@ ghost use Rattle.plan_session.specs.declared.event_fault.EventFault.TheVariants.
 ghost use Rattle.plan_session.specs.ItemFaults.{ReportsItemFault};
 ghost use Rattle.plan_session.specs.Items.{HoldsItems};
 ghost use Rattle.plan_session.specs.FirstFaults.{ReportsFirstFault, cut_of};
-ghost use Rattle.plan_session.specs.Listing.{Lists, TakesItem, TakesTokens, FindsItem, ReadsItem, HasFaultLeft};
+ghost use Rattle.plan_session.specs.Listing.{Lists, TakesItem, TakesTokens, FindsItem, ReadsItem};
+ghost use Rattle.plan_session.specs.Listing.{HasFaultLeft};
 
 use crate::event_fault::EventFault;
 use crate::item_fault::fault_at;

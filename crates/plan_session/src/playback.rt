@@ -4,7 +4,8 @@ ghost use Rattle.std.specs.Prelude.{◌≡◌, List, false, IfErr, OnOk};
 ghost use Rattle.plan_player.specs.Playing.{Playing};
 ghost use Rattle.plan_session.specs.declared.step.Step.{Step};
 ghost use Rattle.plan_session.specs.Events.{events_of};
-ghost use Rattle.plan_session.specs.Playback.{asked, IsPlayback, IsStarted, Delivers, IsRunFault, IsPlayFault, is_write, IsSilent};
+ghost use Rattle.plan_session.specs.Playback.{asked, IsPlayback, IsStarted, Delivers, IsRunFault};
+ghost use Rattle.plan_session.specs.Playback.{IsPlayFault, is_write, IsSilent};
 
 use crate::code_file::typed_code;
 use crate::laws;

@@ -14,7 +14,7 @@ use plan_player::{Event, PlayFault, Player, Sink, play, play_frames};
 
 /// What a sink took before it failed: this many whole frames, and this many bytes of the next
 /// frame.
-#[derive(Clone, Copy, Debug, PartialEq, Eq)]
+#[derive(Clone, Copy, PartialEq, Eq)]
 pub(crate) struct Cut {
     pub(crate) frames: u128,
     pub(crate) bytes: usize,

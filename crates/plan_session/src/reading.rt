@@ -25,16 +25,10 @@ pub(crate) fn read_items<T: Item>(alloc: Global, text: &str) -> Result<Vec<T>, E
     ensures fault { IfErr result (λ e. e ≢ Memory
         → ReportsItemFault T.spelled T.is_item text.now e) }
 {
-    let mut left = match list_items::<T>(text) {
-        Ok(left) => left,
-        Err(fault) => return Err(fault),
-    };
+    let mut left = list_items::<T>(text)?;
     let mut items = Vec::new(alloc);
     while let Some(item) = take_item::<T>(&mut left) {
-        match push(&mut items, item) {
-            Ok(()) => {}
-            Err(fault) => return Err(fault),
-        }
+        push(&mut items, item)?;
     }
     Ok(items)
 }

@@ -56,10 +56,7 @@ impl Session {
             → CanStart program (asked_from code.now text start)
             → IfErr result (λ e. e ≡ OfCode NoMemoryForCode) }
     {
-        let code = match typed_code(alloc, code) {
-            Ok(code) => code,
-            Err(fault) => return Err(fault),
-        };
+        let code = typed_code(alloc, code)?;
         let start = start_with(&code, start);
         match fault_of(&code, start) {
             None => Ok(Session { code, start }),

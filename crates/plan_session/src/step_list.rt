@@ -55,10 +55,8 @@ impl<'a> StepList<'a> {
         ensures fault { IfErr result (λ e. ReportsStepFault text.now e) }
         ensures named { IfErr result (λ e. e ≢ Memory) }
     {
-        match list_items::<Step>(text) {
-            Ok(scanner) => Ok(StepList { scanner }),
-            Err(fault) => Err(fault),
-        }
+        let scanner = list_items::<Step>(text)?;
+        Ok(StepList { scanner })
     }
 
     /// The next of the steps that are left; None if there is none.

@@ -1,6 +1,7 @@
 //! Reading the text of an event file or of a command file.
 
-ghost use Rattle.std.specs.Prelude.{◌≡◌, ◌≢◌, ℕ, List, ◌++◌, true, OnOk, IfOk, IfErr, IfSome, IsUtf8, string_bytes};
+ghost use Rattle.std.specs.Prelude.{◌≡◌, ◌≢◌, ℕ, List, ◌++◌, true, OnOk, IfOk, IfErr, IfSome};
+ghost use Rattle.std.specs.Prelude.{IsUtf8, string_bytes};
 ghost use Rattle.plan_session.specs.declared.text_fault.TextFault.TheVariants.{NotUtf8};
 
 use crate::text_fault::TextFault;
@@ -25,10 +26,7 @@ pub fn read_text<R: Read + Drop>(alloc: Global, source: R) -> Result<String, Tex
         (λ whole. IsUtf8 whole → ⊥)) }
 {
     let mut source = source;
-    let bytes = match read_bytes(alloc, &mut source) {
-        Ok(bytes) => bytes,
-        Err(fault) => return Err(fault),
-    };
+    let bytes = read_bytes(alloc, &mut source)?;
     match String::from_utf8(bytes) {
         Ok(text) => Ok(text),
         Err(_) => Err(TextFault::NotUtf8),

@@ -1,5 +1,4 @@
-use Rattle.std.proofs.Common.{◌-◌, ◌≡◌}
-use Rattle.plan_debug.specs.Commands.{most_frames}
+use Rattle.plan_debug.proofs.Words.{◌-◌, ◌≡◌, most_frames}
 use Rattle.plan_debug.proofs.Stretches.{IsStretch}
 use Rattle.plan_debug.proofs.debugger.play_frames.Given as goal
 

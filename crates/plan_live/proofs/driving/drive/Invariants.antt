@@ -1,6 +1,4 @@
-use Rattle.std.proofs.Common.{◌≡◌, true}
-use Rattle.plan_live.specs.Going.{Going}
-use Rattle.plan_live.specs.Living.{IsPrompt, streams_at}
+use Rattle.plan_live.proofs.Words.{◌≡◌, Going, IsPrompt, streams_at, true}
 use Rattle.plan_live.proofs.driving.drive.Given as goal
 
 -- the lines so far

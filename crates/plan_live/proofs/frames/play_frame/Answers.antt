@@ -1,7 +1,4 @@
-use Rattle.std.proofs.Common.{[], ◌∷◌}
-use Rattle.plan_runs.specs.declared.event.Event.TheVariants.{Frame}
-use Rattle.plan_live.specs.Going.{Went}
-use Rattle.plan_live.specs.Living.{Streamed, streams_at}
+use Rattle.plan_live.proofs.Words.{[], ◌∷◌, Frame, Streamed, Went, streams_at}
 use Rattle.plan_live.proofs.Going.{went_none, went_join, ok_then}
 use Rattle.plan_live.proofs.frames.play_frame.Goals as goal
 
@@ -14,5 +11,7 @@ returns-clause-went g c =
     let a : Streamed = at c.args.ends.now in
     let b : Streamed = at c.make_room.new.ends in
     let d : Streamed = at c.send_frame.new.ends in
-    ok_then c.send_frame.result (Went skip p n (Frame ∷ []) c.send_frame.new.player c.send_frame.new.made b d) (Went skip p n (Frame ∷ []) c.send_frame.new.player c.send_frame.new.made a d)
-    (λ h. went_join skip p p c.send_frame.new.player n n c.send_frame.new.made [] (Frame ∷ []) a b d (went_none skip p n a b c.make_room.ensures.left c.make_room.ensures.written) h) c.send_frame.ensures.went
+    ok_then c.send_frame.result (Went skip p n (Frame ∷ []) c.send_frame.new.player c.send_frame.new.made b d)
+    (Went skip p n (Frame ∷ []) c.send_frame.new.player c.send_frame.new.made a d)
+    (λ h. went_join skip p p c.send_frame.new.player n n c.send_frame.new.made [] (Frame ∷ []) a b d
+    (went_none skip p n a b c.make_room.ensures.left c.make_room.ensures.written) h) c.send_frame.ensures.went

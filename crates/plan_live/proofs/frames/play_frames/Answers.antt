@@ -1,10 +1,5 @@
-use Rattle.std.specs.Prelude.{replicate}
-use Rattle.std.proofs.Common.{◌∷◌, [], ℕ, List, subst, sym, arith, ◌∙◌}
-use Rattle.plan_runs.specs.declared.event.Event.{Event}
-use Rattle.plan_runs.specs.declared.event.Event.TheVariants.{Frame}
-use Rattle.plan_player.specs.Playing.{Playing}
-use Rattle.plan_live.specs.Going.{Went}
-use Rattle.plan_live.specs.Living.{Streamed, streams_at}
+use Rattle.plan_live.proofs.Words.{[], ◌∙◌, ◌∷◌, Event, Frame, List, Playing, Streamed, Went, arith, replicate}
+use Rattle.plan_live.proofs.Words.{streams_at, subst, sym, ℕ}
 use Rattle.plan_live.proofs.Going.{went_join}
 use Rattle.plan_live.proofs.Steps.{replicate_more}
 use Rattle.plan_live.proofs.frames.play_frames.Goals as goal
@@ -19,9 +14,11 @@ loop-done-preserved g c =
     let p : Playing = c.args.player.now in
     let n : ℕ = c.args.made.now in
     let k : ℕ = c.loop-done.done in
-    let both = went_join skip p c.loop-done.player c.play_frame.new.player n c.loop-done.made c.play_frame.new.made (replicate k Frame) (Frame ∷ []) a b d c.loop-done.invariant.went c.in_ok-play_frame.ensures.went in
+    let both = went_join skip p c.loop-done.player c.play_frame.new.player n c.loop-done.made c.play_frame.new.made
+    (replicate k Frame) (Frame ∷ []) a b d c.loop-done.invariant.went c.in_ok-play_frame.ensures.went in
     record {
       within = omega (arith, c.loop-done-test.true);
-      went = subst (λ (l : List Event). Went skip p n l c.play_frame.new.player c.play_frame.new.made a d) (sym (replicate_more k 1)) both;
+      went = subst (λ (l : List Event). Went skip p n l c.play_frame.new.player c.play_frame.new.made a d)
+          (sym (replicate_more k 1)) both;
       moments = c.in_ok-play_frame.ensures.moments ∙ c.loop-done.invariant.moments;
     }

@@ -1,7 +1,4 @@
-use Rattle.std.proofs.Common.{◌≡◌, ◌-◌, ◌≤◌, replicate}
-use Rattle.plan_runs.specs.declared.event.Event.TheVariants.{Frame}
-use Rattle.plan_live.specs.Going.{Went}
-use Rattle.plan_live.specs.Living.{streams_at}
+use Rattle.plan_live.proofs.Words.{◌-◌, ◌≡◌, ◌≤◌, Frame, Went, replicate, streams_at}
 use Rattle.plan_live.proofs.frames.play_frames.Given as goal
 
 -- the frames so far

@@ -1,7 +1,4 @@
-use Rattle.plan_player.specs.Playing.{Playing}
-use Rattle.plan_session.specs.Events.{events_of}
-use Rattle.plan_live.specs.Going.{Went}
-use Rattle.plan_live.specs.Living.{Streamed, streams_at}
+use Rattle.plan_live.proofs.Words.{Playing, Streamed, Went, events_of, streams_at}
 use Rattle.plan_live.proofs.Going.{went_flushed, ok_always}
 use Rattle.plan_live.proofs.frames.play_line.Goals as goal
 
@@ -15,4 +12,5 @@ returns-clause-went g c =
     let skip = c.args.options.skip in
     let events = events_of c.args.steps.now in
     ok_always c.flush_line.result (Went skip p c.args.made.now events q c.play_steps.new.made a d)
-    (went_flushed skip p q c.args.made.now c.play_steps.new.made events a (at c.play_steps.new.ends) d c.in_ok-play_steps.ensures.went c.flush_line.ensures.left c.flush_line.ensures.written)
+    (went_flushed skip p q c.args.made.now c.play_steps.new.made events a (at c.play_steps.new.ends) d
+    c.in_ok-play_steps.ensures.went c.flush_line.ensures.left c.flush_line.ensures.written)

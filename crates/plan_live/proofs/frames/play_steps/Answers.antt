@@ -1,11 +1,5 @@
-use Rattle.std.proofs.Common.{◌≡◌, ◌+◌, ◌++◌, ◌∷◌, [], ℕ, List, take, subst, sym, ap, ◌∙◌}
-use Rattle.std.proofs.lemmas.List.{take_more}
-use Rattle.plan_runs.specs.declared.event.Event.{Event}
-use Rattle.plan_player.specs.Playing.{Playing}
-use Rattle.plan_session.specs.declared.step.Step.{Step}
-use Rattle.plan_session.specs.Events.{events_of, events_of_step}
-use Rattle.plan_live.specs.Going.{Went}
-use Rattle.plan_live.specs.Living.{Streamed, streams_at}
+use Rattle.plan_live.proofs.Words.{[], ◌++◌, ◌+◌, ◌∙◌, ◌∷◌, ◌≡◌, Event, List, Playing, Step, Streamed, Went, ap}
+use Rattle.plan_live.proofs.Words.{events_of, events_of_step, streams_at, subst, sym, take, take_more, ℕ}
 use Rattle.plan_live.proofs.Going.{went_join}
 use Rattle.plan_live.proofs.Steps.{events_more}
 use Rattle.plan_live.proofs.frames.play_steps.Goals as goal
@@ -24,8 +18,11 @@ loop-step-preserved g c =
     let step : Step = c.step-item.result in
     let more : take (i + 1) steps ≡ take i steps ++ step ∷ [] =
     take_more steps i step c.loop-step-test.true ∙ ap (λ (x : Step). take i steps ++ x ∷ []) (sym c.step-item.is) in
-    let both = went_join skip p c.loop-step.player c.play_step.new.player n c.loop-step.made c.play_step.new.made (events_of (take i steps)) (events_of_step step) a b d c.loop-step.invariant.went c.in_ok-play_step.ensures.went in
+    let both = went_join skip p c.loop-step.player c.play_step.new.player n c.loop-step.made c.play_step.new.made
+    (events_of (take i steps)) (events_of_step step) a b d c.loop-step.invariant.went
+    c.in_ok-play_step.ensures.went in
     record {
-      went = subst (λ (l : List Event). Went skip p n l c.play_step.new.player c.play_step.new.made a d) (sym (events_more steps i step more)) both;
+      went = subst (λ (l : List Event). Went skip p n l c.play_step.new.player c.play_step.new.made a d)
+          (sym (events_more steps i step more)) both;
       moments = c.in_ok-play_step.ensures.moments ∙ c.loop-step.invariant.moments;
     }

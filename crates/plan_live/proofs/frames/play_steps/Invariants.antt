@@ -1,7 +1,4 @@
-use Rattle.std.proofs.Common.{◌≡◌, take}
-use Rattle.plan_session.specs.Events.{events_of}
-use Rattle.plan_live.specs.Going.{Went}
-use Rattle.plan_live.specs.Living.{streams_at}
+use Rattle.plan_live.proofs.Words.{◌≡◌, Went, events_of, streams_at, take}
 use Rattle.plan_live.proofs.frames.play_steps.Given as goal
 
 -- the steps so far

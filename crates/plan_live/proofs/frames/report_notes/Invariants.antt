@@ -1,4 +1,4 @@
-use Rattle.std.proofs.Common.{◌≡◌}
+use Rattle.plan_live.proofs.Words.{◌≡◌}
 use Rattle.plan_live.proofs.frames.report_notes.Given as goal
 
 -- messages leave the input and the output as they are

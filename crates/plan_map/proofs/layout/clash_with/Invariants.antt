@@ -1,5 +1,4 @@
-use Rattle.std.proofs.Common.{◌≡◌, drop}
-use Rattle.plan_map.proofs.Names.{clash_with}
+use Rattle.plan_map.proofs.Words.{◌≡◌, clash_with, drop}
 use Rattle.plan_map.proofs.layout.clash_with.Given as goal
 
 abbrev pub invariant-loop-place : goal.invariant-loop-place

@@ -1,5 +1,4 @@
-use Rattle.std.proofs.Common.{◌≡◌, drop}
-use Rattle.plan_map.proofs.Names.{first_with}
+use Rattle.plan_map.proofs.Words.{◌≡◌, drop, first_with}
 use Rattle.plan_map.proofs.layout.first_with.Given as goal
 
 abbrev pub invariant-loop-sub : goal.invariant-loop-sub

@@ -1,5 +1,4 @@
-use Rattle.std.proofs.Common.{◌≡◌, Some, None}
-use Rattle.plan_map.proofs.Names.{first_clash}
+use Rattle.plan_map.proofs.Words.{◌≡◌, None, Some, first_clash}
 use Rattle.plan_map.proofs.Places.{serves, is_clash}
 use Rattle.plan_map.proofs.layout.layout_from.Goals as goal
 

@@ -1,5 +1,4 @@
-use Rattle.std.proofs.Common.{◌∙◌, ap, sym, List, ◌++◌}
-use Rattle.plan_map.proofs.Names.{Sub, place_of}
+use Rattle.plan_map.proofs.Words.{◌++◌, ◌∙◌, List, Sub, ap, place_of, sym}
 use Rattle.plan_map.proofs.Pieces.{cells_from_zero}
 use Rattle.plan_map.proofs.layout.places_of.Goals as goal
 

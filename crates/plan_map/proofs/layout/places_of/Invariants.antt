@@ -1,5 +1,4 @@
-use Rattle.std.proofs.Common.{◌≡◌}
-use Rattle.plan_map.proofs.Names.{flat_map, range_with_len, place_of}
+use Rattle.plan_map.proofs.Words.{◌≡◌, flat_map, place_of, range_with_len}
 use Rattle.plan_map.proofs.layout.places_of.Given as goal
 
 -- the places so far

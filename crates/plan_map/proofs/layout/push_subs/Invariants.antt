@@ -1,4 +1,4 @@
-use Rattle.std.proofs.Common.{◌≡◌, ◌++◌, take}
+use Rattle.plan_map.proofs.Words.{◌++◌, ◌≡◌, take}
 use Rattle.plan_map.proofs.layout.push_subs.Given as goal
 
 abbrev pub invariant-loop-sub : goal.invariant-loop-sub

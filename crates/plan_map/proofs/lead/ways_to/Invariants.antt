@@ -1,5 +1,4 @@
-use Rattle.std.proofs.Common.{◌≡◌, drop}
-use Rattle.plan_map.proofs.Names.{ways_from}
+use Rattle.plan_map.proofs.Words.{◌≡◌, drop, ways_from}
 use Rattle.plan_map.proofs.lead.ways_to.Given as goal
 
 abbrev pub invariant-loop-reached : goal.invariant-loop-reached

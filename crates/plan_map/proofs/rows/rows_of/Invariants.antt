@@ -1,6 +1,5 @@
-use Rattle.std.proofs.Common.{◌≡◌, ℕ, List, ◌++◌, drop}
-use Rattle.plan_map.proofs.Names.{Configuration, Row, Ways, Reached, commits_from, rows_of}
-use Rattle.plan_runs.proofs.Names.{Program}
+use Rattle.plan_map.proofs.Words.{◌++◌, ◌≡◌, Configuration, List, Program, Reached, Row, Ways, commits_from, drop}
+use Rattle.plan_map.proofs.Words.{rows_of, ℕ}
 use Rattle.plan_map.proofs.rows.rows_of.Given as goal
 
 -- the rows so far, and what follows

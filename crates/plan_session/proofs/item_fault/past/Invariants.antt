@@ -1,6 +1,4 @@
-use Rattle.std.proofs.Common.{◌≡◌, ◌-◌, length, drop}
-use Rattle.script_tokens.specs.Bytes.{first_position, position_past}
-use Rattle.script_tokens.specs.Scanning.{IsPlaceIn}
+use Rattle.plan_session.proofs.Words.{◌-◌, ◌≡◌, IsPlaceIn, drop, first_position, length, position_past}
 use Rattle.plan_session.proofs.item_fault.past.Given as goal
 
 abbrev pub invariant-loop-place : goal.invariant-loop-place

@@ -1,4 +1,4 @@
-use Rattle.plan_session.specs.Commands.{IsCommand, command_lexemes}
+use Rattle.plan_session.proofs.Words.{IsCommand, command_lexemes}
 use Rattle.plan_session.proofs.FaultLaws.{has_one_fault}
 use Rattle.plan_session.proofs.laws.one_command_fault.Goals as goal
 

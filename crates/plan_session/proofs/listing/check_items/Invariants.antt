@@ -1,4 +1,4 @@
-use Rattle.script_tokens.specs.Scanning.{bytes_left}
+use Rattle.plan_session.proofs.Words.{bytes_left}
 use Rattle.plan_session.proofs.OneByOne.{HaveRead}
 use Rattle.plan_session.proofs.listing.check_items.Given as goal
 

@@ -1,8 +1,4 @@
-use Rattle.std.proofs.Common.{◌≡◌, List}
-use Rattle.script_tokens.specs.declared.token.Token.{Token}
-use Rattle.script_tokens.specs.Scanning.{tokens_left, bytes_left}
-use Rattle.plan_session.specs.FirstFaults.{cut_of}
-use Rattle.plan_session.specs.Listing.{all_added}
+use Rattle.plan_session.proofs.Words.{◌≡◌, List, Token, all_added, bytes_left, cut_of, tokens_left}
 use Rattle.plan_session.proofs.listing.check_tokens.Given as goal
 
 -- the tokens so far

@@ -1,9 +1,5 @@
-use Rattle.std.specs.Prelude.{slice_range, Option, Some, Ok, Err}
-use Rattle.std.proofs.Common.{◌≡◌, ℕ, List, [], ◌∷◌, ◌++◌, length, ap, subst, sym, refl, ◌∙◌, arith}
-use Rattle.script_tokens.specs.declared.token.Token.{Token}
-use Rattle.script_tokens.specs.Lexing.{added}
-use Rattle.script_tokens.specs.Scanning.{FindsNext}
-use Rattle.plan_session.specs.Listing.{ReadsItem}
+use Rattle.plan_session.proofs.Words.{[], ◌++◌, ◌∙◌, ◌∷◌, ◌≡◌, Err, FindsNext, List, Ok, Option, ReadsItem, Some, Token}
+use Rattle.plan_session.proofs.Words.{added, ap, arith, length, refl, slice_range, subst, sym, ℕ}
 use Rattle.plan_session.proofs.OneByOne.{Window, item_found, no_item_found, fault_found}
 use Rattle.plan_session.proofs.listing.next_item.Goals as goal
 
@@ -14,7 +10,9 @@ returns-in-Ok-item_of g c =
     let text : List ℕ = c.args.scanner.now.text in
     let first : Token = c.in-Ok-Some.first in
     let word : List ℕ = slice_range text first.start first.end in
-    let f : FindsNext c.args.scanner.now c.next.new.self (Ok (Some first)) = subst (λ (o : Option Token). FindsNext c.args.scanner.now c.next.new.self (Ok o)) c.in-Ok-Some.field-0-is c.in-Ok-Some.ensures.found in
+    let f : FindsNext c.args.scanner.now c.next.new.self (Ok (Some first)) =
+    subst (λ (o : Option Token). FindsNext c.args.scanner.now c.next.new.self (Ok o)) c.in-Ok-Some.field-0-is
+    c.in-Ok-Some.ensures.found in
     let t = c.in-Ok.ensures in
     let more : List Token = t.0 in
     let count : ℕ = c.further-count.result in
@@ -24,12 +22,18 @@ returns-in-Ok-item_of g c =
       most = t.2.most;
       all = t.2.all;
       word_is = refl;
-      counts = λ item rest e. c.further-count.ensures.count item rest (e ∙ ap (λ (x : List ℕ). slice_range x first.start first.end ∷ rest) (sym c.text-text.ensures));
+      counts = λ item rest e. c.further-count.ensures.count item rest
+          (e ∙ ap (λ (x : List ℕ). slice_range x first.start first.end ∷ rest) (sym c.text-text.ensures));
     } in
-    let items : c.as_slice.result.now ≡ first ∷ more = c.as_slice.ensures.value ∙ t.1 ∙ ap (λ (l : List Token). l ++ more) (c.push.ensures.items ∙ ap (λ (l : List Token). l ++ first ∷ []) c.new-tokens.ensures) in
-    let here = subst (λ (x : List ℕ). ReadsItem spelled is x c.as_slice.result.now (Ok c.in-Ok-item_of.item)) c.text-text.ensures c.in-Ok-item_of.ensures in
-    let read : ReadsItem spelled is text (first ∷ more) (Ok c.in-Ok-item_of.item) = subst (λ (l : List Token). ReadsItem spelled is text l (Ok c.in-Ok-item_of.item)) items here in
-    let found = item_found spelled is c.args.scanner.now c.take_tokens.new.scanner first more count word c.in-Ok-item_of.item c.uniqueness.ensures.some window read in
+    let items : c.as_slice.result.now ≡ first ∷ more =
+    c.as_slice.ensures.value ∙ t.1 ∙ ap (λ (l : List Token). l ++ more)
+    (c.push.ensures.items ∙ ap (λ (l : List Token). l ++ first ∷ []) c.new-tokens.ensures) in
+    let here = subst (λ (x : List ℕ). ReadsItem spelled is x c.as_slice.result.now (Ok c.in-Ok-item_of.item))
+    c.text-text.ensures c.in-Ok-item_of.ensures in
+    let read : ReadsItem spelled is text (first ∷ more) (Ok c.in-Ok-item_of.item) =
+    subst (λ (l : List Token). ReadsItem spelled is text l (Ok c.in-Ok-item_of.item)) items here in
+    let found = item_found spelled is c.args.scanner.now c.take_tokens.new.scanner first more count word
+    c.in-Ok-item_of.item c.uniqueness.ensures.some window read in
     let size = ap (λ (x : List ℕ). length x) c.text-text.ensures in
     (found.0, found.1, omega (arith, f.3, t.2.bytes), omega (arith, size, c.text-text.type_inv), found.2)
 
@@ -40,7 +44,9 @@ returns-in-Err-item_of g c =
     let text : List ℕ = c.args.scanner.now.text in
     let first : Token = c.in-Ok-Some.first in
     let word : List ℕ = slice_range text first.start first.end in
-    let f : FindsNext c.args.scanner.now c.next.new.self (Ok (Some first)) = subst (λ (o : Option Token). FindsNext c.args.scanner.now c.next.new.self (Ok o)) c.in-Ok-Some.field-0-is c.in-Ok-Some.ensures.found in
+    let f : FindsNext c.args.scanner.now c.next.new.self (Ok (Some first)) =
+    subst (λ (o : Option Token). FindsNext c.args.scanner.now c.next.new.self (Ok o)) c.in-Ok-Some.field-0-is
+    c.in-Ok-Some.ensures.found in
     let t = c.in-Ok.ensures in
     let more : List Token = t.0 in
     let count : ℕ = c.further-count.result in
@@ -50,12 +56,19 @@ returns-in-Err-item_of g c =
       most = t.2.most;
       all = t.2.all;
       word_is = refl;
-      counts = λ item rest e. c.further-count.ensures.count item rest (e ∙ ap (λ (x : List ℕ). slice_range x first.start first.end ∷ rest) (sym c.text-text.ensures));
+      counts = λ item rest e. c.further-count.ensures.count item rest
+          (e ∙ ap (λ (x : List ℕ). slice_range x first.start first.end ∷ rest) (sym c.text-text.ensures));
     } in
-    let items : c.as_slice.result.now ≡ first ∷ more = c.as_slice.ensures.value ∙ t.1 ∙ ap (λ (l : List Token). l ++ more) (c.push.ensures.items ∙ ap (λ (l : List Token). l ++ first ∷ []) c.new-tokens.ensures) in
-    let here = subst (λ (x : List ℕ). ReadsItem spelled is x c.as_slice.result.now (Err c.in-Err-item_of.fault)) c.text-text.ensures c.in-Err-item_of.ensures in
-    let read : ReadsItem spelled is text (first ∷ more) (Err c.in-Err-item_of.fault) = subst (λ (l : List Token). ReadsItem spelled is text l (Err c.in-Err-item_of.fault)) items here in (
+    let items : c.as_slice.result.now ≡ first ∷ more =
+    c.as_slice.ensures.value ∙ t.1 ∙ ap (λ (l : List Token). l ++ more)
+    (c.push.ensures.items ∙ ap (λ (l : List Token). l ++ first ∷ []) c.new-tokens.ensures) in
+    let here = subst (λ (x : List ℕ). ReadsItem spelled is x c.as_slice.result.now (Err c.in-Err-item_of.fault))
+    c.text-text.ensures c.in-Err-item_of.ensures in
+    let read : ReadsItem spelled is text (first ∷ more) (Err c.in-Err-item_of.fault) =
+    subst (λ (l : List Token). ReadsItem spelled is text l (Err c.in-Err-item_of.fault)) items here in (
       read.0,
-      no_item_found spelled is c.args.scanner.now c.take_tokens.new.scanner first more count word c.in-Err-item_of.fault c.uniqueness.ensures.some window read,
-      fault_found spelled is c.args.scanner.now c.take_tokens.new.scanner first more count word c.in-Err-item_of.fault c.uniqueness.ensures.unique c.uniqueness.ensures.some window read,
+      no_item_found spelled is c.args.scanner.now c.take_tokens.new.scanner first more count word c.in-Err-item_of.fault
+          c.uniqueness.ensures.some window read,
+      fault_found spelled is c.args.scanner.now c.take_tokens.new.scanner first more count word c.in-Err-item_of.fault
+          c.uniqueness.ensures.unique c.uniqueness.ensures.some window read,
     )

@@ -1,11 +1,7 @@
-use Rattle.std.specs.Prelude.{Option, None, Some}
-use Rattle.std.proofs.Common.{◌≡◌, inr, ◌+◌, ◌++◌, ◌∷◌, [], List, subst, sym, ap, arith, ◌∙◌, append_assoc, append-nil}
-use Rattle.plan_runs.specs.declared.event.Event.{Event}
-use Rattle.plan_player.specs.Delivery.{Delivered, Stopped}
-use Rattle.plan_player.proofs.Joining.{joined, stopped_later, stopped_before, few_delivered, few_stopped}
-use Rattle.plan_session.specs.declared.step.Step.{Step}
-use Rattle.plan_session.specs.Events.{events_of, events_of_step}
-use Rattle.plan_session.specs.Listing.{TakesStep}
+use Rattle.plan_session.proofs.Words.{[], ◌++◌, ◌+◌, ◌∙◌, ◌∷◌, ◌≡◌, Delivered, Event, List, None, Option, Some, Step}
+use Rattle.plan_session.proofs.Words.{Stopped, TakesStep, ap, append-nil, append_assoc, arith, events_of}
+use Rattle.plan_session.proofs.Words.{events_of_step, few_delivered, few_stopped, inr, joined, stopped_before}
+use Rattle.plan_session.proofs.Words.{stopped_later, subst, sym}
 use Rattle.plan_session.proofs.Steps.{events_more, events_cut, few_events, first_bound}
 use Rattle.plan_session.proofs.playing.play_list.Goals as goal
 
@@ -13,8 +9,10 @@ pub overflow_add-frames : goal.overflow_add-frames
 overflow_add-frames g c =
     let step : Step = c.in-Some.step in
     let taken = g.K.Sink.taken in
-    let t : TakesStep c.loop-step.steps c.next.new.self (Some step) = subst (λ (o : Option Step). TakesStep c.loop-step.steps c.next.new.self o) c.in-Some.is c.next.ensures in
-    let few = few_delivered c.loop-step.player c.play_step.new.player (events_of_step step) (taken c.loop-step.sink) (taken c.play_step.new.sink) c.in-Ok.made c.in-Ok.ensures.done in
+    let t : TakesStep c.loop-step.steps c.next.new.self (Some step) =
+    subst (λ (o : Option Step). TakesStep c.loop-step.steps c.next.new.self o) c.in-Some.is c.next.ensures in
+    let few = few_delivered c.loop-step.player c.play_step.new.player (events_of_step step) (taken c.loop-step.sink)
+    (taken c.play_step.new.sink) c.in-Ok.made c.in-Ok.ensures.done in
     let size = few_events step t.in_range in
     let bound = first_bound c.loop-step.steps c.args.steps.now c.loop-step.invariant.begun t.bound in
     omega (arith, few, size, c.loop-step.invariant.few, t.bytes, bound)
@@ -23,8 +21,10 @@ pub overflow_add-result : goal.overflow_add-result
 overflow_add-result g c =
     let step : Step = c.in-Some.step in
     let taken = g.K.Sink.taken in
-    let t : TakesStep c.loop-step.steps c.next.new.self (Some step) = subst (λ (o : Option Step). TakesStep c.loop-step.steps c.next.new.self o) c.in-Some.is c.next.ensures in
-    let few = few_stopped c.loop-step.player c.play_step.new.player (events_of_step step) (taken c.loop-step.sink) (taken c.play_step.new.sink) c.in-Err.cut.frames c.in-Err.cut.bytes c.in-Err.ensures.stopped in
+    let t : TakesStep c.loop-step.steps c.next.new.self (Some step) =
+    subst (λ (o : Option Step). TakesStep c.loop-step.steps c.next.new.self o) c.in-Some.is c.next.ensures in
+    let few = few_stopped c.loop-step.player c.play_step.new.player (events_of_step step) (taken c.loop-step.sink)
+    (taken c.play_step.new.sink) c.in-Err.cut.frames c.in-Err.cut.bytes c.in-Err.ensures.stopped in
     let size = few_events step t.in_range in
     let bound = first_bound c.loop-step.steps c.args.steps.now c.loop-step.invariant.begun t.bound in
     omega (arith, few, size, c.loop-step.invariant.few, t.bytes, bound)
@@ -33,24 +33,31 @@ pub returns-in-Err-clause-stopped : goal.returns-in-Err-clause-stopped
 returns-in-Err-clause-stopped g c = λ all lists.
     let step : Step = c.in-Some.step in
     let taken = g.K.Sink.taken in
-    let t : TakesStep c.loop-step.steps c.next.new.self (Some step) = subst (λ (o : Option Step). TakesStep c.loop-step.steps c.next.new.self o) c.in-Some.is c.next.ensures in
+    let t : TakesStep c.loop-step.steps c.next.new.self (Some step) =
+    subst (λ (o : Option Step). TakesStep c.loop-step.steps c.next.new.self o) c.in-Some.is c.next.ensures in
     let so_far = c.loop-step.invariant.delivered all lists in
     let done : List Step = so_far.0 in
     let on = t.on so_far.1 so_far.3 in
     let whole : done ++ step ∷ on.0 ≡ all = ap (λ (l : List Step). done ++ l) (sym on.1) ∙ sym so_far.2 in
-    let here = stopped_later c.args.player.now c.loop-step.player c.play_step.new.player (events_of done) (events_of_step step) (taken c.args.sink.now) (taken c.loop-step.sink) (taken c.play_step.new.sink)
+    let here = stopped_later c.args.player.now c.loop-step.player c.play_step.new.player (events_of done)
+    (events_of_step step) (taken c.args.sink.now) (taken c.loop-step.sink) (taken c.play_step.new.sink)
     c.loop-step.frames c.in-Err.cut.frames c.in-Err.cut.bytes so_far.4 c.in-Err.ensures.stopped in
-    let later = stopped_before c.args.player.now c.play_step.new.player (events_of done ++ events_of_step step) (events_of on.0) (taken c.args.sink.now) (taken c.play_step.new.sink)
+    let later = stopped_before c.args.player.now c.play_step.new.player (events_of done ++ events_of_step step)
+    (events_of on.0) (taken c.args.sink.now) (taken c.play_step.new.sink)
     (c.loop-step.frames + c.in-Err.cut.frames) c.in-Err.cut.bytes here in
-    let cut : (events_of done ++ events_of_step step) ++ events_of on.0 ≡ events_of all = events_cut done step on.0 ∙ ap (λ (l : List Step). events_of l) whole in
-    subst (λ (l : List Event). Stopped c.args.player.now c.play_step.new.player l (taken c.args.sink.now) (taken c.play_step.new.sink) (c.loop-step.frames + c.in-Err.cut.frames) c.in-Err.cut.bytes) cut later
+    let cut : (events_of done ++ events_of_step step) ++ events_of on.0 ≡ events_of all =
+    events_cut done step on.0 ∙ ap (λ (l : List Step). events_of l) whole in
+    subst (λ (l : List Event). Stopped c.args.player.now c.play_step.new.player l (taken c.args.sink.now)
+    (taken c.play_step.new.sink) (c.loop-step.frames + c.in-Err.cut.frames) c.in-Err.cut.bytes) cut later
 
 pub loop-step-preserved : goal.loop-step-preserved
 loop-step-preserved g c =
     let step : Step = c.in-Some.step in
     let taken = g.K.Sink.taken in
-    let t : TakesStep c.loop-step.steps c.next.new.self (Some step) = subst (λ (o : Option Step). TakesStep c.loop-step.steps c.next.new.self o) c.in-Some.is c.next.ensures in
-    let few = few_delivered c.loop-step.player c.play_step.new.player (events_of_step step) (taken c.loop-step.sink) (taken c.play_step.new.sink) c.in-Ok.made c.in-Ok.ensures.done in
+    let t : TakesStep c.loop-step.steps c.next.new.self (Some step) =
+    subst (λ (o : Option Step). TakesStep c.loop-step.steps c.next.new.self o) c.in-Some.is c.next.ensures in
+    let few = few_delivered c.loop-step.player c.play_step.new.player (events_of_step step) (taken c.loop-step.sink)
+    (taken c.play_step.new.sink) c.in-Ok.made c.in-Ok.ensures.done in
     let size = few_events step t.in_range in
     record {
       few = omega (arith, few, size, t.bytes, c.loop-step.invariant.few);
@@ -58,13 +65,15 @@ loop-step-preserved g c =
           let so_far = c.loop-step.invariant.delivered all lists in
           let done : List Step = so_far.0 in
           let on = t.on so_far.1 so_far.3 in
-          let both = joined c.args.player.now c.loop-step.player c.play_step.new.player (events_of done) (events_of_step step) (taken c.args.sink.now) (taken c.loop-step.sink) (taken c.play_step.new.sink)
+          let both = joined c.args.player.now c.loop-step.player c.play_step.new.player (events_of done)
+          (events_of_step step) (taken c.args.sink.now) (taken c.loop-step.sink) (taken c.play_step.new.sink)
           c.loop-step.frames c.in-Ok.made so_far.4 c.in-Ok.ensures.done in (
             done ++ step ∷ [],
             on.0,
             so_far.2 ∙ ap (λ (l : List Step). done ++ l) on.1 ∙ sym (append_assoc done (step ∷ []) on.0),
             on.2,
-            subst (λ (l : List Event). Delivered c.args.player.now c.play_step.new.player l (taken c.args.sink.now) (taken c.play_step.new.sink) (c.loop-step.frames + c.in-Ok.made)) (events_more done step) both,
+            subst (λ (l : List Event). Delivered c.args.player.now c.play_step.new.player l (taken c.args.sink.now)
+                (taken c.play_step.new.sink) (c.loop-step.frames + c.in-Ok.made)) (events_more done step) both,
           );
       begun = inr (first_bound c.loop-step.steps c.args.steps.now c.loop-step.invariant.begun t.bound);
       works = c.in-Ok.ensures.works;
@@ -73,7 +82,10 @@ loop-step-preserved g c =
 pub returns-clause-done : goal.returns-clause-done
 returns-clause-done g c = λ all lists.
     let taken = g.K.Sink.taken in
-    let t : TakesStep c.loop-step.steps c.next.new.self None = subst (λ (o : Option Step). TakesStep c.loop-step.steps c.next.new.self o) c.in_default.is c.next.ensures in
+    let t : TakesStep c.loop-step.steps c.next.new.self None =
+    subst (λ (o : Option Step). TakesStep c.loop-step.steps c.next.new.self o) c.in_default.is c.next.ensures in
     let so_far = c.loop-step.invariant.delivered all lists in
-    let whole : so_far.0 ≡ all = sym (so_far.2 ∙ ap (λ (l : List Step). so_far.0 ++ l) (t so_far.1 so_far.3) ∙ append-nil so_far.0) in
-    subst (λ (l : List Step). Delivered c.args.player.now c.loop-step.player (events_of l) (taken c.args.sink.now) (taken c.loop-step.sink) c.loop-step.frames) whole so_far.4
+    let whole : so_far.0 ≡ all =
+    sym (so_far.2 ∙ ap (λ (l : List Step). so_far.0 ++ l) (t so_far.1 so_far.3) ∙ append-nil so_far.0) in
+    subst (λ (l : List Step). Delivered c.args.player.now c.loop-step.player (events_of l) (taken c.args.sink.now)
+    (taken c.loop-step.sink) c.loop-step.frames) whole so_far.4

@@ -1,5 +1,4 @@
-use Rattle.std.proofs.Common.{List, [], ◌∷◌, ◌++◌, ap, subst, sym, ◌∙◌, append_assoc}
-use Rattle.plan_session.specs.Items.{HoldsItems}
+use Rattle.plan_session.proofs.Words.{[], ◌++◌, ◌∙◌, ◌∷◌, HoldsItems, List, ap, append_assoc, subst, sym}
 use Rattle.plan_session.proofs.reading.read_items.Goals as goal
 
 pub loop-item-preserved : goal.loop-item-preserved
@@ -12,5 +11,5 @@ loop-item-preserved g c =
     let on = c.in-Some.ensures.item.on left.0 left.2 in
     let moved = ap (λ (l : List g.row.T.Denot). so_far ++ l) on.1
     ∙ sym (append_assoc so_far (item ∷ []) on.0)
-    ∙ ap (λ (l : List g.row.T.Denot). l ++ on.0) (sym c.in-Ok-push.ensures.added) in
+    ∙ ap (λ (l : List g.row.T.Denot). l ++ on.0) (sym c.in_ok-push.ensures.added) in
     (on.0, subst (HoldsItems spelled is c.args.text.now) moved left.1, on.2)

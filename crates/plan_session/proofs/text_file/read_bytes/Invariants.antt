@@ -1,4 +1,4 @@
-use Rattle.std.specs.Io.KnownBytes.{Consumes}
+use Rattle.plan_session.proofs.Words.{Consumes}
 use Rattle.plan_session.proofs.text_file.read_bytes.Given as goal
 
 -- the bytes read so far were kept

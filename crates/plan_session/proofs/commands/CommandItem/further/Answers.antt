@@ -1,7 +1,8 @@
-use Rattle.std.proofs.Common.{[], sym, append-nil}
-use Rattle.plan_session.specs.Commands.{command_lexemes}
+use Rattle.plan_session.proofs.Words.{[], append-nil, command_lexemes, sym}
 use Rattle.plan_session.proofs.CommandLexemes.{no_command}
 use Rattle.plan_session.proofs.commands.CommandItem.further.Goals as goal
 
 pub returns-in-None-clause-count : goal.returns-in-None-clause-count
-returns-in-None-clause-count c = λ s rest e. absurd (no_command (command_lexemes s) c.args.word.now rest e c.in-None.ensures.none s [] (sym (append-nil (command_lexemes s))))
+returns-in-None-clause-count c =
+    λ s rest e. absurd (no_command (command_lexemes s) c.args.word.now rest e c.in-None.ensures.none s []
+    (sym (append-nil (command_lexemes s))))
