@@ -11,3 +11,4 @@ mod ReadingOn
 mod VectorsOfMerging
 mod VectorsOfHolding
 mod VectorsOfSuccess
+mod Words

@@ -1,8 +1,5 @@
 -- Frames that are held back, in small cases: for each definition one in which it holds, and one in which it does not.
-use Rattle.std.proofs.Common.{◌≡◌, ℕ, List, [], ◌∷◌, Option, refl}
-use Rattle.std.specs.Prelude.{Some}
-use Rattle.stream_monitor.specs.Buffered.{left_of}
-use Rattle.cli_streams.specs.Held.{IsWritten, finished, writer_of}
+use Rattle.cli_streams.proofs.Words.{[], ◌∷◌, ◌≡◌, IsWritten, List, Option, Some, finished, left_of, refl, writer_of, ℕ}
 use Rattle.cli_streams.specs.declared.held_frames.HeldFrames.{HeldFrames}
 
 -- ---- what is left

@@ -1,12 +1,7 @@
 -- The terms of merging in small cases, computed by the checker from the definitions: examples that hold and that fail.
-use Rattle.std.proofs.Common.{◌≡◌, ℕ, true, false, List, [], ◌∷◌, codes, refl, arith}
-use Rattle.std.specs.Prelude.{Some, None}
-use Rattle.fig_merge.specs.Taking.{nothing_taken}
-use Rattle.fig_merge.specs.Steps.{Take, Fill}
-use Rattle.console.specs.declared.exit.Status.TheVariants.{Done}
-use Rattle.cli_streams.specs.Merging.{next_of, bytes_of, calls_of}
-use Rattle.cli_streams.specs.Merged.{IsTaken, TakesFrames, summary_of}
-use Rattle.cli_streams.specs.Success.{known_at, AreTwo}
+use Rattle.cli_streams.proofs.Words.{[], ◌∷◌, ◌≡◌, AreTwo, Done, Fill, IsTaken, List, None, Some, Take, TakesFrames}
+use Rattle.cli_streams.proofs.Words.{arith, bytes_of, calls_of, codes, false, known_at, next_of, nothing_taken, refl}
+use Rattle.cli_streams.proofs.Words.{summary_of, true, ℕ}
 
 -- ---- frames and calls
 
@@ -45,7 +40,14 @@ not_three_bytes h = (let long : 2 ≡ 3 = h.whole.0 in omega (arith, long))
 
 -- ---- what is reported
 
-nothing_merged : summary_of 3 nothing_taken ≡ record { frames = 3; carried = 0; waiting = 0; dropped = 0; stale = 0; damaged = 0 }
+nothing_merged : summary_of 3 nothing_taken ≡ record {
+  frames = 3;
+  carried = 0;
+  waiting = 0;
+  dropped = 0;
+  stale = 0;
+  damaged = 0;
+}
 nothing_merged = refl
 
 -- ---- paths

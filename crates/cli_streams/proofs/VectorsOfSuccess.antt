@@ -1,12 +1,9 @@
 -- What statuses mean, in small cases: for each definition one in which it holds, and one in which it does not.
-use Rattle.std.proofs.Common.{◌≡◌, true, [], ◌∷◌, Some, Ok, Err, refl, ap, length, arith}
+use Rattle.cli_streams.proofs.Words.{[], ◌∷◌, ◌≡◌, Done, Err, Faulty, ListensTo, NotWhole, Ok, PrintsFrame, Refused}
+use Rattle.cli_streams.proofs.Words.{Some, ap, arith, check_status, length, listen_status, refl, true, unheard}
+use Rattle.stream_monitor.specs.declared.line.Totals.{Totals}
 use Rattle.stream_monitor.specs.declared.ending.Ending.TheVariants as endings
 use Rattle.stream_monitor.specs.declared.line.Cause.TheVariants as causes
-use Rattle.stream_monitor.specs.declared.line.Totals.{Totals}
-use Rattle.console.specs.declared.exit.Status.TheVariants.{Done, Refused, Faulty}
-use Rattle.cli_streams.specs.declared.listen.StreamFault.TheVariants.{NotWhole}
-use Rattle.cli_streams.specs.Stream.{unheard}
-use Rattle.cli_streams.specs.Success.{ListensTo, PrintsFrame, check_status, listen_status}
 
 abbrev totals : Totals
 totals = record { summary = record { frames = 1; skipped = 0; left_over = 0; damaged = 1 }; swaps = 0; faults = 1 }

@@ -1,5 +1,6 @@
 -- What `merge` writes of two streams of frames, as far as their bytes are known.
-use Rattle.std.specs.Prelude.{◌≡◌, ℕ, ◌+◌, ◌<◌, ◌≤◌, ◌⊎◌, Bool, true, false, List, [], ◌++◌, length, map, take, drop, Option, Result, Ok, Err}
+use Rattle.std.specs.Prelude.{◌≡◌, ℕ, ◌+◌, ◌<◌, ◌≤◌, ◌⊎◌, Bool, true, false, List, [], ◌++◌, length, map, take, drop}
+use Rattle.std.specs.Prelude.{Option, Result, Ok, Err}
 use Rattle.std.specs.List.{AllByRecursion, concat}
 use Rattle.std.specs.Io.KnownBytes.{Appends, Consumes, IsAtEnd}
 use Rattle.stream_check.specs.Frames.{Reading}
@@ -8,7 +9,8 @@ use Rattle.fig_merge.specs.Filling.{merged, after_fill}
 use Rattle.console.specs.declared.exit.Status.{Status}
 use Rattle.console.specs.declared.exit.Status.TheVariants.{Done, Refused, Misused, Faulty}
 use Rattle.cli_streams.specs.Stream.{fibs_of_stream}
-use Rattle.cli_streams.specs.Merging.{after_taking, after_filling, filled_frame, next_of, merged_frames, after_merging, bytes_of}
+use Rattle.cli_streams.specs.Merging.{after_taking, after_filling, filled_frame, next_of, merged_frames, after_merging}
+use Rattle.cli_streams.specs.Merging.{bytes_of}
 use Rattle.cli_streams.specs.declared.merge.MergeFault.{MergeFault}
 use Rattle.cli_streams.specs.declared.merge.MergeSummary.{MergeSummary}
 
@@ -89,8 +91,8 @@ summary_of frames m = record {
   damaged = m.damaged;
 }
 
--- these frames of the plan, to its end, are merged with those that are taken of the multiplexer's, and written; `plan` and
--- `other` are the bytes of both, and `old` and `new` the writer's bytes before and after
+-- these frames of the plan, to its end, are merged with those that are taken of the multiplexer's, and written; `plan`
+-- and `other` are the bytes of both, and `old` and `new` the writer's bytes before and after
 pub record Merges (size : ℕ) (plan other old new : Option (List ℕ)) (status : Status)
     (summary : MergeSummary) : Type 0 where
   pub frames : List (List ℕ)

@@ -56,8 +56,8 @@ bytes_of frames = concat (fibs_in_frames frames)
 
 -- ---- laws
 
--- the calls of a merger for each frame of the plan: the FIBs of the multiplexer's next frame are taken, then those of the
--- plan's are filled
+-- the calls of a merger for each frame of the plan: the FIBs of the multiplexer's next frame are taken, then those of
+-- the plan's are filled
 abbrev pub frame_calls : (plan other : List (List (List ℕ))) → List (List Step)
 frame_calls [] other = []
 frame_calls (frame ∷ frames) other = (map Take (next_of other) ++ map Fill frame) ∷ frame_calls frames (drop 1 other)
@@ -81,7 +81,8 @@ MergesByCalls = (r : Reading) (plan other : List (List (List ℕ))) (m : Merging
 abbrev pub MergedAreFilled : Type 0
 MergedAreFilled =
     (r : Reading) (plan other : List (List (List ℕ)))
-    → AreFilledFrames agreeing untuned (map (map r.read) plan) (map (map r.read) (merged_frames r plan other nothing_taken))
+    → AreFilledFrames agreeing untuned (map (map r.read) plan)
+    (map (map r.read) (merged_frames r plan other nothing_taken))
 
 -- the law of findings: the checker finds in merged frames what it finds in the plan's
 abbrev pub MergedAreCheckedAlike : Type 0

@@ -1,5 +1,6 @@
 -- The state of a new listener after a stream of FIBs.
-use Rattle.std.specs.Prelude.{◌≡◌, ℕ, ◌+◌, ◌/◌, ◌%◌, ◌<◌, ◌⊎◌, Bool, if◌then◌else◌, List, [], ◌∷◌, length, Result, Ok, Err}
+use Rattle.std.specs.Prelude.{◌≡◌, ℕ, ◌+◌, ◌/◌, ◌%◌, ◌<◌, ◌⊎◌, Bool, if◌then◌else◌, List, [], ◌∷◌, length, Result, Ok}
+use Rattle.std.specs.Prelude.{Err}
 use Rattle.std.specs.Simd.{first_chunks}
 use Rattle.fib_reader.specs.Listening.{Listening, untuned, Hears}
 use Rattle.fib_reader.specs.declared.fault.FibFault.{FibFault}

@@ -1,5 +1,6 @@
 -- What the statuses of the commands mean, over files whose bytes are known.
-use Rattle.std.specs.Prelude.{◌≡◌, ◌≢◌, ℕ, Bool, true, nat_lt, if◌then◌else◌, codes, take, IfSome, List, Option, Result, Ok, Err}
+use Rattle.std.specs.Prelude.{◌≡◌, ◌≢◌, ℕ, Bool, true, nat_lt, if◌then◌else◌, codes, take, IfSome, List, Option, Result}
+use Rattle.std.specs.Prelude.{Ok, Err}
 use Rattle.std.specs.Str.{bytes_eq}
 use Rattle.std.specs.Io.KnownBytes.{Appends}
 use Rattle.stream_check.specs.Frames.{Reading}
@@ -63,7 +64,7 @@ ShowsFrame r given old new status = IfSome given (λ bytes.
 abbrev pub AreTwo : List ℕ → List ℕ → Type 0
 AreTwo path other = path ≡ codes "-" → other ≢ codes "-"
 
--- status 0: standard output has all frames of the plan, merged with those of the multiplexer; 1: with those that could be
--- read of it
+-- status 0: standard output has all frames of the plan, merged with those of the multiplexer; 1: with those that could
+-- be read of it
 abbrev pub MergesFiles : (size : ℕ) (plan other old new : Option (List ℕ)) → Status → Type 0
 MergesFiles size plan other old new status = (summary : MergeSummary) × Merges size plan other old new status summary

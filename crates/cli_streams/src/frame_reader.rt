@@ -1,7 +1,8 @@
 //! Frames of a source, of which more bytes are asked for only once the output has all frames so
 //! far.
 
-ghost use Rattle.std.specs.Prelude.{◌≡◌, ◌+◌, ◌-◌, ◌<◌, ◌≤◌, ℕ, List, Option, [], true, false, Ok, length, take, drop, slice_range, IfOk, OnOk, OnErr};
+ghost use Rattle.std.specs.Prelude.{◌≡◌, ◌+◌, ◌-◌, ◌<◌, ◌≤◌, ℕ, List, Option, [], true, false, Ok};
+ghost use Rattle.std.specs.Prelude.{length, take, drop, slice_range, IfOk, OnOk, OnErr};
 ghost use Rattle.std.specs.Io.KnownBytes.{Consumes, IsAtEnd, Keeps, prepend_known};
 ghost use Rattle.cli_streams.specs.Held.{IsWritten};
 
@@ -39,7 +40,8 @@ impl<R: Read + Drop> Model for FrameReader<R> {
 }
 
 impl<R: Read + Drop> FrameReader<R> {
-    ghost use Rattle.std.specs.Prelude.{◌≡◌, ◌+◌, ◌≤◌, ◌<◌, true, false, [], length, take, drop, IfOk, OnOk, OnErr};
+    ghost use Rattle.std.specs.Prelude.{◌≡◌, ◌+◌, ◌≤◌, ◌<◌, true, false, [], length, take, drop};
+    ghost use Rattle.std.specs.Prelude.{IfOk, OnOk, OnErr};
     ghost use Rattle.std.specs.Io.KnownBytes.{IsAtEnd, Keeps};
     ghost use Rattle.stream_monitor.specs.Buffered.{left_of};
     ghost use Rattle.cli_streams.specs.Held.{IsWritten};

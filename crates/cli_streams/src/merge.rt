@@ -1,12 +1,14 @@
 //! `dabplan merge`: carries the other FIGs of a multiplexer in the frames of a plan.
 
-ghost use Rattle.std.specs.Prelude.{◌≡◌, ◌+◌, ◌*◌, ◌%◌, ◌<◌, ◌≤◌, ℕ, List, [], length, IfOk, OnOk, true, false};
+ghost use Rattle.std.specs.Prelude.{◌≡◌, ◌+◌, ◌*◌, ◌%◌, ◌<◌, ◌≤◌, ℕ, List, [], length, IfOk, OnOk};
+ghost use Rattle.std.specs.Prelude.{true, false};
 ghost use Rattle.std.specs.Io.KnownBytes.{IsAtEnd, Keeps};
 ghost use Rattle.fib_codec.specs.Modes.{fib_count};
 ghost use Rattle.stream_check.specs.Frames.{Reading};
 ghost use Rattle.stream_monitor.specs.Buffered.{left_of};
 ghost use Rattle.cli_streams.specs.Held.{IsWritten, finished, writer_of};
-ghost use Rattle.cli_streams.specs.Merged.{FillsFib, Merges, ReadsFrame, after_frame_filled, frame_filled, summary_of};
+ghost use Rattle.cli_streams.specs.Merged.{FillsFib, Merges, ReadsFrame, after_frame_filled};
+ghost use Rattle.cli_streams.specs.Merged.{frame_filled, summary_of};
 ghost use Rattle.cli_streams.specs.Success.{AreTwo, MergesFiles, known_at};
 ghost use Rattle.console.specs.declared.exit.Status.TheVariants.{Done};
 

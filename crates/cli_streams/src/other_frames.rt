@@ -5,7 +5,8 @@ ghost use Rattle.std.specs.Io.KnownBytes.{Keeps};
 ghost use Rattle.stream_check.specs.Frames.{Reading};
 ghost use Rattle.stream_monitor.specs.Buffered.{left_of};
 ghost use Rattle.cli_streams.specs.Held.{IsWritten, finished};
-ghost use Rattle.cli_streams.specs.Merged.{ReadsFrame, TakesAs, TakesFrames, TakesNext, after_frame_taken};
+ghost use Rattle.cli_streams.specs.Merged.{ReadsFrame, TakesAs, TakesFrames, TakesNext};
+ghost use Rattle.cli_streams.specs.Merged.{after_frame_taken};
 ghost use Rattle.console.specs.declared.exit.Status.TheVariants.{Done};
 
 use crate::frame_reader::FrameReader;

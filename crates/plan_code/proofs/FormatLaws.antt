@@ -6,7 +6,8 @@ use Rattle.plan_code.proofs.Words.{ap, append_assoc, arith, bind_ok, byte_from, 
 use Rattle.plan_code.proofs.Words.{byte_within_front, component, component_again, component_front, cond, done, flag}
 use Rattle.plan_code.proofs.Words.{flag_again, flag_front, follows, front_then, goes_bind, goes_byte, goes_byte_within}
 use Rattle.plan_code.proofs.Words.{goes_component, goes_flag, goes_judged, goes_number, goes_protection, goes_sid}
-use Rattle.plan_code.proofs.Words.{guard_ok, judged, kind, le-ltb, length, long_again, long_front, ltb, ltb-false, made}
+use Rattle.plan_code.proofs.Words.{guard_ok, judged, kind, le-ltb, length, long_again, long_front, ltb, ltb-false}
+use Rattle.plan_code.proofs.Words.{mapped}
 use Rattle.plan_code.proofs.Words.{nothing, number_at, number_from, ok_is, place, place_same, placed_bind, placed_byte}
 use Rattle.plan_code.proofs.Words.{placed_byte_within, placed_component, placed_flag, placed_judged, placed_number}
 use Rattle.plan_code.proofs.Words.{placed_protection, placed_sid, protection, protection_again, protection_front, refl}
@@ -69,7 +70,7 @@ pub ◌then◌ : {A B : Type 0} {a : Format A} {b : Format B} {P : A → Type 0}
 pub made_is : {A T : Type 0} {a : Format A} {P : A → Type 0} (make : A → T) (parts : T → A) (Q : T → Type 0)
     → IsLawful a P
     → ((x : A) → P x → Q (make x) × (parts (make x) ≡ x)) → ((t : T) → Q t → P (parts t) × (make (parts t) ≡ t))
-    → IsLawful (made make parts a) Q
+    → IsLawful (mapped make parts a) Q
 made_is {A} {T} {a} {P} make parts Q law there back = record {
   front = λ total bytes t fits e.
       let x = bind_ok (a.read total bytes) _ t e in

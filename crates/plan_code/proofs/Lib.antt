@@ -15,3 +15,4 @@ pub mod Vectors
 mod VectorsOfAlternatives
 pub mod Windows
 mod Words
+mod VectorsOfFormats

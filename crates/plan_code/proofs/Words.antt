@@ -25,7 +25,8 @@ pub use Rattle.plan_code.specs.Faults.{IsNoFile}
 pub use Rattle.plan_code.specs.FileFaults.{CutsAreTruncated, FileFaultsAreFirst, FileFaultsStay, TruncatedBeforePlaces}
 pub use Rattle.plan_code.specs.Flags.{ContactsChangeAlone, CountersChangeAlone, Includes, contact_ids, is_closed, is_in}
 pub use Rattle.plan_code.specs.Formats.{◌▸◌, Format, Kind, any_byte, any_u16, byte_from, byte_of, component, flag}
-pub use Rattle.plan_code.specs.Formats.{follows, kind, made, nothing, number_from, protection, sid, tagged_at, u16_from}
+pub use Rattle.plan_code.specs.Formats.{follows, kind, mapped, nothing, number_from, protection, sid, tagged_at}
+pub use Rattle.plan_code.specs.Formats.{u16_from}
 pub use Rattle.plan_code.specs.Machine.{AlwaysSettles, IsAllowed, IsLeastFrom, IsWindow, LoopsAsSet, LoopsRun, State}
 pub use Rattle.plan_code.specs.Machine.{SwapsInTime, WindowsAreHalfOpen, advance, counter_of, effect, frames_until}
 pub use Rattle.plan_code.specs.Machine.{is_in_window, looped, settle, suspend}

@@ -36,8 +36,8 @@ abbrev pub ◌▸◌ : {A B : Type 0} → Format A → Format B → Format (A ×
 a ▸ b = follows a (λ _. b)
 
 -- a value that is made of what is read, and its parts
-abbrev pub made : {A T : Type 0} → (A → T) → (T → A) → Format A → Format T
-made make parts a = record {
+abbrev pub mapped : {A T : Type 0} → (A → T) → (T → A) → Format A → Format T
+mapped make parts a = record {
   read = λ total bytes. a.read total bytes >>= λ x. Ok (make x.0, x.1);
   spell = λ t. a.spell (parts t);
 }

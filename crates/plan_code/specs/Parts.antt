@@ -24,7 +24,7 @@ use Rattle.plan_code.specs.declared.instr.Instr.TheVariants.{Set, Loop}
 use Rattle.plan_code.specs.declared.instr.Line.{Line}
 use Rattle.plan_code.specs.declared.opcode.Opcode.{Opcode}
 use Rattle.plan_code.specs.Opcodes.{opcode_byte, opcode_of}
-use Rattle.plan_code.specs.Formats.{Format, follows, ◌▸◌, made, Kind, kind, tagged_at, nothing, any_byte, byte_from}
+use Rattle.plan_code.specs.Formats.{Format, follows, ◌▸◌, mapped, Kind, kind, tagged_at, nothing, any_byte, byte_from}
 use Rattle.plan_code.specs.Formats.{any_u16, number_from, u16_from, flag, protection, sid, component}
 
 -- ---- labels
@@ -35,7 +35,7 @@ bounds = follows (u16_from 1 65535) (λ low. u16_from low 65535)
 
 -- where there is no bound
 abbrev pub no_bound : Format (Unit {0})
-no_bound = made (λ _. tt) (λ _. 0) (u16_from 0 0)
+no_bound = mapped (λ _. tt) (λ _. 0) (u16_from 0 0)
 
 -- the kind of a swap, by its number
 abbrev pub swap_kind : ℕ → Kind Swap
@@ -54,7 +54,7 @@ swap = record { read = tagged_at (byte_from 0 2) swap_kind; spell = swap_bytes }
 -- a label with a pc of at least `low`, with this many configurations in the table
 unfoldable pub label : (count low : ℕ) → Format Label
 label count low =
-    made (λ x. record {
+    mapped (λ x. record {
       pc = x.0.0.0.0.0;
       cur = x.0.0.0.0.1;
       next = x.0.0.0.1;
@@ -81,7 +81,7 @@ abbrev pub counter : Format ℕ
 counter = byte_from 0 (COUNTERS - 1)
 
 abbrev pub contacts : Format Contacts
-contacts = made (λ n. record { 0 = n }) (λ set. set.0) any_u16
+contacts = mapped (λ n. record { 0 = n }) (λ set. set.0) any_u16
 
 abbrev pub sub_id : Format ℕ
 sub_id = byte_from 0 63
@@ -89,8 +89,8 @@ sub_id = byte_from 0 63
 abbrev pub scid : Format ℕ
 scid = u16_from 0 4095
 
-abbrev pub start : Format ℕ
-start = u16_from 0 1023
+abbrev pub start_address : Format ℕ
+start_address = u16_from 0 1023
 
 -- how many frames, or times: 1 or more
 abbrev pub times : Format ℕ
@@ -130,17 +130,17 @@ abbrev pub some_number : ℕ → Option ℕ
 some_number n = if n == 0 then None else Some n
 
 abbrev pub frames_or_none : Format (Option ℕ)
-frames_or_none = made some_number frames_number any_u16
+frames_or_none = mapped some_number frames_number any_u16
 
 unfoldable pub new_sub : Format Sub
 new_sub =
-    made (λ x. record { id = x.0.0.0; start = x.0.0.1; protection = x.0.1; kbits = x.1 })
+    mapped (λ x. record { id = x.0.0.0; start = x.0.0.1; protection = x.0.1; kbits = x.1 })
     (λ s. (((s.id, s.start), s.protection), s.kbits))
-    (sub_id ▸ start ▸ protection ▸ any_u16)
+    (sub_id ▸ start_address ▸ protection ▸ any_u16)
 
 unfoldable pub new_packet : Format Packet
 new_packet =
-    made (λ x. record { scid = x.0.0.0.0; dg = x.0.0.0.1; ty = x.0.0.1; sub = x.0.1; address = x.1 })
+    mapped (λ x. record { scid = x.0.0.0.0; dg = x.0.0.0.1; ty = x.0.0.1; sub = x.0.1; address = x.1 })
     (λ p. ((((p.scid, p.dg), p.ty), p.sub), p.address))
     (scid ▸ flag ▸ byte_from 0 63 ▸ sub_id ▸ any_u16)
 
@@ -172,7 +172,7 @@ instr_kind Opcode.WaitAny = kind (contacts ▸ contacts ▸ day_frame_or_none �
     (λ x. WaitAny x.0.0.0 x.0.0.1 x.0.1 x.1)
 instr_kind Opcode.AddSub = kind new_sub (λ s. Edits (AddSub s))
 instr_kind Opcode.DropSub = kind sub_id (λ id. Edits (DropSub id))
-instr_kind Opcode.MoveSub = kind (sub_id ▸ start) (λ x. Edits (MoveSub x.0 x.1))
+instr_kind Opcode.MoveSub = kind (sub_id ▸ start_address) (λ x. Edits (MoveSub x.0 x.1))
 instr_kind Opcode.RateSub = kind (sub_id ▸ any_u16) (λ x. Edits (RateSub x.0 x.1))
 instr_kind Opcode.AddService = kind sid (λ s. Edits (AddService s))
 instr_kind Opcode.DropService = kind sid (λ s. Edits (DropService s))
@@ -233,4 +233,4 @@ instr = record { read = tagged_at opcode instr_kind; spell = instr_bytes }
 
 -- its source line number, and the instruction
 unfoldable pub line : Format Line
-line = made (λ x. record { number = x.0; instr = x.1 }) (λ l. (l.number, l.instr)) (any_u16 ▸ instr)
+line = mapped (λ x. record { number = x.0; instr = x.1 }) (λ l. (l.number, l.instr)) (any_u16 ▸ instr)

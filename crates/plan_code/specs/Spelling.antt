@@ -11,7 +11,7 @@ use Rattle.fib_codec.specs.declared.frame_layout.FrameLayout.TheVariants.{Whole,
 use Rattle.plan_code.specs.declared.plan.Plan.{Plan}
 use Rattle.plan_code.specs.declared.instr.Line.{Line}
 use Rattle.plan_code.specs.declared.limits.TheConstants.{LONGEST_PERIOD, SHORTEST_NOTICE, LONGEST_NOTICE}
-use Rattle.plan_code.specs.Formats.{Format, ◌▸◌, made, any_u16, byte_from}
+use Rattle.plan_code.specs.Formats.{Format, ◌▸◌, mapped, any_u16, byte_from}
 use Rattle.plan_code.specs.Parts.{label_bytes, line}
 use Rattle.plan_code.specs.Program.{Program}
 
@@ -41,7 +41,7 @@ layout_bytes ReserveTwo = 3 ∷ mode_number III ∷ 2 ∷ []
 -- the fields of a plan after its layout
 abbrev pub plan_after : FrameLayout → Format Plan
 plan_after layout =
-    made (λ x. record { eid = x.0.0.0; layout = layout; period = x.0.0.1; notice = x.0.1; budget = x.1 })
+    mapped (λ x. record { eid = x.0.0.0; layout = layout; period = x.0.0.1; notice = x.0.1; budget = x.1 })
     (λ p. (((p.eid, p.period), p.notice), p.budget))
     (any_u16 ▸ byte_from 1 LONGEST_PERIOD ▸ byte_from SHORTEST_NOTICE LONGEST_NOTICE ▸ byte_from 1 255)
 

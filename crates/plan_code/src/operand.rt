@@ -1,7 +1,8 @@
 //! Reading the operands of instructions.
 
 ghost use Rattle.plan_code.specs.Formats.{Reading, u16_from};
-ghost use Rattle.plan_code.specs.Parts.{contact, contacts, counter, start, times, delay, day_frame};
+ghost use Rattle.plan_code.specs.Parts.{contact, contacts, counter, start_address, times, delay};
+ghost use Rattle.plan_code.specs.Parts.{day_frame};
 ghost use Rattle.plan_code.specs.Parts.{day_frame_or_none, frames_or_none, new_sub, new_packet};
 ghost use Rattle.plan_code.specs.Parts.{carrier};
 
@@ -34,7 +35,7 @@ pub(crate) fn counter(reader: &mut Reader) -> Result<CounterId, RecordFault>
 
 /// Reads a start address.
 pub(crate) fn start(reader: &mut Reader) -> Result<StartAddress, RecordFault>
-    ensures { Reading start.read reader.old result reader.new }
+    ensures { Reading start_address.read reader.old result reader.new }
 {
     let fault = RecordFault::Field(reader.place());
     StartAddress::new(reader.u16()?).ok_or(fault)

@@ -1,6 +1,7 @@
 -- The lines of a live run list their steps one after another, and so does one event file with just these lines.
 use Rattle.plan_live.proofs.Words.{[], ◌++◌, ◌∙◌, ◌∷◌, ◌≡◌, ◌≤◌, ◌⊎◌, AllByRecursion, Appends, AreLinesOf, AreListing}
-use Rattle.plan_live.proofs.Words.{Begins, BytesHaveLines, Fits, GivesLines, HasNoFeed, Holds, HoldsOneList, IfSome}
+use Rattle.plan_live.proofs.Words.{Begins, BytesHaveLines, FitsIntoMemory, GivesLines, HasNoFeed, Holds, HoldsOneList}
+use Rattle.plan_live.proofs.Words.{IfSome}
 use Rattle.plan_live.proofs.Words.{InputIsPlayback, IsAtEnd, IsPlayback, IsStep, LacksLastFeed, LineDoes, LineHolds}
 use Rattle.plan_live.proofs.Words.{LinesDo, LinesListInTurn, List, ListInTurn, LiveIsPlayback, None, Option, Playing}
 use Rattle.plan_live.proofs.Words.{Request, Some, Step, ap, append-nil, append_assoc, arith, events_of, inl, inr}
@@ -35,7 +36,8 @@ line_first line rest first others steps short cut here later =
     subst (λ (l : List ℕ). Holds l steps) (sym same)
     (subst (λ (s : List Step). Holds (line ++ 10 ∷ rest) s) (sym cut) both)
 
-with_feeds_hold : (lines : List (List ℕ)) (steps : List Step) → ListInTurn lines steps → Fits (with_feeds lines)
+with_feeds_hold : (lines : List (List ℕ)) (steps : List Step) → ListInTurn lines steps
+    → FitsIntoMemory (with_feeds lines)
     → Holds (with_feeds lines) steps
 with_feeds_hold [] steps none short = subst (λ (s : List Step). Holds [] s) (sym none) nothing_holds
 with_feeds_hold (line ∷ lines) steps (first, rest, here, cut, others) short =
@@ -43,7 +45,7 @@ with_feeds_hold (line ∷ lines) steps (first, rest, here, cut, others) short =
 
 -- the last line ends with the text
 without_last_feed : (front : List (List ℕ)) (last : List ℕ) (steps : List Step) → ListInTurn (front ++ last ∷ []) steps
-    → Fits (with_feeds front ++ last) → Holds (with_feeds front ++ last) steps
+    → FitsIntoMemory (with_feeds front ++ last) → Holds (with_feeds front ++ last) steps
 without_last_feed [] last steps (first, rest, here, cut, none) short =
     let all : first ≡ steps = sym (append-nil first) ∙ ap (λ (s : List Step). first ++ s) (sym none) ∙ sym cut in
     subst (λ (s : List Step). Holds last s) all here.holds
@@ -57,14 +59,14 @@ without_last_feed (line ∷ front) last steps (first, rest, here, cut, others) s
     (λ fits. without_last_feed front last rest others fits))
 
 either_way : (lines : List (List ℕ)) (steps : List Step) (text : List ℕ) → ListInTurn lines steps
-    → (text ≡ with_feeds lines) ⊎ LacksLastFeed text lines → Fits text → Holds text steps
+    → (text ≡ with_feeds lines) ⊎ LacksLastFeed text lines → FitsIntoMemory text → Holds text steps
 either_way lines steps text h (inl all) short =
     subst (λ (l : List ℕ). Holds l steps) (sym all)
-    (with_feeds_hold lines steps h (subst (λ (l : List ℕ). Fits l) all short))
+    (with_feeds_hold lines steps h (subst (λ (l : List ℕ). FitsIntoMemory l) all short))
 either_way lines steps text h (inr l) short =
     subst (λ (t : List ℕ). Holds t steps) (sym l.bytes_are)
     (without_last_feed l.front l.last steps (subst (λ (ls : List (List ℕ)). ListInTurn ls steps) l.lines_are h)
-    (subst (λ (t : List ℕ). Fits t) l.bytes_are short))
+    (subst (λ (t : List ℕ). FitsIntoMemory t) l.bytes_are short))
 
 pub lines_list_in_turn : LinesListInTurn
 lines_list_in_turn lines steps text h are short = either_way lines steps text h are.whole short

@@ -1,5 +1,6 @@
 -- Lines as one event file, by the lines `frames 2` and `@`: each definition where it holds, and where it fails.
-use Rattle.plan_live.proofs.Words.{[], ◌++◌, ◌∙◌, ◌∷◌, ◌≡◌, AreLinesOf, AreListing, Begins, Fits, Frames, HoldsOneList}
+use Rattle.plan_live.proofs.Words.{[], ◌++◌, ◌∙◌, ◌∷◌, ◌≡◌, AreLinesOf, AreListing, Begins, FitsIntoMemory, Frames}
+use Rattle.plan_live.proofs.Words.{HoldsOneList}
 use Rattle.plan_live.proofs.Words.{IsPlayedAs, List, ListInTurn, Request, Some, Step, Streamed, ap, append-nil, arith}
 use Rattle.plan_live.proofs.Words.{events_of, inl, inr, kept_bytes, length, length-replicate, over, played_bytes, refl}
 use Rattle.plan_live.proofs.Words.{replicate, streamed, subst, sym, ℕ}
@@ -23,11 +24,11 @@ bad_in_turn steps (first, rest, holds, cut, none) = no_steps first holds
 
 -- ---- one event file
 
-fits : Fits two_frames
+fits : FitsIntoMemory two_frames
 fits = let n : length two_frames ≡ 8 = refl in omega (arith, n)
 
 -- 2^64 blanks
-too_long : (n : ℕ) → n ≡ 18446744073709551616 → Fits (replicate n 32) → ⊥
+too_long : (n : ℕ) → n ≡ 18446744073709551616 → FitsIntoMemory (replicate n 32) → ⊥
 too_long n is h = let long : length (replicate n 32) ≡ n = length-replicate {A = ℕ} n 32 in omega (arith, is, long, h)
 
 -- ---- the run over a line, and over the event file

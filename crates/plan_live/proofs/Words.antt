@@ -7,7 +7,8 @@ pub use Rattle.plan_live.specs.Going.{FrameWent, Going, LineWent, Went, kept}
 pub use Rattle.plan_live.specs.Growing.{Grows}
 pub use Rattle.plan_live.specs.Lines.{LineDoes, LineHolds, LinesDo, ListsNone}
 pub use Rattle.plan_live.specs.Living.{AreDone, IsPrompt, Reached, Streamed, Whole, kept_bytes, streamed, streams_at}
-pub use Rattle.plan_live.specs.OneFile.{AreListing, Fits, InputIsPlayback, IsPlayedAs, LinesListInTurn, ListInTurn}
+pub use Rattle.plan_live.specs.OneFile.{AreListing, FitsIntoMemory, InputIsPlayback, IsPlayedAs, LinesListInTurn}
+pub use Rattle.plan_live.specs.OneFile.{ListInTurn}
 pub use Rattle.plan_live.specs.OneFile.{LiveIsPlayback, over}
 pub use Rattle.plan_player.specs.Delivery.{frames_of, next_frame, played_bytes}
 pub use Rattle.plan_player.specs.Playing.{Playing, last_steps, played}

@@ -28,14 +28,14 @@ ListInTurn (line ∷ lines) steps = (first : List Step) × (rest : List Step) ×
 -- ---- one event file
 
 -- a text that fits into memory has at most 2^64 - 1 bytes
-abbrev pub Fits : List ℕ → Type 0
-Fits text = length text ≤ 18446744073709551615
+abbrev pub FitsIntoMemory : List ℕ → Type 0
+FitsIntoMemory text = length text ≤ 18446744073709551615
 
 -- a text lists the steps that its lines list, one after another, if each of them lists some; its last line may end
 -- without a line feed
 abbrev pub LinesListInTurn : Type 0
 LinesListInTurn = (lines : List (List ℕ)) (steps : List Step) (text : List ℕ) → ListInTurn lines steps
-    → AreLinesOf text lines → Fits text → Holds text steps
+    → AreLinesOf text lines → FitsIntoMemory text → Holds text steps
 
 -- ---- the run over the lines, and over the event file
 
@@ -52,7 +52,7 @@ pub record IsPlayedAs (r : Request) (p : Playing) (old new : Streamed) : Type 0 
   pub given : GivesLines old.left lines new.left
   pub those : AreListing lines listing
   pub in_turn : ListInTurn listing steps
-  pub playback : (text : List ℕ) → AreLinesOf text listing → Fits text → IsPlayback (over text r) p steps
+  pub playback : (text : List ℕ) → AreLinesOf text listing → FitsIntoMemory text → IsPlayback (over text r) p steps
   pub delivers : Delivers p (events_of steps) old.written new.written (Ok (length (frames_of p (events_of steps))))
   -- where the input is known, there is such a file: each of the lines, followed by a line feed
   pub file : IfSome old.left (λ input. AreLinesOf (with_feeds listing) listing)
@@ -66,6 +66,6 @@ LiveIsPlayback = (r : Request) (p : Playing) (old new : Streamed) → Begins r p
 abbrev pub InputIsPlayback : Type 0
 InputIsPlayback = (r : Request) (p : Playing) (old new : Streamed) (input : List ℕ) (steps : List Step) → Begins r p
     → Whole 0 p old new
-    → old.left ≡ Some input → ListInTurn (lines_of input) steps → Fits input
+    → old.left ≡ Some input → ListInTurn (lines_of input) steps → FitsIntoMemory input
     → IsPlayback (over input r) p steps × Delivers p (events_of steps) old.written new.written
     (Ok (length (frames_of p (events_of steps))))

@@ -5,10 +5,11 @@ use Rattle.plan_map.proofs.Words.{IsPlayed, IsSafe, IsStart, IsTyping, Jump, Kno
 use Rattle.plan_map.proofs.Words.{Option, Program, Row, RunsBeginWithTheFirst, Settle, Some, Start, State, Test}
 use Rattle.plan_map.proofs.Words.{TestTime, Until, Wait, WaitAny, WaitContact, after_burst, ap, arith, burst, changed}
 use Rattle.plan_map.proofs.Words.{commits_before, cond, effect, eqb-true, false, found, get_some, happens, instr_at}
-use Rattle.plan_map.proofs.Words.{is_closed, is_due, is_first_noticed, is_here, is_in_window, is_running, label_at}
-use Rattle.plan_map.proofs.Words.{leaves, length, nothing, opening_of, option_map, ready, refl, rows_of, run, same_Some}
-use Rattle.plan_map.proofs.Words.{settle, shown, slice_get, slice_get_within, spent, step, step_is, subst, suc, sym}
-use Rattle.plan_map.proofs.Words.{target_of, true, with_due_swap, with_swap, zero, ℕ}
+use Rattle.plan_map.proofs.Words.{is_due, is_first_noticed, is_here, is_in_window, is_running, label_at, leaves, length}
+use Rattle.plan_map.proofs.Words.{nothing, opening_of, option_map, ready, refl, rows_of, run, same_Some, settle, shown}
+use Rattle.plan_map.proofs.Words.{slice_get, slice_get_within, spent, step, step_is, subst, suc, sym, target_of, true}
+use Rattle.plan_map.proofs.Words.{with_due_swap, with_swap, zero, ℕ}
+use Rattle.plan_code.specs.Flags.{is_closed}
 use Rattle.plan_verifier.proofs.Moving.{next_fits}
 use Rattle.plan_map.proofs.KnownRows.{waited_next, paused_next, settled_next, at_first, all_from, commits_if, row_of}
 

@@ -1,15 +1,16 @@
 -- The rows of a typed code have the next configuration that is known at each of its commits.
 use Rattle.plan_map.proofs.Words.{[], ◌++◌, ◌+◌, ◌-◌, ◌<◌, ◌==◌, ◌∙◌, ◌∷◌, ◌≡◌, Beginning, Bool, Commit, CommitAt}
-use Rattle.plan_map.proofs.Words.{CommitIn, Configuration, Edits, HasCommit, Idle, Instr, IsCommit, IsTyping, Known}
-use Rattle.plan_map.proofs.Words.{Label, Line, List, None, One, Option, Perhaps, Plan, Program, Reached, Row}
-use Rattle.plan_map.proofs.Words.{RowsAreCommits, Settle, Some, Swap, Until, Wait, WaitAny, WaitContact, Ways, Within}
-use Rattle.plan_map.proofs.Words.{after, after_pause, after_settle, after_wait, ap, arith, changed, commits_from, cond}
+use Rattle.plan_map.proofs.Words.{CommitIn, Configuration, Edits, HasCommit, Idle, Instr, IsCommit, IsFine, IsTyping}
+use Rattle.plan_map.proofs.Words.{Known, Label, Line, List, None, One, Option, Perhaps, Plan, Program, Reached, Row}
+use Rattle.plan_map.proofs.Words.{RowsAreCommits, Settle, Some, Until, Wait, WaitAny, WaitContact, Ways, Within, after}
+use Rattle.plan_map.proofs.Words.{after_pause, after_settle, after_wait, ap, arith, changed, commits_from, cond}
 use Rattle.plan_map.proofs.Words.{declared_by, eqb-true, false, filter, found, get_some, instr_at, known_after_swap}
 use Rattle.plan_map.proofs.Words.{known_next, label_at, lead_of, leaves, left_by, length, nat_lt, opening_of}
-use Rattle.plan_map.proofs.Words.{option_map, or_else, refl, rows_of, same_Some, slice_get, slice_get_within, subst}
-use Rattle.plan_map.proofs.Words.{suc, sym, take, true, unlabelled, unless_at_fault, ways_from, zero, ℕ}
+use Rattle.plan_map.proofs.Words.{option_map, or_else, perhaps_swapped, refl, rows_of, same_Some, slice_get}
+use Rattle.plan_map.proofs.Words.{slice_get_within, subst, suc, sym, take, true, unlabelled, unless_at_fault, ways_from}
+use Rattle.plan_map.proofs.Words.{zero, ℕ}
+use Rattle.plan_code.specs.declared.label.Swap.{Swap}
 use Rattle.plan_verifier.specs.Rules.{commits}
-use Rattle.plan_verifier.specs.Typing.{IsFine, perhaps_swapped}
 use Rattle.plan_map.specs.declared.lead.Lead.{Lead}
 
 -- ---- what an instruction leaves

@@ -1,12 +1,11 @@
 -- The places of sub-channels: those that serve all of them, and what clashes otherwise.
 use Rattle.plan_map.proofs.Words.{[], ◌++◌, ◌+◌, ◌<◌, ◌==◌, ◌||◌, ◌∙◌, ◌∷◌, ◌≡◌, ◌≤◌, ◌⊎◌, AllByRecursion, Bool}
 use Rattle.plan_map.proofs.Words.{IsClash, IsConfiguration, IsPlaced, List, None, Occurs, Option, Row, Serves, Some}
-use Rattle.plan_map.proofs.Words.{Sub, ap, append_assoc, arith, clash_of, clash_with, clashes, eq-eqb, false}
+use Rattle.plan_map.proofs.Words.{Sub, ap, append_assoc, arith, cases_lt, clash_of, clash_with, clashes, eq-eqb, false}
 use Rattle.plan_map.proofs.Words.{first_clash, first_with, flat_map, get_or, if◌then◌else◌, in_order, inl, inr}
-use Rattle.plan_map.proofs.Words.{is_refused, is_served, length, list_any, listed, lt-ltb, ltb, ne_eqb, not, place_of}
-use Rattle.plan_map.proofs.Words.{places, range_with_len, refl, row_subs, shares, subs_of, subst, suc, sym, take, true}
-use Rattle.plan_map.proofs.Words.{zero, ℕ}
-use Rattle.std.proofs.lemmas.Bool.{cases_lt, le-ltb, not-false}
+use Rattle.plan_map.proofs.Words.{is_refused, is_served, le-ltb, length, list_any, listed, lt-ltb, ltb, ne_eqb, not}
+use Rattle.plan_map.proofs.Words.{not-false, place_of, places, range_with_len, refl, row_subs, shares, subs_of, subst}
+use Rattle.plan_map.proofs.Words.{suc, sym, take, true, zero, ℕ}
 use Rattle.std.proofs.Math.Bool.{and_comm}
 use Rattle.std.proofs.lemmas.List.Folds.{list_any-append}
 use Rattle.mux_types.specs.Sameness.{is_same_sub}

@@ -1,12 +1,11 @@
 -- A code that drops a sub-channel and commits that: for each definition, an example that holds and one that fails.
 use Rattle.plan_map.proofs.Words.{[], ◌+◌, ◌<◌, ◌∙◌, ◌∷◌, ◌≡◌, Begin, Beginning, Commit, CommitIn, CommitsAt}
-use Rattle.plan_map.proofs.Words.{Configuration, End, HasCommit, Idle, Instr, IsCommitted, IsOfCommit, Join, Known}
-use Rattle.plan_map.proofs.Words.{Line, List, None, OpensWith, Program, Row, SendsRows, Some, State, Sub, ap, arith}
-use Rattle.plan_map.proofs.Words.{burst, commits_before, contains_cases, contains_first, contains_later, contains_none}
-use Rattle.plan_map.proofs.Words.{inl, inr, length, ready, refl, rows_of, suc, sym, zero, ℕ}
+use Rattle.plan_map.proofs.Words.{Configuration, Edit, End, HasCommit, Idle, Instr, IsCommitted, IsOfCommit, Join}
+use Rattle.plan_map.proofs.Words.{Known, Line, List, None, OpensWith, Program, Row, SendsRows, Some, State, Sub, ap}
+use Rattle.plan_map.proofs.Words.{arith, burst, commits_before, contains_cases, contains_first, contains_later}
+use Rattle.plan_map.proofs.Words.{contains_none, inl, inr, length, ready, refl, rows_of, suc, sym, zero, ℕ}
 use Rattle.mux_eep.specs.declared.sizes.EepSet.TheVariants.{A}
 use Rattle.mux_config.specs.declared.edit.Edit.TheVariants.{DropSub}
-use Rattle.plan_code.specs.declared.instr.Instr.TheVariants.{Edit}
 use Rattle.plan_runs.proofs.Samples.{first_state}
 use Rattle.plan_verifier.proofs.Samples.{plan, counters, label}
 

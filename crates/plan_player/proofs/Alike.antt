@@ -1,16 +1,17 @@
 -- Frames that differ in the count alone, one after another.
 use Rattle.plan_player.proofs.Words.{[], ◌%◌, ◌*◌, ◌++◌, ◌+◌, ◌-◌, ◌/◌, ◌<◌, ◌==◌, ◌∙◌, ◌∷◌, ◌≡◌, ◌≤◌, AreAlike, Bool}
-use Rattle.plan_player.proofs.Words.{COUNTS, EnsembleInformation, EnsembleOf, FrameLayout, Header, I, IsAlike}
-use Rattle.plan_player.proofs.Words.{IsPageable, List, Marked, Mode, None, Option, Plan, Some, State, Written, ap}
-use Rattle.plan_player.proofs.Words.{append-nil, append_assoc, ap₂, arith, checked, checked_len, concat, cond}
-use Rattle.plan_player.proofs.Words.{count_step, counted_on, drop, drop_at, ensemble_at, ensemble_figs, ensemble_of}
-use Rattle.plan_player.proofs.Words.{ensemble_sent, entries_bytes, false, fib_bytes, fib_entries, figs_bytes, figs_of}
-use Rattle.plan_player.proofs.Words.{filled, first_fib, flat_map, frame_fibs, head_byte, head_of, header_of, later_fibs}
+use Rattle.plan_player.proofs.Words.{COUNTS, EnsembleInformation, FrameLayout, Header, I, IsAlike, IsPageable, List}
+use Rattle.plan_player.proofs.Words.{Marked, Mode, None, Option, Plan, Some, State, Written, ap, append-nil}
+use Rattle.plan_player.proofs.Words.{append_assoc, ap₂, arith, checked, checked_len, concat, cond, count_step}
+use Rattle.plan_player.proofs.Words.{counted_on, drop, drop_at, ensemble_at, ensemble_figs, ensemble_of, ensemble_sent}
+use Rattle.plan_player.proofs.Words.{entries_bytes, false, fib_bytes, fib_entries, figs_bytes, figs_of, filled}
+use Rattle.plan_player.proofs.Words.{first_fib, flat_map, frame_fibs, head_byte, head_of, header_of, later_fibs}
 use Rattle.plan_player.proofs.Words.{layout_mode, length, length-append, ltb, map, marked, ne_eqb, notice_frames}
 use Rattle.plan_player.proofs.Words.{occurrence_bytes, page_bytes, page_fits, pages_are_valid, refl, replicate}
 use Rattle.plan_player.proofs.Words.{reserved_figs, sent_entries, shown_bytes, subst, suc, suc-mul, sym, take, take_at}
 use Rattle.plan_player.proofs.Words.{true, zero, ℕ}
 use Rattle.fib_codec.proofs.Finished.{length-filled}
+use Rattle.plan_player.proofs.Words.{EnsembleOf}
 use Rattle.plan_player.proofs.CountedOn.{on_more, count_on}
 use Rattle.plan_player.proofs.Together.{ensemble_is, bytes_more}
 

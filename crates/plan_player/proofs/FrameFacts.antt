@@ -1,14 +1,14 @@
 -- What the player's calls require of a state that a typed code reaches.
 use Rattle.plan_player.proofs.Words.{[], ◌<◌, ◌||◌, ◌∙◌, ◌∷◌, ◌≡◌, ◌≤◌, Bool, Configuration, Contact, Frame}
 use Rattle.plan_player.proofs.Words.{FrameLayout, HasChange, IsFrameReady, IsGoing, IsPlan, IsPlayed, IsProgram}
-use Rattle.plan_player.proofs.Words.{IsStart, Keeps, KeepsChange, List, Marked, None, Option, PhasePages, Plan, Program}
-use Rattle.plan_player.proofs.Words.{Progress, SentBy, Some, Start, StartIsInRange, State, after_burst, after_frame}
+use Rattle.plan_player.proofs.Words.{IsStart, IsTyped, Keeps, KeepsChange, List, Marked, None, Option, PhasePages, Plan}
+use Rattle.plan_player.proofs.Words.{Program, Progress, Some, Start, StartIsInRange, State, after_burst, after_frame}
 use Rattle.plan_player.proofs.Words.{after_goes, airs, ap, arith, begins_phase, bits_of, change_of, code_of, cond}
 use Rattle.plan_player.proofs.Words.{eqb-false, false, frame_steps, happens, is_due, is_first_noticed, is_noticed}
 use Rattle.plan_player.proofs.Words.{left_after_frame, noticed, noticed_from, page_set, played_holds, reached_is_kept}
 use Rattle.plan_player.proofs.Words.{refl, rounds, sends, sent_entries, shown, starts_are_reached, subst, sym, true}
 use Rattle.plan_player.proofs.Words.{typed_code_runs, with_swap, ℕ}
-use Rattle.plan_verifier.specs.Typing.{IsTyped}
+use Rattle.plan_runs.specs.Phases.{SentBy}
 use Rattle.plan_runs.proofs.Carries.{IsNewly, LeftBy, frame_carries}
 use Rattle.plan_runs.proofs.Knowledge.{IsAhead, IsOnAir, CommittedBy}
 use Rattle.plan_runs.proofs.Notice.{Links, links}

@@ -4,12 +4,12 @@ use Rattle.plan_player.proofs.Words.{FRAMES_A_DAY, Frame, Hold, HoldIsAway, IfSo
 use Rattle.plan_player.proofs.Words.{Program, QuietFramesAreCopied, Running, Some, State, SwapIsAway, Waits, WaitsAny}
 use Rattle.plan_player.proofs.Words.{WaitsContact, WaitsDay, WaitsSwap, after_burst, after_frame, ap, arith, burst}
 use Rattle.plan_player.proofs.Words.{burst_steps, cond, counted_on, eqb-true, false, frame_bytes, frame_steps}
-use Rattle.plan_player.proofs.Words.{hold_after_frame, is_closed, is_day, is_due, is_first_noticed, is_here, is_running}
-use Rattle.plan_player.proofs.Words.{is_same_flag, last_steps, left_after_frame, mod-eq_of_lt, notice_frames, ready}
-use Rattle.plan_player.proofs.Words.{refl, replicate, run_frames, shown, shown_bytes, still_stops, subst, suc, sym}
-use Rattle.plan_player.proofs.Words.{true, with_due_swap, with_hold_ended, with_next_counts, with_swap, zero, ℕ}
-use Rattle.std.proofs.lemmas.Bool.{or_from}
-use Rattle.plan_code.specs.Flags.{any_closed, any_open}
+use Rattle.plan_player.proofs.Words.{hold_after_frame, is_day, is_due, is_first_noticed, is_here, is_running}
+use Rattle.plan_player.proofs.Words.{last_steps, left_after_frame, mod-eq_of_lt, notice_frames, or_from, ready, refl}
+use Rattle.plan_player.proofs.Words.{replicate, run_frames, shown, shown_bytes, still_stops, subst, suc, sym, true}
+use Rattle.plan_player.proofs.Words.{with_due_swap, with_hold_ended, with_next_counts, with_swap, zero, ℕ}
+use Rattle.plan_code.specs.Flags.{is_closed, any_closed, any_open}
+use Rattle.mux_config.specs.Sameness.{is_same_flag}
 use Rattle.plan_runs.proofs.Waits.{burst_stays}
 
 -- ---- a quiet frame

@@ -1,16 +1,15 @@
 -- Quiet frames that go to a sink together: the content of each, and cutting their bytes.
 use Rattle.plan_player.proofs.Words.{[], ◌%◌, ◌*◌, ◌++◌, ◌+◌, ◌-◌, ◌/◌, ◌<◌, ◌==◌, ◌∙◌, ◌∷◌, ◌≡◌, ◌≤◌, Bool, COUNTS}
-use Rattle.plan_player.proofs.Words.{EnsembleInformation, HasPage, HasRounds, Header, IsEnsembleInformation, IsKept}
-use Rattle.plan_player.proofs.Words.{IsStretch, KeptPage, List, Marked, None, Option, PhasePages, Plan, Some, State}
-use Rattle.plan_player.proofs.Words.{SwapIsAway, ap, append-nil, append_assoc, arith, bits_of, change_of, concat}
-use Rattle.plan_player.proofs.Words.{concat-append, cond, count_step, counted_on, ensemble_at, ensemble_of}
-use Rattle.plan_player.proofs.Words.{ensemble_sent, false, frame_fibs, headed_at, header_of, inl, inr, is_noticed}
-use Rattle.plan_player.proofs.Words.{layout_mode, left_later, length, length-append, low_of_swap, mod-add-div'}
-use Rattle.plan_player.proofs.Words.{mod-add-mod, mod-lt, not_noticed, notice_frames, noticed, page_after, page_bytes}
-use Rattle.plan_player.proofs.Words.{pages_are_valid, refl, sent_entries, shown_bytes, slice_get, split_le, subst, suc}
-use Rattle.plan_player.proofs.Words.{suc-mul, sym, take, take-append-add, take-append-le, true, with_next_counts, zero}
-use Rattle.plan_player.proofs.Words.{ℕ}
-use Rattle.std.proofs.Common.{IfSome}
+use Rattle.plan_player.proofs.Words.{EnsembleInformation, HasPage, HasRounds, Header, IfSome, IsKept, IsStretch}
+use Rattle.plan_player.proofs.Words.{KeptPage, List, Marked, None, Option, PhasePages, Plan, Some, State, SwapIsAway}
+use Rattle.plan_player.proofs.Words.{ap, append-nil, append_assoc, arith, bits_of, change_of, concat, concat-append}
+use Rattle.plan_player.proofs.Words.{cond, count_step, counted_on, ensemble_at, ensemble_of, ensemble_sent, false}
+use Rattle.plan_player.proofs.Words.{frame_fibs, headed_at, header_of, inl, inr, is_noticed, layout_mode, left_later}
+use Rattle.plan_player.proofs.Words.{length, length-append, low_of_swap, mod-add-div', mod-add-mod, mod-lt, not_noticed}
+use Rattle.plan_player.proofs.Words.{notice_frames, noticed, page_after, page_bytes, pages_are_valid, refl}
+use Rattle.plan_player.proofs.Words.{sent_entries, shown_bytes, slice_get, split_le, subst, suc, suc-mul, sym, take}
+use Rattle.plan_player.proofs.Words.{take-append-add, take-append-le, true, with_next_counts, zero, ℕ}
+use Rattle.fib_codec.specs.Ranges.{IsEnsembleInformation}
 use Rattle.plan_player.proofs.Keeping.{held_is}
 use Rattle.plan_player.proofs.CountedOn.{apart, left_on, count_on, on_more, frames_more}
 

@@ -2,9 +2,8 @@
 -- waits for a frame and ends: examples that hold and examples that fail for each definition.
 use Rattle.plan_player.proofs.Words.{◌<◌, ◌∷◌, ◌≡◌, ◌≤◌, Cursor, HasPage, Headed, I, IsFrameReady, IsGoing, IsInPhase}
 use Rattle.plan_player.proofs.Words.{Keeps, Kept, KeptPage, List, Marked, None, PhasePages, ShowsBytes, Some, Whole, ap}
-use Rattle.plan_player.proofs.Words.{arith, false, first, one_sub_is, page_bytes, page_set, plan, refl, replicate}
-use Rattle.plan_player.proofs.Words.{rounds, second, suc, true, waits, with_sub, zero, ℕ}
-use Rattle.plan_runs.proofs.Names.{get_or}
+use Rattle.plan_player.proofs.Words.{arith, false, first, get_or, one_sub_is, page_bytes, page_set, plan, refl}
+use Rattle.plan_player.proofs.Words.{replicate, rounds, second, suc, true, waits, with_sub, zero, ℕ}
 use Rattle.fib_carousel.proofs.Sendable.{sendable_page_set}
 use Rattle.plan_runs.proofs.VectorsOfRuns.{played}
 use Rattle.fib_carousel.specs.Greedy.{start as before_all}

@@ -1,8 +1,9 @@
 -- Quiet frames of a code that waits, with an empty multiplex: examples that hold and examples that fail.
-use Rattle.plan_player.proofs.Words.{[], ◌∷◌, ◌≡◌, AreAway, AreCopied, AreQuiet, Contacts, DayIsAway, End, Ended, Hold}
+use Rattle.plan_player.proofs.Words.{[], ◌∷◌, ◌≡◌, AreAway, AreCopied, AreQuiet, DayIsAway, End, Ended, Hold}
 use Rattle.plan_player.proofs.Words.{HoldIsAway, IsQuiet, None, Option, Program, Some, State, SwapIsAway, Wait, Waits}
 use Rattle.plan_player.proofs.Words.{WaitsAny, arith, code, counted_on, false, first_state, hold_later, line, nothing}
 use Rattle.plan_player.proofs.Words.{plan, refl, suc, true, zero, ℕ}
+use Rattle.plan_code.specs.declared.flags.Contacts.{Contacts}
 use Rattle.plan_code.specs.Flags.{any_closed, any_open}
 use Rattle.plan_player.proofs.Quiet.{quiet_frames_are_copied}
 

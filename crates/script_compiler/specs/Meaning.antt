@@ -147,11 +147,11 @@ pub record PerformsFrame (plan : Plan) (x y : Reading) : Type 0 where
   pub statements : Performs plan (reading x.todo (opens x.scene)) steps done
   pub counts : y ≡ reading done.todo (closes plan done.scene)
 
-abbrev pub with_level : ℕ → Bool → Scene → Scene
-with_level contact closed x = record x { contacts = with_contact contact closed x.contacts }
+abbrev pub with_contact_level : ℕ → Bool → Scene → Scene
+with_contact_level contact closed x = record x { contacts = with_contact contact closed x.contacts }
 
 abbrev pub PerformsEvent : Plan → Reading → Event → Reading → Type 0
-PerformsEvent plan x (Contact contact closed) y = y ≡ reading x.todo (with_level contact closed x.scene)
+PerformsEvent plan x (Contact contact closed) y = y ≡ reading x.todo (with_contact_level contact closed x.scene)
 PerformsEvent plan x Frame y = PerformsFrame plan x y
 
 -- the reading after a list of events

@@ -3,8 +3,8 @@ use Rattle.script_config.proofs.Words.{[], ◌*◌, ◌++◌, ◌+◌, ◌∷◌
 use Rattle.script_config.proofs.Words.{Configuration, DropComponent, Edit, IsConfiguration, IsService, List, Long}
 use Rattle.script_config.proofs.Words.{Service, Short, Sid, after_common, arith, carrier_of, component_limit}
 use Rattle.script_config.proofs.Words.{components_added, components_dropped, cond, edits_that_make, false, flat_map}
-use Rattle.script_config.proofs.Words.{is_same_component, length, length-append, packet_added, refl, service_added}
-use Rattle.script_config.proofs.Words.{sub_added, true, ℕ}
+use Rattle.script_config.proofs.Words.{is_same_component, length, length-append, packet_edits, refl, service_edits}
+use Rattle.script_config.proofs.Words.{sub_edits, true, ℕ}
 
 -- ---- a bound for each member
 
@@ -56,22 +56,22 @@ limit_few (Long n) = omega arith
 pub service_few : (s : Service) → IsService s → length s.components ≤ 12
 service_few s h = let few = h.few in let most = limit_few s.sid in omega (arith, few, most)
 
-pub added_few : (s : Service) → IsService s → length (service_added s) ≤ 13
+pub added_few : (s : Service) → IsService s → length (service_edits s) ≤ 13
 added_few s h = let few = service_few s h in let same = added_length s.sid s.components in omega (arith, few, same)
 
 -- ---- the edits that make a configuration
 
 pub made_few : (c : Configuration) → IsConfiguration c → length (edits_that_make c) ≤ 960
 made_few c h =
-    let e1 : List Edit = flat_map sub_added c.subs in
-    let e2 : List Edit = flat_map service_added c.services in
-    let e3 : List Edit = flat_map packet_added c.packets in
+    let e1 : List Edit = flat_map sub_edits c.subs in
+    let e2 : List Edit = flat_map service_edits c.services in
+    let e3 : List Edit = flat_map packet_edits c.packets in
     let one : length e1 ≤ 1 * length c.subs =
-    few_each (λ s. Unit {0}) sub_added 1 (λ s _. omega arith) c.subs (each_any c.subs) in
+    few_each (λ s. Unit {0}) sub_edits 1 (λ s _. omega arith) c.subs (each_any c.subs) in
     let two : length e2 ≤ 13 * length c.services =
-    few_each IsService service_added 13 added_few c.services h.services_formed in
+    few_each IsService service_edits 13 added_few c.services h.services_formed in
     let three : length e3 ≤ 1 * length c.packets =
-    few_each (λ p. Unit {0}) packet_added 1 (λ p _. omega arith) c.packets (each_any c.packets) in
+    few_each (λ p. Unit {0}) packet_edits 1 (λ p _. omega arith) c.packets (each_any c.packets) in
     let l1 = length-append e1 (e2 ++ e3) in
     let l2 = length-append e2 e3 in
     let n1 = h.subs_few in

@@ -5,8 +5,8 @@ use Rattle.script_config.proofs.Words.{Configuration, Edit, EepSet, IsAct, IsAdd
 use Rattle.script_config.proofs.Words.{IsEdit, IsInBounds, IsItem, IsPlaced, IsPlan, IsScript, IsService, IsSid, Item}
 use Rattle.script_config.proofs.Words.{List, Packet, Plan, Service, Sid, Sub, Tree, acts_from, added_by, ap, arith}
 use Rattle.script_config.proofs.Words.{components_added, cond, counted, counted_in, edits_that_make, false, flat_map}
-use Rattle.script_config.proofs.Words.{get_or, items_from, length, length-take-le, packet_added, rate_step, refl}
-use Rattle.script_config.proofs.Words.{service_added, sub_added, subst, suc, sym, take, take_all, take_more, true}
+use Rattle.script_config.proofs.Words.{get_or, items_from, length, length-take-le, packet_edits, rate_step, refl}
+use Rattle.script_config.proofs.Words.{service_edits, sub_edits, subst, suc, sym, take, take_all, take_more, true}
 use Rattle.script_config.proofs.Words.{units_of_step, zero, ℕ}
 use Rattle.script_front.specs.declared.tree.Statement.{Statement}
 use Rattle.script_front.specs.Block.{Block, nothing, basic, before, and_then, block_of}
@@ -151,7 +151,7 @@ pub components_adding : (sid : Sid) (ms : List Component) → IsSid sid → AllB
 components_adding sid [] named h = tt
 components_adding sid (m ∷ ms) named h = (((named, h.0), tt), components_adding sid ms named h.1)
 
-service_adding : (s : Service) → IsService s → AllByRecursion IsAdding (service_added s)
+service_adding : (s : Service) → IsService s → AllByRecursion IsAdding (service_edits s)
 service_adding s h = ((h.named, tt), components_adding s.sid s.components h.named h.within)
 
 pub packet_adding : (p : Packet) → IsAddressed p → IsAdding (AddPacket p)
@@ -168,11 +168,11 @@ packet_adding p h = (
 
 pub made_adding : (c : Configuration) → IsConfiguration c → AllByRecursion IsAdding (edits_that_make c)
 made_adding c h =
-    both IsAdding (flat_map sub_added c.subs) (flat_map service_added c.services ++ flat_map packet_added c.packets)
-    (each_of IsPlaced IsAdding sub_added (λ x k. (sub_adding x k, tt)) c.subs h.subs_placed)
-    (both IsAdding (flat_map service_added c.services) (flat_map packet_added c.packets)
-    (each_of IsService IsAdding service_added service_adding c.services h.services_formed)
-    (each_of IsAddressed IsAdding packet_added (λ x k. (packet_adding x k, tt)) c.packets h.packets_addressed))
+    both IsAdding (flat_map sub_edits c.subs) (flat_map service_edits c.services ++ flat_map packet_edits c.packets)
+    (each_of IsPlaced IsAdding sub_edits (λ x k. (sub_adding x k, tt)) c.subs h.subs_placed)
+    (both IsAdding (flat_map service_edits c.services) (flat_map packet_edits c.packets)
+    (each_of IsService IsAdding service_edits service_adding c.services h.services_formed)
+    (each_of IsAddressed IsAdding packet_edits (λ x k. (packet_adding x k, tt)) c.packets h.packets_addressed))
 
 -- ---- the result is a script
 

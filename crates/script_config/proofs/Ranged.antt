@@ -5,9 +5,9 @@ use Rattle.script_config.proofs.Words.{IsConfiguration, IsEdit, IsPlaced, IsServ
 use Rattle.script_config.proofs.Words.{Packet, RateSub, Service, Sid, Some, Sub, after_common, alterations, arith}
 use Rattle.script_config.proofs.Words.{carrier_of, cases_eq, components_added, components_dropped, edits_between}
 use Rattle.script_config.proofs.Words.{entry_at, false, flat_map, if◌then◌else◌, inl, inr, is_same_component}
-use Rattle.script_config.proofs.Words.{is_same_packet, is_same_profile, nat_lt, packet_added, packet_at, packet_gone}
+use Rattle.script_config.proofs.Words.{is_same_packet, is_same_profile, nat_lt, packet_edits, packet_at, packet_gone}
 use Rattle.script_config.proofs.Words.{packet_new, rate_altered, refl, service_at, service_cut, service_gone}
-use Rattle.script_config.proofs.Words.{service_grown, start_altered, sub_added, sub_altered, sub_at, sub_gone, sub_key}
+use Rattle.script_config.proofs.Words.{service_grown, start_altered, sub_edits, sub_altered, sub_at, sub_gone, sub_key}
 use Rattle.script_config.proofs.Words.{sub_new, subst, sym, true, ℕ}
 use Rattle.mux_types.specs.declared.parts.Component.TheVariants.{Sound, Stream, Packet as InPackets}
 use Rattle.script_config.proofs.Lookups.{found_first, found_cases}
@@ -104,7 +104,7 @@ sub_altered_formed (Some t) s h =
 
 -- ---- additions
 
-sub_added_formed : (s : Sub) → IsPlaced s → AreEdits (sub_added s)
+sub_added_formed : (s : Sub) → IsPlaced s → AreEdits (sub_edits s)
 sub_added_formed s h = ((sub_adding s h).0, tt)
 
 added_formed : (sid : Sid) (ms : List Component) → IsSid sid → AllByRecursion IsComponent ms
@@ -112,17 +112,17 @@ added_formed : (sid : Sid) (ms : List Component) → IsSid sid → AllByRecursio
 added_formed sid ms named h = each_as IsAdding IsEdit (λ e k. k.0) (components_added sid ms)
     (components_adding sid ms named h)
 
-packet_added_formed : (p : Packet) → IsAddressed p → AreEdits (packet_added p)
+packet_added_formed : (p : Packet) → IsAddressed p → AreEdits (packet_edits p)
 packet_added_formed p h = ((packet_adding p h).0, tt)
 
 sub_new_formed : (o : Option Sub) (t : Sub) → IsPlaced t → AreEdits (sub_new o t)
 sub_new_formed None t h = sub_added_formed t h
-sub_new_formed (Some s) t h = chosen (is_same_profile s.protection t.protection) [] (sub_added t) tt
+sub_new_formed (Some s) t h = chosen (is_same_profile s.protection t.protection) [] (sub_edits t) tt
     (sub_added_formed t h)
 
 packet_new_formed : (o : Option Packet) (q : Packet) → IsAddressed q → AreEdits (packet_new o q)
 packet_new_formed None q h = packet_added_formed q h
-packet_new_formed (Some p) q h = chosen (is_same_packet p q) [] (packet_added q) tt (packet_added_formed q h)
+packet_new_formed (Some p) q h = chosen (is_same_packet p q) [] (packet_edits q) tt (packet_added_formed q h)
 
 service_grown_formed : (o : Option Service) (t : Service) → IsService t → AreEdits (service_grown o t)
 service_grown_formed None t h = (h.named, added_formed t.sid t.components h.named h.within)

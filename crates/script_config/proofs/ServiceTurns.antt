@@ -10,7 +10,7 @@ use Rattle.script_config.proofs.Words.{component_limit, component_same, componen
 use Rattle.script_config.proofs.Words.{drop_component_fault, drop_component_keeps, drop_service_keeps, entry_at}
 use Rattle.script_config.proofs.Words.{entry_holds, eq-eqb, false, false≢true, filter, is_same_carrier}
 use Rattle.script_config.proofs.Words.{is_same_component, leb, length, length-append, list_any, lt-leb, names, not}
-use Rattle.script_config.proofs.Words.{refl, service_added, service_cut, service_gone, service_grown, service_key}
+use Rattle.script_config.proofs.Words.{refl, service_edits, service_cut, service_gone, service_grown, service_key}
 use Rattle.script_config.proofs.Words.{sid_key, subst, sym, true, with_component, without_carrier, ℕ}
 use Rattle.mux_types.specs.declared.parts.Carrier.{Carrier}
 use Rattle.mux_types.specs.declared.parts.Carrier.TheVariants.{Sub as BySub, Packet as ByPacket}
@@ -310,7 +310,7 @@ comes all ss ps None t c up few same h formed e there =
     let first = adds all ss ps t c up few h formed e there in
     let second = grows ss ps t.sid [] t.components (after (AddService t.sid ∷ []) c) first.keeps first.here
     formed.within formed.carriers formed.few in
-    come_on all ss ps (service_added t) t c h there
+    come_on all ss ps (service_edits t) t c h there
     (turns_both at_key (ServicesKept ss ps) (AddService t.sid ∷ []) (components_added t.sid t.components)
     (sid_key t.sid) (Some (service_with t.sid [])) (Some t) c first second)
 comes all ss ps (Some s) t c up few same h formed e there =

@@ -53,7 +53,7 @@ pub use Rattle.script_config.specs.Ensembles.{NamesAfter, named_by_entries, name
 pub use Rattle.script_config.specs.Frames.{FitFrames, edits_in}
 pub use Rattle.script_config.specs.HeardAgain.{PagesAreHeardAgain, page_frames, steady}
 pub use Rattle.script_config.specs.Items.{made_by, unless_fault}
-pub use Rattle.script_config.specs.Making.{components_added, edits_that_make, packet_added, service_added, sub_added}
+pub use Rattle.script_config.specs.Making.{components_added, edits_that_make, packet_edits, service_edits, sub_edits}
 pub use Rattle.script_config.specs.Openings.{IsOpening, IsOpeningReason}
 pub use Rattle.script_config.specs.Plain.{acts_from, items_from}
 pub use Rattle.script_config.specs.Plan.{committed, paced, pause_after, plan_acts}

@@ -14,7 +14,7 @@ use Rattle.mux_types.specs.declared.parts.Packet.{Packet}
 use Rattle.mux_types.specs.Configuration.{Configuration, carrier_of}
 use Rattle.mux_types.specs.Sameness.{is_same_set, is_same_component, is_same_packet}
 use Rattle.mux_config.specs.Edits.{sub_at, service_at, packet_at}
-use Rattle.script_config.specs.Making.{sub_added, components_added, service_added, packet_added}
+use Rattle.script_config.specs.Making.{sub_edits, components_added, service_edits, packet_edits}
 
 -- ---- components
 
@@ -71,15 +71,15 @@ sub_altered (Some t) s = if is_same_profile s.protection t.protection then alter
 -- ---- additions for a member of the second configuration, given the one with its identifier in the first
 
 abbrev pub sub_new : Option Sub → Sub → List Edit
-sub_new None t = sub_added t
-sub_new (Some s) t = if is_same_profile s.protection t.protection then [] else sub_added t
+sub_new None t = sub_edits t
+sub_new (Some s) t = if is_same_profile s.protection t.protection then [] else sub_edits t
 
 abbrev pub packet_new : Option Packet → Packet → List Edit
-packet_new None q = packet_added q
-packet_new (Some p) q = if is_same_packet p q then [] else packet_added q
+packet_new None q = packet_edits q
+packet_new (Some p) q = if is_same_packet p q then [] else packet_edits q
 
 abbrev pub service_grown : Option Service → Service → List Edit
-service_grown None t = service_added t
+service_grown None t = service_edits t
 service_grown (Some s) t = components_added t.sid (after_common t.components s.components)
 
 -- ---- all edits: each kind in ascending order of identifiers

@@ -3,8 +3,8 @@
 ghost use Rattle.std.specs.Prelude.{◌≡◌, ◌≤◌, ◌++◌, ◌∷◌, [], length, OnOk, IfOk};
 ghost use Rattle.std.specs.List.{flat_map, AllByRecursion};
 ghost use Rattle.mux_config.specs.Configuration.{IsConfiguration, IsPlaced, nothing};
-ghost use Rattle.script_config.specs.Making.{sub_added, components_added, service_added};
-ghost use Rattle.script_config.specs.Making.{packet_added, edits_that_make};
+ghost use Rattle.script_config.specs.Making.{sub_edits, components_added, service_edits};
+ghost use Rattle.script_config.specs.Making.{packet_edits, edits_that_make};
 ghost use Rattle.script_config.specs.Sequences.{Transform};
 
 use crate::laws;
@@ -24,7 +24,7 @@ pub(crate) fn put<T: Copy + Drop>(list: &mut Vec<T>, item: T) -> Result<(), Allo
 /// The edit that adds a sub-channel.
 pub(crate) fn add_sub(edits: &mut Vec<Edit>, sub: &Sub) -> Result<(), AllocError>
     requires { IsPlaced sub.now }
-    ensures { OnOk result (edits.new.items ≡ edits.old.items ++ sub_added sub.now) }
+    ensures { OnOk result (edits.new.items ≡ edits.old.items ++ sub_edits sub.now) }
 {
     let new = NewSub::new(*sub).unwrap();
     put(edits, Edit::AddSub(new))
@@ -48,7 +48,7 @@ pub(crate) fn add_components(
 
 /// The edits that add a service and then its components.
 pub(crate) fn add_service(edits: &mut Vec<Edit>, service: &Service) -> Result<(), AllocError>
-    ensures { OnOk result (edits.new.items ≡ edits.old.items ++ service_added service.now) }
+    ensures { OnOk result (edits.new.items ≡ edits.old.items ++ service_edits service.now) }
 {
     put(edits, Edit::AddService(service.sid))?;
     add_components(edits, service.sid, service.components.as_slice())
@@ -56,14 +56,14 @@ pub(crate) fn add_service(edits: &mut Vec<Edit>, service: &Service) -> Result<()
 
 /// The edit that adds a packet component.
 pub(crate) fn add_packet(edits: &mut Vec<Edit>, packet: &Packet) -> Result<(), AllocError>
-    ensures { OnOk result (edits.new.items ≡ edits.old.items ++ packet_added packet.now) }
+    ensures { OnOk result (edits.new.items ≡ edits.old.items ++ packet_edits packet.now) }
 {
     put(edits, Edit::AddPacket(*packet))
 }
 
 fn add_subs(edits: &mut Vec<Edit>, subs: &[Sub]) -> Result<(), AllocError>
     requires { AllByRecursion IsPlaced subs.now }
-    ensures { OnOk result (edits.new.items ≡ edits.old.items ++ flat_map sub_added subs.now) }
+    ensures { OnOk result (edits.new.items ≡ edits.old.items ++ flat_map sub_edits subs.now) }
 {
     for sub in subs {
         add_sub(edits, sub)?;
@@ -73,7 +73,7 @@ fn add_subs(edits: &mut Vec<Edit>, subs: &[Sub]) -> Result<(), AllocError>
 
 fn add_services(edits: &mut Vec<Edit>, services: &[Service]) -> Result<(), AllocError>
     ensures { OnOk result (edits.new.items ≡ edits.old.items
-        ++ flat_map service_added services.now) }
+        ++ flat_map service_edits services.now) }
 {
     for service in services {
         add_service(edits, service)?;
@@ -83,7 +83,7 @@ fn add_services(edits: &mut Vec<Edit>, services: &[Service]) -> Result<(), Alloc
 
 fn add_packets(edits: &mut Vec<Edit>, packets: &[Packet]) -> Result<(), AllocError>
     ensures { OnOk result (edits.new.items ≡ edits.old.items
-        ++ flat_map packet_added packets.now) }
+        ++ flat_map packet_edits packets.now) }
 {
     for packet in packets {
         add_packet(edits, packet)?;

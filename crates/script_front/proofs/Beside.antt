@@ -1,7 +1,7 @@
 -- Alternatives beside each other, and the slots that keep them.
 use Rattle.script_front.proofs.Words.{[], ◌++◌, ◌+◌, ◌-◌, ◌<◌, ◌||◌, ◌∙◌, ◌∷◌, ◌≡◌, ◌≤◌, AllByRecursion, Alternative}
 use Rattle.script_front.proofs.Words.{AreAlternatives, Bool, IsAlternative, List, ap, append_assoc, arith, cond, false}
-use Rattle.script_front.proofs.Words.{filter, is_moment, is_number, length, length-append, list_any, may_follow, not}
+use Rattle.script_front.proofs.Words.{filter, is_moment, is_frames, length, length-append, list_any, may_follow, not}
 use Rattle.script_front.proofs.Words.{refl, replicate, set, set-append_seam, subst, suc, sym, take, take-append_seam}
 use Rattle.script_front.proofs.Words.{true, ℕ}
 use Rattle.script_front.specs.declared.alternatives.Alternative.TheVariants.{Contact, Until, Frames}
@@ -60,7 +60,7 @@ counts_none p (a ∷ others) h = chosen (counts_none p others) (p a) h
 pub record AreTogether (all : Alternatives) : Type 0 where
   pub each : AllByRecursion IsAlternative all
   pub one_moment : length (filter is_moment all) ≤ 1
-  pub one_number : length (filter is_number all) ≤ 1
+  pub one_number : length (filter is_frames all) ≤ 1
 
 pub each_both : (before more : Alternatives) → AllByRecursion IsAlternative before → AllByRecursion IsAlternative more
     → AllByRecursion IsAlternative (before ++ more)
@@ -90,7 +90,7 @@ pub one_more : (before : Alternatives) (a : Alternative) → AreTogether before 
     → may_follow before a ≡ true → AreTogether (before ++ a ∷ [])
 one_more before (Contact contact closed) h is fits =
     let m = count_both is_moment before (Contact contact closed ∷ []) in
-    let n = count_both is_number before (Contact contact closed ∷ []) in
+    let n = count_both is_frames before (Contact contact closed ∷ []) in
     let x = h.one_moment in
     let y = h.one_number in
     record {
@@ -100,7 +100,7 @@ one_more before (Contact contact closed) h is fits =
     }
 one_more before (Until moment) h is fits =
     let m = count_both is_moment before (Until moment ∷ []) in
-    let n = count_both is_number before (Until moment ∷ []) in
+    let n = count_both is_frames before (Until moment ∷ []) in
     let x = none_counts is_moment before (not_any _ fits) in
     let y = h.one_number in
     record {
@@ -110,9 +110,9 @@ one_more before (Until moment) h is fits =
     }
 one_more before (Frames frames) h is fits =
     let m = count_both is_moment before (Frames frames ∷ []) in
-    let n = count_both is_number before (Frames frames ∷ []) in
+    let n = count_both is_frames before (Frames frames ∷ []) in
     let x = h.one_moment in
-    let y = none_counts is_number before (not_any _ fits) in
+    let y = none_counts is_frames before (not_any _ fits) in
     record {
       each = each_both before _ h.each (is, tt);
       one_moment = omega (arith, m, x);
@@ -127,8 +127,8 @@ next_fits before (Until moment) more h =
     let m = count_both is_moment before (Until moment ∷ more) in
     let x = h.one_moment in is_so _ (counts_none is_moment before (omega (arith, m, x)))
 next_fits before (Frames frames) more h =
-    let m = count_both is_number before (Frames frames ∷ more) in
-    let x = h.one_number in is_so _ (counts_none is_number before (omega (arith, m, x)))
+    let m = count_both is_frames before (Frames frames ∷ more) in
+    let x = h.one_number in is_so _ (counts_none is_frames before (omega (arith, m, x)))
 
 pub are_together : (all : Alternatives) → AreAlternatives all → AreTogether all
 are_together all h = record { each = h.each; one_moment = h.one_moment; one_number = h.one_number }

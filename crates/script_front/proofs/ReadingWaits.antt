@@ -50,7 +50,8 @@ unfolding moment_at
 moment_given ws x e =
     let a = bind_some (time_at ws) _ x e in
     let f = values_are_read.times.given ws a.x a.first in
-    elim (either_given the.Early (built (Early a.x.0) (number_at 1 65535)) (λ vs. Some (At a.x.0, vs)) a.x.1 x a.second) [
+    elim (either_given the.Early (built (Early a.x.0) (number_at 1 65535))
+    (λ vs. Some (At a.x.0, vs)) a.x.1 x a.second) [
       | inl h ↦ (
           let n = bind_some (number_at 1 65535 (drop 1 a.x.1)) (giving (Early a.x.0)) x h.1 in
           let g = frames_law.given (drop 1 a.x.1) n.x n.first in

@@ -38,7 +38,7 @@ pub use Rattle.script_front.specs.Spelled.{moment_lexemes, name_at, or_lexemes, 
 pub use Rattle.script_front.specs.Spelled.{within_lexemes}
 pub use Rattle.script_front.specs.Tree.{Adds, AllFit, AreNamedApart, IsAct, IsCondition, IsInBounds, IsItem, IsScript}
 pub use Rattle.script_front.specs.Tree.{Tree, counted, counted_in}
-pub use Rattle.script_front.specs.Waits.{AreAlternatives, IsAlternative, IsMoment, is_moment, is_number, may_follow}
+pub use Rattle.script_front.specs.Waits.{AreAlternatives, IsAlternative, IsMoment, is_moment, is_frames, may_follow}
 pub use Rattle.script_front.specs.Waits.{moment_frame}
 pub use Rattle.script_front.specs.declared.alternatives.Alternative.{Alternative}
 pub use Rattle.script_front.specs.declared.moment.MomentForm.TheVariants.{At, Early}

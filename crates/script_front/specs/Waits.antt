@@ -30,9 +30,9 @@ abbrev pub is_moment : Alternative → Bool
 is_moment (Until moment) = true
 is_moment _ = false
 
-abbrev pub is_number : Alternative → Bool
-is_number (Frames frames) = true
-is_number _ = false
+abbrev pub is_frames : Alternative → Bool
+is_frames (Frames frames) = true
+is_frames _ = false
 
 -- 2 to 8 alternatives in range, of which at most one is a moment, and at most one a number of frames
 pub record AreAlternatives (alternatives : List Alternative) : Type 0 where
@@ -40,10 +40,10 @@ pub record AreAlternatives (alternatives : List Alternative) : Type 0 where
   pub few : length alternatives ≤ 8
   pub each : AllByRecursion IsAlternative alternatives
   pub one_moment : length (filter is_moment alternatives) ≤ 1
-  pub one_number : length (filter is_number alternatives) ≤ 1
+  pub one_number : length (filter is_frames alternatives) ≤ 1
 
 -- whether this alternative can be beside these
 abbrev pub may_follow : List Alternative → Alternative → Bool
 may_follow before (Contact contact closed) = true
 may_follow before (Until moment) = not (list_any is_moment before)
-may_follow before (Frames frames) = not (list_any is_number before)
+may_follow before (Frames frames) = not (list_any is_frames before)

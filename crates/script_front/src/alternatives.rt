@@ -2,7 +2,7 @@
 
 ghost use Rattle.std.specs.Prelude.{◌≡◌, ◌<◌, ◌++◌, ◌∷◌, [], true, length};
 ghost use Rattle.std.specs.List.{list_any};
-ghost use Rattle.script_front.specs.Waits.{is_moment, is_number, may_follow};
+ghost use Rattle.script_front.specs.Waits.{is_moment, is_frames, may_follow};
 
 use crate::moment::Moment;
 use plan_code::{ContactId, Frames};
@@ -86,7 +86,7 @@ pub(crate) fn has_moment(alternatives: &[Alternative]) -> bool
 
 /// Whether one of these alternatives is a number of frames.
 pub(crate) fn has_number(alternatives: &[Alternative]) -> bool
-    ensures { result ≡ list_any is_number alternatives.now }
+    ensures { result ≡ list_any is_frames alternatives.now }
 {
     alternatives.iter().any(|a| is_number(*a))
 }
@@ -101,7 +101,7 @@ fn is_moment(alternative: Alternative) -> bool
 }
 
 fn is_number(alternative: Alternative) -> bool
-    ensures { result ≡ is_number alternative }
+    ensures { result ≡ is_frames alternative }
 {
     match alternative {
         Alternative::Frames(_) => true,

@@ -1,8 +1,6 @@
 -- The pieces so far, decoded, give the result of a stream of their bytes.
-use Rattle.std.proofs.Common.{◌≡◌, ℕ, ◌*◌, ◌%◌, ◌≤◌, Bool, List, length, Option}
-use Rattle.std.specs.Io.KnownBytes.{Consumes}
-use Rattle.cli_streams.specs.declared.listen.Heard.{Heard}
-use Rattle.cli_streams.specs.Stream.{HearsTheStream, fibs_of_stream, unheard, ended}
+use Rattle.cli_streams.proofs.Words.{◌%◌, ◌*◌, ◌≡◌, ◌≤◌, Bool, Consumes, Heard, HearsTheStream, List, Option, ended}
+use Rattle.cli_streams.proofs.Words.{fibs_of_stream, length, unheard, ℕ}
 use Rattle.cli_streams.proofs.listen.listen_to.Given as goal
 
 pub record HeardSoFar (before left : Option (List ℕ)) (has_room : Bool) (heard : Heard) (pieces : ℕ) : Type 0 where

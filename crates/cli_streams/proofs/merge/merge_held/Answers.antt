@@ -1,4 +1,4 @@
-use Rattle.std.proofs.Common.{◌∙◌, refl, ap, length, arith}
+use Rattle.cli_streams.proofs.Words.{◌∙◌, ap, arith, length, refl}
 use Rattle.cli_streams.proofs.MergingEnds.{one_more, one_of}
 use Rattle.cli_streams.proofs.MergingStreams.{kept_on, none_held, none_merged}
 use Rattle.cli_streams.proofs.merge.merge_held.Goals as goal
@@ -20,7 +20,8 @@ loop-frames-preserved g c =
     let later = c.in_ok-make_way-2.ensures in
     let read = c.in_ok-read_frame.ensures in
     let held = kept_on (kept_on inv.4 way.kept) later.kept in
-    let one = one_of c.loop-frames.frame held inv.0 read.whole c.if-not-branch.false read.reads c.take_next.ensures.takes c.fill_frame.ensures.bytes c.fill_frame.ensures.merger in
+    let one = one_of c.loop-frames.frame held inv.0 read.whole c.if-not-branch.false read.reads
+    c.take_next.ensures.takes c.fill_frame.ensures.bytes c.fill_frame.ensures.merger in
     let size = later.size ∙ way.size ∙ inv.1 in (
       c.fill_frame.ensures.whole ∙ read.whole ∙ inv.0,
       c.hold.ensures.size ∙ size,

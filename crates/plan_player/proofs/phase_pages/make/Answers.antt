@@ -1,6 +1,5 @@
-use Rattle.plan_player.proofs.Words.{IsAtPage, IsKept, page_after, rounds, subst, ℕ}
+use Rattle.plan_player.proofs.Words.{IsAtPage, IsKept, page_after, page_set_of, rounds, subst, ℕ}
 use Rattle.std.specs.Option.{option_copied}
-use Rattle.fib_carousel.specs.Pages.{page_set_of}
 use Rattle.plan_player.proofs.Keeping.{one_more}
 use Rattle.plan_player.proofs.phase_pages.make.Goals as goal
 

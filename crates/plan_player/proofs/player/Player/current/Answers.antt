@@ -1,4 +1,5 @@
-use Rattle.plan_player.proofs.Words.{[], IsSound, Playing, state_of, subst, typed_code_runs}
+use Rattle.plan_player.proofs.Words.{[], Playing, state_of, subst, typed_code_runs}
+use Rattle.mux_config.specs.Sound.{IsSound}
 use Rattle.plan_player.proofs.player.Player.current.Goals as goal
 
 pub returns-clause-sound : goal.returns-clause-sound
