@@ -1,3 +1,4 @@
 mod LiveInputs
 mod Playbacks
 mod VectorsOfSuccess
+mod Words

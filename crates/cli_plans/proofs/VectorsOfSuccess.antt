@@ -1,16 +1,9 @@
 -- What status 0 means: each definition where it holds, and where it fails.
-use Rattle.std.specs.Io.KnownBytes.{Appends}
-use Rattle.std.proofs.Common.{◌≡◌, ◌++◌, ℕ, List, [], ◌∷◌, length, take, Option, None, Some, refl, ap, arith}
-use Rattle.console.specs.World.{World}
-use Rattle.plan_player.specs.Playing.{Playing}
-use Rattle.plan_player.specs.Delivery.{played_bytes}
-use Rattle.plan_session.specs.declared.start.StartOptions.{StartOptions}
-use Rattle.plan_session.specs.declared.step.Step.{Step}
-use Rattle.plan_session.specs.Events.{events_of}
-use Rattle.plan_session.specs.Playback.{asked_from, Begins, IsPlayback}
+use Rattle.cli_plans.proofs.Words.{[], ◌++◌, ◌∷◌, ◌≡◌, Appends, Begins, IsLiveTo, IsPlayback, IsPlayedInto, IsPlayedTo}
+use Rattle.cli_plans.proofs.Words.{List, LiveRequest, Lives, None, Option, Playing, Plays, PlaysToOutput, Some}
+use Rattle.cli_plans.proofs.Words.{StartOptions, Step, World, ap, arith, asked_from, events_of, length, played_bytes}
+use Rattle.cli_plans.proofs.Words.{refl, take, ℕ}
 use Rattle.plan_live.specs.Living.{kept_bytes}
-use Rattle.cli_plans.specs.Success.{IsPlayedInto, Plays, IsPlayedTo, PlaysToOutput, IsLiveTo, Lives}
-use Rattle.cli_plans.specs.declared.live.LiveRequest.{LiveRequest}
 use Rattle.cli_plans.specs.declared.play.PlayRequest.{PlayRequest}
 
 -- ---- a file
@@ -22,11 +15,14 @@ all_have bytes = record { files = λ path. Some bytes }
 abbrev no_files : World
 no_files = record { files = λ path. None }
 
-written : (path code text : List ℕ) (start : StartOptions) (p : Playing) (steps : List Step) → IsPlayback (asked_from code text start) p steps
-    → IsPlayedInto path code text start (Some (all_have (played_bytes p (events_of steps)))) (Some (all_have (played_bytes p (events_of steps))))
+written : (path code text : List ℕ) (start : StartOptions) (p : Playing) (steps : List Step)
+    → IsPlayback (asked_from code text start) p steps
+    → IsPlayedInto path code text start (Some (all_have (played_bytes p (events_of steps))))
+    (Some (all_have (played_bytes p (events_of steps))))
 written path code text start p steps h = (p, steps, h, record { written = refl; others = λ other not. refl })
 
-not_written : (path code text : List ℕ) (start : StartOptions) → IsPlayedInto path code text start (Some no_files) (Some no_files) → ⊥
+not_written : (path code text : List ℕ) (start : StartOptions)
+    → IsPlayedInto path code text start (Some no_files) (Some no_files) → ⊥
 not_written path code text start (p, steps, h, has) = let none = has.written in absurd cc
 
 -- nothing is claimed of a code that is not known
@@ -38,7 +34,8 @@ not_played r h = not_written r.out.now (take 1048577 []) [] r.start (h [] [] ref
 
 -- ---- standard output
 
-taken : (code text : List ℕ) (start : StartOptions) (p : Playing) (steps : List Step) → IsPlayback (asked_from code text start) p steps
+taken : (code text : List ℕ) (start : StartOptions) (p : Playing) (steps : List Step)
+    → IsPlayback (asked_from code text start) p steps
     → IsPlayedTo code text start (Some []) (Some (played_bytes p (events_of steps)))
 taken code text start p steps h = (p, steps, h, refl)
 
@@ -57,10 +54,12 @@ not_played_to_output r h = not_taken (take 1048577 []) [] r.start (h [] [] refl 
 
 -- ---- lines
 
-no_lines : (r : LiveRequest) (code : List ℕ) (p : Playing) → Begins (asked_from code [] r.start) p → IsLiveTo r code (Some []) (Some []) (Some (kept_bytes r.skip p []))
+no_lines : (r : LiveRequest) (code : List ℕ) (p : Playing) → Begins (asked_from code [] r.start) p
+    → IsLiveTo r code (Some []) (Some []) (Some (kept_bytes r.skip p []))
 no_lines r code p h = (p, [], h, refl, refl)
 
-not_live : (r : LiveRequest) (code : List ℕ) (input : Option (List ℕ)) → IsLiveTo r code input (Some (7 ∷ [])) (Some []) → ⊥
+not_live : (r : LiveRequest) (code : List ℕ) (input : Option (List ℕ)) → IsLiveTo r code input (Some (7 ∷ [])) (Some [])
+    → ⊥
 not_live r code input (p, steps, h, does, out) = fewer (kept_bytes r.skip p (events_of steps)) out
 
 unknown_live : (r : LiveRequest) (input before after : Option (List ℕ)) → Lives r (λ path. None) input before after

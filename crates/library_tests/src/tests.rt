@@ -1,5 +1,5 @@
-//! Tests of library calls: of stores (`stores`), FIBs (`fibs`, `entries`, `places`), printed scripts (`printing`) and
-//! playback (the others).
+//! Tests of library calls: of stores (`stores`), FIBs (`fibs`, `entries`, `places`), printed
+//! scripts (`printing`) and playback (the others).
 
 mod codes;
 mod entries;

@@ -2,21 +2,30 @@
 use Rattle.std.proofs.Common.{◌≡◌, ℕ, List, [], ◌∷◌, ◌++◌, Option, Some, refl, ap, subst, ◌∙◌}
 use Rattle.std.specs.List.{AllByRecursion}
 use Rattle.plan_code.specs.declared.instr.Instr.{Instr}
-use Rattle.plan_code.specs.declared.instr.Instr.TheVariants.{Wait, Until, WaitContact, WaitAny, CommitIn, CommitAt, Join, Settle, End, Edit, Test, TestTime, Jump, Set, Loop}
+use Rattle.plan_code.specs.declared.instr.Instr.TheVariants.{Wait, Until, WaitContact, WaitAny, CommitIn, CommitAt}
+use Rattle.plan_code.specs.declared.instr.Instr.TheVariants.{Join, Settle, End, Edit, Test, TestTime, Jump, Set, Loop}
 use Rattle.plan_code.specs.declared.instr.Line.{Line}
 use Rattle.plan_explain.specs.declared.beginning.FirstWait.{FirstWait}
 use Rattle.plan_explain.specs.Beginnings.{IsQuiet, WaitsFirst, wait_at, first_wait}
 
-here : (line frame : ℕ) (ls : List Line) (w : FirstWait) → Some (record { line = line; frame = frame }) ≡ Some w → WaitsFirst (record { number = line; instr = Until frame } ∷ ls) w
+here : (line frame : ℕ) (ls : List Line) (w : FirstWait) → Some (record { line = line; frame = frame }) ≡ Some w
+    → WaitsFirst (record { number = line; instr = Until frame } ∷ ls) w
 here line frame ls w e =
     let v : FirstWait = record { line = line; frame = frame } in
     let same : v ≡ w = cc in
-    subst (λ (x : FirstWait). WaitsFirst (record { number = line; instr = Until frame } ∷ ls) x) same (record { front = []; rest = ls; is = refl; quiet = tt })
+    subst (λ (x : FirstWait). WaitsFirst (record { number = line; instr = Until frame } ∷ ls) x) same
+    (record { front = []; rest = ls; is = refl; quiet = tt })
 
 later : (l : Line) (ls : List Line) (w : FirstWait) → IsQuiet l.instr → WaitsFirst ls w → WaitsFirst (l ∷ ls) w
-later l ls w quiet h = record { front = l ∷ h.front; rest = h.rest; is = ap (λ (xs : List Line). l ∷ xs) h.is; quiet = (quiet, h.quiet) }
+later l ls w quiet h = record {
+  front = l ∷ h.front;
+  rest = h.rest;
+  is = ap (λ (xs : List Line). l ∷ xs) h.is;
+  quiet = (quiet, h.quiet);
+}
 
-at_instr : (line : ℕ) (i : Instr) (ls : List Line) (w : FirstWait) → (first_wait ls ≡ Some w → WaitsFirst ls w) → wait_at line i (first_wait ls) ≡ Some w → WaitsFirst (record { number = line; instr = i } ∷ ls) w
+at_instr : (line : ℕ) (i : Instr) (ls : List Line) (w : FirstWait) → (first_wait ls ≡ Some w → WaitsFirst ls w)
+    → wait_at line i (first_wait ls) ≡ Some w → WaitsFirst (record { number = line; instr = i } ∷ ls) w
 at_instr line (Edit e) ls w rest h = later (record { number = line; instr = Edit e }) ls w tt (rest h)
 at_instr line (Set k n) ls w rest h = later (record { number = line; instr = Set k n }) ls w tt (rest h)
 at_instr line (Until t) ls w rest h = here line t ls w h
@@ -54,7 +63,8 @@ passed line (TestTime from to t) later quiet = absurd quiet
 passed line (Jump t) later quiet = absurd quiet
 passed line (Loop k t) later quiet = absurd quiet
 
-found_behind : (front : List Line) (w : FirstWait) (rest : List Line) → AllByRecursion (λ l. IsQuiet l.instr) front → first_wait (front ++ record { number = w.line; instr = Until w.frame } ∷ rest) ≡ Some w
+found_behind : (front : List Line) (w : FirstWait) (rest : List Line) → AllByRecursion (λ l. IsQuiet l.instr) front
+    → first_wait (front ++ record { number = w.line; instr = Until w.frame } ∷ rest) ≡ Some w
 found_behind [] w rest quiet = refl
 found_behind (l ∷ ls) w rest quiet = passed l.number l.instr _ quiet.0 ∙ found_behind ls w rest quiet.1
 

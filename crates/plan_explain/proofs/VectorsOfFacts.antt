@@ -31,7 +31,11 @@ abbrev two : Sub
 two = record { id = 2; start = 4; protection = record { set = A; level = 3 }; kbits = 8 }
 
 abbrev crowded : Configuration
-crowded = record { subs = one ∷ two ∷ []; services = record { sid = Short 5; components = Sound 63 1 ∷ [] } ∷ []; packets = [] }
+crowded = record {
+  subs = one ∷ two ∷ [];
+  services = record { sid = Short 5; components = Sound 63 1 ∷ [] } ∷ [];
+  packets = [];
+}
 
 abbrev idle : Flow
 idle = record { current = nothing; next = crowded; pending = Idle }

@@ -9,7 +9,8 @@ use Rattle.mux_types.specs.declared.numbers.Sid.TheVariants.{Short, Long}
 use Rattle.mux_types.specs.Configuration.{Configuration}
 use Rattle.plan_code.specs.declared.instr.Instr.TheVariants.{Wait, Until, Edit}
 use Rattle.mux_config.specs.declared.edit.Edit.TheVariants.{DropSub}
-use Rattle.script_front.specs.declared.tree.Act.TheVariants.{Wait as Waits, WaitContact as WaitsContact, Until as WaitsUntil, Join as Joins}
+use Rattle.script_front.specs.declared.tree.Act.TheVariants.{Wait as Waits, WaitContact as WaitsContact}
+use Rattle.script_front.specs.declared.tree.Act.TheVariants.{Until as WaitsUntil, Join as Joins}
 use Rattle.script_front.specs.declared.tree.Statement.TheOpen.{Statement-F}
 use Rattle.script_front.specs.declared.tree.Statement.TheVariants.{Act as Acts, rolls-Act}
 use Rattle.script_front.specs.declared.tree.Statement.TheFolds.{fold-roll-Statement}
@@ -66,29 +67,41 @@ is_short h = contains_none (LongAudio (Short 5) 3) (flaw_listed (with_service sh
 -- ---- primary components
 
 abbrev of_two : Configuration
-of_two = record { subs = []; services = record { sid = Short 5; components = Sound 63 1 ∷ Stream 5 2 ∷ [] } ∷ []; packets = [] }
+of_two = record {
+  subs = [];
+  services = record { sid = Short 5; components = Sound 63 1 ∷ Stream 5 2 ∷ [] } ∷ [];
+  packets = [];
+}
 
 abbrev turned : Configuration
-turned = record { subs = []; services = record { sid = Short 5; components = Stream 5 2 ∷ Sound 63 1 ∷ [] } ∷ []; packets = [] }
+turned = record {
+  subs = [];
+  services = record { sid = Short 5; components = Stream 5 2 ∷ Sound 63 1 ∷ [] } ∷ [];
+  packets = [];
+}
 
 first_changes : IsOtherPrimary of_two turned (record { sid = Short 5; before = Sound 63 1; after = Stream 5 2 })
-first_changes = is_other of_two turned _ (contains_first (record { sid = Short 5; before = Sound 63 1; after = Stream 5 2 }) [])
+first_changes = is_other of_two turned _
+    (contains_first (record { sid = Short 5; before = Sound 63 1; after = Stream 5 2 }) [])
 
 first_stays : (p : Primary) → IsOtherPrimary of_two of_two p → ⊥
 first_stays p h = contains_none p (other_listed of_two of_two p h)
 
 -- ---- first waits
 
-until_first : WaitsFirst (record { number = 8; instr = Edit (DropSub 3) } ∷ record { number = 9; instr = Until 5 } ∷ []) (record { line = 9; frame = 5 })
+until_first : WaitsFirst (record { number = 8; instr = Edit (DropSub 3) } ∷ record { number = 9; instr = Until 5 } ∷ [])
+    (record { line = 9; frame = 5 })
 until_first = waits_first _ _ refl
 
-wait_before : (w : FirstWait) → WaitsFirst (record { number = 8; instr = Wait 1 } ∷ record { number = 9; instr = Until 5 } ∷ []) w → ⊥
+wait_before : (w : FirstWait) → WaitsFirst (record { number = 8; instr = Wait 1 }
+    ∷ record { number = 9; instr = Until 5 } ∷ []) w → ⊥
 wait_before w h = let none : None ≡ Some w = is_found _ w h in absurd cc
 
 -- ---- blocks
 
 own_act : own_line (Acts 9 Joins) ≡ Some 9
-own_act = ap line_of (ap (λ (f : Before). f nothing) (ap (before []) (sym (rolls-Act 9 Joins)) ∙ fold-roll-Statement Before (statement_step []) (Statement-F.Act 9 Joins)))
+own_act = ap line_of (ap (λ (f : Before). f nothing) (ap (before []) (sym (rolls-Act 9 Joins))
+    ∙ fold-roll-Statement Before (statement_step []) (Statement-F.Act 9 Joins)))
 
 nothing_of_it : IsUnreached [] ((Acts 9 Joins ∷ []) ∷ []) 9
 nothing_of_it =
@@ -131,7 +144,11 @@ is_not_late u (inr (inr (inr h))) = h
 -- ---- warnings, each once
 
 two_lines : AreApart (Unreached 9 ∷ Unreached 10 ∷ [])
-two_lines = (λ h. elim (contains_cases (Unreached 10) [] (Unreached 9) h) [ inl same ↦ cc | inr none ↦ contains_none (Unreached 9) none ], (contains_none (Unreached 10), tt))
+two_lines = (
+  λ h. elim (contains_cases (Unreached 10) [] (Unreached 9) h)
+      [ inl same ↦ cc | inr none ↦ contains_none (Unreached 9) none ],
+  (contains_none (Unreached 10), tt),
+)
 
 one_line : AreApart (Unreached 9 ∷ Unreached 9 ∷ []) → ⊥
 one_line h = h.0 (contains_first (Unreached 9) [])
@@ -141,7 +158,8 @@ kept_once =
     record {
       same = λ w. (
         λ h. contains_later (Unreached 9) (Unreached 9 ∷ []) w h,
-        λ h. elim (contains_cases (Unreached 9) (Unreached 9 ∷ []) w h) [ inl same ↦ (0, omega arith, same) | inr later ↦ later ],
+        λ h. elim (contains_cases (Unreached 9) (Unreached 9 ∷ []) w h)
+            [ inl same ↦ (0, omega arith, same) | inr later ↦ later ],
       );
       apart = (contains_none (Unreached 9), tt);
     }

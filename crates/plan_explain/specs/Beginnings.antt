@@ -2,7 +2,7 @@
 use Rattle.std.specs.Prelude.{◌≡◌, ℕ, List, [], ◌∷◌, ◌++◌, Option, Some, None}
 use Rattle.std.specs.List.{AllByRecursion}
 use Rattle.plan_code.specs.declared.instr.Instr.{Instr}
-use Rattle.plan_code.specs.declared.instr.Instr.TheVariants.{Wait, Until, WaitContact, WaitAny, CommitIn, CommitAt, Join, Settle, End, Edit, Test, TestTime, Jump, Set, Loop}
+use Rattle.plan_code.specs.declared.instr.Instr.TheVariants.{Until, Edit, Set}
 use Rattle.plan_code.specs.declared.instr.Line.{Line}
 use Rattle.plan_explain.specs.declared.beginning.FirstWait.{FirstWait}
 
@@ -25,18 +25,7 @@ abbrev pub wait_at : ℕ → Instr → Option FirstWait → Option FirstWait
 wait_at line (Edit e) later = later
 wait_at line (Set k n) later = later
 wait_at line (Until t) later = Some (record { line = line; frame = t })
-wait_at line (Wait n) later = None
-wait_at line (WaitContact k b) later = None
-wait_at line (WaitAny closed opened until frames) later = None
-wait_at line (CommitIn d) later = None
-wait_at line (CommitAt n) later = None
-wait_at line Join later = None
-wait_at line Settle later = None
-wait_at line End later = None
-wait_at line (Test k t) later = None
-wait_at line (TestTime from to t) later = None
-wait_at line (Jump t) later = None
-wait_at line (Loop k t) later = None
+wait_at line _ later = None
 
 abbrev pub first_wait : List Line → Option FirstWait
 first_wait [] = None

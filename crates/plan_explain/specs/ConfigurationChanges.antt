@@ -13,7 +13,8 @@ use Rattle.plan_explain.specs.Primaries.{primaries}
 -- one configuration in the place of another
 abbrev pub between : ℕ → Configuration → Configuration → List Warning
 between line before after =
-    map (Flawed line) (flat_map (unless_among (flaws before)) (flaws after)) ++ map (OtherPrimary line) (primaries before after)
+    map (Flawed line) (flat_map (unless_among (flaws before)) (flaws after))
+    ++ map (OtherPrimary line) (primaries before after)
 
 abbrev pub at_instr : Line → Known → List Warning
 at_instr l t = if commits l.instr then between l.number t.current t.next else []

@@ -1,19 +1,21 @@
 -- `until` for a time that is past: the way there from the last time of day takes longer than it is to its time.
-use Rattle.std.specs.Prelude.{◌≡◌, ◌⊎◌, ℕ, ◌+◌, ◌≤◌, Bool, true, false, not, if◌then◌else◌, nat_lt, List, [], ◌∷◌, Contains, Option, Some, None}
+use Rattle.std.specs.Prelude.{◌≡◌, ℕ, ◌+◌, ◌≤◌, Bool, true, false, not, if◌then◌else◌, nat_lt, List, [], ◌∷◌, Option}
+use Rattle.std.specs.Prelude.{Some, None}
 use Rattle.std.specs.List.{AllByRecursion}
 use Rattle.plan_code.specs.declared.limits.TheConstants.{FRAMES_A_DAY}
 use Rattle.plan_code.specs.Machine.{frames_until}
 use Rattle.script_front.specs.declared.tree.Act.{Act}
-use Rattle.script_front.specs.declared.tree.Act.TheVariants.{Edit as Edits, Wait, WaitContact, WaitAny, Until, CommitIn, CommitAt, Join, Settle}
-use Rattle.script_front.specs.declared.tree.Statement.{Statement}
+use Rattle.script_front.specs.declared.tree.Act.TheVariants.{Edit as Edits, Wait, WaitContact, WaitAny, Until, CommitIn}
+use Rattle.script_front.specs.declared.tree.Act.TheVariants.{CommitAt, Join, Settle}
 use Rattle.script_front.specs.declared.moment.MomentForm.{MomentForm as Moment}
 use Rattle.script_front.specs.declared.alternatives.Alternative.{Alternative}
 use Rattle.script_front.specs.declared.alternatives.Alternative.TheVariants.{Contact, Until as IsMoment, Frames}
 use Rattle.script_front.specs.Waits.{moment_frame}
-use Rattle.script_front.specs.Block.{Block, nothing, basic, stop, when, either, repeat, forever, apply, block_of}
+use Rattle.script_front.specs.Block.{Block, basic}
 use Rattle.script_front.specs.Tree.{Tree}
 use Rattle.plan_explain.specs.declared.straight.Way.{Way}
 use Rattle.plan_explain.specs.declared.day_wait.DayWait.{DayWait}
+use Rattle.plan_explain.specs.ActsInside.{HasAct, HasActIn}
 
 -- the frame of the day among some alternatives; for which an act waits, alone or beside others
 abbrev pub moment_in : List Alternative → Option ℕ
@@ -25,13 +27,7 @@ moment_in (Frames n ∷ others) = moment_in others
 abbrev pub time_of : Act → Option ℕ
 time_of (Until m) = Some (moment_frame m)
 time_of (WaitAny alternatives) = moment_in alternatives
-time_of (Edits e) = None
-time_of (Wait n) = None
-time_of (WaitContact k b) = None
-time_of (CommitIn d) = None
-time_of (CommitAt n) = None
-time_of Join = None
-time_of Settle = None
+time_of _ = None
 
 -- ---- the frames that statements take at least
 
@@ -88,23 +84,9 @@ pub record WaitsADay (act : Act) (rest : Block) (d : DayWait) : Type 0 where
   pub begins : time_of act ≡ Some from
   pub ahead : IsAhead (start from) rest d
 
--- among these statements, or in their braces
+-- among these statements, or in their braces; and in a script
 abbrev pub HasDayWait : Block → DayWait → Type 0
-HasDayWait nothing d = ⊥
-HasDayWait (basic line act rest) d = WaitsADay act rest d ⊎ HasDayWait rest d
-HasDayWait (stop line rest) d = HasDayWait rest d
-HasDayWait (when line condition first rest) d = HasDayWait first d ⊎ HasDayWait rest d
-HasDayWait (either line condition first second rest) d = HasDayWait first d ⊎ (HasDayWait second d ⊎ HasDayWait rest d)
-HasDayWait (repeat line times body rest) d = HasDayWait body d ⊎ HasDayWait rest d
-HasDayWait (forever line body rest) d = HasDayWait body d ⊎ HasDayWait rest d
-HasDayWait (apply line number named rest) d = HasDayWait rest d
+HasDayWait b d = HasAct (λ act rest. WaitsADay act rest d) b
 
--- in a block that the script defines
-pub record HasDayBlock (blocks : List (List Statement)) (d : DayWait) : Type 0 where
-  pub block : List Statement
-  pub defined : Contains blocks block
-  pub has : HasDayWait (block_of [] block) d
-
--- in the script's statements or in such a block
 abbrev pub HasDayWaitIn : Tree → DayWait → Type 0
-HasDayWaitIn script d = HasDayWait (block_of [] script.statements) d ⊎ HasDayBlock script.blocks d
+HasDayWaitIn script d = HasActIn (λ act rest. WaitsADay act rest d) script

@@ -1,5 +1,6 @@
 -- When a fact holds of a refusal.
-use Rattle.std.specs.Prelude.{◌≡◌, ◌≢◌, ℕ, ◌+◌, ◌≤◌, min, max, true, false, [], Option, Some, None, IsSome, Result, Ok, Err}
+use Rattle.std.specs.Prelude.{◌≡◌, ◌≢◌, ℕ, ◌+◌, ◌≤◌, min, max, true, false, [], Option, Some, None, IsSome, Result, Ok}
+use Rattle.std.specs.Prelude.{Err}
 use Rattle.std.specs.List.{list_any}
 use Rattle.mux_types.specs.declared.parts.Sub.{Sub}
 use Rattle.mux_types.specs.declared.parts.Service.{Service}
@@ -15,7 +16,10 @@ use Rattle.fib_codec.specs.declared.frame_layout.FrameLayout.{FrameLayout}
 use Rattle.fib_carousel.specs.Pages.{page_set, rounds}
 use Rattle.plan_verifier.specs.Flows.{Flow, FitsFlow}
 use Rattle.plan_explain.specs.declared.fact.Fact.{Fact}
-use Rattle.plan_explain.specs.declared.fact.Fact.TheVariants.{HasSub, HasPacket, HasService, HasComponent as HasPart, Lacks, LacksService, LacksComponent as LacksPart, Orphan, OrphanPacket, SameAddress, Empty, Shared, Swap, Pages as TakesPages, Differ as PathsDiffer, OtherSwap}
+use Rattle.plan_explain.specs.declared.fact.Fact.TheVariants.{HasSub, HasPacket, HasService, HasComponent as HasPart}
+use Rattle.plan_explain.specs.declared.fact.Fact.TheVariants.{Lacks, LacksService, LacksComponent as LacksPart, Orphan}
+use Rattle.plan_explain.specs.declared.fact.Fact.TheVariants.{OrphanPacket, SameAddress, Empty, Shared, Swap}
+use Rattle.plan_explain.specs.declared.fact.Fact.TheVariants.{Pages as TakesPages, Differ as PathsDiffer, OtherSwap}
 use Rattle.plan_explain.specs.declared.fact.Overlap.{Overlap}
 use Rattle.plan_explain.specs.declared.fact.Pages.{Pages}
 use Rattle.plan_explain.specs.declared.stop.Stop.{Stop}
@@ -85,7 +89,8 @@ HoldsIn (Empty sid) c p = IsEmpty (service_at sid c)
 HoldsIn (Shared o) c p = (sub_at o.first.id c ≡ Some o.first) × (sub_at o.second.id c ≡ Some o.second) × Shares o
 HoldsIn (Swap swap) c p = p.here.pending ≡ swap
 HoldsIn (TakesPages counts) c p = pages_of p.plan.layout p.here ≡ counts
-HoldsIn (PathsDiffer which what) c p = Differ what (compared which p.other.pending p.here) (compared which p.here.pending p.other)
+HoldsIn (PathsDiffer which what) c p =
+    Differ what (compared which p.other.pending p.here) (compared which p.here.pending p.other)
 HoldsIn OtherSwap c p = FitsFlow (with_swap p.here.pending) (with_swap p.other.pending) → ⊥
 
 -- a configuration is the next one where the plan is refused

@@ -19,7 +19,8 @@ pub record IsUnnamed (c : Configuration) (id : ℕ) : Type 0 where
   pub sub : Sub
   pub there : Contains c.subs sub
   pub is : sub.id ≡ id
-  pub components : (s : Service) (m : Component) → Contains c.services s → Contains s.components m → carrier_of m ≢ BySub id
+  pub components : (s : Service) (m : Component) → Contains c.services s → Contains s.components m
+      → carrier_of m ≢ BySub id
   pub packets : (p : Packet) → Contains c.packets p → p.sub ≢ id
 
 abbrev pub IsLong : Sid → Type 0

@@ -2,6 +2,7 @@ pub mod Flaws
 pub mod Primaries
 pub mod Beginnings
 pub mod Blocks
+pub mod ActsInside
 pub mod LateUntils
 pub mod DayWaits
 pub mod Straight

@@ -18,8 +18,8 @@ is_alone [] = false
 is_alone (m ∷ []) = true
 is_alone (m ∷ n ∷ ms) = false
 
--- the service is in both configurations, and begins with another component in the later one; and it has others, before or
--- now, since for a service with one component that is what moving it means
+-- the service is in both configurations, and begins with another component in the later one; and it has others, before
+-- or now, since for a service with one component that is what moving it means
 pub record IsOtherPrimary (before after : Configuration) (p : Primary) : Type 0 where
   pub was : Service
   pub is : Service
@@ -37,12 +37,14 @@ pub record IsOtherPrimary (before after : Configuration) (p : Primary) : Type 0 
 abbrev pub other_first : Sid → List Component → List Component → List Primary
 other_first sid [] ns = []
 other_first sid (m ∷ ms) [] = []
-other_first sid (m ∷ ms) (n ∷ ns) = if is_same_component m n then [] else record { sid = sid; before = m; after = n } ∷ []
+other_first sid (m ∷ ms) (n ∷ ns) = if is_same_component m n then [] else record { sid = sid; before = m; after = n }
+    ∷ []
 
 abbrev pub other_primary : Service → Service → List Primary
 other_primary later earlier =
     if is_same_sid earlier.sid later.sid then
-    (if is_alone earlier.components && is_alone later.components then [] else other_first later.sid earlier.components later.components)
+    (if is_alone earlier.components && is_alone later.components then [] else other_first later.sid earlier.components
+    later.components)
     else []
 
 abbrev pub primaries_of : List Service → Service → List Primary

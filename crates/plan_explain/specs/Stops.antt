@@ -21,8 +21,8 @@ cause_of (Unreached act after) = Table
 abbrev pub AgreeAtMerge : Flow → Flow → Type 0
 AgreeAtMerge s t = FitsFlow s (merged s t) × FitsFlow t (merged s t)
 
--- what is known refuses it: an instruction or an opening for the cause; a loop since its end does not fit its beginning;
--- an `if` since its paths can't be merged
+-- what is known refuses it: an instruction or an opening for the cause; a loop since its end does not fit its
+-- beginning; an `if` since its paths can't be merged
 abbrev pub RefusesIn : Refused → Stop → Type 0
 RefusesIn (Instr i cause) p = flow_cause p.plan i (known_at p.here) ≡ Some cause
 RefusesIn (Opening cause) p = start_cause p.plan p.here.next ≡ Some cause

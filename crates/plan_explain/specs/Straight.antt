@@ -2,7 +2,7 @@
 use Rattle.std.specs.Prelude.{ℕ, if◌then◌else◌, List, [], ◌∷◌, ◌++◌, Option, Some, None}
 use Rattle.std.specs.List.{flat_map}
 use Rattle.script_front.specs.declared.tree.Act.{Act}
-use Rattle.script_front.specs.declared.tree.Act.TheVariants.{Edit as Edits, Wait, WaitContact, WaitAny, Until, CommitIn, CommitAt, Join, Settle}
+use Rattle.script_front.specs.declared.tree.Act.TheVariants.{Until}
 use Rattle.script_front.specs.declared.tree.Statement.{Statement}
 use Rattle.script_front.specs.declared.moment.MomentForm.{MomentForm as Moment}
 use Rattle.script_front.specs.Block.{Block, nothing, basic, stop, when, either, repeat, forever, apply, block_of}
@@ -48,14 +48,7 @@ at_until before line m = late_of before.wait line m ++ day_of before.way line m
 
 abbrev pub at_act : Before → ℕ → Act → List Warning
 at_act before line (Until m) = at_until before line m
-at_act before line (Edits e) = []
-at_act before line (Wait n) = []
-at_act before line (WaitContact k b) = []
-at_act before line (WaitAny alternatives) = []
-at_act before line (CommitIn d) = []
-at_act before line (CommitAt n) = []
-at_act before line Join = []
-at_act before line Settle = []
+at_act before line _ = []
 
 -- statements, given what is before the first of them
 abbrev pub straight_from : Before → Block → List Warning

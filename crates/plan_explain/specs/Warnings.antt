@@ -9,7 +9,8 @@ use Rattle.script_front.specs.Tree.{Tree}
 use Rattle.plan_explain.specs.declared.flaw.Flaw.{Flaw}
 use Rattle.plan_explain.specs.declared.primary.Primary.{Primary}
 use Rattle.plan_explain.specs.declared.warning.Warning.{Warning}
-use Rattle.plan_explain.specs.declared.warning.Warning.TheVariants.{Flawed, OtherPrimary, WaitsForTime, Unreached, Late, NextDay}
+use Rattle.plan_explain.specs.declared.warning.Warning.TheVariants.{Flawed, OtherPrimary, WaitsForTime, Unreached, Late}
+use Rattle.plan_explain.specs.declared.warning.Warning.TheVariants.{NextDay}
 use Rattle.plan_explain.specs.Flaws.{HasFlaw}
 use Rattle.plan_explain.specs.Primaries.{IsOtherPrimary}
 use Rattle.plan_explain.specs.Beginnings.{WaitsFirst}

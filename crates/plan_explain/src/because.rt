@@ -1,19 +1,20 @@
-//! The lines that are to blame for a refusal: each is left out, or changed, and what becomes of the refusal is tried.
+//! The lines that are to blame for a refusal: each is left out, or changed, and what becomes of the
+//! refusal is tried.
 
 use crate::follow::follow;
-use crate::source::{Source, Spot};
+use crate::source::{Source, Spot, number_in};
 use crate::stop::{Refused, Stop, cause_of};
-use crate::trial::{Change, TextPatch, Verdict, changed};
+use crate::trial::{TextPatch, Verdict, patched};
 use crate::trier::Trier;
+use crate::words::{Part, edit_words};
 use mux_config::{Carrier, Edit, Sid, Store, SubId};
 use plan_code::{Code, Instr};
-use script_front::lexemes::put_edit;
 use script_front::{ScriptFault, parse};
 use std::alloc::{AllocError, Global};
 
 /// What a statement does.
 #[derive(Clone, Copy, Debug, PartialEq, Eq)]
-pub(crate) enum Deed {
+pub(crate) enum ExecutedStatement {
     /// Adds a sub-channel or a packet component.
     Adds(Carrier),
     /// Drops it.
@@ -29,7 +30,7 @@ pub(crate) enum Deed {
 /// A line that is to blame.
 #[derive(Clone, Copy, Debug, PartialEq, Eq)]
 pub(crate) struct Blame {
-    pub(crate) line: u16,
+    pub(crate) line: usize,
     /// Whether the refusal is passed without it. Otherwise all that is known is what the line does.
     pub(crate) is_tried: bool,
 }
@@ -37,63 +38,39 @@ pub(crate) struct Blame {
 /// The most lines that are tried.
 const MOST: u32 = 8;
 
-/// The words of an edit.
-fn words_of(alloc: Global, edit: Edit) -> Result<String, AllocError> {
-    let mut words = String::new(alloc);
-    put_edit(&mut words, edit)?;
-    Ok(words)
-}
-
-/// The words of an edit, and no others.
-fn one_edit(alloc: Global, edit: Edit) -> Result<[String; 2], AllocError> {
-    let words = words_of(alloc, edit)?;
-    Ok([words, String::new(alloc)])
-}
-
-/// The words of the statements that add a sub-channel or a packet component, where `_` stands for any.
-fn adding(alloc: Global, carrier: &Carrier) -> Result<[String; 2], AllocError> {
-    match carrier {
-        Carrier::Sub(id) => {
-            let id = id.get();
-            let words = format!(in alloc; "sub {id} at _ eep _ _")?;
-            Ok([words, String::new(alloc)])
+/// The words of the statements that do something, where `_` stands for any: of one kind, or of two.
+fn patterns_of(alloc: Global, executed: &ExecutedStatement) -> Result<[String; 2], AllocError> {
+    let none = String::new(alloc);
+    match *executed {
+        ExecutedStatement::Adds(Carrier::Sub(id)) => {
+            Ok([format!(in alloc; "sub {} at _ eep _ _", id.get())?, none])
         }
-        Carrier::Packet(scid) => {
+        ExecutedStatement::Adds(Carrier::Packet(scid)) => {
             let scid = scid.get();
             let groups = format!(in alloc; "packet {scid} groups type _ sub _ address _")?;
             let raw = format!(in alloc; "packet {scid} raw type _ sub _ address _")?;
             Ok([groups, raw])
         }
-    }
-}
-
-/// The words of the statements that drop a sub-channel or a packet component.
-fn dropping(alloc: Global, carrier: &Carrier) -> Result<[String; 2], AllocError> {
-    match carrier {
-        Carrier::Sub(id) => one_edit(alloc, Edit::DropSub(*id)),
-        Carrier::Packet(scid) => one_edit(alloc, Edit::DropPacket(*scid)),
-    }
-}
-
-/// The words of the statements that move a sub-channel or give it another rate, where `_` stands for any.
-fn changing(alloc: Global, id: SubId) -> Result<[String; 2], AllocError> {
-    let id = id.get();
-    let moves = format!(in alloc; "move sub {id} at _")?;
-    let rates = format!(in alloc; "rate sub {id} _")?;
-    Ok([moves, rates])
-}
-
-/// The words of the statements that do something, where `_` stands for any: of one kind, or of two.
-fn patterns_of(alloc: Global, deed: &Deed) -> Result<[String; 2], AllocError> {
-    match deed {
-        Deed::Adds(carrier) => adding(alloc, carrier),
-        Deed::Drops(carrier) => dropping(alloc, carrier),
-        Deed::DropsService(sid) => one_edit(alloc, Edit::DropService(*sid)),
-        Deed::DropsComponent(sid, carrier) => {
-            let (sid, carrier) = (*sid, *carrier);
-            one_edit(alloc, Edit::DropComponent { sid, carrier })
+        ExecutedStatement::Drops(carrier) => Ok([
+            format!(in alloc; "drop {}", Part::Carrier(carrier))?,
+            none,
+        ]),
+        ExecutedStatement::DropsService(sid) => Ok([
+            edit_words(alloc, Edit::DropService(sid))?,
+            none,
+        ]),
+        ExecutedStatement::DropsComponent(sid, carrier) => {
+            Ok([
+                edit_words(alloc, Edit::DropComponent { sid, carrier })?,
+                none,
+            ])
         }
-        Deed::Changes(id) => changing(alloc, *id),
+        ExecutedStatement::Changes(id) => {
+            let id = id.get();
+            let moves = format!(in alloc; "move sub {id} at _")?;
+            let rates = format!(in alloc; "rate sub {id} _")?;
+            Ok([moves, rates])
+        }
     }
 }
 
@@ -115,25 +92,24 @@ fn last_of(
     }
 }
 
-/// The line of a spot; the last line of a script for later ones.
-pub(crate) fn line_of(spot: &Spot) -> u16 {
-    u16::try_from(spot.line).unwrap_or(u16::MAX)
-}
-
-/// Where the text is refused with a patch, and what is known there.
-fn stop_with(trier: &Trier, patch: TextPatch) -> Result<Option<Stop>, AllocError> {
-    let change = Change {
-        first: patch,
-        second: None,
-    };
-    let Some(text) = changed(trier.alloc, trier.source.text, &change)? else {
+/// Where the same statement is refused with other words in the place of these tokens, and what is
+/// known there; none if it is not.
+fn stop_with(
+    trier: &Trier,
+    stop: &Stop,
+    spot: &Spot,
+    words: &str,
+) -> Result<Option<Stop>, AllocError> {
+    let patch = TextPatch::at(trier.alloc, spot, words)?;
+    let Some(text) = patched(trier.alloc, trier.source.text, &patch)? else {
         return Ok(None);
     };
-    match parse(trier.alloc, text.as_str()) {
-        Ok(script) => follow(trier.alloc, &script),
-        Err(ScriptFault::Memory) => Err(AllocError),
-        Err(_fault) => Ok(None),
-    }
+    let there = match parse(trier.alloc, text.as_str()) {
+        Ok(script) => follow(trier.alloc, &script)?,
+        Err(ScriptFault::Memory) => return Err(AllocError),
+        Err(_fault) => None,
+    };
+    Ok(there.filter(|there| is_same_statement(stop, there)))
 }
 
 /// Whether two refusals are of one statement.
@@ -150,20 +126,14 @@ fn is_same_statement(one: &Stop, other: &Stop) -> bool {
 
 /// Whether without these tokens the same statement is refused for another cause.
 fn has_other_cause(trier: &Trier, stop: &Stop, spot: &Spot) -> Result<bool, AllocError> {
-    let patch = TextPatch {
-        start: spot.start,
-        end: spot.end,
-        part: String::new(trier.alloc),
-    };
-    match stop_with(trier, patch)? {
-        Some(there) => Ok(
-            is_same_statement(stop, &there) && cause_of(there.refused) != cause_of(stop.refused),
-        ),
+    match stop_with(trier, stop, spot, "")? {
+        Some(there) => Ok(cause_of(there.refused) != cause_of(stop.refused)),
         None => Ok(false),
     }
 }
 
-/// Another protection profile, of the same set, than this one: the one that takes least, if it is not that.
+/// Another protection profile, of the same set, than this one: the one that takes least, if it is
+/// not that.
 fn other_profile(profile: &str) -> &'static str {
     match profile {
         "4-A" => "3-A",
@@ -173,39 +143,35 @@ fn other_profile(profile: &str) -> &'static str {
     }
 }
 
-/// Whether a sub-channel has another profile where a plan is refused, if its addition at these tokens has: then it was
-/// added there.
+/// Whether a sub-channel has another profile where a plan is refused, if its addition at these
+/// tokens has: then it was added there.
 fn is_added_by(trier: &Trier, stop: &Stop, id: SubId, spot: &Spot) -> Result<bool, AllocError> {
     let index = spot.index.saturating_add(5);
     let Some(token) = trier.source.spot(index, 1) else {
         return Ok(false);
     };
     let profile = other_profile(trier.source.word(index));
-    let patch = TextPatch {
-        start: token.start,
-        end: token.end,
-        part: String::from_str(trier.alloc, profile)?,
-    };
-    let Some(there) = stop_with(trier, patch)? else {
+    let Some(there) = stop_with(trier, stop, &token, profile)? else {
         return Ok(false);
     };
-    let (Some(before), Some(after)) = (stop.here.next.sub(id), there.here.next.sub(id)) else {
-        return Ok(false);
-    };
-    Ok(is_same_statement(stop, &there) && before.protection != after.protection)
+    match (stop.here.next.sub(id), there.here.next.sub(id)) {
+        (Some(before), Some(after)) => Ok(before.protection != after.protection),
+        _ => Ok(false),
+    }
 }
 
-/// Whether the line of these tokens is to blame for a refusal by what it does, given what becomes of it without them.
+/// Whether the line of these tokens is to blame for a refusal by what it does, given what becomes
+/// of it without them.
 fn is_due(
     trier: &Trier,
     stop: &Stop,
-    deed: &Deed,
+    executed: &ExecutedStatement,
     spot: &Spot,
     verdict: Option<Verdict>,
 ) -> Result<bool, AllocError> {
-    match (verdict, deed) {
+    match (verdict, executed) {
         (Some(Verdict::Accepted) | Some(Verdict::Passed), _) => Ok(true),
-        (Some(Verdict::Other), Deed::Adds(Carrier::Sub(id))) => {
+        (Some(Verdict::Other), ExecutedStatement::Adds(Carrier::Sub(id))) => {
             is_added_by(trier, stop, *id, spot)
         }
         (Some(Verdict::Other), _) => has_other_cause(trier, stop, spot),
@@ -213,77 +179,62 @@ fn is_due(
     }
 }
 
-/// The line before a token that is to blame for a refusal by what it does: the last one for which this is found. Or else
-/// the last one without which the text is refused otherwise, of which nothing is known but what it does.
+/// The line before a token that is to blame for a refusal by what it does: the last one for which
+/// this is found. Or else the last one without which the text is refused otherwise, of which
+/// nothing is known but what it does.
 pub(crate) fn blamed_line(
     trier: &Trier,
     stop: &Stop,
     before: usize,
-    deed: &Deed,
+    executed: &ExecutedStatement,
 ) -> Result<Option<Blame>, AllocError> {
-    let patterns = patterns_of(trier.alloc, deed)?;
+    let patterns = patterns_of(trier.alloc, executed)?;
     let mut before = before;
     let mut other = None;
     for _line in 0..MOST {
         let Some(spot) = last_of(trier, &patterns, before)? else {
             return Ok(other);
         };
-        let line = line_of(&spot);
-        let verdict = trier.without(spot)?;
-        if is_due(trier, stop, deed, &spot, verdict)? {
-            return Ok(Some(Blame {
-                line,
-                is_tried: true,
-            }));
+        let verdict = trier.without(&spot)?;
+        let is_tried = is_due(trier, stop, executed, &spot, verdict)?;
+        let blame = Some(Blame {
+            line: spot.line,
+            is_tried,
+        });
+        if is_tried {
+            return Ok(blame);
         }
         if verdict == Some(Verdict::Other) && other.is_none() {
-            other = Some(Blame {
-                line,
-                is_tried: false,
-            });
+            other = blame;
         }
         before = spot.index;
     }
     Ok(other)
 }
 
-/// A commit with another delay than one at these tokens.
-fn other_commit(trier: &Trier, spot: Spot) -> Result<TextPatch, AllocError> {
-    let alloc = trier.alloc;
-    let delay = if trier.source.word(spot.index.saturating_add(1)) == "in" {
-        trier
-            .source
-            .number(spot.index.saturating_add(2))
-            .saturating_add(1)
+/// Whether another swap is or may be pending where a plan is refused, if the commit at these tokens
+/// has another delay: then it is pending by this commit.
+fn is_pending_by(trier: &Trier, stop: &Stop, spot: &Spot) -> Result<bool, AllocError> {
+    let source = &trier.source;
+    let delay = if source.word(spot.index.saturating_add(1)) == "in" {
+        number_in(source.word(spot.index.saturating_add(2))).saturating_add(1)
     } else {
-        trier.source.number_after("notice")
+        source.number_after("notice")
     };
-    Ok(TextPatch {
-        start: spot.start,
-        end: spot.end,
-        part: format!(in alloc; "commit in {delay}")?,
-    })
-}
-
-/// Whether another swap is or may be pending where a plan is refused, if a commit has another delay: then it is pending by
-/// this commit.
-fn is_pending_by(trier: &Trier, stop: &Stop, spot: Spot) -> Result<bool, AllocError> {
-    let patch = other_commit(trier, spot)?;
-    match stop_with(trier, patch)? {
-        Some(there) => {
-            Ok(is_same_statement(stop, &there) && there.here.pending != stop.here.pending)
-        }
+    let words = format!(in trier.alloc; "commit in {delay}")?;
+    match stop_with(trier, stop, spot, words.as_str())? {
+        Some(there) => Ok(there.here.pending != stop.here.pending),
         None => Ok(false),
     }
 }
 
-/// The line of the commit before a token by which a swap is or may be pending where a plan is refused; none if it is not
-/// found, or there are several.
+/// The line of the commit before a token by which a swap is or may be pending where a plan is
+/// refused; none if it is not found, or there are several.
 pub(crate) fn commit_of(
     trier: &Trier,
     before: usize,
     stop: &Stop,
-) -> Result<Option<u16>, AllocError> {
+) -> Result<Option<usize>, AllocError> {
     let commit = Source::new(trier.alloc, "commit _ _")?;
     let mut before = before;
     let mut found = None;
@@ -291,11 +242,11 @@ pub(crate) fn commit_of(
         let Some(spot) = trier.source.last_before(before, &commit) else {
             return Ok(found);
         };
-        if is_pending_by(trier, stop, spot)? {
+        if is_pending_by(trier, stop, &spot)? {
             if found.is_some() {
                 return Ok(None);
             }
-            found = Some(line_of(&spot));
+            found = Some(spot.line);
         }
         before = spot.index;
     }
@@ -303,32 +254,32 @@ pub(crate) fn commit_of(
 }
 
 /// Whether an instruction does something.
-fn does(instr: &Instr, deed: &Deed) -> bool {
+fn does(instr: &Instr, executed: &ExecutedStatement) -> bool {
     let Instr::Edit(edit) = instr else {
         return false;
     };
-    match edit {
-        Edit::AddSub(sub) => *deed == Deed::Adds(Carrier::Sub(sub.get().id)),
-        Edit::AddPacket(packet) => *deed == Deed::Adds(Carrier::Packet(packet.scid)),
-        Edit::DropSub(id) => *deed == Deed::Drops(Carrier::Sub(*id)),
-        Edit::DropPacket(scid) => *deed == Deed::Drops(Carrier::Packet(*scid)),
-        Edit::DropService(sid) => *deed == Deed::DropsService(*sid),
-        Edit::DropComponent { sid, carrier } => *deed == Deed::DropsComponent(*sid, *carrier),
-        Edit::MoveSub { id, .. } | Edit::RateSub { id, .. } => *deed == Deed::Changes(*id),
-        Edit::AddService(_) | Edit::AddComponent { .. } => false,
-    }
+    let done = match *edit {
+        Edit::AddSub(sub) => ExecutedStatement::Adds(Carrier::Sub(sub.get().id)),
+        Edit::AddPacket(packet) => ExecutedStatement::Adds(Carrier::Packet(packet.scid)),
+        Edit::DropSub(id) => ExecutedStatement::Drops(Carrier::Sub(id)),
+        Edit::DropPacket(scid) => ExecutedStatement::Drops(Carrier::Packet(scid)),
+        Edit::DropService(sid) => ExecutedStatement::DropsService(sid),
+        Edit::DropComponent { sid, carrier } => ExecutedStatement::DropsComponent(sid, carrier),
+        Edit::MoveSub { id, .. } | Edit::RateSub { id, .. } => ExecutedStatement::Changes(id),
+        Edit::AddService(_) | Edit::AddComponent { .. } => return false,
+    };
+    done == *executed
 }
 
 /// The line of the last instruction before a pc that does something.
-pub(crate) fn last_in(code: &Code, pc: u16, deed: &Deed) -> Option<Blame> {
-    let mut found = None;
-    for line in code.lines().iter().take(usize::from(pc)) {
-        if does(&line.instr, deed) {
-            found = Some(Blame {
-                line: line.number,
-                is_tried: false,
-            });
-        }
-    }
-    found
+pub(crate) fn last_in(code: &Code, pc: u16, executed: &ExecutedStatement) -> Option<Blame> {
+    let before = code.lines().get(..usize::from(pc))?;
+    let line = before
+        .iter()
+        .rev()
+        .find(|line| does(&line.instr, executed))?;
+    Some(Blame {
+        line: usize::from(line.number),
+        is_tried: false,
+    })
 }

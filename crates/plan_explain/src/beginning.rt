@@ -5,7 +5,8 @@ ghost use Rattle.plan_explain.specs.Beginnings.{first_wait};
 
 use plan_code::{DayFrame, Instr, Line};
 
-/// An `until` before anything else: the plan shows its opening until then, at whatever time of day it starts.
+/// An `until` before anything else: the plan shows its opening until then, at whatever time of day
+/// it starts.
 #[derive(Clone, Copy, Debug, PartialEq, Eq)]
 pub struct FirstWait {
     /// The line of the script.
@@ -26,18 +27,7 @@ pub(crate) fn first_wait(lines: &[Line]) -> Option<FirstWait>
                 line: line.number,
                 frame,
             }),
-            Instr::Wait(_) => return None,
-            Instr::WaitContact { .. } => return None,
-            Instr::WaitAny { .. } => return None,
-            Instr::CommitIn(_) => return None,
-            Instr::CommitAt(_) => return None,
-            Instr::Join => return None,
-            Instr::Settle => return None,
-            Instr::End => return None,
-            Instr::Test { .. } => return None,
-            Instr::TestTime { .. } => return None,
-            Instr::Jump(_) => return None,
-            Instr::Loop { .. } => return None,
+            _ => return None,
         }
     }
     None

@@ -2,7 +2,8 @@
 
 ghost use Rattle.std.specs.Prelude.{◌≡◌, ◌++◌, ◌∷◌, [], ◌==◌, map, IfOk, OnOk};
 ghost use Rattle.std.specs.List.{list_any};
-ghost use Rattle.plan_explain.specs.Blocks.{own_line, first_line, unless_line, unreached_of, unreached};
+ghost use Rattle.plan_explain.specs.Blocks.{own_line, first_line, unless_line, unreached_of};
+ghost use Rattle.plan_explain.specs.Blocks.{unreached};
 
 use crate::list::push;
 use plan_code::Line;
@@ -40,12 +41,7 @@ fn first_line(block: &[Statement]) -> Option<u16>
 fn has_line(lines: &[Line], number: u16) -> bool
     ensures { result ≡ list_any (λ l. l.number == number) lines.now }
 {
-    for line in lines {
-        if line.number == number {
-            return true;
-        }
-    }
-    false
+    lines.iter().any(|line| line.number == number)
 }
 
 /// Appends the line of a block of which a code has nothing.

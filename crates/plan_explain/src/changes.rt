@@ -84,8 +84,8 @@ fn push_between(
     push_primaries(found, line, primaries.as_slice())
 }
 
-/// What is known at a pc of a code, given what the instruction before left: what a label there declares, if there is
-/// one.
+/// What is known at a pc of a code, given what the instruction before left: what a label there
+/// declares, if there is one.
 pub(crate) fn enter(code: &Code, pc: u16, flow: &mut Flow<Config>)
     ensures { flow.new ≡ entered code.now pc flow.old }
 {
@@ -125,7 +125,7 @@ fn push_commit(
 }
 
 /// What is known before the first instruction: nothing.
-fn unknown() -> Flow<Config> {
+pub(crate) fn unknown() -> Flow<Config> {
     Flow {
         current: Config::new(),
         next: Config::new(),

@@ -1,13 +1,18 @@
 //! Explains why a code is refused, by what is known at the instruction.
 
-use crate::advice::{advise_instr, advise_opening};
+use crate::changes::{enter, unknown};
+use crate::edits::Place;
 use crate::facts::facts_of;
-use crate::note::{Note, push, put_notes};
-use crate::sentence::{Search, put_instr, put_opening};
+use crate::hint::{hint_on_instr, hint_on_opening};
+use crate::list::push_owned;
+use crate::note::{Note, put_notes};
+use crate::sentence::{Case, Search, put_instr, put_opening};
 use crate::stop::{Refused, Stop, copied};
+use crate::trial::Refusal;
+use crate::trier::Trier;
 use crate::words::{Sides, put_fact};
 use mux_config::{Config, Store};
-use plan_code::{Code, CounterId, Counters, Instr, Label, Plan, Swap};
+use plan_code::{Code, CounterId, Counters, Instr, Label, Plan};
 use plan_verifier::flow::{is_idle, is_same};
 use plan_verifier::properties::{continues, suspends, target_of};
 use plan_verifier::{Cause, Flow, test_opening};
@@ -37,9 +42,11 @@ fn flow_of(code: &Code, label: Label) -> Option<Flow<Config>> {
     })
 }
 
-/// What the label at an instruction declares of the configurations and the swap, if it has one.
-fn declared_at(code: &Code, pc: u16) -> Option<Flow<Config>> {
-    flow_of(code, code.label_at(pc)?)
+/// A label of a code that can be looked up, and what it declares of the configurations and the
+/// swap.
+fn declared_at(code: &Code, pc: u16) -> Option<(Label, Flow<Config>)> {
+    let label = code.label_at(pc)?;
+    Some((label, flow_of(code, label)?))
 }
 
 /// The counters after an instruction.
@@ -57,9 +64,7 @@ impl Reach {
         let Some(label) = code.label_at(pc) else {
             return;
         };
-        if let Some(flow) = flow_of(code, label) {
-            self.flow = flow;
-        }
+        enter(code, pc, &mut self.flow);
         self.counters = label.counters;
         self.left = label.cost;
         self.is_of_budget = false;
@@ -82,11 +87,7 @@ impl Reach {
     fn at(code: &Code, pc: u16) -> Reach {
         let plan = code.plan();
         let mut reach = Reach {
-            flow: Flow {
-                current: Config::new(),
-                next: Config::new(),
-                pending: Swap::Idle,
-            },
+            flow: unknown(),
             counters: Counters(0),
             left: 0,
             is_of_budget: true,
@@ -140,7 +141,8 @@ fn explain_table<W: Write>(code: &Code, pc: u16, out: &mut W) -> io::Result<()> 
     match code.line_at(before) {
         Some(line) => write!(
             out,
-            "instruction {pc} can't be reached: instruction {before}, of line {line}, does not continue to it, and it has no label"
+            "instruction {pc} can't be reached: instruction {before}, of line {line}, does not \
+             continue to it, and it has no label"
         ),
         None => write!(out, "instruction {pc} has no label, and needs one"),
     }
@@ -148,29 +150,25 @@ fn explain_table<W: Write>(code: &Code, pc: u16, out: &mut W) -> io::Result<()> 
 
 /// Explains a loop on a counter that may not be set.
 fn explain_counter<W: Write>(pc: u16, instr: &Instr, out: &mut W) -> io::Result<()> {
-    let Instr::Loop { counter, .. } = instr else {
-        return write!(
+    match instr {
+        Instr::Loop { counter, .. } => write!(
+            out,
+            "instruction {pc} loops on counter {}, which may not be set here",
+            counter.get()
+        ),
+        _ => write!(
             out,
             "instruction {pc} loops on a counter that may not be set"
-        );
-    };
-    let counter = counter.get();
-    write!(
-        out,
-        "instruction {pc} loops on counter {counter}, which may not be set here"
-    )
+        ),
+    }
 }
 
 /// The first counter in one set that is missing in the other.
 fn counter_missing(counters: Counters, declared: Counters) -> Option<u8> {
-    for id in 0u8..8 {
-        if let Some(counter) = CounterId::new(id) {
-            if declared.has(counter) && !counters.has(counter) {
-                return Some(id);
-            }
-        }
-    }
-    None
+    (0u8..8).find(|id| match CounterId::new(*id) {
+        Some(counter) => declared.has(counter) && !counters.has(counter),
+        None => false,
+    })
 }
 
 /// Whether what is known does not match the label at an instruction, if it has one.
@@ -181,7 +179,7 @@ fn is_unfit(code: &Code, reach: &Reach, pc: u16) -> bool {
     if !reach.counters.includes(label.counters) {
         return true;
     }
-    match declared_at(code, pc) {
+    match flow_of(code, label) {
         Some(flow) => !reach.flow.fits(&flow.current, &flow.next, flow.pending),
         None => false,
     }
@@ -196,7 +194,7 @@ fn explain_unfit(
     note: &mut Note,
 ) -> io::Result<()> {
     write!(&mut note.text, "at the label of instruction {pc}: ")?;
-    let (Some(label), Some(declared)) = (code.label_at(pc), declared_at(code, pc)) else {
+    let Some((label, declared)) = declared_at(code, pc) else {
         return note.text.write_all(b"what is known does not fit it");
     };
     if let Some(counter) = counter_missing(reach.counters, label.counters) {
@@ -231,20 +229,17 @@ fn has_no_beginning(code: &Code, pc: u16) -> bool {
     let Some(label) = code.label_at(pc) else {
         return false;
     };
-    if pc > 0 {
-        return false;
+    if pc > 0 || !is_idle(label.pending) || label.counters.0 != 0 {
+        return pc == 0;
     }
-    if !is_idle(label.pending) || label.counters.0 != 0 {
-        return true;
-    }
-    match declared_at(code, 0) {
+    match flow_of(code, label) {
         Some(flow) => !is_same(&flow.current, &flow.next),
         None => false,
     }
 }
 
-/// Explains the difference between what is known and what a label declares: the first label of the code, the one at the
-/// instruction, or the one at its jump target.
+/// Explains the difference between what is known and what a label declares: the first label of the
+/// code, the one at the instruction, or the one at its jump target.
 fn explain_mismatch(
     alloc: Global,
     code: &Code,
@@ -254,7 +249,8 @@ fn explain_mismatch(
 ) -> io::Result<()> {
     if has_no_beginning(code, pc) {
         return note.text.write_all(
-            b"the first label has to declare one configuration, both current and next, no pending swap and no counter",
+            b"the first label has to declare one configuration, both current and next, no pending \
+             swap and no counter",
         );
     }
     if reach.comes && is_unfit(code, reach, pc) {
@@ -283,7 +279,8 @@ fn explain_allowance<W: Write>(
     let source = reach.source();
     write!(
         out,
-        "the label of instruction {pc} declares that {cost} instructions may run from there in one frame; {left} may still run, {source}"
+        "the label of instruction {pc} declares that {cost} instructions may run from there in one \
+         frame; {left} may still run, {source}"
     )
 }
 
@@ -297,7 +294,8 @@ fn explain_cost<W: Write>(code: &Code, reach: &mut Reach, pc: u16, out: &mut W) 
         if budget < cost {
             return write!(
                 out,
-                "the label of instruction {pc} declares that {cost} instructions may run from there in one frame; the budget is {budget}"
+                "the label of instruction {pc} declares that {cost} instructions may run from \
+                 there in one frame; the budget is {budget}"
             );
         }
     }
@@ -312,7 +310,8 @@ fn explain_cost<W: Write>(code: &Code, reach: &mut Reach, pc: u16, out: &mut W) 
     let source = reach.source();
     write!(
         out,
-        "no more instructions may run in this frame before instruction {pc}, {source}; the budget is {budget}"
+        "no more instructions may run in this frame before instruction {pc}, {source}; the budget \
+         is {budget}"
     )
 }
 
@@ -341,16 +340,31 @@ fn explain_known(
         here: copied(&reach.flow),
         other: copied(&reach.flow),
     };
+    let refusal = Refusal::Plan {
+        line: 0,
+        cause: *cause,
+        is_defined: false,
+    };
+    let mut trier = Trier::new(alloc, "", refusal)?;
     if is_opening && *cause == Cause::Round {
         put_opening(&stop, &mut note.text)?;
-        return advise_opening(&stop, &mut note.hint);
+        return hint_on_opening(&mut trier, &stop, &mut note.hint);
     }
     let facts = facts_of(alloc, &stop)?;
-    let facts = facts.as_slice();
-    let search = Search::Code(code, pc);
-    put_instr(&stop, instr, cause, facts, &search, None, &mut note.text)?;
-    let config = &stop.here.next;
-    advise_instr(&stop, config, instr, cause, facts, None, &mut note.hint)
+    let case = Case {
+        stop: &stop,
+        instr,
+        cause,
+        facts: facts.as_slice(),
+        commit: None,
+    };
+    put_instr(&case, &Search::Code(code, pc), &mut note.text)?;
+    let place = Place {
+        spot: None,
+        before: 0,
+        config: &stop.here.next,
+    };
+    hint_on_instr(&mut trier, place, &case, &mut note.hint)
 }
 
 /// Explains a cause at an instruction of a code.
@@ -373,33 +387,21 @@ fn explain_at(
             &mut note.text,
             "the last instruction, {pc}, continues to one that is not there"
         ),
-        Cause::Round
-        | Cause::Edit(_)
-        | Cause::Config(_)
-        | Cause::NoChange
-        | Cause::Notice
-        | Cause::Count
-        | Cause::JoinIdle
-        | Cause::Pending
-        | Cause::SwapUncertain => {
+        _ => {
             reach.enter(code, pc);
             explain_known(alloc, code, &reach, pc, instr, cause, note)
         }
     }
 }
 
-/// Notes on why a code is refused at an instruction, with the objects and numbers there. The line is the script's, as
-/// recorded in the code; 0 if there is no such instruction.
+/// Notes on why a code is refused at an instruction, with the objects and numbers there. The line
+/// is the script's, as recorded in the code; 0 if there is no such instruction.
 ///
 /// # Errors
 ///
 /// `OutOfMemory`.
 pub fn notes_on_code(alloc: Global, code: &Code, pc: u16, cause: Cause) -> io::Result<Vec<Note>> {
-    let line = match code.line_at(pc) {
-        Some(line) => line,
-        None => 0,
-    };
-    let mut note = Note::on_line(alloc, line);
+    let mut note = Note::on_line(alloc, code.line_at(pc).unwrap_or(0));
     match code.instr(pc) {
         Some(instr) => explain_at(alloc, code, pc, &instr, &cause, &mut note)?,
         None => write!(
@@ -408,7 +410,7 @@ pub fn notes_on_code(alloc: Global, code: &Code, pc: u16, cause: Cause) -> io::R
         )?,
     }
     let mut notes = Vec::new(alloc);
-    push(&mut notes, note)?;
+    push_owned(&mut notes, note)?;
     Ok(notes)
 }
 

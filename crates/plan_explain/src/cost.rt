@@ -5,35 +5,14 @@ ghost use Rattle.script_compiler.specs.Compiled.{placed_instrs, lines_of_placed}
 ghost use Rattle.script_compiler.specs.FrameCosts.{IsFrameCost};
 
 use crate::note::Note;
-use crate::source::Source;
-use crate::trier::{Braces, Trier};
+use crate::trier::Trier;
 use script_compiler::{CompileFault, FrameCost, LongestPath, frame_cost};
 use script_front::Script;
 use std::alloc::{AllocError, Global};
 use std::io::{self, Write};
 
-/// A loop of a script.
-#[derive(Clone, Copy)]
-struct Loop {
-    braces: Braces,
-    /// Whether it ends, after a number of iterations.
-    ends: bool,
-}
-
-/// The only loop of a script that begins in this line.
-fn loop_of(source: &Source, line: u16) -> Option<Loop> {
-    let index = source.index_in(usize::from(line), "repeat", "forever")?;
-    let last = source.closing(index)?;
-    Some(Loop {
-        braces: Braces {
-            first: source.spot(index, 1)?,
-            last: source.spot(last, 1)?,
-        },
-        ends: source.word(index) == "repeat",
-    })
-}
-
-/// How many instructions of a script's code can run in one frame; none if the script is refused before its costs.
+/// How many instructions of a script's code can run in one frame; none if the script is refused
+/// before its costs.
 fn cost_of(alloc: Global, script: &Script) -> Result<Option<FrameCost>, AllocError>
     ensures { IfOk result (λ cost. IfSome cost
         (IsFrameCost (lines_of_placed (placed_instrs script.now)))) }
@@ -46,7 +25,8 @@ fn cost_of(alloc: Global, script: &Script) -> Result<Option<FrameCost>, AllocErr
     }
 }
 
-/// Explains a path that is longer than the budget; the correction is the least budget that is enough.
+/// Explains a path that is longer than the budget; the correction is the least budget that is
+/// enough.
 fn explain_path(
     trier: &mut Trier,
     path: LongestPath,
@@ -60,28 +40,27 @@ fn explain_path(
     } = path;
     write!(
         &mut note.text,
-        "the longest path runs {instructions} instructions in one frame, from line {first} to line {last}; the budget is {budget}"
+        "the longest path runs {instructions} instructions in one frame, from line {first} to line \
+         {last}; the budget is {budget}"
     )?;
     let old = format!(in trier.alloc; "budget {budget}")?;
     let new = format!(in trier.alloc; "budget {instructions}")?;
-    if let Some(spot) = trier.header_spot("budget", old.as_str())? {
-        trier.write_at(spot, new.as_str())?;
-    }
-    if trier.is_at_loss() {
-        return write!(
-            &mut note.hint,
-            "a budget of {instructions}, or a 'wait 1' between line {first} and line {last}"
-        );
-    }
-    trier.put_hint(&mut note.hint)
+    let spot = trier.header_spot("budget", old.as_str())?;
+    trier.write(spot, new.as_str())?;
+    write!(
+        &mut note.hint,
+        "a budget of {instructions}, or a 'wait 1' between line {first} and line {last}"
+    )
 }
 
-/// Explains a loop that begins in this line and can repeat without a wait; the correction is a wait in it.
+/// Explains a loop that begins in this line and can repeat without a wait; the correction is a wait
+/// in it.
 fn explain_repeated(trier: &mut Trier, first: u16, note: &mut Note) -> io::Result<()> {
-    let Some(Loop { braces, ends }) = loop_of(&trier.source, first) else {
+    let Some(braces) = trier.braces_of(first, "repeat", "forever") else {
         write!(
             &mut note.text,
-            "a loop that begins in line {first} can repeat without a wait, so that its instructions in one frame have no bound"
+            "a loop that begins in line {first} can repeat without a wait, so that its \
+             instructions in one frame have no bound"
         )?;
         return write!(
             &mut note.hint,
@@ -89,28 +68,26 @@ fn explain_repeated(trier: &mut Trier, first: u16, note: &mut Note) -> io::Resul
         );
     };
     let last = braces.last.line;
-    if ends {
+    if trier.source.word(braces.first.index) == "repeat" {
         write!(
             &mut note.text,
-            "an iteration of the loop of lines {first} to {last} can run without a wait: that is refused, however few iterations it has"
+            "an iteration of the loop of lines {first} to {last} can run without a wait: that is \
+             refused, however few iterations it has"
         )?;
     } else {
         write!(
             &mut note.text,
-            "the loop of lines {first} to {last} can repeat without a wait, so that its instructions in one frame have no bound"
+            "the loop of lines {first} to {last} can repeat without a wait, so that its \
+             instructions in one frame have no bound"
         )?;
     }
-    trier.put_at(braces.last, "wait 1")?;
-    if let Some(spot) = trier.after_open(braces.first) {
-        trier.put_at(spot, "wait 1")?;
-    }
-    if trier.is_at_loss() {
-        return write!(
-            &mut note.hint,
-            "a 'wait 1' in lines {first} to {last}, on each path through the loop"
-        );
-    }
-    trier.put_hint(&mut note.hint)
+    trier.put(Some(braces.last), "wait 1")?;
+    let spot = trier.after_open(&braces.first);
+    trier.put(spot, "wait 1")?;
+    write!(
+        &mut note.hint,
+        "a 'wait 1' in lines {first} to {last}, on each path through the loop"
+    )
 }
 
 /// Explains why a script costs more than its budget.
@@ -122,7 +99,8 @@ pub(crate) fn explain_cost(trier: &mut Trier, script: &Script, note: &mut Note) 
         Some(FrameCost::Beyond { line }) => {
             write!(
                 &mut note.text,
-                "from line {line} on more than 255 instructions can run in one frame, which no budget allows; the budget is {budget}"
+                "from line {line} on more than 255 instructions can run in one frame, which no \
+                 budget allows; the budget is {budget}"
             )?;
             write!(
                 &mut note.hint,

@@ -2,7 +2,8 @@
 //! to its time.
 
 ghost use Rattle.std.specs.Prelude.{◌≡◌};
-ghost use Rattle.plan_explain.specs.DayWaits.{more, swapped, moment_in, time_of, start, further, comes_late};
+ghost use Rattle.plan_explain.specs.DayWaits.{more, swapped, moment_in, time_of, start, further};
+ghost use Rattle.plan_explain.specs.DayWaits.{comes_late};
 
 use crate::straight::Way;
 use plan_code::DayFrame;
@@ -61,13 +62,7 @@ pub(crate) fn time_of(act: &Act) -> Option<DayFrame>
     match act {
         Act::Until(moment) => Some(moment.frame()),
         Act::WaitAny(alternatives) => moment_in(alternatives.as_slice()),
-        Act::Edit(_) => None,
-        Act::Wait(_) => None,
-        Act::WaitContact { .. } => None,
-        Act::CommitIn(_) => None,
-        Act::CommitAt(_) => None,
-        Act::Join => None,
-        Act::Settle => None,
+        _ => None,
     }
 }
 

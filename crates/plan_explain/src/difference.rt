@@ -22,7 +22,8 @@ pub(crate) enum Compared {
     Next,
 }
 
-/// A member that differs between two configurations: one of them does not have it, or has it otherwise.
+/// A member that differs between two configurations: one of them does not have it, or has it
+/// otherwise.
 #[derive(Clone, Copy, Debug, PartialEq, Eq)]
 pub(crate) enum Difference {
     /// A sub-channel.
@@ -33,7 +34,8 @@ pub(crate) enum Difference {
     Packet(ScId),
 }
 
-/// The configuration of a path that is compared with that of another path, which has this swap state.
+/// The configuration of a path that is compared with that of another path, which has this swap
+/// state.
 pub(crate) fn configuration_of<'a>(
     which: Compared,
     other: Swap,
@@ -54,7 +56,8 @@ pub(crate) fn configuration_of<'a>(
     }
 }
 
-/// Whether a configuration has this service under an SId, with the same components in the same order.
+/// Whether a configuration has this service under an SId, with the same components in the same
+/// order.
 fn has_service(config: &Config, sid: Sid, service: &Service) -> bool
     ensures { IsTrue result ↔ (service_at sid config.now ≡ Some service.now) }
 {
@@ -85,8 +88,8 @@ pub(crate) fn differs(a: &Config, b: &Config, difference: Difference) -> bool
     }
 }
 
-/// Whether what is known of the swap does not match what is declared, whatever the configurations are: it does not even
-/// if they are all empty.
+/// Whether what is known of the swap does not match what is declared, whatever the configurations
+/// are: it does not even if they are all empty.
 pub(crate) fn has_other_swap(known: Swap, declared: Swap) -> bool
     ensures { IsTrue result ↔ (FitsFlow (with_swap known) (with_swap declared) → ⊥) }
 {
@@ -99,34 +102,24 @@ pub(crate) fn has_other_swap(known: Swap, declared: Swap) -> bool
     !flow.fits(&empty, &empty, declared)
 }
 
-/// The first member that differs between two configurations: sub-channels before services, and these before packet
-/// components.
+/// The first member that differs between two configurations: sub-channels before services, and
+/// these before packet components.
 pub(crate) fn first_differing(a: &Config, b: &Config) -> Option<Difference> {
-    for config in [a, b] {
-        for sub in config.subs() {
-            if differs(a, b, Difference::Sub(sub.id)) {
-                return Some(Difference::Sub(sub.id));
-            }
-        }
-    }
-    for config in [a, b] {
-        for service in config.services() {
-            if differs(a, b, Difference::Service(service.sid)) {
-                return Some(Difference::Service(service.sid));
-            }
-        }
-    }
-    for config in [a, b] {
-        for packet in config.packets() {
-            if differs(a, b, Difference::Packet(packet.scid)) {
-                return Some(Difference::Packet(packet.scid));
-            }
-        }
-    }
-    None
+    let is_other = |one: &Difference| differs(a, b, *one);
+    let subs = a
+        .subs()
+        .iter()
+        .chain(b.subs().iter())
+        .map(|sub| Difference::Sub(sub.id));
+    let services = a.services().iter().chain(b.services().iter());
+    let services = services.map(|service| Difference::Service(service.sid));
+    let packets = a.packets().iter().chain(b.packets().iter());
+    let packets = packets.map(|packet| Difference::Packet(packet.scid));
+    subs.chain(services).chain(packets).find(is_other)
 }
 
-/// What differs between two paths: between the configurations that are compared, or else between the next ones.
+/// What differs between two paths: between the configurations that are compared, or else between
+/// the next ones.
 pub(crate) fn first_contrast(
     here: &Flow<Config>,
     there: &Flow<Config>,
@@ -140,9 +133,6 @@ pub(crate) fn first_contrast(
     let other = configuration_of(which, here.pending, there);
     match first_differing(one, other) {
         Some(difference) => Some((which, difference)),
-        None => match first_differing(&here.next, &there.next) {
-            Some(difference) => Some((Compared::Next, difference)),
-            None => None,
-        },
+        None => Some((Compared::Next, first_differing(&here.next, &there.next)?)),
     }
 }

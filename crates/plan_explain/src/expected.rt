@@ -1,6 +1,7 @@
 //! Describes what is valid at a position of a script.
 
 use crate::keywords::{HEADER, ITEMS, OTHERS, WAITS};
+use crate::list::push_owned;
 use crate::probe::{Answer, Front};
 use std::alloc::{AllocError, Global};
 use std::io::{self, Write};
@@ -11,28 +12,29 @@ pub(crate) struct Expected {
     phrases: Vec<String>,
 }
 
+/// Tokens of a kind, one of which is tried, and what the kind is called: identifiers of eight
+/// digits before those of four.
+const KINDS: [(&str, &str); 4] = [
+    (
+        "A1B2C3D4",
+        "an SId: four or eight digits 0-9 A-F, in capitals and without 0x",
+    ),
+    (
+        "A1B2",
+        "an EId: four digits 0-9 A-F, in capitals and without 0x",
+    ),
+    ("3-A", "a protection profile, 1-A to 4-A or 1-B to 4-B"),
+    ("06:00:00", "a time HH:MM:SS, 00:00:00 to 23:59:59"),
+];
+
+/// What the name of a block is.
+const NAME: &str =
+    "the name of a block: a lower-case letter, then lower-case letters, digits or '_', and no keyword";
+
 impl Expected {
     /// Adds a phrase.
     fn add(&mut self, alloc: Global, phrase: &str) -> Result<(), AllocError> {
-        let phrase = String::from_str(alloc, phrase)?;
-        match self.phrases.push(phrase) {
-            Ok(()) => Ok(()),
-            Err(_full) => Err(AllocError),
-        }
-    }
-
-    /// Adds a phrase, if a token is valid after the front.
-    fn add_if(
-        &mut self,
-        alloc: Global,
-        front: &Front,
-        token: &str,
-        phrase: &str,
-    ) -> Result<(), AllocError> {
-        if front.passes(alloc, token)? {
-            return self.add(alloc, phrase);
-        }
-        Ok(())
+        push_owned(&mut self.phrases, String::from_str(alloc, phrase)?)
     }
 
     /// Adds those of some keywords that are valid.
@@ -44,27 +46,25 @@ impl Expected {
     ) -> Result<(), AllocError> {
         for word in words {
             if front.passes(alloc, word)? {
-                let phrase = format!(in alloc; "'{word}'")?;
-                self.add(alloc, phrase.as_str())?;
+                push_owned(&mut self.phrases, format!(in alloc; "'{word}'")?)?;
             }
         }
         Ok(())
     }
 
-    /// Adds the identifiers with digits 0-9 and A-F.
-    fn add_identifiers(&mut self, alloc: Global, front: &Front) -> Result<(), AllocError> {
-        if front.passes(alloc, "A1B2C3D4")? {
-            return self.add(
-                alloc,
-                "an SId: four or eight digits 0-9 A-F, in capitals and without 0x",
-            );
+    /// Adds the first of some kinds of tokens that is valid.
+    fn add_kind(
+        &mut self,
+        alloc: Global,
+        front: &Front,
+        kinds: &[(&str, &str)],
+    ) -> Result<(), AllocError> {
+        for (token, phrase) in kinds {
+            if front.passes(alloc, token)? {
+                return self.add(alloc, phrase);
+            }
         }
-        self.add_if(
-            alloc,
-            front,
-            "A1B2",
-            "an EId: four digits 0-9 A-F, in capitals and without 0x",
-        )
+        Ok(())
     }
 
     /// Adds a decimal, with its range.
@@ -72,7 +72,7 @@ impl Expected {
         let Some((low, high)) = front.range(alloc)? else {
             return Ok(());
         };
-        let what = number_in(front.last().as_bytes(), high);
+        let what = number_after(front.last().as_bytes(), high);
         let high = if high == 1023 && front.last() == "at" {
             863
         } else {
@@ -83,61 +83,33 @@ impl Expected {
         } else {
             format!(in alloc; "{what}, {low} to {high}")?
         };
-        self.add(alloc, phrase.as_str())
+        push_owned(&mut self.phrases, phrase)
     }
 
-    /// Adds a name of a block.
-    fn add_name(&mut self, alloc: Global, front: &Front) -> Result<(), AllocError> {
-        if front.ask(alloc, "zz_name")? == Answer::Refused {
-            return Ok(());
-        }
-        self.add(
-            alloc,
-            "the name of a block: a lower-case letter, then lower-case letters, digits or '_', and no keyword",
-        )
-    }
-
-    /// Adds a statement, or else the keywords that begin items.
-    fn add_statement(&mut self, alloc: Global, front: &Front) -> Result<(), AllocError> {
-        if front.passes(alloc, "join")? {
-            return self.add(alloc, "a statement");
-        }
-        self.add_tokens(alloc, front, &ITEMS)
-    }
-
-    /// Adds the keywords of waits, unless a statement is valid: there a wait may go on, but need not.
-    fn add_waits(&mut self, alloc: Global, front: &Front) -> Result<(), AllocError> {
-        if front.passes(alloc, "join")? {
-            return Ok(());
-        }
-        self.add_tokens(alloc, front, &["until"])?;
-        self.add_tokens(alloc, front, &WAITS)
-    }
-
-    /// Collects what is valid after the front.
+    /// Collects what is valid after the front. Where a statement is, neither the keywords of items
+    /// are named nor those with which a wait may go on.
     pub(crate) fn at(alloc: Global, front: &Front) -> Result<Expected, AllocError> {
         let mut found = Expected {
             phrases: Vec::new(alloc),
         };
-        found.add_identifiers(alloc, front)?;
+        let takes_statement = front.passes(alloc, "join")?;
+        found.add_kind(alloc, front, &KINDS[..2])?;
         found.add_number(alloc, front)?;
-        found.add_if(
-            alloc,
-            front,
-            "3-A",
-            "a protection profile, 1-A to 4-A or 1-B to 4-B",
-        )?;
-        found.add_if(
-            alloc,
-            front,
-            "06:00:00",
-            "a time HH:MM:SS, 00:00:00 to 23:59:59",
-        )?;
-        found.add_name(alloc, front)?;
-        found.add_statement(alloc, front)?;
+        found.add_kind(alloc, front, &KINDS[2..])?;
+        if front.ask(alloc, "zz_name")? != Answer::Refused {
+            found.add(alloc, NAME)?;
+        }
+        if takes_statement {
+            found.add(alloc, "a statement")?;
+        } else {
+            found.add_tokens(alloc, front, &ITEMS)?;
+        }
         found.add_tokens(alloc, front, &HEADER)?;
         found.add_tokens(alloc, front, &OTHERS)?;
-        found.add_waits(alloc, front)?;
+        if !takes_statement {
+            found.add_tokens(alloc, front, &["until"])?;
+            found.add_tokens(alloc, front, &WAITS)?;
+        }
         found.add_tokens(alloc, front, &["{", "}"])?;
         if front.may_end(alloc)? {
             found.add(alloc, "the end of the script")?;
@@ -151,15 +123,13 @@ impl Expected {
             return None;
         };
         match only.as_bytes() {
-            [b'\'', .., b'\''] => {
-                let end = only.len().saturating_sub(1);
-                only.as_str().get(1..end)
-            }
+            [b'\'', .., b'\''] => only.as_str().get(1..only.len().saturating_sub(1)),
             _ => None,
         }
     }
 
-    /// Whether a statement, or else an item or the beginning of the statements, is expected: what precedes is complete.
+    /// Whether a statement, or else an item or the beginning of the statements, is expected: what
+    /// precedes is complete.
     pub(crate) fn follows_whole(alloc: Global, front: &Front) -> Result<bool, AllocError> {
         Ok(front.passes(alloc, "join")? || front.passes(alloc, "begin")?)
     }
@@ -168,18 +138,19 @@ impl Expected {
     pub(crate) fn put<W: Write>(&self, out: &mut W) -> io::Result<()> {
         let count = self.phrases.len();
         for (at, phrase) in self.phrases.as_slice().iter().enumerate() {
-            if at > 0 {
-                let between = if at + 1 == count { " or " } else { ", " };
-                out.write_all(between.as_bytes())?;
-            }
-            out.write_all(phrase.as_bytes())?;
+            let between = match at {
+                0 => "",
+                _ if at + 1 == count => " or ",
+                _ => ", ",
+            };
+            write!(out, "{between}{phrase}")?;
         }
         Ok(())
     }
 }
 
 /// What a decimal up to `high` means after a keyword of the grammar.
-fn number_in(word: &[u8], high: u32) -> &'static str {
+fn number_after(word: &[u8], high: u32) -> &'static str {
     match word {
         b"mode" => "a transmission mode",
         b"period" => "the period in frames",
@@ -191,16 +162,10 @@ fn number_in(word: &[u8], high: u32) -> &'static str {
         b"packet" | b"carry" => "an SCId",
         b"address" => "a packet address",
         b"contact" => "a contact",
-        b"wait" | b"or" | b"early" => "a number of frames",
-        b"in" => "a number of frames",
+        b"wait" | b"or" | b"early" | b"in" => "a number of frames",
         b"repeat" => "a number of times",
-        b"at" => {
-            if high < 1024 {
-                "a start address in capacity units"
-            } else {
-                "a CIF count"
-            }
-        }
+        b"at" if high < 1024 => "a start address in capacity units",
+        b"at" => "a CIF count",
         _ => "a rate in kbit/s",
     }
 }

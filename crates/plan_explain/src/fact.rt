@@ -1,11 +1,12 @@
-//! Facts about a refusal: what the configurations and the swap are where a plan is refused. Each is tested before it is
-//! printed.
+//! Facts about a refusal: what the configurations and the swap are where a plan is refused. Each is
+//! tested before it is printed.
 
 ghost use Rattle.std.specs.Prelude.{◌≡◌, ◌↔◌, IsTrue, Some, None};
 ghost use Rattle.mux_config.specs.Edits.{sub_at, packet_at, service_at};
 ghost use Rattle.fib_carousel.specs.Pages.{page_set, rounds};
 ghost use Rattle.plan_explain.specs.declared.fact.Fact.TheVariants.{Differ};
-ghost use Rattle.plan_explain.specs.Facts.{Holds, IsMissing, HasComponent, LacksComponent, IsEmpty, IsApart, Shares, end_of, pages_of};
+ghost use Rattle.plan_explain.specs.Facts.{Holds, IsMissing, HasComponent, LacksComponent, IsEmpty};
+ghost use Rattle.plan_explain.specs.Facts.{IsApart, Shares, end_of, pages_of};
 
 use crate::difference::{Compared, Difference, configuration_of, differs, has_other_swap};
 use crate::stop::Stop;

@@ -7,7 +7,7 @@ ghost use Rattle.plan_explain.specs.Facts.{Holds};
 use crate::difference::{first_contrast, has_other_swap};
 use crate::fact::{Fact, holds, is_missing, overlap_of, pages_of};
 use crate::stop::{Refused, Stop};
-use mux_config::{Carrier, Component, Config, ConfigFault, Edit, EditFault, Store, SubId};
+use mux_config::{Carrier, Config, ConfigFault, Edit, EditFault, Store};
 use plan_code::Instr;
 use plan_verifier::Cause;
 use std::alloc::{AllocError, Global};
@@ -60,41 +60,20 @@ fn absent(config: &Config, edit: &Edit) -> Option<Fact> {
     }
 }
 
-/// The fact that explains why an edit has a fault, if one does.
-fn of_edit(config: &Config, edit: &Edit, fault: EditFault) -> Option<Fact> {
-    match fault {
-        EditFault::IdUsed => used(config, edit),
-        EditFault::IdAbsent => absent(config, edit),
-        EditFault::TooManyComponents
-        | EditFault::TableFull
-        | EditFault::PastEnd
-        | EditFault::BadRate
-        | EditFault::BadAddress => None,
-    }
-}
-
-/// The first missing carrier of some components.
-fn missing_of(config: &Config, components: &[Component]) -> Option<Carrier> {
-    for component in components {
-        if is_missing(config, component.carrier()) {
-            return Some(component.carrier());
-        }
-    }
-    None
-}
-
-/// Appends the two sub-channels with these numbers, if they share capacity units.
-fn push_overlap(
+/// Appends the fact that explains why an edit has a fault, if one does.
+fn push_edit(
     facts: &mut Vec<Fact>,
     config: &Config,
-    first: SubId,
-    second: SubId,
+    edit: &Edit,
+    fault: EditFault,
 ) -> Result<(), AllocError> {
-    let (Some(one), Some(other)) = (config.sub(first), config.sub(second)) else {
-        return Ok(());
+    let fact = match fault {
+        EditFault::IdUsed => used(config, edit),
+        EditFault::IdAbsent => absent(config, edit),
+        _ => None,
     };
-    match overlap_of(&one, &other) {
-        Some(overlap) => push(facts, Fact::Shared(overlap)),
+    match fact {
+        Some(fact) => push(facts, fact),
         None => Ok(()),
     }
 }
@@ -103,19 +82,24 @@ fn push_overlap(
 fn push_overlaps(facts: &mut Vec<Fact>, config: &Config) -> Result<(), AllocError> {
     for first in config.subs() {
         for second in config.subs() {
-            if first.id.get() < second.id.get() {
-                push_overlap(facts, config, first.id, second.id)?;
+            match overlap_of(first, second) {
+                Some(overlap) if first.id.get() < second.id.get() => {
+                    push(facts, Fact::Shared(overlap))?
+                }
+                _ => {}
             }
         }
     }
     Ok(())
 }
 
-/// Appends the services with a component on a missing carrier, and the packet components whose sub-channel is missing.
+/// Appends the services with a component on a missing carrier, and the packet components whose
+/// sub-channel is missing.
 fn push_orphans(facts: &mut Vec<Fact>, config: &Config) -> Result<(), AllocError> {
     for service in config.services() {
-        if let Some(carrier) = missing_of(config, service.components.as_slice()) {
-            push(facts, Fact::Orphan(service.sid, carrier))?;
+        let mut components = service.components.as_slice().iter();
+        if let Some(orphan) = components.find(|one| is_missing(config, one.carrier())) {
+            push(facts, Fact::Orphan(service.sid, orphan.carrier()))?;
         }
     }
     for packet in config.packets() {
@@ -158,11 +142,9 @@ fn push_unsound(
         Some(ConfigFault::Orphan) => push_orphans(facts, config)?,
         Some(ConfigFault::EmptyService) => push_empty(facts, config)?,
         Some(ConfigFault::AddressUsed) => push_twins(facts, config)?,
-        Some(ConfigFault::Overlap(_, _)) | None => push_overlaps(facts, config)?,
+        Some(ConfigFault::Overlap(_, _)) | None => {}
     }
-    if !matches!(first, Some(ConfigFault::Overlap(_, _)) | None) {
-        push_overlaps(facts, config)?;
-    }
+    push_overlaps(facts, config)?;
     if first != Some(ConfigFault::EmptyService) {
         push_empty(facts, config)?;
     }
@@ -184,33 +166,21 @@ fn push_cause(
 ) -> Result<(), AllocError> {
     let config = &stop.here.next;
     match cause {
-        Cause::Edit(fault) => {
-            let Some(Instr::Edit(edit)) = instr else {
-                return Ok(());
-            };
-            match of_edit(config, &edit, fault) {
-                Some(fact) => push(facts, fact),
-                None => Ok(()),
-            }
-        }
+        Cause::Edit(fault) => match instr {
+            Some(Instr::Edit(edit)) => push_edit(facts, config, &edit, fault),
+            _ => Ok(()),
+        },
         Cause::Config(fault) => push_unsound(facts, config, Some(fault)),
         Cause::Pending | Cause::JoinIdle | Cause::SwapUncertain => {
             push(facts, Fact::Swap(stop.here.pending))
         }
         Cause::Round => push(facts, Fact::Pages(pages_of(stop.plan.layout, &stop.here))),
-        Cause::NoChange
-        | Cause::Notice
-        | Cause::Count
-        | Cause::Mismatch
-        | Cause::Cost
-        | Cause::Target
-        | Cause::Table
-        | Cause::CounterUnset
-        | Cause::FallsOff => Ok(()),
+        _ => Ok(()),
     }
 }
 
-/// Appends what differs between two paths: the swaps, if they are compared and do not fit, or else the first member.
+/// Appends what differs between two paths: the swaps, if they are compared and do not fit, or else
+/// the first member.
 pub(crate) fn push_contrast(
     facts: &mut Vec<Fact>,
     stop: &Stop,

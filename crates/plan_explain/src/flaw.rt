@@ -2,7 +2,9 @@
 
 ghost use Rattle.std.specs.Prelude.{◌≡◌, ◌==◌, ◌++◌, ◌∷◌, [], IfOk, OnOk};
 ghost use Rattle.std.specs.List.{flat_map, list_any};
-ghost use Rattle.plan_explain.specs.Flaws.{is_on, has_component_on, is_named, unnamed, audio, audio_under, long_audio, flaws, is_same_flaw, is_among, unless_among};
+ghost use Rattle.plan_explain.specs.Flaws.{is_on, has_component_on, is_named, unnamed, audio};
+ghost use Rattle.plan_explain.specs.Flaws.{audio_under, long_audio, flaws, is_same_flaw, is_among};
+ghost use Rattle.plan_explain.specs.Flaws.{unless_among};
 
 use crate::list::push;
 use crate::primary::is_same_sid;
@@ -14,8 +16,8 @@ use std::alloc::{AllocError, Global};
 pub enum Flaw {
     /// A sub-channel that no component of a service and no packet component names.
     Unnamed(SubId),
-    /// Audio on a sub-channel, in a service with a 32-bit SId, which is that of a data service (EN 300 401 clause
-    /// 6.3.1).
+    /// Audio on a sub-channel, in a service with a 32-bit SId, which is that of a data service (EN
+    /// 300 401 clause 6.3.1).
     LongAudio(Sid, SubId),
 }
 
@@ -30,36 +32,22 @@ fn is_on(id: SubId, component: &Component) -> bool
 fn has_component_on(id: SubId, service: &Service) -> bool
     ensures { result ≡ has_component_on id service.now }
 {
-    for component in service.components.as_slice() {
-        if is_on(id, component) {
-            return true;
-        }
-    }
-    false
+    let components = service.components.as_slice();
+    components.iter().any(|component| is_on(id, component))
 }
 
 /// Whether a component of a service names a sub-channel.
 fn is_named_by_services(services: &[Service], id: SubId) -> bool
     ensures { result ≡ list_any (has_component_on id) services.now }
 {
-    for service in services {
-        if has_component_on(id, service) {
-            return true;
-        }
-    }
-    false
+    services.iter().any(|service| has_component_on(id, service))
 }
 
 /// Whether a packet component names a sub-channel.
 fn is_named_by_packets(packets: &[Packet], id: SubId) -> bool
     ensures { result ≡ list_any (λ p. p.sub == id) packets.now }
 {
-    for packet in packets {
-        if packet.sub == id {
-            return true;
-        }
-    }
-    false
+    packets.iter().any(|packet| packet.sub == id)
 }
 
 /// Whether a component of a service or a packet component names a sub-channel.
@@ -143,7 +131,7 @@ fn push_all_audio(flaws: &mut Vec<Flaw>, services: &[Service]) -> Result<(), All
 }
 
 /// Whether two flaws are the same.
-pub(crate) fn is_same_flaw(one: &Flaw, other: &Flaw) -> bool
+fn is_same_flaw(one: &Flaw, other: &Flaw) -> bool
     ensures { result ≡ is_same_flaw one.now other.now }
 {
     match *one {
@@ -162,10 +150,5 @@ pub(crate) fn is_same_flaw(one: &Flaw, other: &Flaw) -> bool
 pub(crate) fn is_among(others: &[Flaw], flaw: &Flaw) -> bool
     ensures { result ≡ is_among others.now flaw.now }
 {
-    for other in others {
-        if is_same_flaw(other, flaw) {
-            return true;
-        }
-    }
-    false
+    others.iter().any(|other| is_same_flaw(other, flaw))
 }

@@ -1,5 +1,7 @@
-//! Follows a script up to its first refusal, with the rules of plans, and keeps what is known there.
+//! Follows a script up to its first refusal, with the rules of plans, and keeps what is known
+//! there.
 
+use crate::list::push_owned;
 use crate::stop::{Refused, Stop, copied};
 use mux_config::{Config, Store};
 use plan_code::{Instr, Plan, Swap};
@@ -37,8 +39,8 @@ struct Frame<'a> {
     end: End<'a>,
 }
 
-/// A script that is followed: what is known, and what is still to be followed, the innermost statements last. It needs
-/// no deeper stack for statements inside others.
+/// A script that is followed: what is known, and what is still to be followed, the innermost
+/// statements last. It needs no deeper stack for statements inside others.
 #[derive(Drop)]
 struct Walk<'a> {
     plan: Plan,
@@ -53,25 +55,12 @@ struct Walk<'a> {
     falls: bool,
 }
 
-/// Appends to a list.
-fn push<T: Drop>(list: &mut Vec<T>, item: T) -> Result<(), AllocError> {
-    match list.push(item) {
-        Ok(()) => Ok(()),
-        Err(_full) => Err(AllocError),
-    }
-}
-
 /// Whether statements have no instruction: they apply only blocks that have none.
 fn is_silent(silent: &[bool], statements: &[Statement]) -> bool {
-    for statement in statements {
-        let Statement::Apply { block, .. } = statement else {
-            return false;
-        };
-        if silent.get(usize::from(block.get())) == Some(&false) {
-            return false;
-        }
-    }
-    true
+    statements.iter().all(|statement| match statement {
+        Statement::Apply { block, .. } => silent.get(usize::from(block.get())) != Some(&false),
+        _ => false,
+    })
 }
 
 /// Nothing pending, and this configuration both current and next.
@@ -102,11 +91,6 @@ impl<'a> Walk<'a> {
             here: copied(&self.here),
             other: copied(other),
         })
-    }
-
-    /// The refusal of a statement.
-    fn stop_here(&self, line: u16, refused: Refused) -> Option<Stop> {
-        self.stop(line, refused, &self.here)
     }
 
     /// Merges the path with another one; a refusal in this line if they can't be.
@@ -141,11 +125,11 @@ impl<'a> Walk<'a> {
         entry: Flow<Config>,
     ) -> Result<(), AllocError> {
         let falls = self.falls;
-        push(&mut self.saved, copied(&self.here))?;
+        push_owned(&mut self.saved, copied(&self.here))?;
         self.here = entry;
         self.falls = true;
         let end = End::Second { line, falls };
-        push(
+        push_owned(
             &mut self.frames,
             Frame {
                 rest: second,
@@ -175,15 +159,14 @@ impl<'a> Walk<'a> {
         }
     }
 
-    /// Begins the block of a statement, and saves what is known there.
-    fn open(
+    /// Follows these statements next, which may apply so many blocks.
+    fn enter(
         &mut self,
         rest: &'a [Statement],
         blocks: usize,
         end: End<'a>,
     ) -> Result<(), AllocError> {
-        push(&mut self.saved, copied(&self.here))?;
-        push(
+        push_owned(
             &mut self.frames,
             Frame {
                 rest,
@@ -202,22 +185,14 @@ impl<'a> Walk<'a> {
         let Some(block) = self.blocks.get(number) else {
             return Ok(());
         };
-        push(
-            &mut self.frames,
-            Frame {
-                rest: block.as_slice(),
-                blocks: number,
-                after: 0,
-                end: End::Block,
-            },
-        )
+        self.enter(block.as_slice(), number, End::Block)
     }
 
     /// Executes an act.
     fn act(&mut self, line: u16, act: &Act) -> Option<Stop> {
         match self.here.apply(&self.plan, instr_of(*act)) {
             Ok(()) => None,
-            Err(cause) => self.stop_here(line, Refused::Instr(instr_of(*act), cause)),
+            Err(cause) => self.stop(line, Refused::Instr(instr_of(*act), cause), &self.here),
         }
     }
 
@@ -227,40 +202,49 @@ impl<'a> Walk<'a> {
         statement: &'a Statement,
         blocks: usize,
     ) -> Result<Option<Stop>, AllocError> {
-        match statement {
+        let (block, end) = match statement {
             Statement::Act { line, act } => return Ok(self.act(*line, act)),
-            Statement::End { .. } => self.falls = false,
-            Statement::If { line, first, .. } => {
-                self.open(first.as_slice(), blocks, End::If { line: *line })?
+            Statement::End { .. } => {
+                self.falls = false;
+                return Ok(None);
             }
+            Statement::Apply { block, .. } => {
+                self.apply(usize::from(block.get()), blocks)?;
+                return Ok(None);
+            }
+            Statement::If { line, first, .. } => (first, End::If { line: *line }),
             Statement::IfElse {
                 line,
                 first,
                 second,
                 ..
             } => {
-                let end = End::First {
-                    line: *line,
-                    second: second.as_slice(),
-                };
-                self.open(first.as_slice(), blocks, end)?
+                let second = second.as_slice();
+                (
+                    first,
+                    End::First {
+                        line: *line,
+                        second,
+                    },
+                )
             }
-            Statement::Repeat { line, body, .. } => {
-                let end = End::Loop {
+            Statement::Repeat { line, body, .. } => (
+                body,
+                End::Loop {
                     line: *line,
                     ends: true,
-                };
-                self.open(body.as_slice(), blocks, end)?
-            }
-            Statement::Forever { line, body } => {
-                let end = End::Loop {
+                },
+            ),
+            Statement::Forever { line, body } => (
+                body,
+                End::Loop {
                     line: *line,
                     ends: false,
-                };
-                self.open(body.as_slice(), blocks, end)?
-            }
-            Statement::Apply { block, .. } => self.apply(usize::from(block.get()), blocks)?,
-        }
+                },
+            ),
+        };
+        push_owned(&mut self.saved, copied(&self.here))?;
+        self.enter(block.as_slice(), blocks, end)?;
         Ok(None)
     }
 
@@ -275,9 +259,9 @@ impl<'a> Walk<'a> {
                 act: act_of(statement),
                 after: frame.after,
             };
-            return Ok(self.stop_here(line, refused));
+            return Ok(self.stop(line, refused, &self.here));
         }
-        push(
+        push_owned(
             &mut self.frames,
             Frame {
                 rest,
@@ -294,7 +278,7 @@ fn silent_blocks(alloc: Global, blocks: &[Vec<Statement>]) -> Result<Vec<bool>, 
     let mut silent = Vec::new(alloc);
     for block in blocks {
         let is_silent = is_silent(silent.as_slice(), block.as_slice());
-        push(&mut silent, is_silent)?;
+        push_owned(&mut silent, is_silent)?;
     }
     Ok(silent)
 }
@@ -311,7 +295,8 @@ pub(crate) fn opening_stop(script: &Script, line: u16, refused: Refused, config:
     }
 }
 
-/// The first refusal among the items of a script, or of the configuration that they make, which is put into `opening`.
+/// The first refusal among the items of a script, or of the configuration that they make, which is
+/// put into `opening`.
 fn first_of_opening(script: &Script, opening: &mut Config) -> Option<Stop> {
     for item in script.items() {
         if let Err(fault) = item.edit.apply(opening) {
@@ -328,8 +313,8 @@ fn first_of_opening(script: &Script, opening: &mut Config) -> Option<Stop> {
     }
 }
 
-/// The first refusal of a script, and what is known there; none if no statement is refused, or none is found in so many
-/// steps. Costs and limits are not looked at.
+/// The first refusal of a script, and what is known there; none if no statement is refused, or none
+/// is found in so many steps. Costs and limits are not looked at.
 pub(crate) fn follow(alloc: Global, script: &Script) -> Result<Option<Stop>, AllocError> {
     let mut opening = Config::new();
     if let Some(stop) = first_of_opening(script, &mut opening) {
@@ -344,13 +329,7 @@ pub(crate) fn follow(alloc: Global, script: &Script) -> Result<Option<Stop>, All
         frames: Vec::new(alloc),
         falls: true,
     };
-    let whole = Frame {
-        rest: script.statements(),
-        blocks: script.blocks().len(),
-        after: 0,
-        end: End::Block,
-    };
-    push(&mut walk.frames, whole)?;
+    walk.enter(script.statements(), script.blocks().len(), End::Block)?;
     for _step in 0..MOST {
         let Some(frame) = walk.frames.pop() else {
             return Ok(None);

@@ -31,13 +31,6 @@ pub(crate) fn contact_wait(act: &Act) -> Option<ContactWait>
             contact: *contact,
             closed: *closed,
         }),
-        Act::Edit(_) => None,
-        Act::Wait(_) => None,
-        Act::WaitAny(_) => None,
-        Act::Until(_) => None,
-        Act::CommitIn(_) => None,
-        Act::CommitAt(_) => None,
-        Act::Join => None,
-        Act::Settle => None,
+        _ => None,
     }
 }

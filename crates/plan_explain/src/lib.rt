@@ -1,17 +1,18 @@
-//! Explained plans: what a user needs to correct a refused script or code, with the objects and numbers involved; and
-//! what the author of an accepted plan may not want, though it is not wrong.
+//! Explained plans: what a user needs to correct a refused script or code, with the objects and
+//! numbers involved; and what the author of an accepted plan may not want, though it is not wrong.
 //!
-//! [`notes_on_fault`] says why a text is not a script, [`notes_on_script`] why a script is not compiled, and
-//! [`notes_on_code`] why a code is refused; [`put_notes`] and [`put_errors`] print what they say. A refused script is
-//! followed up to the refusal, with what is known there: a `Stop`, which is the compiler's refusal
-//! (`specs/Stops.antt`). A `Fact` about it is printed only if it holds (`specs/Facts.antt`); a line is to blame if the
-//! refusal is passed without it; and a hint that changes the text was compiled (`specs/TextChanges.antt`).
+//! [`notes_on_fault`] says why a text is not a script, [`notes_on_script`] why a script is not
+//! compiled, and [`notes_on_code`] why a code is refused; [`put_notes`] and [`put_errors`] print
+//! what they say. A refused script is followed up to the refusal, with what is known there: a
+//! `Stop`, which is the compiler's refusal (`specs/Stops.antt`). A `Fact` about it is printed only
+//! if it holds (`specs/Facts.antt`); a line is to blame if the refusal is passed without it; and a
+//! hint that changes the text was compiled (`specs/TextChanges.antt`).
 //!
-//! [`warnings_of`] returns the warnings that are true of a script and its code: all of them, and no other ones. When a
-//! [`Warning`] is true is defined in `specs/Warnings.antt`; [`put_warning`] prints one.
+//! [`warnings_of`] returns the warnings that are true of a script and its code: all of them, and no
+//! other ones. When a [`Warning`] is true is defined in `specs/Warnings.antt`; [`put_warning`]
+//! prints one.
 #![tactic(auto)]
 
-mod advice;
 mod because;
 mod beginning;
 mod blocks;
@@ -20,6 +21,7 @@ mod code;
 mod cost;
 mod day_wait;
 mod difference;
+mod edits;
 mod expected;
 mod fact;
 mod facts;
@@ -32,9 +34,11 @@ mod limit;
 mod list;
 mod note;
 mod once;
+mod opening;
 mod primary;
 mod probe;
 mod repair;
+mod room;
 mod script;
 mod sentence;
 mod source;

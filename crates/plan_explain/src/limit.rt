@@ -5,46 +5,43 @@ use plan_code::limits::{COUNTERS, MOST_CONFIGURATIONS, MOST_INSTRUCTIONS, MOST_L
 use script_compiler::CodeLimit;
 use std::io::{self, Write};
 
-/// Explains an exceeded limit: the maximum, and that this line would add one more.
-fn explain_number(most: u16, what: &str, hint: &str, note: &mut Note) -> io::Result<()> {
-    let next = most.saturating_add(1);
-    write!(
-        &mut note.text,
-        "the code has {most} {what} before this line is done, the most of a code: number {next} would come here"
-    )?;
-    note.hint.write_all(hint.as_bytes())
-}
-
-/// Explains which limit of codes is exceeded by a statement.
+/// Explains which limit of codes is exceeded by a statement: the maximum, and that this line would
+/// add one more.
 pub(crate) fn explain_limit(limit: CodeLimit, note: &mut Note) -> io::Result<()> {
-    match limit {
-        CodeLimit::Instructions => explain_number(
+    let (most, what, hint) = match limit {
+        CodeLimit::Instructions => (
             MOST_INSTRUCTIONS,
             "instructions",
             "'repeat' in place of copies; each 'apply' adds the instructions of its block again",
-            note,
         ),
-        CodeLimit::Labels => explain_number(
+        CodeLimit::Labels => (
             MOST_LABELS,
             "labels",
-            "'repeat' in place of copies; each 'if', 'repeat' and 'forever' has a label or two, again with each 'apply'",
-            note,
+            "'repeat' in place of copies; each 'if', 'repeat' and 'forever' has a label or two, \
+             again with each 'apply'",
         ),
-        CodeLimit::Configurations => explain_number(
+        CodeLimit::Configurations => (
             MOST_CONFIGURATIONS,
             "configurations at its labels",
-            "go back to earlier configurations, which count once; or fewer 'if', 'repeat' and 'forever' among the edits",
-            note,
+            "go back to earlier configurations, which count once; or fewer 'if', 'repeat' and \
+             'forever' among the edits",
         ),
         CodeLimit::Counters => {
-            let most = COUNTERS;
             write!(
                 &mut note.text,
-                "this 'repeat' is inside {most} others, and a code has {most} counters, one for each"
+                "this 'repeat' is inside {COUNTERS} others, and a code has {COUNTERS} counters, \
+                 one for each"
             )?;
-            note.hint.write_all(
+            return note.hint.write_all(
                 b"one 'repeat' in place of two, as 'repeat 6' for a 'repeat 3' in a 'repeat 2'",
-            )
+            );
         }
-    }
+    };
+    let next = most.saturating_add(1);
+    write!(
+        &mut note.text,
+        "the code has {most} {what} before this line is done, the most of a code: number {next} \
+         would come here"
+    )?;
+    note.hint.write_all(hint.as_bytes())
 }

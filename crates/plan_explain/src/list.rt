@@ -13,3 +13,11 @@ pub(crate) fn push<T: Copy + Drop>(list: &mut Vec<T>, item: T) -> Result<(), All
         Err(_full) => Err(AllocError),
     }
 }
+
+/// Appends an item that is no copy to a list.
+pub(crate) fn push_owned<T: Drop>(list: &mut Vec<T>, item: T) -> Result<(), AllocError> {
+    match list.push(item) {
+        Ok(()) => Ok(()),
+        Err(_full) => Err(AllocError),
+    }
+}

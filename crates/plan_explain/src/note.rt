@@ -2,7 +2,7 @@
 
 use crate::source::show_position;
 use script_front::Position;
-use std::alloc::{AllocError, Global};
+use std::alloc::Global;
 use std::io::{self, Write};
 
 /// What is to be said of a place.
@@ -37,53 +37,38 @@ impl Note {
         Note {
             line: position.line,
             column: position.column,
-            text: Vec::new(alloc),
-            hint: Vec::new(alloc),
             shown: Some(position),
+            ..Note::on_line(alloc, 0)
         }
     }
 }
 
-/// Appends a note.
-pub(crate) fn push(notes: &mut Vec<Note>, note: Note) -> Result<(), AllocError> {
-    match notes.push(note) {
-        Ok(()) => Ok(()),
-        Err(_full) => Err(AllocError),
-    }
-}
-
-/// Writes the place of a note in the text of this path.
-fn put_place<W: Write>(path: &str, note: &Note, out: &mut W) -> io::Result<()> {
-    let line = note.line;
-    let column = note.column;
-    write!(out, "{path}:{line}:")?;
-    if column > 0 {
-        write!(out, "{column}:")?;
-    }
-    Ok(())
-}
-
-/// Writes the line that a note shows.
-fn put_shown<W: Write>(text: &str, note: &Note, out: &mut W) -> io::Result<()> {
-    match note.shown {
-        Some(position) => show_position(text.as_bytes(), position, out),
-        None => Ok(()),
-    }
-}
-
-/// Writes notes on the text of this path: each as `PATH:L:C: SENTENCE`, the line with a caret, and `hint: HINT`.
-///
-/// # Errors
-///
-/// Those of the writer.
-pub fn put_notes<W: Write>(path: &str, text: &str, notes: &[Note], out: &mut W) -> io::Result<()> {
+/// Writes notes on the text of this path, each with `word` before its sentence, and with its place
+/// before its hint if `is_placed`.
+fn put_each<W: Write>(
+    path: &str,
+    text: &str,
+    notes: &[Note],
+    word: &str,
+    is_placed: bool,
+    out: &mut W,
+) -> io::Result<()> {
     for note in notes {
-        put_place(path, note, out)?;
-        out.write_all(b" ")?;
+        let line = note.line;
+        write!(out, "{path}:{line}:")?;
+        if note.column > 0 {
+            write!(out, "{}:", note.column)?;
+        }
+        out.write_all(word.as_bytes())?;
         out.write_all(note.text.as_slice())?;
         out.write_all(b"\n")?;
-        put_shown(text, note, out)?;
+        if let Some(position) = note.shown {
+            show_position(text.as_bytes(), position, out)?;
+        }
         if !note.hint.is_empty() {
+            if is_placed {
+                write!(out, "{path}:{line}: ")?;
+            }
             out.write_all(b"hint: ")?;
             out.write_all(note.hint.as_slice())?;
             out.write_all(b"\n")?;
@@ -92,25 +77,22 @@ pub fn put_notes<W: Write>(path: &str, text: &str, notes: &[Note], out: &mut W) 
     Ok(())
 }
 
-/// Writes notes on the text of this path as editors read them: each as `PATH:L:C: error: SENTENCE`, the line with a
-/// caret, and `PATH:L: hint: HINT`.
+/// Writes notes on the text of this path: each as `PATH:L:C: SENTENCE`, the line with a caret, and
+/// `hint: HINT`.
+///
+/// # Errors
+///
+/// Those of the writer.
+pub fn put_notes<W: Write>(path: &str, text: &str, notes: &[Note], out: &mut W) -> io::Result<()> {
+    put_each(path, text, notes, " ", false, out)
+}
+
+/// Writes notes on the text of this path as editors read them: each as `PATH:L:C: error: SENTENCE`,
+/// the line with a caret, and `PATH:L: hint: HINT`.
 ///
 /// # Errors
 ///
 /// Those of the writer.
 pub fn put_errors<W: Write>(path: &str, text: &str, notes: &[Note], out: &mut W) -> io::Result<()> {
-    for note in notes {
-        put_place(path, note, out)?;
-        out.write_all(b" error: ")?;
-        out.write_all(note.text.as_slice())?;
-        out.write_all(b"\n")?;
-        put_shown(text, note, out)?;
-        if !note.hint.is_empty() {
-            let line = note.line;
-            write!(out, "{path}:{line}: hint: ")?;
-            out.write_all(note.hint.as_slice())?;
-            out.write_all(b"\n")?;
-        }
-    }
-    Ok(())
+    put_each(path, text, notes, " error: ", true, out)
 }

@@ -3,13 +3,15 @@
 ghost use Rattle.std.specs.Prelude.{◌≡◌, ◌++◌, ◌∷◌, [], IfOk, OnOk};
 ghost use Rattle.std.specs.List.{flat_map};
 ghost use Rattle.mux_types.specs.Sameness.{is_same_sid, is_same_component};
-ghost use Rattle.plan_explain.specs.Primaries.{is_alone, other_first, other_primary, primaries_of, primaries};
+ghost use Rattle.plan_explain.specs.Primaries.{is_alone, other_first, other_primary, primaries_of};
+ghost use Rattle.plan_explain.specs.Primaries.{primaries};
 
 use crate::list::push;
 use mux_config::{Component, Config, Service, Sid};
 use std::alloc::{AllocError, Global};
 
-/// A service with another first component than before, which is its primary one (EN 300 401 clause 6.3.1).
+/// A service with another first component than before, which is its primary one (EN 300 401 clause
+/// 6.3.1).
 #[derive(Clone, Copy, Debug, PartialEq, Eq)]
 pub struct Primary {
     /// The service.
@@ -70,7 +72,8 @@ fn is_alone(components: &[Component]) -> bool
     }
 }
 
-/// Appends a service whose first component is another one than before, if this was the same service then.
+/// Appends a service whose first component is another one than before, if this was the same service
+/// then.
 fn push_other_primary(
     primaries: &mut Vec<Primary>,
     service: &Service,
@@ -93,7 +96,8 @@ fn push_other_primary(
     )
 }
 
-/// Appends a service whose first component is another one than in one of these services, if it is one of them.
+/// Appends a service whose first component is another one than in one of these services, if it is
+/// one of them.
 fn push_primaries_of(
     primaries: &mut Vec<Primary>,
     service: &Service,
@@ -108,7 +112,8 @@ fn push_primaries_of(
     Ok(())
 }
 
-/// The services of two configurations whose first component differs, from the earlier to the later one.
+/// The services of two configurations whose first component differs, from the earlier to the later
+/// one.
 pub(crate) fn primaries_of(
     alloc: Global,
     before: &Config,

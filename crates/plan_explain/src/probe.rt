@@ -1,10 +1,12 @@
 //! Tests with `parse` which tokens are valid at a position of a script.
 
 use crate::source::Source;
-use script_front::{Position, ScriptFault, parse};
+use crate::trial::position_of;
+use script_front::{ScriptFault, parse};
 use std::alloc::{AllocError, Global};
 
-/// The tokens of a script up to one at fault, in one line: so a token after them exceeds no limit on texts and lines.
+/// The tokens of a script up to one at fault, in one line: so a token after them exceeds no limit
+/// on texts and lines.
 #[derive(Drop)]
 pub(crate) struct Front<'a> {
     text: String,
@@ -30,17 +32,17 @@ impl<'a> Front<'a> {
         source: &Source<'a>,
         count: usize,
     ) -> Result<Front<'a>, AllocError> {
-        let mut text = String::new(alloc);
-        for index in 0..count {
-            text.push_str(source.word(index))?;
-            text.push_str(" ")?;
-        }
-        let last = if count > 0 {
-            source.word(count - 1)
-        } else {
-            ""
+        let mut front = Front {
+            text: String::new(alloc),
+            last: "",
         };
-        Ok(Front { text, last })
+        for index in 0..count {
+            let word = source.word(index);
+            front.text.push_str(word)?;
+            front.text.push_str(" ")?;
+            front.last = word;
+        }
+        Ok(front)
     }
 
     /// The last token of the front; empty if it has none.
@@ -52,9 +54,19 @@ impl<'a> Front<'a> {
     pub(crate) fn ask(&self, alloc: Global, token: &str) -> Result<Answer, AllocError> {
         let mut text = String::from_str(alloc, self.text.as_str())?;
         text.push_str(token)?;
-        match parse(alloc, text.as_str()) {
-            Ok(_script) => Ok(Answer::Passes),
-            Err(fault) => self.judge(fault),
+        let fault = match parse(alloc, text.as_str()) {
+            Ok(_script) => return Ok(Answer::Passes),
+            Err(fault) => fault,
+        };
+        let Some(at) = position_of(fault) else {
+            return Err(AllocError);
+        };
+        if at.line != 1 || at.column != self.text.len().saturating_add(1) {
+            return Ok(Answer::Passes);
+        }
+        match fault {
+            ScriptFault::NameUsed(_) | ScriptFault::NameUnknown(_) => Ok(Answer::Name),
+            _ => Ok(Answer::Refused),
         }
     }
 
@@ -64,29 +76,6 @@ impl<'a> Front<'a> {
             Ok(_script) => Ok(true),
             Err(ScriptFault::Memory) => Err(AllocError),
             Err(_fault) => Ok(false),
-        }
-    }
-
-    /// The verdict on the token, from a fault of the text with the token.
-    fn judge(&self, fault: ScriptFault) -> Result<Answer, AllocError> {
-        match fault {
-            ScriptFault::Memory => Err(AllocError),
-            ScriptFault::NameUsed(at) => Ok(self.unless_here(at, Answer::Name)),
-            ScriptFault::NameUnknown(at) => Ok(self.unless_here(at, Answer::Name)),
-            ScriptFault::Byte(at) => Ok(self.unless_here(at, Answer::Refused)),
-            ScriptFault::Number(at) => Ok(self.unless_here(at, Answer::Refused)),
-            ScriptFault::Expected(at) => Ok(self.unless_here(at, Answer::Refused)),
-            ScriptFault::Depth(at) => Ok(self.unless_here(at, Answer::Refused)),
-            ScriptFault::Limit(at) => Ok(self.unless_here(at, Answer::Refused)),
-        }
-    }
-
-    /// This verdict if the fault is at the token; else the token passes.
-    fn unless_here(&self, at: Position, answer: Answer) -> Answer {
-        if at.line == 1 && at.column == self.text.len().saturating_add(1) {
-            answer
-        } else {
-            Answer::Passes
         }
     }
 
@@ -101,8 +90,8 @@ impl<'a> Front<'a> {
         self.passes(alloc, token.as_str())
     }
 
-    /// The least and the greatest decimal that pass, if any does: the ranges of the grammar begin at 0, 1, 2 or 12
-    /// and end at or below 65,535.
+    /// The least and the greatest decimal that pass, if any does: the ranges of the grammar begin
+    /// at 0, 1, 2 or 12 and end at or below 65,535.
     pub(crate) fn range(&self, alloc: Global) -> Result<Option<(u32, u32)>, AllocError> {
         for low in [0u32, 1, 2, 12] {
             if self.passes_number(alloc, low)? {

@@ -1,13 +1,11 @@
 //! Says why an instruction is refused, by the facts that hold where it is.
 
-use crate::because::{Blame, Deed, blamed_line, commit_of, last_in};
+use crate::because::{Blame, ExecutedStatement, blamed_line, commit_of, last_in};
 use crate::fact::{Fact, pages_alone, pages_of};
-use crate::hint::{edited_sub, rate_step, step_units, units_of};
+use crate::room::{edited_sub, rate_step, step_units, units_of};
 use crate::stop::Stop;
 use crate::trier::Trier;
-use crate::words::{
-    Sides, put_blame, put_commit, put_fact, put_name, put_profile, put_services, put_sub, put_subs,
-};
+use crate::words::{Digits, NO_SIDES, Part, Profile, put_fact};
 use fib_codec::FrameLayout;
 use mux_config::{Carrier, Config, Edit, EditFault, Store, Sub};
 use mux_eep::{EepFault, size_of};
@@ -29,16 +27,20 @@ pub(crate) enum Search<'a, 'b> {
 
 impl<'a, 'b> Search<'a, 'b> {
     /// The line that is to blame for a refusal by what it does.
-    fn blame(&self, stop: &Stop, deed: &Deed) -> Result<Option<Blame>, AllocError> {
+    fn blame(
+        &self,
+        stop: &Stop,
+        executed: &ExecutedStatement,
+    ) -> Result<Option<Blame>, AllocError> {
         match self {
-            Search::Text(trier, before) => blamed_line(trier, stop, *before, deed),
-            Search::Code(code, pc) => Ok(last_in(code, *pc, deed)),
+            Search::Text(trier, before) => blamed_line(trier, stop, *before, executed),
+            Search::Code(code, pc) => Ok(last_in(code, *pc, executed)),
             Search::Nowhere => Ok(None),
         }
     }
 
     /// The line of the commit by which a swap is pending.
-    pub(crate) fn commit(&self, stop: &Stop) -> Result<Option<u16>, AllocError> {
+    pub(crate) fn commit(&self, stop: &Stop) -> Result<Option<usize>, AllocError> {
         match self {
             Search::Text(trier, before) => commit_of(trier, *before, stop),
             Search::Code(_, _) | Search::Nowhere => Ok(None),
@@ -46,38 +48,85 @@ impl<'a, 'b> Search<'a, 'b> {
     }
 }
 
-/// What follows the words on each path, where there are none.
-const NO_SIDES: Sides = Sides {
-    here: "",
-    there: "",
-};
-
 /// Writes a fact about a refusal that is not of two paths.
 pub(crate) fn put_plain<W: Write>(fact: &Fact, stop: &Stop, out: &mut W) -> io::Result<()> {
     put_fact(fact, stop, &NO_SIDES, out)
 }
 
-/// Writes which line dropped a sub-channel or a service that is not there, or else what is there.
-fn put_dropped<W: Write>(search: &Search, stop: &Stop, deed: &Deed, out: &mut W) -> io::Result<()> {
-    let config = &stop.here.next;
-    let Some(found) = search.blame(stop, deed)? else {
-        return match deed {
-            Deed::Drops(Carrier::Sub(_)) => put_subs(config, out),
-            Deed::DropsService(_) => put_services(config, out),
-            _ => Ok(()),
-        };
-    };
-    put_blame(Some(found), "dropped it", "drops it", out)
+/// Writes the sub-channels or the services of a configuration, if it is one of these that is not
+/// there.
+fn put_others<W: Write>(
+    config: &Config,
+    executed: &ExecutedStatement,
+    out: &mut W,
+) -> io::Result<()> {
+    match executed {
+        ExecutedStatement::Drops(Carrier::Sub(_)) if config.subs().is_empty() => {
+            out.write_all(b"; there is no sub-channel")
+        }
+        ExecutedStatement::Drops(Carrier::Sub(_)) => {
+            out.write_all(b"; the sub-channels there are")?;
+            for sub in config.subs() {
+                write!(out, " {}", sub.id.get())?;
+            }
+            Ok(())
+        }
+        ExecutedStatement::DropsService(_) if config.services().is_empty() => {
+            out.write_all(b"; there is no service")
+        }
+        ExecutedStatement::DropsService(_) => {
+            out.write_all(b"; the services there are")?;
+            for service in config.services() {
+                write!(out, " {}", Digits(service.sid))?;
+            }
+            Ok(())
+        }
+        _ => Ok(()),
+    }
 }
 
-/// Writes which line moved a sub-channel or gave it another rate, so that it shares units with another one.
-fn put_changed<W: Write>(search: &Search, stop: &Stop, sub: &Sub, out: &mut W) -> io::Result<()> {
-    let Some(found) = search.blame(stop, &Deed::Changes(sub.id))? else {
-        return Ok(());
+/// What a line did to the member that a sentence is about, if that was tried, and else what it
+/// does.
+fn verbs_of(executed: &ExecutedStatement) -> [&'static str; 2] {
+    match executed {
+        ExecutedStatement::Adds(_) => ["added", "adds"],
+        ExecutedStatement::Drops(_)
+        | ExecutedStatement::DropsService(_)
+        | ExecutedStatement::DropsComponent(_, _) => ["dropped", "drops"],
+        ExecutedStatement::Changes(_) => ["changed", "changes"],
+    }
+}
+
+/// Writes which line is to blame for a refusal by what it does, if one is found.
+fn put_blame<W: Write>(
+    search: &Search,
+    stop: &Stop,
+    executed: &ExecutedStatement,
+    out: &mut W,
+) -> io::Result<bool> {
+    let Some(Blame { line, is_tried }) = search.blame(stop, executed)? else {
+        return Ok(false);
     };
-    let (line, id) = (found.line, sub.id.get());
-    let word = if found.is_tried { "changed" } else { "changes" };
-    write!(out, "; line {line} {word} sub {id}")
+    let [did, does] = verbs_of(executed);
+    let verb = if is_tried { did } else { does };
+    match executed {
+        ExecutedStatement::Changes(id) => write!(out, "; line {line} {verb} sub {}", id.get())?,
+        _ => write!(out, "; line {line} {verb} it")?,
+    }
+    Ok(true)
+}
+
+/// Writes which line dropped a member that is not there, or else what is there.
+fn put_dropped<W: Write>(
+    search: &Search,
+    stop: &Stop,
+    executed: &ExecutedStatement,
+    out: &mut W,
+) -> io::Result<()> {
+    if put_blame(search, stop, executed, out)? {
+        return Ok(());
+    }
+    put_others(&stop.here.next, executed, out)
 }
 
 /// Writes a fact about the configuration of a refusal, and which line is to blame for it.
@@ -88,53 +137,60 @@ pub(crate) fn put_member<W: Write>(
     out: &mut W,
 ) -> io::Result<()> {
     put_plain(fact, stop, out)?;
-    match fact {
-        Fact::HasSub(sub) => {
-            let found = search.blame(stop, &Deed::Adds(Carrier::Sub(sub.id)))?;
-            put_blame(found, "added it", "adds it", out)
+    let executed = match *fact {
+        Fact::HasSub(sub) => ExecutedStatement::Adds(Carrier::Sub(sub.id)),
+        Fact::HasPacket(packet) => ExecutedStatement::Adds(Carrier::Packet(packet.scid)),
+        Fact::Lacks(carrier) => return put_dropped(
+            search,
+            stop,
+            &ExecutedStatement::Drops(carrier),
+            out,
+        ),
+        Fact::LacksService(sid) => {
+            return put_dropped(search, stop, &ExecutedStatement::DropsService(sid), out);
         }
-        Fact::HasPacket(packet) => {
-            let found = search.blame(stop, &Deed::Adds(Carrier::Packet(packet.scid)))?;
-            put_blame(found, "added it", "adds it", out)
-        }
-        Fact::Lacks(carrier) => put_dropped(search, stop, &Deed::Drops(*carrier), out),
-        Fact::LacksService(sid) => put_dropped(search, stop, &Deed::DropsService(*sid), out),
-        Fact::LacksComponent(sid, carrier) => {
-            put_dropped(search, stop, &Deed::DropsComponent(*sid, *carrier), out)
-        }
-        Fact::Orphan(_, carrier) => {
-            let found = search.blame(stop, &Deed::Drops(*carrier))?;
-            put_blame(found, "dropped it", "drops it", out)
-        }
-        Fact::OrphanPacket(packet) => {
-            let found = search.blame(stop, &Deed::Drops(Carrier::Sub(packet.sub)))?;
-            put_blame(found, "dropped it", "drops it", out)
-        }
+        Fact::LacksComponent(sid, carrier) => ExecutedStatement::DropsComponent(sid, carrier),
+        Fact::Orphan(_, carrier) => ExecutedStatement::Drops(carrier),
+        Fact::OrphanPacket(packet) => ExecutedStatement::Drops(Carrier::Sub(packet.sub)),
         Fact::Shared(overlap) => {
-            put_changed(search, stop, &overlap.first, out)?;
-            put_changed(search, stop, &overlap.second, out)
+            put_blame(
+                search,
+                stop,
+                &ExecutedStatement::Changes(overlap.first.id),
+                out,
+            )?;
+            ExecutedStatement::Changes(overlap.second.id)
         }
-        _ => Ok(()),
+        _ => return Ok(()),
+    };
+    put_blame(search, stop, &executed, out)?;
+    Ok(())
+}
+
+/// Writes the line of the commit by which a swap is pending, if it is known.
+fn put_commit<W: Write>(line: Option<usize>, out: &mut W) -> io::Result<()> {
+    match line {
+        Some(line) => write!(out, ", by the commit in line {line}"),
+        None => Ok(()),
     }
 }
 
 /// Says that a sub-channel would end after the multiplex.
 fn put_end<W: Write>(sub: &Sub, out: &mut W) -> io::Result<()> {
-    let units = units_of(sub);
-    let start = sub.start;
+    let (units, start) = (units_of(sub), sub.start);
     let last = (u32::from(start) + u32::from(units)).saturating_sub(1);
-    put_sub(sub, out)?;
     write!(
         out,
-        " has {units} CU, so CU {start} to {last}; the last one is 863"
+        "{} has {units} CU, so CU {start} to {last}; the last one is 863",
+        Part::Sub(*sub)
     )
 }
 
 /// Says why a rate has no size.
 fn put_rate<W: Write>(sub: &Sub, out: &mut W) -> io::Result<()> {
-    let kbits = sub.kbits;
-    let step = rate_step(sub.protection);
-    match size_of(sub.protection, kbits) {
+    let (protection, kbits) = (sub.protection, sub.kbits);
+    let step = rate_step(protection);
+    match size_of(protection, kbits) {
         Ok(_size) => Ok(()),
         Err(EepFault::ZeroRate) => out.write_all(b"a rate of 0 kbit/s has no size"),
         Err(EepFault::NotMultiple) => write!(
@@ -142,11 +198,12 @@ fn put_rate<W: Write>(sub: &Sub, out: &mut W) -> io::Result<()> {
             "a rate of {kbits} kbit/s is no multiple of {step}, as those of the profile are"
         ),
         Err(EepFault::PastMultiplex) => {
-            let steps = u32::from(kbits / step);
-            let wanted = steps.saturating_mul(step_units(sub.protection));
-            write!(out, "{kbits} kbit/s at ")?;
-            put_profile(sub.protection, out)?;
-            write!(out, " would take {wanted} CU; a multiplex has 864")
+            let wanted = u32::from(kbits / step).saturating_mul(step_units(protection));
+            write!(
+                out,
+                "{kbits} kbit/s at {} would take {wanted} CU; a multiplex has 864",
+                Profile(protection)
+            )
         }
     }
 }
@@ -156,16 +213,14 @@ fn put_full<W: Write>(config: &Config, edit: &Edit, out: &mut W) -> io::Result<(
     let Edit::AddComponent { sid, .. } = edit else {
         return Ok(());
     };
-    let sid = *sid;
-    let Some(service) = config.service(sid) else {
+    let Some(service) = config.service(*sid) else {
         return Ok(());
     };
-    let count = service.components.len();
-    let limit = service.limit();
-    put_name(sid, out)?;
+    let (count, limit) = (service.components.len(), service.limit());
     write!(
         out,
-        " has {count} components; one with such an SId has {limit} at most"
+        "{} has {count} components; one with such an SId has {limit} at most",
+        Part::Service(*sid)
     )
 }
 
@@ -186,21 +241,15 @@ fn put_edit<W: Write>(
             };
             write!(out, "there are 64 {word}, the most of a configuration")
         }
-        EditFault::PastEnd => match edited_sub(config, edit) {
-            Some(sub) => put_end(&sub, out),
-            None => Ok(()),
-        },
-        EditFault::BadRate => match edited_sub(config, edit) {
+        EditFault::PastEnd | EditFault::BadRate => match edited_sub(config, edit) {
+            Some(sub) if fault == EditFault::PastEnd => put_end(&sub, out),
             Some(sub) => put_rate(&sub, out),
             None => Ok(()),
         },
-        EditFault::BadAddress => {
-            let Edit::AddPacket(packet) = edit else {
-                return Ok(());
-            };
-            let address = packet.address;
-            write!(out, "{address} is no packet address")
-        }
+        EditFault::BadAddress => match edit {
+            Edit::AddPacket(packet) => write!(out, "{} is no packet address", packet.address),
+            _ => Ok(()),
+        },
         EditFault::IdUsed => out.write_all(b"what is added is there already"),
         EditFault::IdAbsent => out.write_all(b"what the edit names is not there"),
     }
@@ -210,8 +259,7 @@ fn put_edit<W: Write>(
 fn put_delay<W: Write>(plan: &Plan, instr: &Instr, out: &mut W) -> io::Result<()> {
     match instr {
         Instr::CommitIn(delay) => {
-            let notice = plan.notice;
-            let delay = delay.get();
+            let (delay, notice) = (delay.get(), plan.notice);
             write!(
                 out,
                 "the swap would come after {delay} frames; the notice is {notice} frames"
@@ -221,7 +269,8 @@ fn put_delay<W: Write>(plan: &Plan, instr: &Instr, out: &mut W) -> io::Result<()
             let step = plan.layout.mode().step();
             write!(
                 out,
-                "no swap falls on count {count}: in this mode swaps fall on the multiples of {step} from 0 to 4999"
+                "no swap falls on count {count}: in this mode swaps fall on the multiples of \
+                 {step} from 0 to 4999"
             )
         }
         _ => out.write_all(b"the commit is refused"),
@@ -232,7 +281,7 @@ fn put_delay<W: Write>(plan: &Plan, instr: &Instr, out: &mut W) -> io::Result<()
 fn put_wait<W: Write>(
     stop: &Stop,
     instr: &Instr,
-    commit: Option<u16>,
+    commit: Option<usize>,
     out: &mut W,
 ) -> io::Result<()> {
     let (Instr::Wait(frames), Swap::Within(low, high)) = (instr, stop.here.pending) else {
@@ -241,16 +290,15 @@ fn put_wait<W: Write>(
     let frames = frames.get();
     write!(
         out,
-        "after {frames} frames the swap has come or not, as the count allows: it comes after {low} to {high} frames"
+        "after {frames} frames the swap has come or not, as the count allows: it comes after {low} \
+         to {high} frames"
     )?;
     put_commit(commit, out)
 }
 
 /// Writes which FIBs of a frame are left for pages, if some are reserved.
 fn put_reserve<W: Write>(layout: FrameLayout, out: &mut W) -> io::Result<()> {
-    let reserve = layout.reserve();
-    let used = layout.used();
-    let fibs = layout.fibs();
+    let (reserve, used, fibs) = (layout.reserve(), layout.used(), layout.fibs());
     write!(
         out,
         "; 'reserve {reserve}' leaves {used} of the {fibs} FIBs of a frame: without it "
@@ -272,8 +320,7 @@ fn put_round<W: Write>(stop: &Stop, fact: &Fact, out: &mut W) -> io::Result<()> 
 
 /// Says how many pages an opening takes.
 pub(crate) fn put_opening<W: Write>(stop: &Stop, out: &mut W) -> io::Result<()> {
-    let layout = stop.plan.layout;
-    let period = stop.plan.period;
+    let (layout, period) = (stop.plan.layout, stop.plan.period);
     let count = pages_alone(layout, &stop.here.next);
     write!(
         out,
@@ -287,17 +334,21 @@ pub(crate) fn put_opening<W: Write>(stop: &Stop, out: &mut W) -> io::Result<()> 
     write!(out, "the configuration takes {fewer} pages")
 }
 
-/// Says why an instruction is refused, where the commit by which a swap is pending is in this line, if it is known.
-pub(crate) fn put_instr<W: Write>(
-    stop: &Stop,
-    instr: &Instr,
-    cause: &Cause,
-    facts: &[Fact],
-    search: &Search,
-    commit: Option<u16>,
-    out: &mut W,
-) -> io::Result<()> {
-    match (cause, facts.first()) {
+/// A refused instruction: where it is refused, why, the facts that explain it, and the line of the
+/// commit by which a swap is pending, if it is known.
+#[derive(Clone, Copy)]
+pub(crate) struct Case<'a> {
+    pub(crate) stop: &'a Stop,
+    pub(crate) instr: &'a Instr,
+    pub(crate) cause: &'a Cause,
+    pub(crate) facts: &'a [Fact],
+    pub(crate) commit: Option<usize>,
+}
+
+/// Says why an instruction is refused.
+pub(crate) fn put_instr<W: Write>(case: &Case, search: &Search, out: &mut W) -> io::Result<()> {
+    let (stop, instr) = (case.stop, case.instr);
+    match (case.cause, case.facts.first()) {
         (Cause::Edit(_) | Cause::Config(_), Some(fact)) => put_member(fact, stop, search, out),
         (Cause::Edit(fault), None) => match instr {
             Instr::Edit(edit) => put_edit(&stop.here.next, edit, *fault, out),
@@ -305,7 +356,7 @@ pub(crate) fn put_instr<W: Write>(
         },
         (Cause::Pending, Some(fact)) => {
             put_plain(fact, stop, out)?;
-            put_commit(commit, out)?;
+            put_commit(case.commit, out)?;
             out.write_all(b"; until then the next configuration stays as it is")
         }
         (Cause::NoChange, _) => {
@@ -320,7 +371,7 @@ pub(crate) fn put_instr<W: Write>(
                 out.write_all(b"no swap is pending here, so that there is none to wait for")
             }
         },
-        (Cause::SwapUncertain, _) => put_wait(stop, instr, commit, out),
+        (Cause::SwapUncertain, _) => put_wait(stop, instr, case.commit, out),
         (Cause::Round, Some(fact)) => put_round(stop, fact, out),
         _ => out.write_all(b"the instruction is not allowed here"),
     }

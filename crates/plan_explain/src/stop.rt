@@ -26,8 +26,9 @@ pub(crate) enum Refused {
     Unreached { act: Option<Act>, after: u16 },
 }
 
-/// Where a plan is refused. The configurations and the swap are those that are known before the refused statement; at a
-/// loop those at its end, at an `if` those of the path that is later in the text.
+/// Where a plan is refused. The configurations and the swap are those that are known before the
+/// refused statement; at a loop those at its end, at an `if` those of the path that is later in the
+/// text.
 #[derive(Drop)]
 pub(crate) struct Stop {
     /// The line of the statement or the item, or that of `begin`.
@@ -128,7 +129,8 @@ impl Stop {
         line == self.line && Some(cause) == Some(cause_of(self.refused))
     }
 
-    /// This stop, if it is the refusal with which the compiler refuses the script, by what is known there.
+    /// This stop, if it is the refusal with which the compiler refuses the script, by what is known
+    /// there.
     pub(crate) fn of(self, fault: CompileFault) -> Option<Stop>
         ensures { IfSome result (IsStop fault) }
     {

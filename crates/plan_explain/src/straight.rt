@@ -5,7 +5,8 @@ ghost use Rattle.std.specs.Prelude.{◌≡◌, ◌++◌, [], Some, None, OnOk, m
 ghost use Rattle.std.specs.List.{flat_map};
 ghost use Rattle.script_front.specs.Block.{Block, before};
 ghost use Rattle.plan_explain.specs.LateUntils.{contact_wait};
-ghost use Rattle.plan_explain.specs.Straight.{way_behind, late_of, day_of, at_until, at_act, straight_from, straight_in, straight_warnings};
+ghost use Rattle.plan_explain.specs.Straight.{way_behind, late_of, day_of, at_until, at_act};
+ghost use Rattle.plan_explain.specs.Straight.{straight_from, straight_in, straight_warnings};
 
 use crate::day_wait::{DayWait, comes_late, further, start, time_of};
 use crate::late_until::{LateUntil, contact_wait};
@@ -127,14 +128,7 @@ fn push_act(
 {
     match act {
         Act::Until(until) => push_until(found, wait, way, line, until),
-        Act::Edit(_) => Ok(()),
-        Act::Wait(_) => Ok(()),
-        Act::WaitContact { .. } => Ok(()),
-        Act::WaitAny(_) => Ok(()),
-        Act::CommitIn(_) => Ok(()),
-        Act::CommitAt(_) => Ok(()),
-        Act::Join => Ok(()),
-        Act::Settle => Ok(()),
+        _ => Ok(()),
     }
 }
 

@@ -2,17 +2,19 @@
 
 use crate::expected::Expected;
 use crate::keywords::HEADER;
-use crate::note::{Note, push, put_notes};
+use crate::list::push_owned;
+use crate::note::{Note, put_notes};
 use crate::probe::Front;
 use crate::repair::{Wrong, attempt_until, is_close, is_level};
-use crate::source::{Source, offset_of, put_bytes, token_at};
+use crate::source::{Source, put_bytes, text_from, token_at};
 use crate::trial::{Refusal, TextPatch, patched, position_of};
 use crate::trier::Trier;
 use script_front::{Position, ScriptFault, parse};
 use std::alloc::{AllocError, Global};
 use std::io::{self, Write};
 
-/// Tokens one of which is valid wherever a number, an identifier or a profile is, other than a time.
+/// Tokens one of which is valid wherever a number, an identifier or a profile is, other than a
+/// time.
 const STAND_INS: [&str; 7] = ["1", "2", "12", "8", "A1B2", "A1B2C3D4", "3-A"];
 
 /// The most numbers that are explained beside the first one.
@@ -20,11 +22,7 @@ const MOST: u32 = 20;
 
 /// The token at a position of a text; empty past its end.
 fn token_of(text: &str, position: Position) -> &[u8] {
-    let at = offset_of(text.as_bytes(), position);
-    match text.as_bytes().get(at..) {
-        Some(rest) => token_at(rest),
-        None => b"",
-    }
+    token_at(text_from(text.as_bytes(), position))
 }
 
 /// Writes the token at a position, after `word`.
@@ -33,8 +31,7 @@ fn put_found<W: Write>(text: &str, position: Position, word: &str, out: &mut W) 
     if token.is_empty() {
         return out.write_all(b"the script ends here");
     }
-    out.write_all(word.as_bytes())?;
-    out.write_all(b"'")?;
+    write!(out, "{word}'")?;
     put_bytes(token, out)?;
     out.write_all(b"'")
 }
@@ -53,7 +50,8 @@ fn is_out_of_order(alloc: Global, front: &Front, token: &[u8]) -> Result<bool, A
     Ok(is_header && is_wanted)
 }
 
-/// The line of the token before one at fault, if it is another one, and that token does not end an item or a statement.
+/// The line of the token before one at fault, if it is another one, and that token does not end an
+/// item or a statement.
 fn line_before(
     alloc: Global,
     source: &Source,
@@ -101,19 +99,19 @@ fn put_more(wrong: &Wrong, note: &mut Note) -> io::Result<()> {
             ": a frame is 24 ms, so {seconds} s are {frames} frames"
         );
     }
-    if wrong.front.last() == "mode" && wrong.token == b"1".as_slice() {
-        return out.write_all(b": mode I is the default");
-    }
-    if wrong.token == b"uep".as_slice() {
-        return out.write_all(b": plans have equal error protection only");
-    }
-    if wrong.front.last() == "at" && wrong.token.contains(&b':') {
-        return out.write_all(b": a commit is at a CIF count, and 'until' waits for a time of day");
-    }
-    Ok(())
+    let more = match (wrong.front.last(), wrong.token) {
+        ("mode", b"1") => ": mode I is the default",
+        (_, b"uep") => ": plans have equal error protection only",
+        ("at", token) if token.contains(&b':') => {
+            ": a commit is at a CIF count, and 'until' waits for a time of day"
+        }
+        _ => "",
+    };
+    out.write_all(more.as_bytes())
 }
 
-/// Advises on the end of a text within braces: which brace is open, and which block ends before it by its indentation.
+/// Advises on the end of a text within braces: which brace is open, and which block ends before it
+/// by its indentation.
 fn advise_brace(source: &Source, line: usize, note: &mut Note) -> io::Result<()> {
     write!(
         &mut note.hint,
@@ -128,15 +126,6 @@ fn advise_brace(source: &Source, line: usize, note: &mut Note) -> io::Result<()>
     }
 }
 
-/// Tries what may have been meant by an invalid token, and else the only keyword that is expected before it.
-fn try_token(trier: &mut Trier, wrong: &Wrong, expected: &Expected) -> Result<(), AllocError> {
-    wrong.attempt_all(trier)?;
-    match expected.only_keyword() {
-        Some(keyword) => trier.put_at(wrong.spot, keyword),
-        None => Ok(()),
-    }
-}
-
 /// Advises on an invalid token: by what may have been meant, or else in words.
 fn advise_token(
     trier: &mut Trier,
@@ -147,7 +136,8 @@ fn advise_token(
     let alloc = trier.alloc;
     if is_out_of_order(alloc, wrong.front, wrong.token)? {
         return note.hint.write_all(
-            b"the header's order: 'ensemble', 'mode', which may be left out, 'period', 'notice', 'budget'",
+            b"the header's order: 'ensemble', 'mode', which may be left out, 'period', 'notice', \
+             'budget'",
         );
     }
     if is_level(wrong.token) && wrong.front.passes(alloc, "closed")? {
@@ -155,9 +145,12 @@ fn advise_token(
             b"write 'closed' where the input's circuit is closed, 'open' where it is not",
         );
     }
-    try_token(trier, wrong, expected)?;
+    wrong.attempt_all(trier)?;
+    if let Some(keyword) = expected.only_keyword() {
+        trier.put(Some(wrong.spot), keyword)?;
+    }
     put_more(wrong, note)?;
-    trier.put_hint(&mut note.hint)
+    trier.put_hint(note)
 }
 
 /// Explains an invalid token: what is valid, and what may have been meant.
@@ -172,9 +165,9 @@ fn explain_token(alloc: Global, text: &str, position: Position, note: &mut Note)
     attempt_until(&mut trier, index)?;
     if !trier.is_at_loss() {
         if token.is_empty() {
-            note.shown = trier.source.position_before(index);
+            note.shown = trier.source.position(index.saturating_sub(1));
         }
-        return trier.put_hint(&mut note.hint);
+        return trier.put_hint(note);
     }
     if let Some(spot) = trier.source.spot(index, 1) {
         let wrong = Wrong {
@@ -195,23 +188,21 @@ fn explain_token(alloc: Global, text: &str, position: Position, note: &mut Note)
 
 /// Explains a byte that is not allowed in a script.
 fn explain_byte(text: &str, position: Position, note: &mut Note) -> io::Result<()> {
-    let at = offset_of(text.as_bytes(), position);
-    if at == 0 && text.as_bytes().starts_with(&[0xEF, 0xBB, 0xBF]) {
+    let bytes = text_from(text.as_bytes(), position);
+    if bytes.len() == text.len() && bytes.starts_with(&[0xEF, 0xBB, 0xBF]) {
         note.shown = None;
         note.text
             .write_all(b"a byte-order mark of UTF-8 stands before the text")?;
         return note.hint.write_all(b"save it without one");
     }
-    let byte = match text.as_bytes().get(at) {
-        Some(byte) => *byte,
-        None => 0,
-    };
+    let byte = bytes.first().copied().unwrap_or(0);
     write!(
         &mut note.text,
         "the byte {byte:02X} is not allowed in a script outside comments"
     )?;
     note.hint.write_all(
-        b"letters, digits, '_', ':', '-', '{', '}', blanks and ';' are allowed there; '#' begins a comment",
+        b"letters, digits, '_', ':', '-', '{', '}', blanks and ';' are allowed there; '#' begins a \
+         comment",
     )
 }
 
@@ -243,12 +234,10 @@ fn explain_unknown(
         .write_all(b" is not the name of a block that is defined before")?;
     let mut trier = Trier::new(alloc, text, Refusal::Token(position))?;
     try_names(&mut trier, position, token_of(text, position))?;
-    if trier.is_at_loss() {
-        return note.hint.write_all(
-            b"'define' the block above the line that applies it; a block does not apply itself",
-        );
-    }
-    trier.put_hint(&mut note.hint)
+    note.hint.write_all(
+        b"'define' the block above the line that applies it; a block does not apply itself",
+    )?;
+    trier.put_hint(note)
 }
 
 /// Explains a token by what is wrong with it, and a hint.
@@ -268,21 +257,22 @@ fn explain_found(
 fn explain_limit(text: &str, position: Position, note: &mut Note) -> io::Result<()> {
     let token = token_of(text, position);
     let letters = token.len();
-    let out = &mut note.text;
-    if text.len() <= 1_048_576 && position.line <= 65_535 && letters > 32 {
-        return write!(out, "a token of {letters} bytes; the longest has 32");
-    }
+    let what = if text.len() > 1_048_576 {
+        "the text has more than 1048576 bytes"
+    } else if position.line > 65_535 {
+        "a token is after line 65535"
+    } else if letters > 32 {
+        return write!(
+            &mut note.text,
+            "a token of {letters} bytes; the longest has 32"
+        );
+    } else if token == b"define".as_slice() {
+        "the 65th definition; a script has 64 at most"
+    } else {
+        "the 8193rd item or statement; a script has 8192 at most"
+    };
     note.shown = None;
-    if text.len() > 1_048_576 {
-        return out.write_all(b"the text has more than 1048576 bytes");
-    }
-    if position.line > 65_535 {
-        return out.write_all(b"a token is after line 65535");
-    }
-    if token == b"define".as_slice() {
-        return out.write_all(b"the 65th definition; a script has 64 at most");
-    }
-    out.write_all(b"the 8193rd item or statement; a script has 8192 at most")
+    note.text.write_all(what.as_bytes())
 }
 
 /// A text with a valid token in the place of an invalid one, if one is found.
@@ -297,19 +287,14 @@ fn with_stand_in(
     };
     for token in STAND_INS {
         if front.passes(alloc, token)? {
-            let patch = TextPatch {
-                start: spot.start,
-                end: spot.end,
-                part: String::from_str(alloc, token)?,
-            };
-            return patched(alloc, source.text, &patch);
+            return patched(alloc, source.text, &TextPatch::at(alloc, &spot, token)?);
         }
     }
     Ok(None)
 }
 
-/// The position of the first number out of range in the header and the items of a text, if it is the text's first
-/// fault.
+/// The position of the first number out of range in the header and the items of a text, if it is
+/// the text's first fault.
 fn bad_number(alloc: Global, source: &Source) -> Result<Option<Position>, AllocError> {
     let position = match parse(alloc, source.text) {
         Err(ScriptFault::Memory) => return Err(AllocError),
@@ -322,8 +307,8 @@ fn bad_number(alloc: Global, source: &Source) -> Result<Option<Position>, AllocE
     }
 }
 
-/// The text with a valid token in the place of its first number out of range, on which a note is appended if `is_new`;
-/// none if it has no such number first.
+/// The text with a valid token in the place of its first number out of range, on which a note is
+/// appended if `is_new`; none if it has no such number first.
 fn correct_one(
     alloc: Global,
     original: &Source,
@@ -337,17 +322,17 @@ fn correct_one(
     };
     let index = source.count_before(position);
     let front = Front::new(alloc, &source, index)?;
-    if let (true, Some(token)) = (is_new, original.tokens().get(index)) {
+    if let (true, Some(position)) = (is_new, original.position(index)) {
         let expected = Expected::at(alloc, &front)?;
-        let mut note = Note::at(alloc, token.position);
-        put_expected(original.text, token.position, &expected, None, &mut note)?;
-        push(notes, note)?;
+        let mut note = Note::at(alloc, position);
+        put_expected(original.text, position, &expected, None, &mut note)?;
+        push_owned(notes, note)?;
     }
     Ok(with_stand_in(alloc, &source, &front, index)?)
 }
 
-/// Appends a note on each number that is out of range in the header and the items of a text after its first fault: it is
-/// found with valid ones in the place of those before it.
+/// Appends a note on each number that is out of range in the header and the items of a text after
+/// its first fault: it is found with valid ones in the place of those before it.
 fn note_numbers(alloc: Global, text: &str, notes: &mut Vec<Note>) -> io::Result<()> {
     let original = Source::new(alloc, text)?;
     let mut corrected = String::from_str(alloc, text)?;
@@ -361,12 +346,12 @@ fn note_numbers(alloc: Global, text: &str, notes: &mut Vec<Note>) -> io::Result<
     Ok(())
 }
 
-/// Notes on why a text is not a script: the position of the fault, what is valid there and, if one is found, the token
-/// that may have been meant; and each further number of the header and the items that is out of range. None if the fault
-/// is out of memory.
+/// Notes on why a text is not a script: the position of the fault, what is valid there and, if one
+/// is found, the token that may have been meant; and each further number of the header and the
+/// items that is out of range. None if the fault is out of memory.
 ///
-/// A token that may have been meant was tried: with it the first fault of the text, if it has one, is after it; where
-/// `then it is accepted` follows, `compile` accepts the text.
+/// A token that may have been meant was tried: with it the first fault of the text, if it has one,
+/// is after it; where `then it is accepted` follows, `compile` accepts the text.
 ///
 /// # Errors
 ///
@@ -379,8 +364,9 @@ pub fn notes_on_fault(alloc: Global, text: &str, fault: ScriptFault) -> io::Resu
     let mut note = Note::at(alloc, position);
     match fault {
         ScriptFault::Byte(at) => explain_byte(text, at, &mut note)?,
-        ScriptFault::Number(at) => explain_token(alloc, text, at, &mut note)?,
-        ScriptFault::Expected(at) => explain_token(alloc, text, at, &mut note)?,
+        ScriptFault::Number(at) | ScriptFault::Expected(at) => {
+            explain_token(alloc, text, at, &mut note)?
+        }
         ScriptFault::Depth(at) => explain_found(
             text,
             at,
@@ -399,7 +385,7 @@ pub fn notes_on_fault(alloc: Global, text: &str, fault: ScriptFault) -> io::Resu
         ScriptFault::Limit(at) => explain_limit(text, at, &mut note)?,
         ScriptFault::Memory => {}
     }
-    push(&mut notes, note)?;
+    push_owned(&mut notes, note)?;
     if let ScriptFault::Number(_) = fault {
         note_numbers(alloc, text, &mut notes)?;
     }

@@ -6,7 +6,7 @@ ghost use Rattle.plan_explain.specs.declared.trial.Refusal.TheVariants.{Token, P
 ghost use Rattle.plan_explain.specs.declared.trial.Outcome.TheVariants.{NoScript, NoPlan};
 ghost use Rattle.plan_explain.specs.TextChanges.{IsWith, IsChanged, IsOutcome, IsJudged, IsTried};
 
-use crate::source::{Source, is_before};
+use crate::source::{Source, Spot, is_before};
 use plan_verifier::Cause;
 use script_compiler::{CompileFault, compile};
 use script_front::{Position, ScriptFault, parse};
@@ -18,6 +18,17 @@ pub(crate) struct TextPatch {
     pub(crate) start: usize,
     pub(crate) end: usize,
     pub(crate) part: String,
+}
+
+impl TextPatch {
+    /// Words in the place of the tokens of a spot.
+    pub(crate) fn at(alloc: Global, spot: &Spot, words: &str) -> Result<TextPatch, AllocError> {
+        Ok(TextPatch {
+            start: spot.start,
+            end: spot.end,
+            part: String::from_str(alloc, words)?,
+        })
+    }
 }
 
 /// A change of a text in one place, or in a second one after it too.
@@ -43,7 +54,8 @@ pub(crate) enum Outcome {
 pub(crate) enum Refusal {
     /// It is no script, by a token at this position.
     Token(Position),
-    /// The item or statement in this line is refused for a cause; `is_defined` is whether it is in a defined block.
+    /// The item or statement in this line is refused for a cause; `is_defined` is whether it is in
+    /// a defined block.
     Plan {
         line: u16,
         cause: Cause,
@@ -145,8 +157,8 @@ pub(crate) fn position_of(fault: ScriptFault) -> Option<Position> {
     }
 }
 
-/// What becomes of a refusal by a token at a position, given the fault of the changed text: it is passed if that fault is
-/// after where the token is now.
+/// What becomes of a refusal by a token at a position, given the fault of the changed text: it is
+/// passed if that fault is after where the token is now.
 fn verdict_on_token(position: Position, touched: &Touched, fault: ScriptFault) -> Verdict
     ensures { IsJudged result (Token position) (NoScript fault) }
 {
@@ -161,8 +173,8 @@ fn verdict_on_token(position: Position, touched: &Touched, fault: ScriptFault) -
     }
 }
 
-/// Whether a refusal in this line for a cause is passed if the plan is refused in `later` for another one: costs are
-/// checked after all statements, and statements in the order of the text.
+/// Whether a refusal in this line for a cause is passed if the plan is refused in `later` for
+/// another one: costs are checked after all statements, and statements in the order of the text.
 fn is_passed(line: u32, cause: Cause, later: u32, why: Cause) -> bool {
     if cause == Cause::Cost {
         return why == Cause::Cost && later > line;
@@ -170,13 +182,14 @@ fn is_passed(line: u32, cause: Cause, later: u32, why: Cause) -> bool {
     why == Cause::Cost || later > line
 }
 
-/// Whether a block of the statement in `first` ends in a later line or after it: its paths meet after that line.
+/// Whether a block of the statement in `first` ends in a later line or after it: its paths meet
+/// after that line.
 fn reaches_after(source: &Source, line: u16, first: u16) -> bool {
     first < line && source.reaches(usize::from(first), usize::from(line))
 }
 
-/// What becomes of a refusal in this line for a cause, given the line and the cause of the changed text's refusal. It is
-/// not known to be passed in a defined block, which may be applied twice.
+/// What becomes of a refusal in this line for a cause, given the line and the cause of the changed
+/// text's refusal. It is not known to be passed in a defined block, which may be applied twice.
 fn verdict_on_line(
     source: &Source,
     line: u16,
@@ -235,7 +248,8 @@ fn verdict_of(source: &Source, refusal: &Refusal, touched: &Touched, outcome: &O
     }
 }
 
-/// Tries a change of a text, with its tokens: what becomes of its refusal. None if the change is none of this text.
+/// Tries a change of a text, with its tokens: what becomes of its refusal. None if the change is
+/// none of this text.
 pub(crate) fn try_change(
     alloc: Global,
     text: &str,
@@ -253,40 +267,4 @@ pub(crate) fn try_change(
         Ok(outcome) => Ok(Some(verdict_of(source, &refusal, touched, &outcome))),
         Err(error) => Err(error),
     }
-}
-
-/// The offset of the first byte of a line, from 1; none if the text has no such line.
-pub(crate) fn line_start(text: &[u8], number: usize) -> Option<usize> {
-    if number == 1 {
-        return Some(0);
-    }
-    let mut line = 1usize;
-    for (offset, byte) in text.iter().enumerate() {
-        if *byte == b'\n' {
-            line = line.saturating_add(1);
-            if line == number {
-                return Some(offset + 1);
-            }
-        }
-    }
-    None
-}
-
-/// A line of these words before a line of the text; none if the text has no such line.
-pub(crate) fn line_before(
-    alloc: Global,
-    text: &str,
-    number: usize,
-    words: &str,
-) -> Result<Option<TextPatch>, AllocError> {
-    let Some(start) = line_start(text.as_bytes(), number) else {
-        return Ok(None);
-    };
-    let mut part = String::from_str(alloc, words)?;
-    part.push_str("\n")?;
-    Ok(Some(TextPatch {
-        start,
-        end: start,
-        part,
-    }))
 }

@@ -1,105 +1,72 @@
 //! Writes warnings about accepted plans.
 
-use crate::words::{put_component, put_name, put_sid};
-use crate::{DayWait, Flaw, LateUntil, Primary, Warning};
-use plan_code::DayFrame;
+use crate::words::{Digits, Part};
+use crate::{DayWait, Flaw, LateUntil, Warning};
 use plan_code::limits::FRAMES_A_DAY;
-use script_front::Act;
 use script_front::lexemes::put_act;
-use std::alloc::Global;
+use script_front::{Act, Moment};
+use std::alloc::{AllocError, Global};
+use std::fmt::{self, Display, Formatter};
 use std::io::{self, Write};
+
+/// The time of a frame of the day.
+#[derive(Clone, Copy)]
+struct TimeOf(u32);
+
+impl Display for TimeOf {
+    fn fmt<W: fmt::Write>(&self, f: &mut Formatter<W>) -> fmt::Result {
+        let second = self.0 % FRAMES_A_DAY * 3 / 125;
+        let (hours, minutes, seconds) = (second / 3600, second / 60 % 60, second % 60);
+        write!(f, "{hours:02}:{minutes:02}:{seconds:02}")
+    }
+}
+
+/// The words of `until`.
+fn until_words(alloc: Global, until: Moment) -> Result<String, AllocError> {
+    let mut words = String::new(alloc);
+    put_act(&mut words, Act::Until(until))?;
+    Ok(words)
+}
 
 /// Writes what a configuration has.
 fn put_flaw<W: Write>(flaw: Flaw, out: &mut W) -> io::Result<()> {
     match flaw {
-        Flaw::Unnamed(sub) => {
-            let id = sub.get();
-            write!(out, "no component names sub {id}")
-        }
-        Flaw::LongAudio(sid, sub) => {
-            let id = sub.get();
-            put_name(sid, out)?;
-            write!(
-                out,
-                " has audio on sub {id}: its SId has 32 bits, as those of data services"
-            )
-        }
+        Flaw::Unnamed(sub) => write!(out, "no component names sub {}", sub.get()),
+        Flaw::LongAudio(sid, sub) => write!(
+            out,
+            "{} has audio on sub {}: its SId has 32 bits, as those of data services",
+            Part::Service(sid),
+            sub.get()
+        ),
     }
 }
 
-/// Writes which component of a service is the first one now, and which one was.
-fn put_primary<W: Write>(primary: &Primary, out: &mut W) -> io::Result<()> {
-    out.write_all(b"the primary component of service ")?;
-    put_sid(primary.sid, out)?;
-    out.write_all(b" changes from ")?;
-    put_component(primary.before, out)?;
-    out.write_all(b" to ")?;
-    put_component(primary.after, out)
-}
-
-/// Writes the time of a frame of the day.
-fn put_frame<W: Write>(frame: u32, out: &mut W) -> io::Result<()> {
-    let second = frame % FRAMES_A_DAY * 3 / 125;
-    let hours = second / 3600;
-    let minutes = second / 60 % 60;
-    let seconds = second % 60;
-    write!(out, "{hours:02}:{minutes:02}:{seconds:02}")
-}
-
-/// Writes that a plan waits for a frame of the day first.
-fn put_wait<W: Write>(frame: DayFrame, out: &mut W) -> io::Result<()> {
-    out.write_all(b"the plan begins with 'until ")?;
-    put_frame(frame.get(), out)?;
-    out.write_all(b"': started at any time, it stays in the configuration of 'begin' until then")
-}
-
 /// Writes that a wait for a time of day comes after one for a contact.
-fn put_late<W: Write>(alloc: Global, until: &LateUntil, out: &mut W) -> io::Result<()> {
+fn put_late<W: Write>(alloc: Global, late: &LateUntil, out: &mut W) -> io::Result<()> {
     let LateUntil {
         contact,
         closed,
+        until,
         ..
-    } = *until;
-    let mut words = String::new(alloc);
-    put_act(&mut words, Act::WaitContact { contact, closed })?;
-    words.push_str(" or ")?;
-    put_act(&mut words, Act::Until(until.until))?;
-    let words = words.as_str();
+    } = *late;
+    let mut wait = String::new(alloc);
+    put_act(&mut wait, Act::WaitContact { contact, closed })?;
+    let until = until_words(alloc, until)?;
     write!(
         out,
-        "until comes after the wait; for whichever comes first write '{words}'"
+        "until comes after the wait; for whichever comes first write '{wait} or {until}'"
     )
 }
 
 /// Writes that a wait for a time of day is one for the next day.
 fn put_day<W: Write>(alloc: Global, wait: &DayWait, out: &mut W) -> io::Result<()> {
-    let mut words = String::new(alloc);
-    put_act(&mut words, Act::Until(wait.until))?;
-    let words = words.as_str();
-    write!(out, "waits {words} of the next day: ")?;
-    let from = wait.way.from.get();
-    match wait.way.swap {
-        Some(swap) => {
-            out.write_all(b"the swap before it comes at ")?;
-            put_frame(from.saturating_add(swap), out)
-        }
-        None => {
-            out.write_all(b"what is before it lasts until ")?;
-            put_frame(from.saturating_add(wait.way.frames), out)
-        }
-    }
-}
-
-/// The line that a warning is about.
-fn line_of(warning: &Warning) -> u16 {
-    match warning {
-        Warning::Flawed(line, _) => *line,
-        Warning::OtherPrimary(line, _) => *line,
-        Warning::WaitsForTime(wait) => wait.line,
-        Warning::Unreached(line) => *line,
-        Warning::Late(until) => until.line,
-        Warning::NextDay(wait) => wait.line,
-    }
+    let (what, frames) = match wait.way.swap {
+        Some(swap) => ("the swap before it comes at", swap),
+        None => ("what is before it lasts until", wait.way.frames),
+    };
+    let until = until_words(alloc, wait.until)?;
+    let time = TimeOf(wait.way.from.get().saturating_add(frames));
+    write!(out, "waits {until} of the next day: {what} {time}")
 }
 
 /// Writes a warning about the script with this path, without the end of its line.
@@ -113,12 +80,30 @@ pub fn put_warning<W: Write>(
     warning: &Warning,
     out: &mut W,
 ) -> io::Result<()> {
-    let line = line_of(warning);
+    let line = match warning {
+        Warning::Flawed(line, _) | Warning::OtherPrimary(line, _) | Warning::Unreached(line) => {
+            *line
+        }
+        Warning::WaitsForTime(wait) => wait.line,
+        Warning::Late(until) => until.line,
+        Warning::NextDay(wait) => wait.line,
+    };
     write!(out, "{path}:{line}: warning: ")?;
     match warning {
         Warning::Flawed(_, flaw) => put_flaw(*flaw, out),
-        Warning::OtherPrimary(_, primary) => put_primary(primary, out),
-        Warning::WaitsForTime(wait) => put_wait(wait.frame, out),
+        Warning::OtherPrimary(_, primary) => write!(
+            out,
+            "the primary component of service {} changes from {} to {}",
+            Digits(primary.sid),
+            Part::Component(primary.before),
+            Part::Component(primary.after)
+        ),
+        Warning::WaitsForTime(wait) => write!(
+            out,
+            "the plan begins with 'until {}': started at any time, it stays in the configuration \
+             of 'begin' until then",
+            TimeOf(wait.frame.get())
+        ),
         Warning::Unreached(_) => out.write_all(
             b"no path reaches this statement: nothing that is reached applies its block",
         ),

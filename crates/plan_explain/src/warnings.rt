@@ -53,8 +53,9 @@ fn all_warnings(alloc: Global, script: &Script, code: &Code) -> Result<Vec<Warni
     Ok(found)
 }
 
-/// The warnings about a script and its code, which is typed: those that are true, and no other ones, each once. First
-/// those of the opening, then of each commit in the order of the code, then the others.
+/// The warnings about a script and its code, which is typed: those that are true, and no other
+/// ones, each once. First those of the opening, then of each commit in the order of the code, then
+/// the others.
 ///
 /// # Errors
 ///

@@ -1,193 +1,180 @@
-//! Prints members of configurations in the script's notation, and facts about a refusal as sentences.
+//! Members of configurations in the script's notation, and facts about a refusal as sentences.
 
-use crate::because::Blame;
 use crate::difference::{Compared, Difference, configuration_of};
-use crate::fact::{Fact, Overlap, Pages, end_of};
+use crate::fact::{Fact, Pages, end_of};
 use crate::stop::Stop;
-use mux_config::{Carrier, Component, Config, Packet, Service, Sid, Store, Sub, SubId};
+use mux_config::{Carrier, Component, Config, Edit, Packet, Sid, Store, Sub};
 use mux_eep::{EepSet, Protection};
-use plan_code::{Plan, Swap};
+use plan_code::Swap;
+use script_front::lexemes;
+use std::alloc::{AllocError, Global};
+use std::fmt::{self, Display, Formatter};
 use std::io::{self, Write};
 
-/// Writes a number in four digits 0-9 or A-F.
-fn put_hex<W: Write>(number: u16, out: &mut W) -> io::Result<()> {
-    let high = (number / 256) as u8;
-    let low = (number % 256) as u8;
-    write!(out, "{high:02X}{low:02X}")
+/// The words of an edit.
+pub(crate) fn edit_words(alloc: Global, edit: Edit) -> Result<String, AllocError> {
+    let mut words = String::new(alloc);
+    lexemes::put_edit(&mut words, edit)?;
+    Ok(words)
 }
 
-/// Writes an SId: four digits of a short one, eight of a long one.
-pub(crate) fn put_sid<W: Write>(sid: Sid, out: &mut W) -> io::Result<()> {
-    match sid {
-        Sid::Short(number) => put_hex(number, out),
-        Sid::Long(number) => {
-            put_hex((number / 65_536) as u16, out)?;
-            put_hex((number % 65_536) as u16, out)
+/// An SId: four digits of a short one, eight of a long one.
+#[derive(Clone, Copy)]
+pub(crate) struct Digits(pub(crate) Sid);
+
+impl Display for Digits {
+    fn fmt<W: fmt::Write>(&self, f: &mut Formatter<W>) -> fmt::Result {
+        match self.0 {
+            Sid::Short(number) => write!(f, "{number:04X}"),
+            Sid::Long(number) => write!(f, "{number:08X}"),
         }
     }
 }
 
-/// Writes a protection profile.
-pub(crate) fn put_profile<W: Write>(protection: Protection, out: &mut W) -> io::Result<()> {
-    let level = protection.level();
-    match protection.set() {
-        EepSet::A => write!(out, "{level}-A"),
-        EepSet::B => write!(out, "{level}-B"),
+/// A protection profile.
+#[derive(Clone, Copy)]
+pub(crate) struct Profile(pub(crate) Protection);
+
+impl Display for Profile {
+    fn fmt<W: fmt::Write>(&self, f: &mut Formatter<W>) -> fmt::Result {
+        let level = self.0.level();
+        match self.0.set() {
+            EepSet::A => write!(f, "{level}-A"),
+            EepSet::B => write!(f, "{level}-B"),
+        }
+    }
+}
+
+/// A member of a configuration or a part of one, or a swap.
+#[derive(Clone, Copy)]
+pub(crate) enum Part {
+    /// A service by its SId.
+    Service(Sid),
+    /// The carrier of a component.
+    Carrier(Carrier),
+    /// A component.
+    Component(Component),
+    /// A sub-channel: its start, profile and rate.
+    Sub(Sub),
+    /// A sub-channel and its capacity units.
+    Units(Sub),
+    /// A packet component.
+    Packet(Packet),
+    /// Whether a swap is pending, and when it is due.
+    Swap(Swap),
+}
+
+impl Display for Part {
+    fn fmt<W: fmt::Write>(&self, f: &mut Formatter<W>) -> fmt::Result {
+        match *self {
+            Part::Service(sid) => write!(f, "service {}", Digits(sid)),
+            Part::Carrier(Carrier::Sub(id)) => write!(f, "sub {}", id.get()),
+            Part::Carrier(Carrier::Packet(scid)) => write!(f, "packet {}", scid.get()),
+            Part::Component(component) => put_component(component, f),
+            Part::Sub(sub) => put_sub(&sub, f),
+            Part::Units(sub) => {
+                put_sub(&sub, f)?;
+                write!(
+                    f,
+                    " has CU {} to {}",
+                    sub.start,
+                    end_of(&sub).saturating_sub(1)
+                )
+            }
+            Part::Packet(packet) => {
+                let (scid, ty, sub) = (packet.scid.get(), packet.ty.get(), packet.sub.get());
+                let word = if packet.dg { "raw" } else { "groups" };
+                write!(
+                    f,
+                    "packet {scid} {word} type {ty} sub {sub} address {}",
+                    packet.address
+                )
+            }
+            Part::Swap(Swap::Idle) => f.write_str("no swap is pending"),
+            Part::Swap(Swap::Within(low, high)) if low == high => {
+                write!(f, "a swap is pending that comes after {low} frames")
+            }
+            Part::Swap(Swap::Within(low, high)) => {
+                write!(
+                    f,
+                    "a swap is pending that comes after {low} to {high} frames"
+                )
+            }
+            Part::Swap(Swap::Perhaps(high)) => {
+                write!(
+                    f,
+                    "a swap may be pending, that comes after {high} frames at most"
+                )
+            }
+        }
     }
 }
 
 /// Writes a sub-channel: its start, profile and rate.
-pub(crate) fn put_sub<W: Write>(sub: &Sub, out: &mut W) -> io::Result<()> {
-    let id = sub.id.get();
-    let start = sub.start;
-    let kbits = sub.kbits;
-    write!(out, "sub {id} at {start} eep ")?;
-    put_profile(sub.protection, out)?;
-    write!(out, " {kbits}")
-}
-
-/// Writes the carrier of a component.
-pub(crate) fn put_carrier<W: Write>(carrier: Carrier, out: &mut W) -> io::Result<()> {
-    match carrier {
-        Carrier::Sub(id) => {
-            let id = id.get();
-            write!(out, "sub {id}")
-        }
-        Carrier::Packet(scid) => {
-            let scid = scid.get();
-            write!(out, "packet {scid}")
-        }
-    }
-}
-
-/// Writes a component.
-pub(crate) fn put_component<W: Write>(component: Component, out: &mut W) -> io::Result<()> {
-    match component {
-        Component::Sound { ty, sub } => {
-            let ty = ty.get();
-            let sub = sub.get();
-            write!(out, "audio {ty} sub {sub}")
-        }
-        Component::Stream { ty, sub } => {
-            let ty = ty.get();
-            let sub = sub.get();
-            write!(out, "data {ty} sub {sub}")
-        }
-        Component::Packet { scid } => {
-            let scid = scid.get();
-            write!(out, "carry {scid}")
-        }
-    }
-}
-
-/// Writes a service by its SId.
-pub(crate) fn put_name<W: Write>(sid: Sid, out: &mut W) -> io::Result<()> {
-    out.write_all(b"service ")?;
-    put_sid(sid, out)
-}
-
-/// Writes a service with its components.
-fn put_service<W: Write>(service: &Service, out: &mut W) -> io::Result<()> {
-    put_name(service.sid, out)?;
-    out.write_all(b" (")?;
-    let mut is_first = true;
-    for component in service.components.as_slice() {
-        if !is_first {
-            out.write_all(b", ")?;
-        }
-        put_component(*component, out)?;
-        is_first = false;
-    }
-    if is_first {
-        out.write_all(b"no component")?;
-    }
-    out.write_all(b")")
-}
-
-/// Writes the service of a configuration, with its components if it is there.
-fn put_service_of<W: Write>(config: &Config, sid: Sid, out: &mut W) -> io::Result<()> {
-    match config.service(sid) {
-        Some(service) => put_service(service, out),
-        None => put_name(sid, out),
-    }
-}
-
-/// Writes a packet component.
-fn put_packet<W: Write>(packet: &Packet, out: &mut W) -> io::Result<()> {
-    let scid = packet.scid.get();
-    let word = if packet.dg { "raw" } else { "groups" };
-    let ty = packet.ty.get();
-    let sub = packet.sub.get();
-    let address = packet.address;
+fn put_sub<W: fmt::Write>(sub: &Sub, f: &mut Formatter<W>) -> fmt::Result {
+    let (id, start, kbits) = (sub.id.get(), sub.start, sub.kbits);
     write!(
-        out,
-        "packet {scid} {word} type {ty} sub {sub} address {address}"
+        f,
+        "sub {id} at {start} eep {} {kbits}",
+        Profile(sub.protection)
     )
 }
 
-/// Writes when a pending swap is due.
-pub(crate) fn put_swap<W: Write>(pending: Swap, out: &mut W) -> io::Result<()> {
-    match pending {
-        Swap::Idle => write!(out, "no swap is pending"),
-        Swap::Within(low, high) if low == high => {
-            write!(out, "a swap is pending that comes after {low} frames")
-        }
-        Swap::Within(low, high) => write!(
-            out,
-            "a swap is pending that comes after {low} to {high} frames"
-        ),
-        Swap::Perhaps(high) => write!(
-            out,
-            "a swap may be pending, that comes after {high} frames at most"
-        ),
+/// Writes a component.
+fn put_component<W: fmt::Write>(component: Component, f: &mut Formatter<W>) -> fmt::Result {
+    match component {
+        Component::Sound { ty, sub } => write!(f, "audio {} sub {}", ty.get(), sub.get()),
+        Component::Stream { ty, sub } => write!(f, "data {} sub {}", ty.get(), sub.get()),
+        Component::Packet { scid } => write!(f, "carry {}", scid.get()),
     }
 }
 
-/// Writes a sub-channel and its capacity units.
-fn put_units<W: Write>(sub: &Sub, out: &mut W) -> io::Result<()> {
-    let start = sub.start;
-    let last = end_of(sub).saturating_sub(1);
-    put_sub(sub, out)?;
-    write!(out, " has CU {start} to {last}")
-}
+/// The service of a configuration, with its components if it is there.
+#[derive(Clone, Copy)]
+pub(crate) struct ServiceOf<'a>(pub(crate) &'a Config, pub(crate) Sid);
 
-/// Writes that two sub-channels share capacity units.
-fn put_overlap<W: Write>(overlap: &Overlap, out: &mut W) -> io::Result<()> {
-    let low = overlap.low;
-    let high = overlap.high;
-    put_units(&overlap.first, out)?;
-    out.write_all(b", ")?;
-    put_units(&overlap.second, out)?;
-    write!(out, ": they share CU {low} to {high}")
-}
-
-/// Writes a sub-channel of a configuration, or that it is not there.
-fn put_sub_of<W: Write>(config: &Config, id: SubId, out: &mut W) -> io::Result<()> {
-    match config.sub(id) {
-        Some(sub) => put_sub(&sub, out),
-        None => {
-            out.write_all(b"no ")?;
-            put_carrier(Carrier::Sub(id), out)
+impl Display for ServiceOf<'_> {
+    fn fmt<W: fmt::Write>(&self, f: &mut Formatter<W>) -> fmt::Result {
+        let ServiceOf(config, sid) = *self;
+        write!(f, "{}", Part::Service(sid))?;
+        let Some(service) = config.service(sid) else {
+            return Ok(());
+        };
+        let mut before = " (";
+        for component in service.components.as_slice() {
+            write!(f, "{before}{}", Part::Component(*component))?;
+            before = ", ";
         }
+        f.write_str(if before == ", " {
+            ")"
+        } else {
+            " (no component)"
+        })
     }
 }
 
-/// Writes a member of a configuration, or that it is not there.
-fn put_member<W: Write>(config: &Config, member: &Difference, out: &mut W) -> io::Result<()> {
-    match member {
-        Difference::Sub(id) => put_sub_of(config, *id, out),
-        Difference::Packet(scid) => match config.packet(*scid) {
-            Some(packet) => put_packet(&packet, out),
-            None => {
-                out.write_all(b"no ")?;
-                put_carrier(Carrier::Packet(*scid), out)
+/// A member of a configuration, or that it is not there.
+#[derive(Clone, Copy)]
+struct MemberOf<'a>(&'a Config, &'a Difference);
+
+impl Display for MemberOf<'_> {
+    fn fmt<W: fmt::Write>(&self, f: &mut Formatter<W>) -> fmt::Result {
+        let config = self.0;
+        match self.1 {
+            Difference::Sub(id) => match config.sub(*id) {
+                Some(sub) => write!(f, "{}", Part::Sub(sub)),
+                None => write!(f, "no {}", Part::Carrier(Carrier::Sub(*id))),
+            },
+            Difference::Packet(scid) => match config.packet(*scid) {
+                Some(packet) => write!(f, "{}", Part::Packet(packet)),
+                None => write!(f, "no {}", Part::Carrier(Carrier::Packet(*scid))),
+            },
+            Difference::Service(sid) => {
+                if config.service(*sid).is_none() {
+                    f.write_str("no ")?;
+                }
+                write!(f, "{}", ServiceOf(config, *sid))
             }
-        },
-        Difference::Service(sid) => {
-            if config.service(*sid).is_none() {
-                out.write_all(b"no ")?;
-            }
-            put_service_of(config, *sid, out)
         }
     }
 }
@@ -199,10 +186,16 @@ pub(crate) struct Sides {
     pub(crate) there: &'static str,
 }
 
+/// What follows the words on each path, where there are none.
+pub(crate) const NO_SIDES: Sides = Sides {
+    here: "",
+    there: "",
+};
+
 /// Writes a member as it is on each of two paths.
 fn put_both<W: Write>(
     stop: &Stop,
-    which: &Compared,
+    which: Compared,
     member: &Difference,
     sides: &Sides,
     out: &mut W,
@@ -212,37 +205,29 @@ fn put_both<W: Write>(
         Compared::AfterSwap => "the configuration after the swap",
         Compared::Next => "the next configuration",
     };
-    let here = configuration_of(*which, stop.other.pending, &stop.here);
-    let there = configuration_of(*which, stop.here.pending, &stop.other);
-    write!(out, "in {name} ")?;
-    put_member(here, member, out)?;
-    out.write_all(sides.here.as_bytes())?;
-    out.write_all(b", ")?;
-    put_member(there, member, out)?;
-    out.write_all(sides.there.as_bytes())
-}
-
-/// Writes the swaps of two paths.
-fn put_swaps<W: Write>(stop: &Stop, sides: &Sides, out: &mut W) -> io::Result<()> {
-    put_swap(stop.here.pending, out)?;
-    out.write_all(sides.here.as_bytes())?;
-    out.write_all(b"; ")?;
-    put_swap(stop.other.pending, out)?;
-    out.write_all(sides.there.as_bytes())
+    let one = configuration_of(which, stop.other.pending, &stop.here);
+    let other = configuration_of(which, stop.here.pending, &stop.other);
+    write!(out, "in {name} {}{}, ", MemberOf(one, member), sides.here)?;
+    write!(out, "{}{}", MemberOf(other, member), sides.there)
 }
 
 /// Writes how many pages the configurations take in a plan.
-fn put_pages<W: Write>(plan: &Plan, pages: &Pages, out: &mut W) -> io::Result<()> {
-    let period = plan.period;
-    let notice = plan.notice;
-    let (current, next, both) = (pages.current, pages.next, pages.both);
+fn put_pages<W: Write>(stop: &Stop, pages: &Pages, out: &mut W) -> io::Result<()> {
+    let (period, notice) = (stop.plan.period, stop.plan.notice);
+    let Pages {
+        current,
+        next,
+        both,
+    } = *pages;
     write!(
         out,
-        "the current configuration takes {current} pages, a frame each, the next {next}, and both together, in the notice, {both}; the period is {period} frames and the notice {notice}"
+        "the current configuration takes {current} pages, a frame each, the next {next}, and both \
+         together, in the notice, {both}; the period is {period} frames and the notice {notice}"
     )
 }
 
-/// Writes a fact about a refusal as a sentence. What holds on each of two paths is followed by these words.
+/// Writes a fact about a refusal as a sentence. What holds on each of two paths is followed by
+/// these words.
 pub(crate) fn put_fact<W: Write>(
     fact: &Fact,
     stop: &Stop,
@@ -250,109 +235,68 @@ pub(crate) fn put_fact<W: Write>(
     out: &mut W,
 ) -> io::Result<()> {
     let config = &stop.here.next;
-    match fact {
-        Fact::HasSub(sub) => put_sub(sub, out)?,
-        Fact::HasPacket(packet) => put_packet(packet, out)?,
-        Fact::HasService(sid) => put_service_of(config, *sid, out)?,
+    match *fact {
+        Fact::HasSub(sub) => write!(out, "{} is there already", Part::Sub(sub)),
+        Fact::HasPacket(packet) => write!(out, "{} is there already", Part::Packet(packet)),
+        Fact::HasService(sid) => write!(out, "{} is there already", ServiceOf(config, sid)),
         Fact::HasComponent(sid, carrier) => {
-            put_service_of(config, *sid, out)?;
-            out.write_all(b" has a component on ")?;
-            put_carrier(*carrier, out)?;
-            return out.write_all(b" already");
+            let service = ServiceOf(config, sid);
+            write!(
+                out,
+                "{service} has a component on {} already",
+                Part::Carrier(carrier)
+            )
         }
-        Fact::Lacks(carrier) => {
-            put_carrier(*carrier, out)?;
-            return out.write_all(b" is not there");
-        }
-        Fact::LacksService(sid) => {
-            put_name(*sid, out)?;
-            return out.write_all(b" is not there");
-        }
+        Fact::Lacks(carrier) => write!(out, "{} is not there", Part::Carrier(carrier)),
+        Fact::LacksService(sid) => write!(out, "{} is not there", Part::Service(sid)),
         Fact::LacksComponent(sid, carrier) => {
-            put_service_of(config, *sid, out)?;
-            out.write_all(b" has no component on ")?;
-            return put_carrier(*carrier, out);
+            let service = ServiceOf(config, sid);
+            write!(
+                out,
+                "{service} has no component on {}",
+                Part::Carrier(carrier)
+            )
         }
         Fact::Orphan(sid, carrier) => {
-            put_name(*sid, out)?;
-            out.write_all(b" has a component on ")?;
-            put_carrier(*carrier, out)?;
-            return out.write_all(b", which is not there");
+            let (service, carrier) = (Part::Service(sid), Part::Carrier(carrier));
+            write!(
+                out,
+                "{service} has a component on {carrier}, which is not there"
+            )
         }
         Fact::OrphanPacket(packet) => {
-            put_packet(packet, out)?;
-            out.write_all(b" names ")?;
-            put_carrier(Carrier::Sub(packet.sub), out)?;
-            return out.write_all(b", which is not there");
+            let carrier = Part::Carrier(Carrier::Sub(packet.sub));
+            write!(
+                out,
+                "{} names {carrier}, which is not there",
+                Part::Packet(packet)
+            )
         }
         Fact::SameAddress(packet, other) => {
-            put_packet(packet, out)?;
-            out.write_all(b" and ")?;
-            put_packet(other, out)?;
-            return out.write_all(b" have one address on one sub-channel");
+            let (packet, other) = (Part::Packet(packet), Part::Packet(other));
+            write!(
+                out,
+                "{packet} and {other} have one address on one sub-channel"
+            )
         }
-        Fact::Empty(sid) => {
-            put_name(*sid, out)?;
-            return out.write_all(b" has no component");
+        Fact::Empty(sid) => write!(out, "{} has no component", Part::Service(sid)),
+        Fact::Shared(overlap) => {
+            let (one, other) = (Part::Units(overlap.first), Part::Units(overlap.second));
+            write!(
+                out,
+                "{one}, {other}: they share CU {} to {}",
+                overlap.low, overlap.high
+            )
         }
-        Fact::Shared(overlap) => return put_overlap(overlap, out),
-        Fact::Swap(swap) => return put_swap(*swap, out),
-        Fact::Pages(pages) => return put_pages(&stop.plan, pages, out),
-        Fact::Differ(which, member) => return put_both(stop, which, member, sides, out),
-        Fact::OtherSwap => return put_swaps(stop, sides, out),
+        Fact::Swap(swap) => write!(out, "{}", Part::Swap(swap)),
+        Fact::Pages(pages) => put_pages(stop, &pages, out),
+        Fact::Differ(which, member) => put_both(stop, which, &member, sides, out),
+        Fact::OtherSwap => {
+            let (one, other) = (
+                Part::Swap(stop.here.pending),
+                Part::Swap(stop.other.pending),
+            );
+            write!(out, "{one}{}; {other}{}", sides.here, sides.there)
+        }
     }
-    out.write_all(b" is there already")
-}
-
-/// Writes which line did something to the member that a sentence is about, or does such a thing.
-pub(crate) fn put_blame<W: Write>(
-    blame: Option<Blame>,
-    did: &str,
-    does: &str,
-    out: &mut W,
-) -> io::Result<()> {
-    match blame {
-        None => Ok(()),
-        Some(
-            Blame {
-                line,
-                is_tried: true,
-            },
-        ) => write!(out, "; line {line} {did}"),
-        Some(Blame { line, .. }) => write!(out, "; line {line} {does}"),
-    }
-}
-
-/// Writes the line of the commit by which a swap is pending, if it is known.
-pub(crate) fn put_commit<W: Write>(line: Option<u16>, out: &mut W) -> io::Result<()> {
-    match line {
-        Some(line) => write!(out, ", by the commit in line {line}"),
-        None => Ok(()),
-    }
-}
-
-/// Writes the sub-channels of a configuration.
-pub(crate) fn put_subs<W: Write>(config: &Config, out: &mut W) -> io::Result<()> {
-    if config.subs().is_empty() {
-        return out.write_all(b"; there is no sub-channel");
-    }
-    out.write_all(b"; the sub-channels there are")?;
-    for sub in config.subs() {
-        let id = sub.id.get();
-        write!(out, " {id}")?;
-    }
-    Ok(())
-}
-
-/// Writes the services of a configuration.
-pub(crate) fn put_services<W: Write>(config: &Config, out: &mut W) -> io::Result<()> {
-    if config.services().is_empty() {
-        return out.write_all(b"; there is no service");
-    }
-    out.write_all(b"; the services there are")?;
-    for service in config.services() {
-        out.write_all(b" ")?;
-        put_sid(service.sid, out)?;
-    }
-    Ok(())
 }

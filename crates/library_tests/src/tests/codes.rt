@@ -43,7 +43,8 @@ pub fn typed(alloc: Global, file: &[u8]) -> Result<Verified, Fail> {
     Ok(verify::<Config>(code).ok().ok_or("a typed code")?)
 }
 
-/// Plays a code file from that start over the text of an event file. Returns the result and the bytes written.
+/// Plays a code file from that start over the text of an event file. Returns the result and the
+/// bytes written.
 pub fn played(
     alloc: Global,
     file: &[u8],

@@ -1,4 +1,5 @@
-//! Each kind of entry with the lowest and highest values of its fields, in the layout of the standard.
+//! Each kind of entry with the lowest and highest values of its fields, in the layout of the
+//! standard.
 
 use super::fibs::begins;
 use fib_codec::{
@@ -25,7 +26,8 @@ fn sc_id(id: u16) -> Result<ScId, &'static str> {
     ScId::new(id).ok_or("an SCId")
 }
 
-/// Whether an entry has this length, and a FIB with one FIG of it for the next configuration begins with these bytes.
+/// Whether an entry has this length, and a FIB with one FIG of it for the next configuration begins
+/// with these bytes.
 fn goes_as(entry: Made, head: Head, len: usize, front: &[u8]) -> Result<bool, &'static str> {
     let entries = [entry?];
     let mut fib = Fib::new();

@@ -1,6 +1,7 @@
 //! FIBs from their data bytes, and the CRC of a FIB, which no command shows.
 //!
-//! A call with a long contract is in a small function without one, so that no test's proof carries it.
+//! A call with a long contract is in a small function without one, so that no test's proof carries
+//! it.
 
 use fib_codec::{crc16, crc16_by_bits};
 

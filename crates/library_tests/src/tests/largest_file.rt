@@ -1,4 +1,5 @@
-//! The largest code file: as many configurations, labels and instructions as possible, each as long as possible.
+//! The largest code file: as many configurations, labels and instructions as possible, each as long
+//! as possible.
 
 use plan_code::{Code, decode, encode};
 use std::alloc::{AllocError, Global};

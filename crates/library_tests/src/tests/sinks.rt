@@ -59,8 +59,8 @@ fn frame_by_frame(alloc: Global, player: &mut Player<Config>) -> Result<Vec<u8>,
     Ok(bytes)
 }
 
-/// Plays the frames into a sink that takes single bytes. Returns the result of `play_frames`, and whether the sink has
-/// these bytes and has not failed.
+/// Plays the frames into a sink that takes single bytes. Returns the result of `play_frames`, and
+/// whether the sink has these bytes and has not failed.
 fn put_singly(
     alloc: Global,
     player: &mut Player<Config>,

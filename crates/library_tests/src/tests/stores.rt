@@ -1,8 +1,9 @@
 //! The rows that every `Store` has to pass, over `Config` and `Tables`.
 //!
-//! Each run takes the type of the store, and fails at the first unexpected result; `every_run` is all of them. `parts`
-//! makes sub-channels, services, packet components and edits from their numbers. The contract of `mux_config::Store`
-//! says what a store is; begin with `edits::full`. A new store gets a test here.
+//! Each run takes the type of the store, and fails at the first unexpected result; `every_run` is
+//! all of them. `parts` makes sub-channels, services, packet components and edits from their
+//! numbers. The contract of `mux_config::Store` says what a store is; begin with `edits::full`. A
+//! new store gets a test here.
 
 mod edits;
 mod items;
@@ -13,8 +14,8 @@ use mux_config::{Config, Store};
 use mux_tables::Tables;
 use std::test::Fail;
 
-/// All runs, one after the other: the faults of edits in their order, edits and their twins, members in ascending
-/// order, copies, soundness, and what a reconfiguration changes.
+/// All runs, one after the other: the faults of edits in their order, edits and their twins,
+/// members in ascending order, copies, soundness, and what a reconfiguration changes.
 fn every_run<S: Store>() -> Result<(), Fail> {
     edits::faults_of_full_sets::<S>()?;
     edits::faults_of_sub_channels::<S>()?;

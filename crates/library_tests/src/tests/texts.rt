@@ -5,8 +5,8 @@ use std::io::{self, Error, ErrorKind, Read};
 use std::process::Abort;
 use std::test::Fail;
 
-/// A reader that returns up to eight bytes at a time, and is interrupted before each read. It ends after the last byte,
-/// or fails there.
+/// A reader that returns up to eight bytes at a time, and is interrupted before each read. It ends
+/// after the last byte, or fails there.
 #[derive(Drop)]
 struct Interrupted<'a> {
     bytes: &'a [u8],

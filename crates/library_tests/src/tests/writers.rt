@@ -8,7 +8,8 @@ use std::io::{self, Error, ErrorKind, Write};
 use std::process::Abort;
 use std::test::Fail;
 
-/// A writer that takes up to 48 bytes per call for this many calls, and then returns 0, or this error.
+/// A writer that takes up to 48 bytes per call for this many calls, and then returns 0, or this
+/// error.
 #[derive(Drop)]
 struct Failing {
     calls: u32,
@@ -54,8 +55,8 @@ fn written(player: &mut Player<Config>, inner: Failing) -> (Option<PlayFault>, W
     (frames.err(), sink)
 }
 
-/// The fault of playing three frames, whether the sink has failed, the number of bytes taken, and the number of calls
-/// made.
+/// The fault of playing three frames, whether the sink has failed, the number of bytes taken, and
+/// the number of calls made.
 type Outcome = (Option<PlayFault>, bool, usize, u32);
 
 /// The outcome of playing three frames into this writer.
@@ -70,8 +71,8 @@ fn three_frames(code: &Verified, inner: Failing) -> Result<Outcome, Fail> {
     Ok(three_into(&mut player, inner))
 }
 
-/// A number of calls, and the outcome after them: the whole frames taken, the bytes of the next one, all bytes taken,
-/// and the calls made.
+/// A number of calls, and the outcome after them: the whole frames taken, the bytes of the next
+/// one, all bytes taken, and the calls made.
 type Row = (u32, u64, usize, usize, u32);
 
 const ROWS: [Row; 6] = [

@@ -1,5 +1,4 @@
-use Rattle.std.proofs.Common.{◌≡◌, List, ℕ, take, subst, sym}
-use Rattle.cli_plans.specs.Success.{IsPlayedInto, Plays}
+use Rattle.cli_plans.proofs.Words.{◌≡◌, IsPlayedInto, List, Plays, subst, sym, take, ℕ}
 use Rattle.cli_plans.proofs.Playbacks.{still_known, read_is, known_is, played_before, done_so}
 use Rattle.cli_plans.proofs.play.run_play.Goals as goal
 
@@ -14,12 +13,22 @@ returns-in-Ok-write_playback g c =
     let last = c.write_playback.new.files in
     let Played = IsPlayedInto r.out.now in
     record {
-      success = done_so c.print_ending.result c.in-Ok-write_playback.ended (Played c.as_slice.result.now c.as_str.result.now r.start (files third) (files last)) (Plays r (known first) (files first) (files last)) c.in-Ok-write_playback.ensures
+      success = done_so c.print_ending.result c.in-Ok-write_playback.ended
+          (Played c.as_slice.result.now c.as_str.result.now r.start (files third) (files last))
+          (Plays r (known first) (files first) (files last)) c.in-Ok-write_playback.ensures
           (λ h code text of_code of_text.
-          let codes : c.as_slice.result.now ≡ take 1048577 code = read_is (λ (l : List ℕ). take 1048577 l) (known first r.code.now) code _ c.as_slice.result.now c.in-Ok.ensures.bytes of_code c.as_slice.ensures.value in
-          let there = still_known (known first r.events.now) (known second r.events.now) text (c.in-Ok.ensures.files r.events.now) of_text in
-          let texts : text ≡ c.as_str.result.now = known_is (known second r.events.now) text _ c.as_str.result.now c.in-Ok-read_event_text.ensures.text there c.as_str.ensures.value in
-          played_before r.out.now (take 1048577 code) text r.start (files first) (files second) (files third) (files last) c.in-Ok.ensures.world c.in-Ok-read_event_text.ensures.world
-          (subst (λ (l : List ℕ). Played l text r.start (files third) (files last)) codes (subst (λ (l : List ℕ). Played c.as_slice.result.now l r.start (files third) (files last)) (sym texts) h)))
+          let codes : c.as_slice.result.now ≡ take 1048577 code =
+          read_is (λ (l : List ℕ). take 1048577 l) (known first r.code.now) code _ c.as_slice.result.now
+          c.in-Ok.ensures.bytes of_code c.as_slice.ensures.value in
+          let there = still_known (known first r.events.now) (known second r.events.now) text
+          (c.in-Ok.ensures.files r.events.now) of_text in
+          let texts : text ≡ c.as_str.result.now =
+          known_is (known second r.events.now) text _ c.as_str.result.now c.in-Ok-read_event_text.ensures.text there
+          c.as_str.ensures.value in
+          played_before r.out.now (take 1048577 code) text r.start (files first) (files second) (files third)
+          (files last) c.in-Ok.ensures.world c.in-Ok-read_event_text.ensures.world
+          (subst (λ (l : List ℕ). Played l text r.start (files third) (files last)) codes
+          (subst (λ (l : List ℕ). Played c.as_slice.result.now l r.start (files third) (files last)) (sym texts)
+          h)))
           c.print_ending.ensures;
     }

@@ -1,10 +1,4 @@
-use Rattle.std.specs.Io.KnownBytes.{Appends}
-use Rattle.std.proofs.Common.{List, sym}
-use Rattle.std.proofs.lemmas.Result.{IfOk-weaker}
-use Rattle.plan_player.specs.Playing.{Playing}
-use Rattle.plan_player.specs.Delivery.{played_bytes}
-use Rattle.plan_session.specs.declared.step.Step.{Step}
-use Rattle.plan_session.specs.Events.{events_of}
+use Rattle.cli_plans.proofs.Words.{Appends, IfOk-weaker, List, Playing, Step, events_of, played_bytes, sym}
 use Rattle.cli_plans.proofs.play.stream_playback.Goals as goal
 
 pub returns : goal.returns
@@ -17,6 +11,7 @@ returns g c =
     IfOk-weaker c.play_into-ended.result.0 _ _
     (λ n h.
     let d = h p steps c.play_into-ended.ensures.begun.1 found.2 in
-    let more : Appends (contents c.args.out) (contents c.into_inner.result) (played_bytes p (events_of steps)) = rw (c.into_inner.ensures, sym c.new-3.ensures.out) d.1 in
+    let more : Appends (contents c.args.out) (contents c.into_inner.result) (played_bytes p (events_of steps)) =
+    rw (c.into_inner.ensures, sym c.new-3.ensures.out) d.1 in
     (p, steps, record { ready = begins.ready; begins = begins.begins; holds = found.1 }, more))
     c.play_into-ended.ensures.played

@@ -1,10 +1,4 @@
-use Rattle.std.specs.Io.KnownBytes.{Appends}
-use Rattle.std.proofs.Common.{ℕ, List, sym}
-use Rattle.std.proofs.lemmas.Result.{IfOk-weaker}
-use Rattle.plan_player.specs.Playing.{Playing}
-use Rattle.plan_player.specs.Delivery.{played_bytes}
-use Rattle.plan_session.specs.declared.step.Step.{Step}
-use Rattle.plan_session.specs.Events.{events_of}
+use Rattle.cli_plans.proofs.Words.{Appends, IfOk-weaker, List, Playing, Step, events_of, played_bytes, sym, ℕ}
 use Rattle.cli_plans.proofs.Playbacks.{file_written}
 use Rattle.cli_plans.proofs.play.write_playback.Goals as goal
 
@@ -21,10 +15,13 @@ returns-in-Ok-close g c =
     IfOk-weaker c.play_into-ended.result.0 _ _
     (λ n h.
     let d = h p steps c.play_into-ended.ensures.begun.1 found.2 in
-    let more : Appends (contents c.in-Ok-create.file) (contents c.into_inner.result) bytes = rw (c.into_inner.ensures, sym c.new-3.ensures.out) d.1 in (
+    let more : Appends (contents c.in-Ok-create.file) (contents c.into_inner.result) bytes =
+    rw (c.into_inner.ensures, sym c.new-3.ensures.out) d.1 in (
       p,
       steps,
       record { ready = begins.ready; begins = begins.begins; holds = found.1 },
-      file_written path bytes (files c.args.files.now) (files c.create.new.self) (files c.close.new.self) (contents c.in-Ok-create.file) (contents c.into_inner.result) c.in-Ok-create.ensures.empty c.in-Ok-create.ensures.others more c.in-Ok-close.ensures.written,
+      file_written path bytes (files c.args.files.now) (files c.create.new.self) (files c.close.new.self)
+          (contents c.in-Ok-create.file) (contents c.into_inner.result) c.in-Ok-create.ensures.empty
+          c.in-Ok-create.ensures.others more c.in-Ok-close.ensures.written,
     ))
     c.play_into-ended.ensures.played

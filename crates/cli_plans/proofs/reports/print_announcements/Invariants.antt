@@ -1,4 +1,4 @@
-use Rattle.std.proofs.Common.{◌-◌, length}
+use Rattle.cli_plans.proofs.Words.{◌-◌, length}
 use Rattle.cli_plans.proofs.reports.print_announcements.Given as goal
 
 abbrev pub decreases-loop-announcement : goal.decreases-loop-announcement

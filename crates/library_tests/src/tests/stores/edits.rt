@@ -1,4 +1,5 @@
-//! Tests edits of full sets: the order of their faults, that a fault changes nothing, and the `_known` twins.
+//! Tests edits of full sets: the order of their faults, that a fault changes nothing, and the
+//! `_known` twins.
 
 use super::parts::{
     add_component, add_sub, carried, drop_component, holds, move_sub, packet, rate_sub, sc_id,
@@ -7,9 +8,9 @@ use super::parts::{
 use mux_config::{Carrier, Edit, EditFault, Sid, Store};
 use std::test::Fail;
 
-/// A store with sub-channels 0 to 63 at 4-A and 8 kbit/s, one after the other from capacity unit 0; the services with
-/// the 16-bit SIds 0 to 62, the first with 12 components, and with the 32-bit SId 1, with 11; and the packet
-/// components 0 to 63.
+/// A store with sub-channels 0 to 63 at 4-A and 8 kbit/s, one after the other from capacity unit 0;
+/// the services with the 16-bit SIds 0 to 62, the first with 12 components, and with the 32-bit SId
+/// 1, with 11; and the packet components 0 to 63.
 pub fn full<S: Store>() -> Result<S, Fail> {
     let mut store = S::empty();
     for k in 0u8..64 {
@@ -85,7 +86,8 @@ pub fn faults_of_full_sets<S: Store>() -> Result<(), Fail> {
     )
 }
 
-/// Edits of sub-channels are refused with the first of their faults; with room again the 64th is added.
+/// Edits of sub-channels are refused with the first of their faults; with room again the 64th is
+/// added.
 pub fn faults_of_sub_channels<S: Store>() -> Result<(), Fail> {
     let mut store: S = full()?;
     Edit::DropSub(sub_id(63)).apply(&mut store)?;

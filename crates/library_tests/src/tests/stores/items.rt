@@ -5,8 +5,8 @@ use super::parts::{holds, packet, sc_id, sound, sub, sub_id};
 use mux_config::{Config, Sid, Store};
 use std::test::Fail;
 
-/// The members of each set are in ascending order of SubChId, SId (16-bit ones first) and SCId, in whatever order they
-/// were added, and are found by these.
+/// The members of each set are in ascending order of SubChId, SId (16-bit ones first) and SCId, in
+/// whatever order they were added, and are found by these.
 pub fn members<S: Store>() -> Result<(), Fail> {
     let mut store = S::empty();
     for id in [9u8, 3, 63, 0] {
@@ -72,8 +72,8 @@ pub fn services<S: Store>() -> Result<(), Fail> {
     Ok(())
 }
 
-/// A store that is copied, or converted to a `Config` and back, has the same content; an edit then makes the two
-/// differ.
+/// A store that is copied, or converted to a `Config` and back, has the same content; an edit then
+/// makes the two differ.
 pub fn copies<S: Store>() -> Result<(), Fail> {
     let store: S = full()?;
     let config: Config = store.to_config();

@@ -1,4 +1,5 @@
-//! Parts of configurations and edits for tests, made from their numbers. A number out of range becomes 0.
+//! Parts of configurations and edits for tests, made from their numbers. A number out of range
+//! becomes 0.
 
 ghost use Rattle.std.specs.Prelude.{◌≡◌, ◌↔◌, true, IsOk};
 

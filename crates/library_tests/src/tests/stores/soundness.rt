@@ -20,7 +20,8 @@ fn overlap(a: u8, b: u8) -> ConfigFault {
     ConfigFault::Overlap(sub_id(a), sub_id(b))
 }
 
-/// Sub-channels that share capacity units, including just at their edges, and sub-channels that only touch.
+/// Sub-channels that share capacity units, including just at their edges, and sub-channels that
+/// only touch.
 pub fn shared_capacity_units<S: Store>() -> Result<(), Fail> {
     let rows: [(&[Sub], Result<(), ConfigFault>); 7] = [
         (&[sub(1, 0, 3, 128), sub(2, 96, 3, 64)], Ok(())),
@@ -50,7 +51,8 @@ pub fn shared_capacity_units<S: Store>() -> Result<(), Fail> {
     Ok(())
 }
 
-/// The first fault is reported: overlaps, then orphans, then addresses that are used twice, then empty services.
+/// The first fault is reported: overlaps, then orphans, then addresses that are used twice, then
+/// empty services.
 pub fn first_faults<S: Store>() -> Result<(), Fail> {
     let mut store: S = of_subs(&[sub(1, 0, 3, 128), sub(2, 95, 3, 64)])?;
     let one = Sid::Short(0xC221);

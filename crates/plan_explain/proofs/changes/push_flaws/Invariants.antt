@@ -5,4 +5,5 @@ use Rattle.plan_explain.specs.Flaws.{unless_among}
 use Rattle.plan_explain.proofs.changes.push_flaws.Given as goal
 
 abbrev pub invariant-loop-flaw : goal.invariant-loop-flaw
-invariant-loop-flaw l = l.found.items ≡ l.fn.found.items ++ map (Flawed l.line) (flat_map (unless_among l.others) (take l.flaw-index l.flaws))
+invariant-loop-flaw l = l.found.items ≡ l.fn.found.items
+    ++ map (Flawed l.line) (flat_map (unless_among l.others) (take l.flaw-index l.flaws))

@@ -12,5 +12,6 @@ returns-in-Some c =
       λ there.
           let found : Some other ≡ Some service = c.in-Some.ensures.value ∙ there in
           let same : other ≡ service = cc in
-          c.is_same_service.ensures ∙ subst (λ (s : Service). is_same_service other s ≡ true) same (service_itself other),
+          c.is_same_service.ensures ∙ subst (λ (s : Service). is_same_service other s ≡ true) same
+          (service_itself other),
     )

@@ -4,4 +4,5 @@ use Rattle.plan_explain.specs.Primaries.{primaries_of}
 use Rattle.plan_explain.proofs.primary.primaries_of.Given as goal
 
 abbrev pub invariant-loop-service : goal.invariant-loop-service
-invariant-loop-service l = l.primaries.items ≡ flat_map (primaries_of (let b = l.before in b.services)) (take l.service-index l.service-items)
+invariant-loop-service l = l.primaries.items ≡ flat_map (primaries_of (let b = l.before in b.services))
+    (take l.service-index l.service-items)

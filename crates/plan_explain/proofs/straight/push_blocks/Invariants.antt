@@ -4,4 +4,5 @@ use Rattle.plan_explain.specs.Straight.{straight_in}
 use Rattle.plan_explain.proofs.straight.push_blocks.Given as goal
 
 abbrev pub invariant-loop-block : goal.invariant-loop-block
-invariant-loop-block l = l.found.items ≡ l.fn.found.items ++ flat_map straight_in (map (λ b. b.items) (take l.block-index l.blocks))
+invariant-loop-block l = l.found.items ≡ l.fn.found.items
+    ++ flat_map straight_in (map (λ b. b.items) (take l.block-index l.blocks))
