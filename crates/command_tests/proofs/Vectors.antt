@@ -17,7 +17,8 @@ nothing_is_held code events start h = let none = h.written in absurd cc
 abbrev an_empty_file : World
 an_empty_file = record { files = λ path. Some [] }
 
-no_frames_are_held : (code events : List ℕ) (start : StartOptions) (h : HoldsRun code events start an_empty_file) → played_bytes h.p (events_of h.steps) ≡ []
+no_frames_are_held : (code events : List ℕ) (start : StartOptions) (h : HoldsRun code events start an_empty_file)
+    → played_bytes h.p (events_of h.steps) ≡ []
 no_frames_are_held code events start h =
     let held : Some [] ≡ Some (played_bytes h.p (events_of h.steps)) = h.written in
     let same : [] ≡ played_bytes h.p (events_of h.steps) = cc held in

@@ -29,8 +29,9 @@ fn files_with(alloc: Global, code: &[u8], events: &[u8]) -> Result<MemoryFiles, 
     Ok(files)
 }
 
-/// The files after `play x.code x.events x.fib` over files in memory that have this code and these events: `x.fib` holds
-/// the run of the code over the events then. None if they are not played to their end.
+/// The files after `play x.code x.events x.fib` over files in memory that have this code and these
+/// events: `x.fib` holds the run of the code over the events then. None if they are not played to
+/// their end.
 ///
 /// # Errors
 ///

@@ -48,7 +48,8 @@ fn args(rt: &HostRuntime) -> io::Result<Vec<String>> {
     Ok(args.collect(rt.alloc())?)
 }
 
-/// Whether the first argument is `live` or `merge`. Takes no memory, and later arguments need not be UTF-8.
+/// Whether the first argument is `live` or `merge`. Takes no memory, and later arguments need not
+/// be UTF-8.
 fn writes_frames(rt: &HostRuntime) -> bool {
     let mut first = [0u8; 5];
     match rt.arg(1, &mut first) {

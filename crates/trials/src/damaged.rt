@@ -89,7 +89,8 @@ fn count_fault(fault: CodeFault, counts: &mut Counts) {
     }
 }
 
-/// Plays an accepted code from count 0 on, closes one contact after another and opens them again, and checks each FIB.
+/// Plays an accepted code from count 0 on, closes one contact after another and opens them again,
+/// and checks each FIB.
 fn play_it(code: &Verified, counts: &mut Counts) {
     let start = Start {
         eid: code.code().plan().eid,
@@ -137,8 +138,8 @@ fn try_file(alloc: Global, file: &[u8], counts: &mut Counts) {
     }
 }
 
-/// Tries a code file truncated to each length, and with each byte changed to each other value, and prints the
-/// results.
+/// Tries a code file truncated to each length, and with each byte changed to each other value, and
+/// prints the results.
 pub fn try_damaged<W: Write>(alloc: Global, file: &mut [u8], out: &mut W) -> io::Result<()> {
     let mut cuts = Counts::none();
     for length in 0..file.len() {

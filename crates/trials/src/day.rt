@@ -29,9 +29,9 @@ fn is_right(listener: &Listener, current: &Config) -> bool {
     }
 }
 
-/// Plays a day from count 0 on. A listener that is new before the first frame hears each FIB; from the frame on that
-/// completes the first period, its configuration must be that of each frame. A swap is counted when no frames
-/// are left before it.
+/// Plays a day from count 0 on. A listener that is new before the first frame hears each FIB; from
+/// the frame on that completes the first period, its configuration must be that of each frame. A
+/// swap is counted when no frames are left before it.
 fn hear_day(player: &mut Player<'_, Config>, period: u8) -> Met {
     let mut met = Met {
         fibs: 0,

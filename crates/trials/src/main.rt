@@ -1,9 +1,10 @@
-//! Runs the libraries under faults: allocation failures, damaged code files, and a day of frames with a
-//! listener.
+//! Runs the libraries under faults: allocation failures, damaged code files, and a day of frames
+//! with a listener.
 //!
-//! The scripts in `tests/faults/` run it. `trials call NAME` makes one call twice over the script on standard input,
-//! the first time between the lines `ready` and `called`; `trials damaged` tries each damaged version of the code file
-//! on standard input; `trials day` plays the code file on standard input for a day.
+//! The scripts in `tests/faults/` run it. `trials call NAME` makes one call twice over the script
+//! on standard input, the first time between the lines `ready` and `called`; `trials damaged` tries
+//! each damaged version of the code file on standard input; `trials day` plays the code file on
+//! standard input for a day.
 #![tactic(auto)]
 
 mod calls;

@@ -31,8 +31,8 @@ pub trait Trial {
     ) -> io::Result<()>;
 }
 
-/// Makes a call between the lines `ready` and `called`, each of which is one write; prints how it ended; makes it
-/// again if it was out of memory; and prints the result.
+/// Makes a call between the lines `ready` and `called`, each of which is one write; prints how it
+/// ended; makes it again if it was out of memory; and prints the result.
 pub fn try_call<T: Trial, W: Write>(alloc: Global, trial: &mut T, out: &mut W) -> io::Result<()> {
     out.write_all(b"ready\n")?;
     let first = trial.call(alloc);

@@ -1,5 +1,5 @@
-//! `answer` over files in memory: each command by its command line, with its exit status, what it prints, and what the
-//! files hold then.
+//! `answer` over files in memory: each command by its command line, with its exit status, what it
+//! prints, and what the files hold then.
 
 use crate::tests::playing::{AT_0, AT_4, EMPTY};
 use cli::answer::answer;

@@ -1,4 +1,5 @@
-//! `diff` over files in memory: which file is which, the order of refusals, and how the command ends.
+//! `diff` over files in memory: which file is which, the order of refusals, and how the command
+//! ends.
 
 use cli_scripts::diff::{DiffRequest, show_diff};
 use cli_scripts::explained::Explanation;

@@ -1,4 +1,5 @@
-//! `compile` over files in memory: what is printed, what the output file holds, and how the command ends.
+//! `compile` over files in memory: what is printed, what the output file holds, and how the command
+//! ends.
 
 use cli_scripts::compile::{CompileRequest, show_compile};
 use cli_scripts::explained::Explanation;
@@ -10,7 +11,8 @@ use std::test::Fail;
 /// A script that repeats a wait.
 const REPEATS: &[u8] = b"ensemble E1C5 period 4 notice 24 budget 20\nbegin repeat 3 {\nwait 1\n}\n";
 
-/// Its code file: the plan, one configuration with nothing in it, two labels, and four instructions with their lines.
+/// Its code file: the plan, one configuration with nothing in it, two labels, and four instructions
+/// with their lines.
 const REPEATS_CODE: [u8; 65] = [
     0x44, 0x41, 0x42, 0x50, 0x01, 0xE1, 0xC5, 0x04, 0x18, 0x14, 0x00, 0x01, 0x00, 0x02, 0x00, 0x04,
     0x00, 0x00, 0x00, 0x00, 0x00, 0x00, 0x00, 0x00, 0x00, 0x00, 0x00, 0x00, 0x00, 0x00, 0x00, 0x02,

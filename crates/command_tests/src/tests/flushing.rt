@@ -1,5 +1,5 @@
-//! `live` and `merge` flush their frames before they ask for more. No contract says so of the output: a writer is a
-//! list of bytes there.
+//! `live` and `merge` flush their frames before they ask for more. No contract says so of the
+//! output: a writer is a list of bytes there.
 
 use crate::tests::playing::{AT_0, AT_4, EMPTY, ENDS_AT_ONCE, START};
 use cli_plans::live::{LiveRequest, play_live};

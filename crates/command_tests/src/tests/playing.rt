@@ -6,8 +6,9 @@ use plan_session::StartOptions;
 use std::process::Abort;
 use std::test::Fail;
 
-/// The code file of a plan that ends at once: the header, with a notice period of 4 frames, a configuration with nothing
-/// in it, one label of cost 1, the line of one instruction, and that instruction.
+/// The code file of a plan that ends at once: the header, with a notice period of 4 frames, a
+/// configuration with nothing in it, one label of cost 1, the line of one instruction, and that
+/// instruction.
 pub(crate) const ENDS_AT_ONCE: [u8; 35] = [
     0x44, 0x41, 0x42, 0x50, 0x01, 0xE1, 0xC5, 0x04, 0x18, 0x14, 0x00, 0x01, 0x00, 0x01, 0x00, 0x01,
     0x00, 0x00, 0x00, 0x00, 0x00, 0x00, 0x00, 0x00, 0x00, 0x00, 0x00, 0x00, 0x00, 0x00, 0x00, 0x01,

@@ -7,8 +7,8 @@ use console::memory::MemoryFiles;
 use std::process::Abort;
 use std::test::Fail;
 
-/// The code file of a plan that ends at once, up to its last byte: the header, a configuration with nothing in it, one
-/// label of cost 1, and the line of one instruction.
+/// The code file of a plan that ends at once, up to its last byte: the header, a configuration with
+/// nothing in it, one label of cost 1, and the line of one instruction.
 const ENDS_AT_ONCE: [u8; 34] = [
     0x44, 0x41, 0x42, 0x50, 0x01, 0xE1, 0xC5, 0x04, 0x18, 0x14, 0x00, 0x01, 0x00, 0x01, 0x00, 0x01,
     0x00, 0x00, 0x00, 0x00, 0x00, 0x00, 0x00, 0x00, 0x00, 0x00, 0x00, 0x00, 0x00, 0x00, 0x00, 0x01,
