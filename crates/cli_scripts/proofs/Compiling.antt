@@ -1,16 +1,10 @@
 -- What `compile` leaves, from what its steps leave.
-use Rattle.std.proofs.Common.{◌≡◌, ℕ, List, Option, None, Some, IfSome, length, take, take_all, ◌∙◌, subst, arith}
-use Rattle.std.specs.Io.KnownBytes.{Appends, Keeps}
-use Rattle.std.proofs.KnownBytes.{Appends-kept}
-use Rattle.console.specs.World.{World, Becomes, Stays, IsSameBut, HasWritten}
-use Rattle.console.specs.declared.exit.Status.TheVariants.{Done, Refused}
+use Rattle.cli_scripts.proofs.Words.{◌∙◌, ◌≡◌, Appends, Appends-kept, Compiles, Done, FindsCompiled, IfSome, IsCompiled}
+use Rattle.cli_scripts.proofs.Words.{IsReadOf, IsReason, IsUncompiled, Keeps, List, None, Option, Refused}
+use Rattle.cli_scripts.proofs.Words.{ScriptRefusal, Some, arith, length, subst, take, take_all, ℕ}
+use Rattle.console.specs.World.{World, Becomes, Stays, HasWritten}
 use Rattle.console.proofs.Worlds.{stays_then_written}
-use Rattle.cli_scripts.specs.declared.compile.Compiled.{Compiled}
 use Rattle.cli_scripts.specs.declared.compile.Found.{Found}
-use Rattle.cli_scripts.specs.declared.compile.ScriptRefusal.{ScriptRefusal}
-use Rattle.cli_scripts.specs.Compiled.{FindsCompiled, IsCompiled, IsReason, IsUncompiled}
-use Rattle.cli_scripts.specs.FileTexts.{IsReadOf}
-use Rattle.cli_scripts.specs.Success.{Compiles}
 use Rattle.cli_scripts.proofs.ReadTexts.{compiled_whole, refused_whole}
 
 -- all bytes are taken, and then the writer is flushed
@@ -22,7 +16,8 @@ all_taken before mid after bytes count taken all kept =
 
 -- ---- before the output is written
 
-pub found : (bytes text : List ℕ) (f : Found) → IsReadOf bytes text → IsCompiled text f.compiled → FindsCompiled bytes (Some f)
+pub found : (bytes text : List ℕ) (f : Found) → IsReadOf bytes text → IsCompiled text f.compiled
+    → FindsCompiled bytes (Some f)
 found bytes text f r h = compiled_whole bytes text f.compiled r h
 
 pub refused : (bytes text : List ℕ) (refusal : ScriptRefusal)
@@ -52,7 +47,8 @@ written_then_stays path bytes file u v w x same first written last =
     (still_written path bytes u w x (stays_then_written path bytes u v w first written) last)
 
 pub compiles : (known : Option (List ℕ)) (f : Found) (Holds : List ℕ → Type 0)
-    → IfSome known (λ script. FindsCompiled script (Some f)) → Holds f.compiled.file.items → IfSome known (λ script. Compiles script Holds Done)
+    → IfSome known (λ script. FindsCompiled script (Some f)) → Holds f.compiled.file.items
+    → IfSome known (λ script. Compiles script Holds Done)
 compiles None f Holds h held = tt
 compiles (Some script) f Holds h held = (f.compiled, h, held)
 

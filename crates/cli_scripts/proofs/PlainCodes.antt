@@ -1,37 +1,33 @@
 -- The code of a script without blocks: its instructions one after another, then `end`; one label; and how many of them
 -- can run in one frame.
-use Rattle.std.proofs.Common.{◌≡◌, ℕ, zero, suc, ◌+◌, ◌-◌, ◌≤◌, ◌⊎◌, Bool, true, false, if◌then◌else◌, List, [], ◌∷◌, ◌++◌, length, drop, Some, None, IsSome, refl, ap, ◌∙◌, subst, inl, inr, arith, length-append}
-use Rattle.std.proofs.lemmas.Bool.{false≢true}
+use Rattle.cli_scripts.proofs.Words.{[], ◌++◌, ◌+◌, ◌-◌, ◌∙◌, ◌∷◌, ◌≡◌, ◌≤◌, ◌⊎◌, Act, Added, Bool, CommitAt, CommitIn}
+use Rattle.cli_scripts.proofs.Words.{Configuration, End, FitFrames, Flow, HasPath, IsFine, IsJudged, IsSome}
+use Rattle.cli_scripts.proofs.Words.{IsWithinBudget, Join, List, None, PlacedInstr, Plan, Settle, Some, Tabled, Until}
+use Rattle.cli_scripts.proofs.Words.{Wait, WaitAny, WaitContact, acts_from, after_instr, all_places, alone, ap, arith}
+use Rattle.cli_scripts.proofs.Words.{at_label, continues, drop, ends_frame, false, false≢true, if◌then◌else◌, inl, inr}
+use Rattle.cli_scripts.proofs.Words.{instr_of_act, instrs_of, known_at, length, length-append, lines_of_placed, nested}
+use Rattle.cli_scripts.proofs.Words.{nothing, onward, placed_instr, places, point_after, refl, subst, suc, suspends}
+use Rattle.cli_scripts.proofs.Words.{target_of, true, unpriced_label, unpriced_labels, without_label, zero, ℕ}
 use Rattle.std.specs.Prelude.{slice_get}
 use Rattle.std.specs.List.{AllByRecursion}
-use Rattle.mux_config.specs.Configuration.{Configuration}
-use Rattle.plan_code.specs.declared.plan.Plan.{Plan}
 use Rattle.plan_code.specs.declared.instr.Instr.{Instr}
-use Rattle.plan_code.specs.declared.instr.Instr.TheVariants.{End}
-use Rattle.plan_verifier.specs.Flows.{Flow, known_at, after_instr}
-use Rattle.plan_verifier.specs.Rules.{IsFine, continues, target_of, suspends}
-use Rattle.script_front.specs.declared.tree.Act.{Act}
-use Rattle.script_front.specs.declared.tree.Act.TheVariants.{Edit, Wait, WaitContact, WaitAny, Until, CommitIn, CommitAt, Join, Settle}
-use Rattle.script_front.specs.Block.{nothing}
-use Rattle.script_config.specs.Frames.{ends_frame, FitFrames}
-use Rattle.script_config.specs.Plain.{acts_from}
+use Rattle.script_front.specs.declared.tree.Act.TheVariants.{Edit}
 use Rattle.script_compiler.specs.declared.flow.ProgramPoint.{ProgramPoint}
 use Rattle.script_compiler.specs.declared.flow.UnpricedLabel.{UnpricedLabel}
-use Rattle.script_compiler.specs.Compiled.{instrs_of, lines_of_placed, nested, Added, Tabled}
-use Rattle.script_compiler.specs.Judged.{IsJudged}
-use Rattle.script_compiler.specs.Need.{HasPath, IsWithinBudget}
-use Rattle.script_compiler.specs.Scheme.{PlacedInstr, at_label, without_label, instr_of_act, onward, point_after, placed_instr, alone, places, all_places, unpriced_label, unpriced_labels}
 
 -- ---- valid acts
 
 -- each act is valid for what is known before it
 abbrev pub FineActs : Plan → List Act → Flow → Type 0
 FineActs plan [] t = Unit {0}
-FineActs plan (a ∷ acts) t = IsFine plan (instr_of_act a) (known_at t) × FineActs plan acts (after_instr plan (instr_of_act a) t)
+FineActs plan (a ∷ acts) t = IsFine plan (instr_of_act a) (known_at t)
+    × FineActs plan acts (after_instr plan (instr_of_act a) t)
 
-pub acts_judged : (plan : Plan) (line : ℕ) (acts : List Act) (s : ProgramPoint) → FineActs plan acts s.flow → IsJudged plan (acts_from line acts nothing) s
+pub acts_judged : (plan : Plan) (line : ℕ) (acts : List Act) (s : ProgramPoint) → FineActs plan acts s.flow
+    → IsJudged plan (acts_from line acts nothing) s
 acts_judged plan line [] s h = tt
-acts_judged plan line (a ∷ acts) s h = (h.0, acts_judged plan (line + 1) acts (without_label (after_instr plan (instr_of_act a) s.flow)) h.1)
+acts_judged plan line (a ∷ acts) s h =
+    (h.0, acts_judged plan (line + 1) acts (without_label (after_instr plan (instr_of_act a) s.flow)) h.1)
 
 pub none_nested : (line : ℕ) (acts : List Act) → nested (acts_from line acts nothing) ≡ 0
 none_nested line [] = refl
@@ -47,21 +43,27 @@ ending (a ∷ acts) = instr_of_act a ∷ ending acts
 abbrev places_from : Plan → (last line : ℕ) → List Act → ProgramPoint → List PlacedInstr
 places_from plan last line [] s = placed_instr last End 0 s ∷ []
 places_from plan last line (a ∷ acts) s =
-    placed_instr line (instr_of_act a) 0 s ∷ places_from plan last (line + 1) acts (without_label (after_instr plan (instr_of_act a) s.flow))
+    placed_instr line (instr_of_act a) 0 s ∷ places_from plan last (line + 1) acts
+    (without_label (after_instr plan (instr_of_act a) s.flow))
 
 places_are : (plan : Plan) (last pc line : ℕ) (acts : List Act) (s : ProgramPoint)
-    → places plan 0 pc (acts_from line acts nothing) s ++ onward (point_after plan (acts_from line acts nothing) s) [] (alone last End 0) ≡ places_from plan last line acts s
+    → places plan 0 pc (acts_from line acts nothing) s
+    ++ onward (point_after plan (acts_from line acts nothing) s) [] (alone last End 0)
+    ≡ places_from plan last line acts s
 places_are plan last pc line [] s = refl
 places_are plan last pc line (a ∷ acts) s =
     ap (λ (ps : List PlacedInstr). placed_instr line (instr_of_act a) 0 s ∷ ps)
     (places_are plan last (pc + 1) (line + 1) acts (without_label (after_instr plan (instr_of_act a) s.flow)))
 
-instrs_from : (plan : Plan) (last line : ℕ) (acts : List Act) (s : ProgramPoint) → instrs_of (lines_of_placed (places_from plan last line acts s)) ≡ ending acts
+instrs_from : (plan : Plan) (last line : ℕ) (acts : List Act) (s : ProgramPoint)
+    → instrs_of (lines_of_placed (places_from plan last line acts s)) ≡ ending acts
 instrs_from plan last line [] s = refl
 instrs_from plan last line (a ∷ acts) s =
-    ap (λ (is : List Instr). instr_of_act a ∷ is) (instrs_from plan last (line + 1) acts (without_label (after_instr plan (instr_of_act a) s.flow)))
+    ap (λ (is : List Instr). instr_of_act a ∷ is)
+    (instrs_from plan last (line + 1) acts (without_label (after_instr plan (instr_of_act a) s.flow)))
 
-count_from : (plan : Plan) (last line : ℕ) (acts : List Act) (s : ProgramPoint) → length (places_from plan last line acts s) ≡ length acts + 1
+count_from : (plan : Plan) (last line : ℕ) (acts : List Act) (s : ProgramPoint)
+    → length (places_from plan last line acts s) ≡ length acts + 1
 count_from plan last line [] s = refl
 count_from plan last line (a ∷ acts) s =
     let rest = count_from plan last (line + 1) acts (without_label (after_instr plan (instr_of_act a) s.flow)) in
@@ -69,16 +71,21 @@ count_from plan last line (a ∷ acts) s =
 
 -- ---- labels
 
-unlabelled : (plan : Plan) (last line pc : ℕ) (acts : List Act) (t : Flow) → unpriced_labels pc (places_from plan last line acts (without_label t)) ≡ []
+unlabelled : (plan : Plan) (last line pc : ℕ) (acts : List Act) (t : Flow)
+    → unpriced_labels pc (places_from plan last line acts (without_label t)) ≡ []
 unlabelled plan last line pc [] t = refl
-unlabelled plan last line pc (a ∷ acts) t = unlabelled plan last (line + 1) (pc + 1) acts (after_instr plan (instr_of_act a) t)
+unlabelled plan last line pc (a ∷ acts) t =
+    unlabelled plan last (line + 1) (pc + 1) acts (after_instr plan (instr_of_act a) t)
 
 first_labelled : (plan : Plan) (last line : ℕ) (acts : List Act) (t : Flow)
     → (m : UnpricedLabel) × (unpriced_labels 0 (places_from plan last line acts (at_label t)) ≡ m ∷ [])
 first_labelled plan last line [] t = (unpriced_label 0 (placed_instr last End 0 (at_label t)), refl)
 first_labelled plan last line (a ∷ acts) t =
-    let m = unpriced_label 0 (placed_instr line (instr_of_act a) 0 (at_label t)) in
-    (m, ap (λ (ms : List UnpricedLabel). m ∷ ms) (unlabelled plan last (line + 1) 1 acts (after_instr plan (instr_of_act a) t)))
+    let m = unpriced_label 0 (placed_instr line (instr_of_act a) 0 (at_label t)) in (
+      m,
+      ap (λ (ms : List UnpricedLabel). m ∷ ms)
+          (unlabelled plan last (line + 1) 1 acts (after_instr plan (instr_of_act a) t)),
+    )
 
 added_few : (c : Configuration) (table new : List Configuration) → Added c table new → length new ≤ length table + 1
 added_few c table new h = elim h [
@@ -140,7 +147,8 @@ one_runs [] (suc k) h = absurd (false≢true h)
 one_runs (x ∷ xs) zero h = one_or_more (suspends x) (run_of xs)
 one_runs (x ∷ xs) (suc k) h = one_runs xs k h
 
-next_pc : (code : List Instr) (pc to : ℕ) (i : Instr) → NoTargets code → slice_get code pc ≡ Some i → ((continues i ≡ true) × (to ≡ pc + 1)) ⊎ (target_of i ≡ Some to) → to ≡ suc pc
+next_pc : (code : List Instr) (pc to : ℕ) (i : Instr) → NoTargets code → slice_get code pc ≡ Some i
+    → ((continues i ≡ true) × (to ≡ pc + 1)) ⊎ (target_of i ≡ Some to) → to ≡ suc pc
 next_pc code pc to i none got steps = elim steps [
   | inl on ↦ (let e = on.1 in omega (arith, e))
   | inr away ↦ (let no = target_at code pc i none got in absurd (cc))
@@ -174,7 +182,8 @@ abbrev pub EndsAfter : Act → List Act → Type 0
 EndsAfter a [] = ends_frame a ≡ true
 EndsAfter a (b ∷ acts) = EndsAfter b acts
 
-run_step : (left : ℕ) (i : Instr) (rest : List Instr) (b : Bool) → suspends i ≡ b → 1 ≤ left → (b ≡ false → run_of rest ≤ left - 1) → run_of (i ∷ rest) ≤ left
+run_step : (left : ℕ) (i : Instr) (rest : List Instr) (b : Bool) → suspends i ≡ b → 1 ≤ left
+    → (b ≡ false → run_of rest ≤ left - 1) → run_of (i ∷ rest) ≤ left
 run_step left i rest true s one few =
     let is : run_of (i ∷ rest) ≡ 1 = ap (λ (c : Bool). if c then 1 else 1 + run_of rest) s in
     omega (arith, is, one)
@@ -183,12 +192,14 @@ run_step left i rest false s one few =
     let less = few refl in
     omega (arith, is, less, one)
 
-run_fits : (most left : ℕ) (a : Act) (acts : List Act) → EndsAfter a acts → FitFrames most left (a ∷ acts) → run_of (ending (a ∷ acts)) ≤ left
+run_fits : (most left : ℕ) (a : Act) (acts : List Act) → EndsAfter a acts → FitFrames most left (a ∷ acts)
+    → run_of (ending (a ∷ acts)) ≤ left
 run_fits most left a [] e h =
     run_step left (instr_of_act a) (ending []) true (suspends_as a ∙ e) h.0 (λ no. absurd (cc))
 run_fits most left a (b ∷ acts) e h =
     run_step left (instr_of_act a) (ending (b ∷ acts)) (ends_frame a) (suspends_as a) h.0
-    (λ no. run_fits most (left - 1) b acts e (subst (λ (c : Bool). FitFrames most (if c then most else left - 1) (b ∷ acts)) no h.1))
+    (λ no. run_fits most (left - 1) b acts e
+    (subst (λ (c : Bool). FitFrames most (if c then most else left - 1) (b ∷ acts)) no h.1))
 
 no_run : (k : ℕ) → run_of (drop k []) ≡ 0
 no_run zero = refl
@@ -198,7 +209,8 @@ within_most : (b : Bool) (most left : ℕ) → left ≤ most → (if b then most
 within_most true most left le = omega arith
 within_most false most left le = omega (arith, le)
 
-runs_fit : (most left : ℕ) (a : Act) (acts : List Act) (pc : ℕ) → EndsAfter a acts → FitFrames most left (a ∷ acts) → left ≤ most → run_of (drop pc (ending (a ∷ acts))) ≤ most
+runs_fit : (most left : ℕ) (a : Act) (acts : List Act) (pc : ℕ) → EndsAfter a acts → FitFrames most left (a ∷ acts)
+    → left ≤ most → run_of (drop pc (ending (a ∷ acts))) ≤ most
 runs_fit most left a acts zero e h le =
     let few = run_fits most left a acts e h in
     omega (arith, few, le)
@@ -207,7 +219,8 @@ runs_fit most left a [] (suc (suc k)) e h le = (let none = no_run k in omega (ar
 runs_fit most left a (b ∷ acts) (suc k) e h le =
     runs_fit most (if ends_frame a then most else left - 1) b acts k e h.1 (within_most (ends_frame a) most left le)
 
-pub within_budget : (budget : ℕ) (a : Act) (acts : List Act) → EndsAfter a acts → FitFrames budget budget (a ∷ acts) → IsWithinBudget budget (ending (a ∷ acts))
+pub within_budget : (budget : ℕ) (a : Act) (acts : List Act) → EndsAfter a acts → FitFrames budget budget (a ∷ acts)
+    → IsWithinBudget budget (ending (a ∷ acts))
 within_budget budget a acts e h pc n path =
     let few = path_few (ending (a ∷ acts)) (none_in (a ∷ acts)) n pc path in
     let most = runs_fit budget budget a acts pc e h (omega arith) in
@@ -216,11 +229,14 @@ within_budget budget a acts e h pc n path =
 -- ---- the code of acts
 
 pub record IsPlainCode (plan : Plan) (last line : ℕ) (acts : List Act) (t : Flow) : Type 0 where
-  pub instrs : instrs_of (lines_of_placed (all_places plan last (acts_from line acts nothing) (at_label t))) ≡ ending acts
+  pub instrs : instrs_of (lines_of_placed (all_places plan last (acts_from line acts nothing) (at_label t)))
+      ≡ ending acts
   pub count : length (all_places plan last (acts_from line acts nothing) (at_label t)) ≡ length acts + 1
   pub labels : length (unpriced_labels 0 (all_places plan last (acts_from line acts nothing) (at_label t))) ≡ 1
   pub tables :
-      (table : List Configuration) → Tabled [] (unpriced_labels 0 (all_places plan last (acts_from line acts nothing) (at_label t))) table → length table ≤ 2
+      (table : List Configuration)
+      → Tabled [] (unpriced_labels 0 (all_places plan last (acts_from line acts nothing) (at_label t))) table
+      → length table ≤ 2
 
 pub plain_code : (plan : Plan) (last line : ℕ) (acts : List Act) (t : Flow) → IsPlainCode plan last line acts t
 plain_code plan last line acts t =
@@ -228,7 +244,8 @@ plain_code plan last line acts t =
     let label = first_labelled plan last line acts t in
     let labels = ap (unpriced_labels 0) same ∙ label.1 in
     record {
-      instrs = ap (λ (ps : List PlacedInstr). instrs_of (lines_of_placed ps)) same ∙ instrs_from plan last line acts (at_label t);
+      instrs = ap (λ (ps : List PlacedInstr). instrs_of (lines_of_placed ps)) same
+          ∙ instrs_from plan last line acts (at_label t);
       count = ap length same ∙ count_from plan last line acts (at_label t);
       labels = ap length labels;
       tables = λ table h. two_tabled label.0 table (subst (λ (ms : List UnpricedLabel). Tabled [] ms table) labels h);

@@ -1,39 +1,47 @@
--- What is said of the text that was read of a file is so of the whole file: it is no script if it was not read to its end.
-use Rattle.std.proofs.Common.{◌≡◌, ◌<◌, ◌≤◌, ℕ, Option, None, Some, IfSome, List, length, take, min, sym, ap, ◌∙◌, subst, arith, inl, inr, take_all, take-take, length-take, IsUtf8, Result, Ok, Err, IfOk, OnOk}
-use Rattle.std.proofs.lemmas.Bool.{cases_lt}
+-- What is said of the text that was read of a file is so of the whole file: it is no script if it was not read to its
+-- end.
+use Rattle.cli_scripts.proofs.Words.{◌<◌, ◌∙◌, ◌≡◌, ◌≤◌, Compiled, Err, IfOk, IfSome, IsCompiled, IsCompiledFrom}
+use Rattle.cli_scripts.proofs.Words.{IsReadOf, IsReason, IsRefusedFrom, IsUncompiled, IsUtf8, List, Memory, None, Ok}
+use Rattle.cli_scripts.proofs.Words.{OnOk, Option, Result, Script, ScriptRefusal, Some, ap, arith, cases_lt, inl, inr}
+use Rattle.cli_scripts.proofs.Words.{length, length-take, min, subst, sym, take, take-take, take_all, ℕ}
 use Rattle.script_front.specs.Denoting.{IsScriptOf, IsNoScript}
 use Rattle.script_tokens.specs.Texts.{MOST_BYTES}
-use Rattle.cli_scripts.specs.declared.compile.Compiled.{Compiled}
-use Rattle.cli_scripts.specs.declared.compile.ScriptRefusal.{ScriptRefusal}
-use Rattle.cli_scripts.specs.declared.compile.ScriptRefusal.TheVariants.{Script, Plan, Memory}
-use Rattle.cli_scripts.specs.Compiled.{IsCompiled, IsCompiledFrom, IsReason, IsRefusedFrom, IsUncompiled}
-use Rattle.cli_scripts.specs.FileTexts.{IsReadOf}
+use Rattle.cli_scripts.specs.declared.compile.ScriptRefusal.TheVariants.{Plan}
 
 -- what is so of a value, if there is one, and what is so beside it
-pub both_ok : {A E : Type 0} (given : Result A E) (P Q : A → Type 0) (U : Type 0) → ((a : A) → P a → U → Q a) → IfOk given P → OnOk given U → IfOk given Q
+pub both_ok : {A E : Type 0} (given : Result A E) (P Q : A → Type 0) (U : Type 0) → ((a : A) → P a → U → Q a)
+    → IfOk given P → OnOk given U → IfOk given Q
 both_ok (Ok a) P Q U more p u = more a p u
 both_ok (Err e) P Q U more p u = tt
 
 -- what follows from the first bytes of a file, where its bytes are known
-pub of_known : (known : Option (List ℕ)) (most : ℕ) (read text : List ℕ) (Q : List ℕ → Type 0) → text ≡ read → IfSome known (λ bytes. read ≡ take most bytes)
+pub of_known : (known : Option (List ℕ)) (most : ℕ) (read text : List ℕ) (Q : List ℕ → Type 0) → text ≡ read
+    → IfSome known (λ bytes. read ≡ take most bytes)
     → ((bytes : List ℕ) → text ≡ take most bytes → Q bytes) → IfSome known Q
 of_known None most read text Q same is more = tt
 of_known (Some bytes) most read text Q same is more = more bytes (same ∙ is)
 
 -- the first bytes of a file, and the whole characters of these
-read_of : (most : ℕ) (bytes read text : List ℕ) → read ≡ take most bytes → (length read < most → text ≡ read) → (most ≤ length read → MOST_BYTES < length text)
+read_of : (most : ℕ) (bytes read text : List ℕ) → read ≡ take most bytes → (length read < most → text ≡ read)
+    → (most ≤ length read → MOST_BYTES < length text)
     → text ≡ take (length text) read → IsUtf8 text → IsReadOf bytes text
 read_of most bytes read text is short long front utf8 =
     let cut : length text ≡ min (length text) (length read) = ap length front ∙ length-take (length text) read in
     let size : length read ≡ min most (length bytes) = ap length is ∙ length-take most bytes in
     let within : length text ≤ most = omega (arith, cut, size) in
-    let first : text ≡ take (length text) bytes = front ∙ ap (take (length text)) is ∙ take-take (length text) most bytes within in
+    let first : text ≡ take (length text) bytes = front ∙ ap (take (length text)) is
+    ∙ take-take (length text) most bytes within in
     elim (cases_lt (length read) most) [
-      | inl lt ↦ record { front = first; enough = inl (short lt ∙ is ∙ take_all most bytes (omega (arith, size, lt))); utf8 = utf8 }
+      | inl lt ↦ record {
+        front = first;
+        enough = inl (short lt ∙ is ∙ take_all most bytes (omega (arith, size, lt)));
+        utf8 = utf8;
+      }
       | inr ge ↦ record { front = first; enough = inr (long ge); utf8 = utf8 }
     ]
 
-pub text_read : (most : ℕ) (bytes read kept text : List ℕ) → read ≡ take most bytes → (length read < most → kept ≡ read) → (most ≤ length read → MOST_BYTES < length kept)
+pub text_read : (most : ℕ) (bytes read kept text : List ℕ) → read ≡ take most bytes → (length read < most → kept ≡ read)
+    → (most ≤ length read → MOST_BYTES < length kept)
     → kept ≡ take (length kept) read → text ≡ kept → IsUtf8 kept → IsReadOf bytes text
 text_read most bytes read kept text is short long front same utf8 =
     subst (λ (t : List ℕ). IsReadOf bytes t) (sym same) (read_of most bytes read kept is short long front utf8)
@@ -44,7 +52,8 @@ whole_of bytes text r fits = elim r.enough [
   | inr more ↦ absurd (omega (arith, fits, more))
 ]
 
-pub compiled_whole : (bytes text : List ℕ) (c : Compiled) → IsReadOf bytes text → IsCompiled text c → IsCompiledFrom bytes c
+pub compiled_whole : (bytes text : List ℕ) (c : Compiled) → IsReadOf bytes text → IsCompiled text c
+    → IsCompiledFrom bytes c
 compiled_whole bytes text c r h =
     let e : text ≡ bytes = whole_of bytes text r h.2.denotes.short in
     record { utf8 = subst IsUtf8 e r.utf8; compiled = subst (λ (t : List ℕ). IsCompiled t c) e h }
@@ -58,8 +67,10 @@ none_in_whole bytes text r none tree script is = elim r.enough [
       absurd (omega (arith, cut, more, short))
 ]
 
-pub refused_whole : (bytes text : List ℕ) (refusal : ScriptRefusal) → IsReadOf bytes text → IsUncompiled text refusal → IsReason refusal → IsRefusedFrom bytes refusal
-refused_whole bytes text (Script fault) r h reason = record { uncompiled = none_in_whole bytes text r h; reason = reason }
+pub refused_whole : (bytes text : List ℕ) (refusal : ScriptRefusal) → IsReadOf bytes text → IsUncompiled text refusal
+    → IsReason refusal → IsRefusedFrom bytes refusal
+refused_whole bytes text (Script fault) r h reason =
+    record { uncompiled = none_in_whole bytes text r h; reason = reason }
 refused_whole bytes text (Plan fault) r h reason =
     let e : text ≡ bytes = whole_of bytes text r h.2.short in
     record { uncompiled = subst (λ (t : List ℕ). IsUncompiled t (Plan fault)) e h; reason = reason }

@@ -1,26 +1,15 @@
 -- What success means, in small cases: examples that hold and that fail.
-use Rattle.std.proofs.Common.{◌≡◌, ℕ, List, [], ◌∷◌, length, take_all, IsUtf8, None, Ok, refl, sym, ap, subst, inl, inr, arith}
-use Rattle.console.specs.declared.exit.Status.TheVariants.{Done, Refused, Faulty}
-use Rattle.fib_codec.specs.declared.frame_layout.FrameLayout.{FrameLayout}
-use Rattle.mux_config.specs.Configuration.{Configuration}
+use Rattle.cli_scripts.proofs.Words.{[], ◌∷◌, ◌≡◌, Compiled, Compiles, Diffs, Done, End, Faulty, FindsCompiled}
+use Rattle.cli_scripts.proofs.Words.{FrameScriptRequest, FramesScript, GivesFrame, HasPlan, HasScript, IsAcceptedFile}
+use Rattle.cli_scripts.proofs.Words.{IsCompiledFrom, IsPlanText, IsReadOf, IsReason, IsScriptText, IsUtf8, List}
+use Rattle.cli_scripts.proofs.Words.{ListenScriptRequest, Memory, Named, None, Ok, Opening, Refused, Script}
+use Rattle.cli_scripts.proofs.Words.{TellsScript, Verifies, ap, arith, clamped, count_of, inl, inr, length, refl, subst}
+use Rattle.cli_scripts.proofs.Words.{sym, take_all, ℕ}
 use Rattle.plan_code.specs.Program.{Program, IsProgram}
 use Rattle.plan_code.specs.Spelling.{code_bytes}
-use Rattle.plan_code.specs.declared.instr.Instr.TheVariants.{End}
 use Rattle.plan_verifier.proofs.Samples.{label, line, line_is, code, first_is}
 use Rattle.plan_verifier.proofs.OneVerdict.{typed_if}
-use Rattle.script_config.specs.declared.opening.Opening.{Opening}
 use Rattle.script_tokens.specs.declared.fault.ScriptFault.TheVariants.{Byte}
-use Rattle.cli_scripts.specs.declared.compile.Compiled.{Compiled}
-use Rattle.cli_scripts.specs.declared.compile.ScriptRefusal.TheVariants.{Script, Memory}
-use Rattle.cli_scripts.specs.declared.frame_script.FrameScriptRequest.{FrameScriptRequest}
-use Rattle.cli_scripts.specs.declared.listen_script.ListenScriptRequest.{ListenScriptRequest}
-use Rattle.cli_scripts.specs.declared.listen_script.Named.{Named}
-use Rattle.cli_scripts.specs.Compiled.{FindsCompiled, IsCompiledFrom, IsReason}
-use Rattle.cli_scripts.specs.FileTexts.{IsReadOf}
-use Rattle.cli_scripts.specs.Planned.{IsPlanText}
-use Rattle.cli_scripts.specs.ScriptFrame.{GivesFrame}
-use Rattle.cli_scripts.specs.ScriptOfStream.{HasScript, IsScriptText, clamped}
-use Rattle.cli_scripts.specs.Success.{Compiles, Diffs, FramesScript, HasPlan, IsAcceptedFile, TellsScript, Verifies, count_of}
 
 -- ---- what is read
 
@@ -41,7 +30,8 @@ memory_is_no_reason h = h
 a_byte_is_a_reason : IsReason (Script (Byte (record { line = 2; column = 13 })))
 a_byte_is_a_reason e = absurd (cc)
 
-its_own_file : (script : List ℕ) (c : Compiled) → IsCompiledFrom script c → Compiles script (λ file. file ≡ c.file.items) Done
+its_own_file : (script : List ℕ) (c : Compiled) → IsCompiledFrom script c
+    → Compiles script (λ file. file ≡ c.file.items) Done
 its_own_file script c h = (c, h, refl)
 
 done_without_a_file : (script : List ℕ) → Compiles script (λ file. ⊥) Done → ⊥
@@ -60,7 +50,13 @@ ending_is : IsProgram ending
 ending_is = first_is 1 (line End ∷ []) (omega arith) (omega arith) (line_is End tt, tt) (omega arith) (omega arith)
 
 accepted : IsAcceptedFile (code_bytes ending)
-accepted = (ending, record { read = record { program = ending_is; bytes = refl }; typed = typed_if ending ending_is refl })
+accepted = (
+  ending,
+  record {
+    read = record { program = ending_is; bytes = refl };
+    typed = typed_if ending ending_is refl;
+  },
+)
 
 done : Verifies (code_bytes ending) Done
 done = accepted
@@ -84,7 +80,8 @@ raised = refl
 as_it_is : clamped 12 248 240 ≡ 240
 as_it_is = refl
 
-printed_script : (request : ListenScriptRequest) (named : Named) (text : List ℕ) → IsScriptText request named text → HasScript request named (λ t. t ≡ text) Done
+printed_script : (request : ListenScriptRequest) (named : Named) (text : List ℕ) → IsScriptText request named text
+    → HasScript request named (λ t. t ≡ text) Done
 printed_script request named text script = (text, script, refl)
 
 script_not_printed : (stream : List ℕ) (request : ListenScriptRequest) → TellsScript stream request (λ t. ⊥) Done → ⊥
@@ -92,7 +89,8 @@ script_not_printed stream request h = h.2.2
 
 -- ---- `frame --script`
 
-raw_frame : (script : List ℕ) (request : FrameScriptRequest) (frame : List ℕ) → GivesFrame script (count_of request) request.page (Ok frame)
+raw_frame : (script : List ℕ) (request : FrameScriptRequest) (frame : List ℕ)
+    → GivesFrame script (count_of request) request.page (Ok frame)
     → FramesScript script request (λ t. t ≡ frame) Done
 raw_frame script request frame gives = (frame, gives, λ raw. refl)
 

@@ -41,5 +41,6 @@ pub record IsRefusedPlan (from to : Opening) (fault : CompileFault) : Type 0 whe
 -- configuration is not sound, or the pages of the second one do not fit its own period
 abbrev pub IsPlanFault : Opening → Opening → PlanFault → Type 0
 IsPlanFault from to (Between fault) = IsInTheWay from to fault
-IsPlanFault from to (Refused fault) = CanBePlanned from to × IsRefusedPlan from to fault × (IsOpening from → FitsPeriod to → ⊥)
+IsPlanFault from to (Refused fault) = CanBePlanned from to × IsRefusedPlan from to fault
+    × (IsOpening from → FitsPeriod to → ⊥)
 IsPlanFault from to Memory = CanBePlanned from to

@@ -15,8 +15,8 @@ use Rattle.cli_scripts.specs.declared.frame_script.ScriptFrameFault.{ScriptFrame
 use Rattle.cli_scripts.specs.declared.frame_script.ScriptFrameFault.TheVariants.{Script, Item, Frame, Memory}
 
 -- the script's ensemble, at this count and without change flags
-abbrev pub named_at : Plan → ℕ → EnsembleInformation
-named_at header count = record { eid = header.eid; change = 0; al = false; count = count; occurrence = None }
+abbrev pub ensemble_named_at : Plan → ℕ → EnsembleInformation
+ensemble_named_at header count = record { eid = header.eid; change = 0; al = false; count = count; occurrence = None }
 
 abbrev pub in_frame : Result (List ℕ) FrameFault → Result (List ℕ) ScriptFrameFault
 in_frame (Ok frame) = Ok frame
@@ -26,7 +26,7 @@ in_frame (Err fault) = Err (Frame fault)
 abbrev pub frame_of_made : Plan → (count index : ℕ) → Result Configuration ItemFault → Result (List ℕ) ScriptFrameFault
 frame_of_made header count index (Err fault) = Err (Item fault)
 frame_of_made header count index (Ok c) =
-    in_frame (frame_or_fault (sound_or_fault c) (page_or_fault header.layout (named_at header count) index c))
+    in_frame (frame_or_fault (sound_or_fault c) (page_or_fault header.layout (ensemble_named_at header count) index c))
 
 abbrev pub frame_of_script : Tree → (count index : ℕ) → Result (List ℕ) ScriptFrameFault
 frame_of_script tree count index = frame_of_made tree.header count index (made_by tree.items nothing)

@@ -1,5 +1,6 @@
 -- What the success of each command means that reads or prints scripts, over files with known bytes; and which verdict a
--- refusal is. `Holds` says of bytes that OUT, or standard output for `-`, has them; `Prints` that standard output has taken them.
+-- refusal is. `Holds` says of bytes that OUT, or standard output for `-`, has them; `Prints` that standard output has
+-- taken them.
 use Rattle.std.specs.Prelude.{◌≡◌, ℕ, ◌-◌, nat_lt, if◌then◌else◌, true, List, Ok, IsUtf8}
 use Rattle.console.specs.declared.exit.Status.{Status}
 use Rattle.console.specs.declared.exit.Status.TheVariants.{Done, Refused, Misused, Faulty}
@@ -44,7 +45,7 @@ Verifies file Faulty = ⊥
 -- ---- `diff FROM TO`
 
 -- the file is the text, in UTF-8, of a script with this opening
-pub record HasOpening (bytes : List ℕ) (o : Opening) : Type 0 where
+pub record HasScriptOpening (bytes : List ℕ) (o : Opening) : Type 0 where
   pub utf8 : IsUtf8 bytes
   pub opens : Opens bytes o
 
@@ -56,7 +57,7 @@ HasPlan from to Prints Misused = ⊥
 HasPlan from to Prints Faulty = ⊥
 
 abbrev pub Diffs : (from to : List ℕ) → (Prints : List ℕ → Type 0) → Status → Type 0
-Diffs from to Prints Done = (a b : Opening) × HasOpening from a × HasOpening to b × HasPlan a b Prints Done
+Diffs from to Prints Done = (a b : Opening) × HasScriptOpening from a × HasScriptOpening to b × HasPlan a b Prints Done
 Diffs from to Prints Refused = Unit {0}
 Diffs from to Prints Misused = ⊥
 Diffs from to Prints Faulty = ⊥
@@ -65,7 +66,8 @@ Diffs from to Prints Faulty = ⊥
 
 -- done: the script of the configuration is printed that the stream shows at its end, as the current or the next one
 abbrev pub TellsScript : (stream : List ℕ) → ListenScriptRequest → (Prints : List ℕ → Type 0) → Status → Type 0
-TellsScript stream request Prints Done = (named : Named) × HearsNamed stream (Ok named) × HasScript request named Prints Done
+TellsScript stream request Prints Done = (named : Named) × HearsNamed stream (Ok named)
+    × HasScript request named Prints Done
 TellsScript stream request Prints Refused = Unit {0}
 TellsScript stream request Prints Misused = ⊥
 TellsScript stream request Prints Faulty = ⊥
@@ -79,7 +81,8 @@ count_of request = if nat_lt request.count COUNTS then request.count else COUNTS
 -- done: the file is the text of a script with such a frame, whose bytes are printed where `--raw` asks for them
 abbrev pub FramesScript : (script : List ℕ) → FrameScriptRequest → (Prints : List ℕ → Type 0) → Status → Type 0
 FramesScript script request Prints Done =
-    (frame : List ℕ) × GivesFrame script (count_of request) request.page (Ok frame) × (request.raw ≡ true → Prints frame)
+    (frame : List ℕ) × GivesFrame script (count_of request) request.page (Ok frame)
+    × (request.raw ≡ true → Prints frame)
 FramesScript script request Prints Refused = Unit {0}
 FramesScript script request Prints Misused = ⊥
 FramesScript script request Prints Faulty = ⊥

@@ -76,14 +76,15 @@ impl From<AllocError> for ScriptRefusal {
     }
 }
 
-/// Runs `compile`: writes the code file of the script, and prints the numbers of instructions, labels and
-/// configurations; or prints why the script is refused, and explains it. The file is written last, and as a whole,
-/// so that a failure leaves it as it was; no other file is changed. At the end the warnings about an accepted
-/// script are reported on standard error, unless nothing is to be explained: a line each, or `no memory` if out of
-/// memory for them, which changes nothing else.
+/// Runs `compile`: writes the code file of the script, and prints the numbers of instructions,
+/// labels and configurations; or prints why the script is refused, and explains it. The file is
+/// written last, and as a whole, so that a failure leaves it as it was; no other file is changed.
+/// At the end the warnings about an accepted script are reported on standard error, unless nothing
+/// is to be explained: a line each, or `no memory` if out of memory for them, which changes nothing
+/// else.
 ///
-/// `Read` if the script can't be read, or is not UTF-8; `Create` if the file can't be written; `Output` if `out`
-/// fails; `Memory` if out of memory.
+/// `Read` if the script can't be read, or is not UTF-8; `Create` if the file can't be written;
+/// `Output` if `out` fails; `Memory` if out of memory.
 pub fn show_compile<'a, F: Files, W: Write>(
     alloc: Global,
     request: &CompileRequest<'a>,
@@ -108,11 +109,11 @@ pub fn show_compile<'a, F: Files, W: Write>(
     Ok(Status::Done)
 }
 
-/// Runs `compile` with standard output in place of the file: the code file goes to `out`, and the lines to `lines`, the
-/// warnings among them. No file is changed.
+/// Runs `compile` with standard output in place of the file: the code file goes to `out`, and the
+/// lines to `lines`, the warnings among them. No file is changed.
 ///
-/// The failures are those of [`show_compile`]: `Create` if `out` fails, which may have taken some bytes then, and
-/// `Output` if `lines` fails.
+/// The failures are those of [`show_compile`]: `Create` if `out` fails, which may have taken some
+/// bytes then, and `Output` if `lines` fails.
 pub fn stream_compile<'a, F: Files, W: Write, L: Write>(
     alloc: Global,
     request: &CompileRequest<'a>,
@@ -152,8 +153,8 @@ fn write_through<W: Write>(bytes: &[u8], out: &mut W) -> io::Result<()>
     }
 }
 
-/// The compiled script of the request, with the notes on it; `None` after printing why it is refused. No file is
-/// changed.
+/// The compiled script of the request, with the notes on it; `None` after printing why it is
+/// refused. No file is changed.
 fn compile_script<'a, F: Files, W: Write>(
     alloc: Global,
     request: &CompileRequest<'a>,
@@ -239,8 +240,8 @@ fn compiled_of(alloc: Global, code: &Code) -> Result<Compiled, AllocError>
 
 /// Parses and compiles the text of a script.
 ///
-/// `Script` if the text is not a script, with its first fault; `Plan` if the plan is refused; `Memory` if there is not
-/// enough.
+/// `Script` if the text is not a script, with its first fault; `Plan` if the plan is refused;
+/// `Memory` if there is not enough.
 pub(crate) fn made_of(alloc: Global, text: &str) -> Result<(Script, Code), ScriptRefusal>
     ensures made { IfOk result (λ made. IsMadeOf text.now made.0 made.1) }
     ensures refused { IfErr result (IsUncompiled text.now) }

@@ -6,7 +6,7 @@ ghost use Rattle.console.specs.declared.exit.Status.TheVariants.{Refused};
 ghost use Rattle.script_config.specs.Openings.{IsOpening};
 ghost use Rattle.script_config.specs.Refusals.{CanBePlanned};
 ghost use Rattle.cli_scripts.specs.Planned.{IsPlanText, IsPlanFault};
-ghost use Rattle.cli_scripts.specs.Success.{Diffs, HasOpening, HasPlan};
+ghost use Rattle.cli_scripts.specs.Success.{Diffs, HasScriptOpening, HasPlan};
 
 use crate::compile::ScriptRefusal;
 use crate::explained::{Explanation, explain_script};
@@ -39,8 +39,8 @@ pub struct DiffRequest<'a> {
 pub enum PlanFault {
     /// No plan changes one opening into the other.
     Between(DiffFault),
-    /// The plan is refused: the first configuration is not sound, or the pages of the second one do not fit its own
-    /// period.
+    /// The plan is refused: the first configuration is not sound, or the pages of the second one do
+    /// not fit its own period.
     Refused(CompileFault),
     /// Out of memory.
     Memory,
@@ -53,10 +53,11 @@ struct NoOpening {
     fault: OpeningFault,
 }
 
-/// Runs `diff`: prints the plan, or why there is none: all of FROM's refusals come before those of TO, and these before
-/// those of the change between them. No file is changed.
+/// Runs `diff`: prints the plan, or why there is none: all of FROM's refusals come before those of
+/// TO, and these before those of the change between them. No file is changed.
 ///
-/// `Read` if a file can't be read, or is not UTF-8; `Output` if `out` fails; `Memory` if out of memory.
+/// `Read` if a file can't be read, or is not UTF-8; `Output` if `out` fails; `Memory` if out of
+/// memory.
 pub fn show_diff<'a, F: Files, W: Write>(
     alloc: Global,
     request: &DiffRequest<'a>,
@@ -86,7 +87,7 @@ fn opening_in<'a, F: Files>(
 ) -> Result<Result<Opening, NoOpening>, Failure<'a>>
     ensures formed { IfOk result (λ found. IfOk found IsOpening) }
     ensures opening { IfOk result (λ found. IfOk found (λ opening.
-        IfSome (F.known files.old path.now) (λ bytes. HasOpening bytes opening))) }
+        IfSome (F.known files.old path.now) (λ bytes. HasScriptOpening bytes opening))) }
     ensures known { (other : List ℕ)
         → Keeps (F.known files.old other) (F.known files.new other) }
 {
@@ -105,7 +106,7 @@ fn opening_of_bytes<'a>(
 ) -> Result<Result<Opening, OpeningFault>, Failure<'a>>
     ensures formed { IfOk result (λ found. IfOk found IsOpening) }
     ensures opening { IfOk result (λ found. IfOk found (λ opening.
-        (file : List ℕ) → bytes.now ≡ take 1048581 file → HasOpening file opening)) }
+        (file : List ℕ) → bytes.now ≡ take 1048581 file → HasScriptOpening file opening)) }
 {
     let text = script_text(bytes, path)?;
     match read_opening(alloc, text) {
@@ -189,11 +190,11 @@ fn print_plan<'a, W: Write>(
     }
 }
 
-/// The text of the plan from one opening to another by one reconfiguration (EN 300 401 clauses 6.4 and 6.5). It
-/// is compiled, so that its code is known to be typed.
+/// The text of the plan from one opening to another by one reconfiguration (EN 300 401 clauses 6.4
+/// and 6.5). It is compiled, so that its code is known to be typed.
 ///
-/// `Between` if there is no such plan. Of two sound openings, of which the second one fits its own period, the plan is
-/// always accepted.
+/// `Between` if there is no such plan. Of two sound openings, of which the second one fits its own
+/// period, the plan is always accepted.
 pub fn plan_text(alloc: Global, from: &Opening, to: &Opening) -> Result<String, PlanFault>
     requires { IsOpening to.now }
     ensures plan { IfOk result (λ text. IsPlanText from.now to.now (string_bytes text)) }

@@ -1,5 +1,5 @@
-//! Refusals with their explanation: behind the line of the refusal where that is asked for, else on standard error, in the form
-//! that editors read.
+//! Refusals with their explanation: behind the line of the refusal where that is asked for, else on
+//! standard error, in the form that editors read.
 
 ghost use Rattle.console.specs.World.{Stays};
 
@@ -22,7 +22,8 @@ pub enum Explanation {
     WithLine = 1,
     /// On standard error, as `PATH:L: error: SENTENCE`.
     OnError = 2,
-    /// Behind the line of the refusal, where that goes to standard error, as `PATH:L: error: SENTENCE`.
+    /// Behind the line of the refusal, where that goes to standard error, as `PATH:L: error:
+    /// SENTENCE`.
     WithErrorLine = 3,
     /// Nowhere.
     Nowhere = 4,
@@ -40,8 +41,8 @@ impl Explanation {
 
 /// Prints why a script of this path and text is refused, and explains it.
 ///
-/// If out of memory for an explanation that is asked for, the line alone is printed and `Memory` is returned; another one is
-/// left out then.
+/// If out of memory for an explanation that is asked for, the line alone is printed and `Memory` is
+/// returned; another one is left out then.
 pub(crate) fn show_script_refusal<'a, F: Files, W: Write>(
     alloc: Global,
     path: &str,
@@ -57,7 +58,8 @@ pub(crate) fn show_script_refusal<'a, F: Files, W: Write>(
     explain_script(alloc, path, text, refusal, explanation, files, out)
 }
 
-/// Explains why a script of this path and text is refused, where the line of the refusal is printed already.
+/// Explains why a script of this path and text is refused, where the line of the refusal is printed
+/// already.
 pub(crate) fn explain_script<'a, F: Files, W: Write>(
     alloc: Global,
     path: &str,
@@ -90,7 +92,8 @@ fn notes_on(alloc: Global, text: &str, refusal: &ScriptRefusal) -> io::Result<Ve
     }
 }
 
-/// Prints why the code in a file of this path is refused, and explains it, as [`show_script_refusal`] does.
+/// Prints why the code in a file of this path is refused, and explains it, as
+/// [`show_script_refusal`] does.
 pub(crate) fn show_code_refusal<'a, F: Files, W: Write>(
     alloc: Global,
     path: &str,
@@ -121,7 +124,8 @@ fn notes_on_file(alloc: Global, file: &[u8], fault: &RunFault) -> io::Result<Vec
     }
 }
 
-/// Prints notes on the text of this path behind the line of its refusal, or reports them on standard error.
+/// Prints notes on the text of this path behind the line of its refusal, or reports them on
+/// standard error.
 fn show_notes<'a, F: Files, W: Write>(
     alloc: Global,
     path: &str,

@@ -1,6 +1,7 @@
 //! `dabplan frame --script`: prints one frame of the initial configuration of a script.
 
-ghost use Rattle.std.specs.Prelude.{◌≡◌, ◌≢◌, ◌<◌, ℕ, List, codes, take, true, IfErr, IfOk, IfSome, OnOk};
+ghost use Rattle.std.specs.Prelude.{◌≡◌, ◌≢◌, ◌<◌, ℕ, List, codes, take, true, IfErr, IfOk, IfSome};
+ghost use Rattle.std.specs.Prelude.{OnOk};
 ghost use Rattle.std.specs.Io.KnownBytes.{Appends};
 ghost use Rattle.mux_types.specs.declared.limits.TheConstants.{COUNTS};
 ghost use Rattle.cli_scripts.specs.ScriptFrame.{GivesFrame, IsFrameReason};
@@ -41,7 +42,8 @@ pub struct FrameScriptRequest<'a> {
     pub explanation: Explanation,
 }
 
-/// Why a script gives no frame, in the order in which [`frame_of_script`] tests. Its text is the line that is printed.
+/// Why a script gives no frame, in the order in which [`frame_of_script`] tests. Its text is the
+/// line that is printed.
 #[derive(Clone, Copy, Debug, PartialEq, Eq, Error)]
 pub enum ScriptFrameFault {
     /// The text is not a script.
@@ -60,8 +62,8 @@ pub enum ScriptFrameFault {
 
 /// Runs `frame --script`: prints the FIBs of the frame, or why there is none.
 ///
-/// `Read` if the script can't be read, or is not UTF-8, or `Memory` if out of memory: nothing is printed
-/// then. `Output` if `out` fails: it has taken a part, from the first byte on.
+/// `Read` if the script can't be read, or is not UTF-8, or `Memory` if out of memory: nothing is
+/// printed then. `Output` if `out` fails: it has taken a part, from the first byte on.
 pub fn show_script_frame<'a, F: Files, W: Write>(
     alloc: Global,
     request: &FrameScriptRequest<'a>,
@@ -116,7 +118,8 @@ fn show_frame_of<'a, F: Files, W: Write>(
     }
 }
 
-/// The refusal by `compile` of a script that gives no frame for this reason; `Memory` where there is none.
+/// The refusal by `compile` of a script that gives no frame for this reason; `Memory` where there
+/// is none.
 fn refusal_of(fault: ScriptFrameFault) -> ScriptRefusal {
     match fault {
         ScriptFrameFault::Script(fault) => ScriptRefusal::Script(fault),
@@ -152,9 +155,9 @@ fn count_of(request: &FrameScriptRequest<'_>) -> u16
     }
 }
 
-/// The FIBs of page `index` of a script's initial configuration, in its mode, with FIG 0/0 of its ensemble if
-/// the count is a multiple of the mode's step: 4, 1, 1 or 2 (EN 300 401 clauses 5.1 and 6.4). Its blocks and
-/// statements are only parsed.
+/// The FIBs of page `index` of a script's initial configuration, in its mode, with FIG 0/0 of its
+/// ensemble if the count is a multiple of the mode's step: 4, 1, 1 or 2 (EN 300 401 clauses 5.1 and
+/// 6.4). Its blocks and statements are only parsed.
 ///
 /// Returns the first fault in the order of [`ScriptFrameFault`].
 pub fn frame_of_script(

@@ -1,5 +1,6 @@
-//! The commands of the program that read or print scripts: `compile`, `diff` and `map`, and `frame` and `listen` with
-//! `--script`; and `verify`, whose refusals are explained as those of `compile` are.
+//! The commands of the program that read or print scripts: `compile`, `diff` and `map`, and `frame`
+//! and `listen` with `--script`; and `verify`, whose refusals are explained as those of `compile`
+//! are.
 #![tactic(auto)]
 
 mod commit_blocks;

@@ -32,7 +32,8 @@ use stream_monitor::Hints;
 pub struct ListenScriptRequest<'a> {
     /// The path of the file of FIBs, or `-` for standard input.
     pub file: &'a str,
-    /// The layout of a frame of the script: the transmission mode, which FIBs do not carry, and the reserve.
+    /// The layout of a frame of the script: the transmission mode, which FIBs do not carry, and the
+    /// reserve.
     pub layout: FrameLayout,
     /// The period, in frames, 1 to 60; `None` for the default.
     pub period: Option<u8>,
@@ -71,12 +72,12 @@ pub struct Named {
     pub eid: Option<u16>,
 }
 
-/// Runs `listen --script`: prints the script of the current configuration at the end of the file, or of
-/// standard input if the path is `-`; or of the next one, if that is asked for. Where a swap is awaited, standard error
-/// says that the current configuration is the one before it.
+/// Runs `listen --script`: prints the script of the current configuration at the end of the file,
+/// or of standard input if the path is `-`; or of the next one, if that is asked for. Where a swap
+/// is awaited, standard error says that the current configuration is the one before it.
 ///
-/// `Read` if the file can't be read, or `Memory` if out of memory: nothing is printed then. `Output` if
-/// `out` fails: it has taken a part, from the first byte on.
+/// `Read` if the file can't be read, or `Memory` if out of memory: nothing is printed then.
+/// `Output` if `out` fails: it has taken a part, from the first byte on.
 pub fn show_script<'a, F: Files, W: Write>(
     alloc: Global,
     request: &ListenScriptRequest<'a>,
@@ -107,8 +108,8 @@ pub fn show_script<'a, F: Files, W: Write>(
     }
 }
 
-/// Decodes a stream of FIBs as [`listen_to`](cli_streams::listen::listen_to) does, and the ensemble of the last
-/// FIG 0/0 (OE 0) in FIBs that are not damaged (EN 300 401 clause 6.4).
+/// Decodes a stream of FIBs as [`listen_to`](cli_streams::listen::listen_to) does, and the ensemble
+/// of the last FIG 0/0 (OE 0) in FIBs that are not damaged (EN 300 401 clause 6.4).
 ///
 /// `Failed` if the source of the pieces fails.
 #[tactic(auto, using(crate::proofs::Naming::ends_named))]
@@ -237,8 +238,8 @@ fn clamped(low: u8, high: u8, number: u8) -> u8
     }
 }
 
-/// The header of the script, from the request and the stream. An out-of-range number, which the command line
-/// refuses, is clamped.
+/// The header of the script, from the request and the stream. An out-of-range number, which the
+/// command line refuses, is clamped.
 fn header_for(request: &ListenScriptRequest<'_>, eid: u16, config: &Config) -> Plan
     ensures value { result ≡ header_of request.now eid config.now }
     ensures headed { IsPlan result }

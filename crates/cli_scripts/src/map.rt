@@ -1,4 +1,5 @@
-//! `dabplan map`: shows which capacity units each sub-channel has in a plan, or the one layout that serves all of it.
+//! `dabplan map`: shows which capacity units each sub-channel has in a plan, or the one layout that
+//! serves all of it.
 
 use crate::compile::ScriptRefusal;
 use crate::explained::{Explanation, report_lines, show_script_refusal};
@@ -24,12 +25,13 @@ pub struct MapRequest<'a> {
     pub explanation: Explanation,
 }
 
-/// Runs `map`: writes the drawing, if requested, and prints the map of the script, or its layout if that is requested;
-/// or prints why the script is refused, as `compile` does. The drawing is created after every check that can refuse the
-/// script. Last, it reports the warnings about the script on standard error, a line each. No other file is changed.
+/// Runs `map`: writes the drawing, if requested, and prints the map of the script, or its layout if
+/// that is requested; or prints why the script is refused, as `compile` does. The drawing is
+/// created after every check that can refuse the script. Last, it reports the warnings about the
+/// script on standard error, a line each. No other file is changed.
 ///
-/// `Read` if the script can't be read, or is not UTF-8; `Create` if the drawing can't be written; `Output` if `out`
-/// fails; `Memory` if out of memory.
+/// `Read` if the script can't be read, or is not UTF-8; `Create` if the drawing can't be written;
+/// `Output` if `out` fails; `Memory` if out of memory.
 pub fn show_map<'a, F: Files, W: Write>(
     alloc: Global,
     request: &MapRequest<'a>,
@@ -54,7 +56,8 @@ pub fn show_map<'a, F: Files, W: Write>(
     Ok(status)
 }
 
-/// The map of the script of the request; `None` after printing why it is refused. No file is changed.
+/// The map of the script of the request; `None` after printing why it is refused. No file is
+/// changed.
 fn map_script<'a, F: Files, W: Write>(
     alloc: Global,
     request: &MapRequest<'a>,

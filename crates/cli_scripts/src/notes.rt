@@ -48,7 +48,8 @@ impl Notes {
     }
 }
 
-/// A line for each warning about the script of this path, with this code. The error is out of memory.
+/// A line for each warning about the script of this path, with this code. The error is out of
+/// memory.
 fn lines_on(alloc: Global, path: &str, script: &Script, code: &Code) -> io::Result<Vec<u8>>
     requires { IsTyped code.now }
 {

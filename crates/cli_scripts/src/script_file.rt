@@ -1,6 +1,7 @@
 //! Reads scripts, up to a bound that no script exceeds.
 
-ghost use Rattle.std.specs.Prelude.{◌≡◌, ◌≢◌, ℕ, List, codes, ◌<◌, ◌≤◌, take, length, IfOk, OnOk, OnErr, IfSome, IsUtf8};
+ghost use Rattle.std.specs.Prelude.{◌≡◌, ◌≢◌, ℕ, List, codes, ◌<◌, ◌≤◌, take, length, IfOk, OnOk};
+ghost use Rattle.std.specs.Prelude.{OnErr, IfSome, IsUtf8};
 ghost use Rattle.std.specs.Io.KnownBytes.{Keeps};
 ghost use Rattle.console.specs.World.{Stays};
 ghost use Rattle.cli_scripts.specs.FileTexts.{IsReadOf};
@@ -14,8 +15,9 @@ use std::str;
 /// The most bytes read of a file: more than any script has, and one whole character after them.
 const READ: usize = MOST_BYTES + 5;
 
-/// The first bytes of a script's file, or why it can't be read: all bytes of a file within the size limit of
-/// scripts, and of a longer one just enough to detect that it is longer. All files keep their bytes.
+/// The first bytes of a script's file, or why it can't be read: all bytes of a file within the size
+/// limit of scripts, and of a longer one just enough to detect that it is longer. All files keep
+/// their bytes.
 pub fn read_script<'a, F: Files>(
     alloc: Global,
     files: &mut F,
@@ -45,8 +47,9 @@ pub fn read_script_input<'a, F: Files>(
     read_input(alloc, files, path, READ)
 }
 
-/// Drops a character that was cut at the end of the bytes: of a file read to the limit, keeps the bytes before a
-/// character that begins after the longest script. In UTF-8 one of four successive bytes begins a character.
+/// Drops a character that was cut at the end of the bytes: of a file read to the limit, keeps the
+/// bytes before a character that begins after the longest script. In UTF-8 one of four successive
+/// bytes begins a character.
 pub fn whole_characters(bytes: &[u8]) -> &[u8]
     ensures short { length bytes.now < 1048581 → result.now ≡ bytes.now }
     ensures long { 1048581 ≤ length bytes.now → 1048576 < length result.now }
@@ -75,8 +78,9 @@ pub fn text_of<'b, 'a>(bytes: &'b [u8], path: &'a str) -> Result<&'b str, Failur
     }
 }
 
-/// The text of a script's file, of which these are the first bytes, as [`read_script`] reads them; a file that is not
-/// UTF-8 can't be read. Of a file longer than any script it is more than any script has.
+/// The text of a script's file, of which these are the first bytes, as [`read_script`] reads them;
+/// a file that is not UTF-8 can't be read. Of a file longer than any script it is more than any
+/// script has.
 pub(crate) fn script_text<'b, 'a>(bytes: &'b [u8], path: &'a str) -> Result<&'b str, Failure<'a>>
     ensures text { (file : List ℕ) → bytes.now ≡ take 1048581 file
         → IfOk result (λ text. IsReadOf file text.now) }

@@ -23,7 +23,8 @@ pub struct VerifyRequest<'a> {
     pub explanation: Explanation,
 }
 
-/// Runs `verify`: prints `accepted`, or why the code in the file is not accepted, and explains it. No file is changed.
+/// Runs `verify`: prints `accepted`, or why the code in the file is not accepted, and explains it.
+/// No file is changed.
 ///
 /// `Read` if the file can't be read; `Output` if `out` fails; `Memory` if out of memory.
 pub fn show_verdict<'a, F: Files, W: Write>(

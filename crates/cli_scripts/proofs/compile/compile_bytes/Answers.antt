@@ -10,6 +10,7 @@ returns-in_ok-show_script_refusal-in_default g c =
     let why = c.in-Err in
     record {
       found = λ file is.
-          refused file c.in_ok-text.text.now why.refusal (c.in_ok-text.ensures.text file is) why.ensures.refused (why.ensures.reason c.in_default.not-Memory);
+          refused file c.in_ok-text.text.now why.refusal (c.in_ok-text.ensures.text file is) why.ensures.refused
+          (why.ensures.reason c.in_default.not-Memory);
       world = c.show_script_refusal.ensures.world;
     }

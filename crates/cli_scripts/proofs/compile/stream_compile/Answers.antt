@@ -1,5 +1,4 @@
-use Rattle.std.proofs.Common.{Some, subst}
-use Rattle.std.specs.Io.KnownBytes.{Appends}
+use Rattle.cli_scripts.proofs.Words.{Appends, Some, subst}
 use Rattle.cli_scripts.proofs.Compiling.{compiles, found_as}
 use Rattle.cli_scripts.proofs.compile.stream_compile.Goals as goal
 
@@ -13,8 +12,10 @@ returns g c =
     record {
       input = λ path.
           compiles input c.in-Some.found _
-          (found_as input c.in_ok-found.field-0 (Some c.in-Some.found) c.in-Some.is (c.in_ok-found.ensures.input path)) holds;
+          (found_as input c.in_ok-found.field-0 (Some c.in-Some.found) c.in-Some.is (c.in_ok-found.ensures.input path))
+          holds;
       file = λ path.
           compiles known c.in-Some.found _
-          (found_as known c.in_ok-found.field-0 (Some c.in-Some.found) c.in-Some.is (c.in_ok-found.ensures.script path)) holds;
+          (found_as known c.in_ok-found.field-0 (Some c.in-Some.found) c.in-Some.is (c.in_ok-found.ensures.script path))
+          holds;
     }

@@ -1,5 +1,4 @@
-use Rattle.std.proofs.Common.{subst}
-use Rattle.script_front.specs.Tree.{IsScript}
+use Rattle.cli_scripts.proofs.Words.{IsScript, subst}
 use Rattle.cli_scripts.proofs.AcceptedPlans.{refused_fault}
 use Rattle.cli_scripts.proofs.diff.plan_text.Goals as goal
 
@@ -13,6 +12,8 @@ returns-in_default-fault c =
     record {
       plan = tt;
       leads = tt;
-      fault = refused_fault c.args.from.now c.args.to.now c.in-Ok.script why.fault is_from is_to formed c.requires c.in_default.ensures.none
-          (c.transforming.ensures.between c.args.from.now.config c.args.to.now.config is_from is_to) made.frames made.begins made.plain why.ensures.refused c.in_default-fault.not-Memory;
+      fault = refused_fault c.args.from.now c.args.to.now c.in-Ok.script why.fault is_from is_to formed c.requires
+          c.in_default.ensures.none
+          (c.transforming.ensures.between c.args.from.now.config c.args.to.now.config is_from is_to) made.frames
+          made.begins made.plain why.ensures.refused c.in_default-fault.not-Memory;
     }

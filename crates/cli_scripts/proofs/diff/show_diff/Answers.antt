@@ -1,4 +1,4 @@
-use Rattle.std.proofs.lemmas.Result.{IfOk-weaker}
+use Rattle.cli_scripts.proofs.Words.{IfOk-weaker}
 use Rattle.cli_scripts.proofs.Succeeding.{diffs, of_ok}
 use Rattle.cli_scripts.proofs.diff.show_diff.Goals as goal
 
@@ -12,6 +12,7 @@ returns g c =
     let opens_too = of_ok _ c.in-Ok-2.opening _ c.in-Ok-2.is c.in_ok-opening-2.ensures.opening in
     record {
       success = IfOk-weaker c.print_plan.result _ _
-          (λ status plan. diffs (known from) (known to) (after to) c.in-Ok.opening c.in-Ok-2.opening _ status opens (c.in_ok-opening.ensures.known to) opens_too plan)
+          (λ status plan. diffs (known from) (known to) (after to) c.in-Ok.opening c.in-Ok-2.opening _ status opens
+          (c.in_ok-opening.ensures.known to) opens_too plan)
           c.print_plan.ensures;
     }

@@ -1,12 +1,10 @@
 -- The pieces so far, decoded, give the result and the ensemble of a stream of their bytes.
-use Rattle.std.proofs.Common.{◌≡◌, ℕ, ◌*◌, ◌%◌, ◌≤◌, Bool, List, length, Option, None}
-use Rattle.std.specs.Io.KnownBytes.{Consumes}
-use Rattle.script_config.specs.Ensembles.{NamesAfter}
-use Rattle.cli_streams.specs.declared.listen.Heard.{Heard}
-use Rattle.cli_streams.specs.Stream.{HearsTheStream, fibs_of_stream, unheard, ended}
+use Rattle.cli_scripts.proofs.Words.{◌%◌, ◌*◌, ◌≡◌, ◌≤◌, Bool, Consumes, Heard, HearsTheStream, List, NamesAfter, None}
+use Rattle.cli_scripts.proofs.Words.{Option, ended, fibs_of_stream, length, unheard, ℕ}
 use Rattle.cli_scripts.proofs.listen_script.name_of.Given as goal
 
-pub record NamedSoFar (before left : Option (List ℕ)) (has_room : Bool) (heard : Heard) (eid : Option ℕ) (pieces : ℕ) : Type 0 where
+pub record NamedSoFar (before left : Option (List ℕ)) (has_room : Bool) (heard : Heard) (eid : Option ℕ)
+    (pieces : ℕ) : Type 0 where
   pub stream : List ℕ
   pub consumed : Consumes before left stream
   pub whole : length stream % 32 ≡ 0

@@ -8,6 +8,7 @@ returns c =
     record {
       text = λ file is.
           both_ok c.text_of.result _ _ _
-          (λ t same utf8. text_read 1048581 file c.args.bytes.now kept.result.now t.now is kept.ensures.short kept.ensures.long kept.ensures.front same utf8)
+          (λ t same utf8. text_read 1048581 file c.args.bytes.now kept.result.now t.now is kept.ensures.short
+          kept.ensures.long kept.ensures.front same utf8)
           c.text_of.ensures.text c.text_of.ensures.utf8;
     }
