@@ -5,7 +5,7 @@ ghost use Rattle.std.specs.Prelude.{◌≤◌};
 use crate::args::{Request, UsageError, request_of};
 use crate::causes::{cause_asked, print_causes};
 use crate::live::{answer_frames, writes_frames};
-use crate::mistakes::{answer_mistake, explain, report_mistake};
+use crate::mistakes::answer_mistake;
 use crate::products::{answer_product, can_stream, has_product};
 use crate::remarks::{Remark, make_remark};
 use crate::same_files::same_file;
@@ -20,13 +20,14 @@ use std::alloc::Global;
 use std::convert::AsStr;
 use std::io::{self, ErrorKind, Write};
 
-/// Runs the command that the arguments after the program's name ask for, prints to `out`, and returns the exit status.
-/// `live` and `merge` write frames to `out` as they are made, and their messages to standard error; so do `play` and
-/// `compile` with their output, where it is `-`.
+/// Runs the command that the arguments after the program's name ask for, prints to `out`, and
+/// returns the exit status. `live` and `merge` write frames to `out` as they are made, and their
+/// messages to standard error; so do `play` and `compile` with their output, where it is `-`.
 ///
 /// 0: done, or help was printed. 1: refused, a file could not be read, out of memory, or `out`
-/// failed, after which nothing more is printed. 2: the arguments are invalid, which is found before a file is
-/// read. 3: `check` found faults. The texts of help and of invalid arguments are checked by tests alone.
+/// failed, after which nothing more is printed. 2: the arguments are invalid, which is found before
+/// a file is read. 3: `check` found faults. The texts of help and of invalid arguments are checked
+/// by tests alone.
 pub fn answer<S: AsStr, F: Files, W: Write>(
     alloc: Global,
     args: &[S],
@@ -52,8 +53,8 @@ pub fn answer<S: AsStr, F: Files, W: Write>(
     }
 }
 
-/// Reports arguments that could not be read, and returns the exit status: 1 if out of memory or if `out` failed,
-/// else 2. The report goes to standard error if the first argument is a command that
+/// Reports arguments that could not be read, and returns the exit status: 1 if out of memory or if
+/// `out` failed, else 2. The report goes to standard error if the first argument is a command that
 /// writes frames.
 pub fn answer_without_args<F: Files, W: Write>(
     alloc: Global,
@@ -62,18 +63,13 @@ pub fn answer_without_args<F: Files, W: Write>(
     files: &mut F,
     out: &mut W,
 ) -> u8
-    ensures bound { result ≤ 3 }
+    ensures bound { result ≤ 2 }
 {
     let unasked = match error.kind() {
         ErrorKind::OutOfMemory => UsageError::Memory,
         _ => UsageError::NoText,
     };
-    if writes_frames {
-        return status_number(report_mistake(alloc, unasked, files));
-    }
-    let mut output = Output::new(out);
-    let ended = explain(alloc, unasked, &mut output);
-    finish(ended, &mut output)
+    answer_mistake(alloc, unasked, writes_frames, files, out)
 }
 
 /// Runs the command of a request, and returns the exit status.

@@ -35,7 +35,8 @@ pub use parser::Message;
 use std::alloc::{AllocError, Global};
 use std::convert::AsStr;
 
-/// The parsed command line of every command but `live` and `merge`, whose output is frames: see [`FramesRequest`].
+/// The parsed command line of every command but `live` and `merge`, whose output is frames: see
+/// [`FramesRequest`].
 #[derive(Drop)]
 pub enum Request<'a> {
     /// `frame`.
@@ -89,7 +90,8 @@ pub enum UsageError<'a> {
     Reserve(u8),
     /// Both inputs are standard input.
     TwiceInput,
-    /// Two of the paths, those of these values, are the same, and one of the files would be written over.
+    /// Two of the paths, those of these values, are the same, and one of the files would be written
+    /// over.
     SameFile {
         input: &'static str,
         output: &'static str,
@@ -123,8 +125,8 @@ impl From<AllocError> for UsageError<'_> {
     }
 }
 
-/// Parses the arguments after the program's name. Those of `live` and `merge` are parsed by [`frames_request_of`], and
-/// are refused here.
+/// Parses the arguments after the program's name. Those of `live` and `merge` are parsed by
+/// [`frames_request_of`], and are refused here.
 pub fn request_of<'a, S: AsStr>(
     alloc: Global,
     args: &'a [S],

@@ -1,4 +1,5 @@
-//! `dabplan help CAUSE`: what a cause means for which a script or a plan is refused, as docs/guide/SCRIPTS.md has it.
+//! `dabplan help CAUSE`: what a cause means for which a script or a plan is refused, as
+//! docs/guide/SCRIPTS.md has it.
 
 use console::exit::Status;
 use std::convert::AsStr;
@@ -244,7 +245,8 @@ entries; no 'reserve'",
     Cause {
         name: "Limit",
         whole: "Limit",
-        meaning: "more than 4,096 instructions, 1,024 labels, 256 configurations or 8 nested repeats",
+        meaning: "more than 4,096 instructions, 1,024 labels, 256 configurations or 8 nested \
+         repeats",
         advice: Some("'repeat' instead of copies"),
         example: Some("examples/refused/limit.plan"),
     },
@@ -257,7 +259,8 @@ fn is_cause(name: &str) -> bool {
         .any(|cause| cause.name.eq_ignore_ascii_case(name))
 }
 
-/// The name of the cause that these arguments ask for help on, `help CAUSE`; `None` if they ask for something else.
+/// The name of the cause that these arguments ask for help on, `help CAUSE`; `None` if they ask for
+/// something else.
 pub(crate) fn cause_asked<S: AsStr>(args: &[S]) -> Option<&str> {
     let [command, name] = args else {
         return None;

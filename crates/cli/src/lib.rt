@@ -1,5 +1,5 @@
-//! The command-line program: [`answer`](answer::answer), and the parser of its arguments. Each command is in `cli_streams`,
-//! `cli_scripts` or `cli_plans`.
+//! The command-line program: [`answer`](answer::answer), and the parser of its arguments. Each
+//! command is in `cli_streams`, `cli_scripts` or `cli_plans`.
 #![tactic(auto)]
 
 pub mod answer;

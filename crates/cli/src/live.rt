@@ -20,8 +20,8 @@ pub(crate) fn writes_frames<S: AsStr>(args: &[S]) -> bool {
     }
 }
 
-/// Runs `live` or `merge` and returns its exit status. Frames and help go to `out`; everything else goes to standard
-/// error.
+/// Runs `live` or `merge` and returns its exit status. Frames and help go to `out`; everything else
+/// goes to standard error.
 #[inline(never)]
 pub(crate) fn answer_frames<S: AsStr, F: Files, W: Write>(
     alloc: Global,

@@ -1,9 +1,8 @@
 //! Help, and command lines that ask for no command.
 
-ghost use Rattle.std.specs.Prelude.{◌≤◌};
+ghost use Rattle.std.specs.Prelude.{◌≤◌, IfOk};
 
 use crate::args::UsageError;
-use console::ending::{finish, status_number};
 use console::escaped::Escaped;
 use console::exit::{Failure, Status};
 use console::files::Files;
@@ -12,7 +11,8 @@ use std::alloc::{AllocError, Global};
 use std::io::{self, Write};
 use std::str;
 
-/// Prints the help text, or reports an invalid command line: on standard error if standard output may be an output.
+/// Prints the help text, or reports an invalid command line: on standard error if standard output
+/// may be an output. Returns the exit status: 1 if out of memory or if `out` failed.
 pub(crate) fn answer_mistake<F: Files, W: Write>(
     alloc: Global,
     unasked: UsageError<'_>,
@@ -20,26 +20,29 @@ pub(crate) fn answer_mistake<F: Files, W: Write>(
     files: &mut F,
     out: &mut W,
 ) -> u8
-    ensures bound { result ≤ 3 }
+    ensures bound { result ≤ 2 }
 {
     if can_stream && !unasked.is_help() {
-        return status_number(report_mistake(alloc, unasked, files));
+        return report_mistake(alloc, unasked, files);
     }
     let mut output = Output::new(out);
-    let ended = explain(alloc, unasked, &mut output);
-    finish(ended, &mut output)
+    let Ok(status) = explain(alloc, unasked, &mut output) else {
+        return Status::Refused as u8;
+    };
+    match output.flush() {
+        Ok(()) => status,
+        Err(_) => Status::Refused as u8,
+    }
 }
 
-/// Reports an invalid command line on standard error.
-pub(crate) fn report_mistake<F: Files>(
-    alloc: Global,
-    unasked: UsageError<'_>,
-    files: &mut F,
-) -> Status {
+/// Reports an invalid command line on standard error, and returns the exit status.
+fn report_mistake<F: Files>(alloc: Global, unasked: UsageError<'_>, files: &mut F) -> u8
+    ensures bound { result ≤ 2 }
+{
     let mut text: Vec<u8> = Vec::new(alloc);
     let Ok(status) = explain(alloc, unasked, &mut text) else {
         files.report(Failure::Memory);
-        return Status::Refused;
+        return Status::Refused as u8;
     };
     if let Ok(line) = str::from_utf8(text.as_slice()) {
         files.report(line.trim());
@@ -47,12 +50,11 @@ pub(crate) fn report_mistake<F: Files>(
     status
 }
 
-/// Prints the help text, or the one-line message for an invalid command line.
-pub(crate) fn explain<W: Write>(
-    alloc: Global,
-    unasked: UsageError<'_>,
-    out: &mut W,
-) -> io::Result<Status> {
+/// Prints the help text, or the one-line message for an invalid command line, and returns the exit
+/// status.
+fn explain<W: Write>(alloc: Global, unasked: UsageError<'_>, out: &mut W) -> io::Result<u8>
+    ensures bound { IfOk result (λ status. status ≤ 2) }
+{
     let status = mistake_status(&unasked);
     if let UsageError::Help(help) = &unasked {
         write!(out, "{help}")?;
@@ -65,17 +67,19 @@ pub(crate) fn explain<W: Write>(
         }
         Err(_) => {
             writeln!(out, "{}", Failure::Memory)?;
-            Ok(Status::Refused)
+            Ok(Status::Refused as u8)
         }
     }
 }
 
 /// The exit status after the help text, or after a message.
-fn mistake_status(unasked: &UsageError<'_>) -> Status {
+fn mistake_status(unasked: &UsageError<'_>) -> u8
+    ensures bound { result ≤ 2 }
+{
     match unasked {
-        UsageError::Help(_) => Status::Done,
-        UsageError::Memory => Status::Refused,
-        _ => Status::Misused,
+        UsageError::Help(_) => Status::Done as u8,
+        UsageError::Memory => Status::Refused as u8,
+        _ => Status::Misused as u8,
     }
 }
 
@@ -92,7 +96,8 @@ fn text_of(alloc: Global, unasked: UsageError<'_>) -> Result<String, AllocError>
             Escaped::in_line(value)
         ),
         UsageError::Reserve(value) => format!(in alloc;
-            "error: invalid value '{value}' for '--reserve <R>': expected 1, or in mode 3 a number from 1 to 2"
+            "error: invalid value '{value}' for '--reserve <R>': expected 1, or in mode 3 a number \
+             from 1 to 2"
         ),
         UsageError::SameFile {
             input,
@@ -122,8 +127,8 @@ fn text_of(alloc: Global, unasked: UsageError<'_>) -> Result<String, AllocError>
     }
 }
 
-/// Prints an error text as one line: its lines up to the usage, with a tip after a semicolon. The tip
-/// to pass an option as a value is omitted: no command takes such a value.
+/// Prints an error text as one line: its lines up to the usage, with a tip after a semicolon. The
+/// tip to pass an option as a value is omitted: no command takes such a value.
 fn print_mistake<W: Write>(text: &str, out: &mut W) -> io::Result<()> {
     let mut is_first = true;
     for line in text.lines() {
@@ -161,8 +166,8 @@ fn write_reason<W: Write>(line: &str, out: &mut W) -> io::Result<()> {
     }
 }
 
-/// The ends of the range in a reason of the parser, as in `5 is not in 1..=4`; `None` if it is another
-/// reason.
+/// The ends of the range in a reason of the parser, as in `5 is not in 1..=4`; `None` if it is
+/// another reason.
 fn range_of(reason: &str) -> Option<(&str, &str)> {
     let (_number, range) = reason.split_once(" is not in ")?;
     range.split_once("..=")

@@ -1,5 +1,5 @@
-//! Commands whose standard output is a product, as a plan or frames: it gets the product alone, whole, and all lines go to
-//! standard error.
+//! Commands whose standard output is a product, as a plan or frames: it gets the product alone,
+//! whole, and all lines go to standard error.
 
 use crate::answer::run;
 use crate::args::Request;
@@ -26,8 +26,8 @@ pub(crate) fn has_product(request: &Request<'_>) -> bool {
     }
 }
 
-/// Whether mistakes in these arguments go to standard error: those of `play` and `compile` with `-`, which may be the
-/// output, and those of `diff`.
+/// Whether mistakes in these arguments go to standard error: those of `play` and `compile` with
+/// `-`, which may be the output, and those of `diff`.
 pub(crate) fn can_stream<S: AsStr>(args: &[S]) -> bool {
     let Some((command, others)) = args.split_first() else {
         return false;
@@ -39,7 +39,8 @@ pub(crate) fn can_stream<S: AsStr>(args: &[S]) -> bool {
     }
 }
 
-/// Runs a command whose product goes to `out`, and returns its exit status. Its lines go to standard error.
+/// Runs a command whose product goes to `out`, and returns its exit status. Its lines go to
+/// standard error.
 #[inline(never)]
 pub(crate) fn answer_product<F: Files, W: Write>(
     alloc: Global,
@@ -59,7 +60,8 @@ pub(crate) fn answer_product<F: Files, W: Write>(
     report_lines(alloc, request, ended, lines, files)
 }
 
-/// Runs a command that prints a product, which is held until it is whole: what is printed of a refusal is left in `lines`.
+/// Runs a command that prints a product, which is held until it is whole: what is printed of a
+/// refusal is left in `lines`.
 fn print_product<'a, F: Files, W: Write>(
     alloc: Global,
     request: &Request<'a>,

@@ -1,5 +1,5 @@
-//! Remarks on standard error about the files of a command that failed or refused them: why a file can't be read, and what it
-//! is where it is of another kind than the command wants.
+//! Remarks on standard error about the files of a command that failed or refused them: why a file
+//! can't be read, and what it is where it is of another kind than the command wants.
 
 use crate::args::Request;
 use console::escaped::Escaped;
@@ -74,7 +74,8 @@ pub(crate) fn make_remark<F: Files>(
     }
 }
 
-/// Reports why the file of a path can't be read, if that is known. Of a text that is where it is none.
+/// Reports why the file of a path can't be read, if that is known. Of a text that is where it is
+/// none.
 fn remark_unread<F: Files>(alloc: Global, path: &str, is_text: bool, files: &mut F) {
     if path == "-" {
         return;
@@ -120,7 +121,8 @@ fn place_of(before: &[u8]) -> (usize, usize) {
     (line, column)
 }
 
-/// The file of a request that may be of another kind, and the kind that is wanted; a record is of no kind that is known.
+/// The file of a request that may be of another kind, and the kind that is wanted; a record is of
+/// no kind that is known.
 fn wanted_of<'r>(request: &Request<'r>) -> Option<(&'r str, Kind)> {
     match request {
         Request::Compile(request) => Some((request.script, Kind::Script)),
@@ -217,8 +219,8 @@ fn is_fib(bytes: &[u8]) -> bool {
     fib[30] == sum[0] && fib[31] == sum[1]
 }
 
-/// Whether bytes begin with a frame of ETI (NI): its error field, and one of its two synchronisation words (EN 300 799
-/// clause 6.2).
+/// Whether bytes begin with a frame of ETI (NI): its error field, and one of its two
+/// synchronisation words (EN 300 799 clause 6.2).
 fn is_eti(bytes: &[u8]) -> bool {
     match bytes.split_first() {
         Some((_error, rest)) => {

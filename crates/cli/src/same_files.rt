@@ -1,4 +1,5 @@
-//! Inputs and outputs that are one file, by the same words, by other paths or through links: an input is never written over.
+//! Inputs and outputs that are one file, by the same words, by other paths or through links: an
+//! input is never written over.
 
 use crate::args::{Request, UsageError};
 use console::files::Files;
@@ -10,7 +11,8 @@ struct Operand<'a> {
     path: &'a str,
 }
 
-/// The mistake of an input of a request that is its output too, `None` if there is none. Nothing is opened or created.
+/// The mistake of an input of a request that is its output too, `None` if there is none. Nothing is
+/// opened or created.
 pub(crate) fn same_file<'a, F: Files>(request: &Request<'a>, files: &F) -> Option<UsageError<'a>> {
     match request {
         Request::Compile(request) => one_file(
@@ -42,8 +44,9 @@ fn named<'a>(name: &'static str, path: &'a str) -> Operand<'a> {
     Operand { name, path }
 }
 
-/// The mistake where an input and an output are one file, or are named by the same words. The output `-` is standard output,
-/// the input `-` standard input, which may be a file; and a device or a pipe may be both.
+/// The mistake where an input and an output are one file, or are named by the same words. The
+/// output `-` is standard output, the input `-` standard input, which may be a file; and a device
+/// or a pipe may be both.
 fn one_file<'a, F: Files>(
     files: &F,
     input: Operand<'a>,

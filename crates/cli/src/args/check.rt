@@ -135,7 +135,8 @@ fn time() -> Argument {
     Argument {
         name: "time",
         value_name: "HH:MM:SS",
-        help: "The time of the day at frame 0, 00:00:00 to 23:59:59: prints the time of each finding",
+        help: "The time of the day at frame 0, 00:00:00 to 23:59:59: prints the time of each \
+         finding",
         kind: Kind::Text(None),
         rule: Rule::Free,
     }

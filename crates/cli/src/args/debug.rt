@@ -2,7 +2,7 @@
 
 use crate::args::parser::{Grammar, Page, Values};
 use crate::args::shared::file;
-use crate::args::start::{contacts, count, day, start_options, time};
+use crate::args::start::{start_options, with_start};
 use crate::args::{Request, UsageError};
 use cli_plans::debug::DebugRequest;
 use std::alloc::{AllocError, Global};
@@ -68,13 +68,10 @@ Exit status:
 
 /// The command `debug`.
 pub(crate) fn grammar<'a>(alloc: Global) -> Result<Grammar<'a>, AllocError> {
-    Grammar::of_command(alloc, PAGE)
+    let files = Grammar::of_command(alloc, PAGE)
         .argument(file("code", "CODE", "The code file"))?
-        .argument(file("commands", "COMMANDS", "The command file"))?
-        .argument(count())?
-        .argument(day())?
-        .argument(time())?
-        .argument(contacts())
+        .argument(file("commands", "COMMANDS", "The command file"))?;
+    with_start(files)
 }
 
 /// Reads the arguments of `debug`.

@@ -3,7 +3,7 @@
 use crate::args::UsageError;
 use crate::args::parser::{Argument, Grammar, Page, Values};
 use crate::args::shared::{file, flag, number};
-use crate::args::start::{contacts, count, day, start_options, time};
+use crate::args::start::{start_options, with_start};
 use cli_plans::live::LiveRequest;
 use plan_live::Wanted;
 use std::alloc::{AllocError, Global};
@@ -79,12 +79,8 @@ pub(crate) fn grammar<'a>(alloc: Global) -> Result<Grammar<'a>, AllocError> {
     let status_help =
         "Reports each notice that begins, each swap and the end of the plan on standard error";
     let json_help = "Writes each message on standard error as an object of JSON";
-    Grammar::of_command(alloc, PAGE)
-        .argument(file("code", "CODE", "The code file"))?
-        .argument(count())?
-        .argument(day())?
-        .argument(time())?
-        .argument(contacts())?
+    let code = Grammar::of_command(alloc, PAGE).argument(file("code", "CODE", "The code file"))?;
+    with_start(code)?
         .argument(skip())?
         .argument(flag("status", status_help))?
         .argument(every())?

@@ -45,8 +45,8 @@ pub(crate) enum Rule {
     Required,
     /// It is required unless this one is present.
     RequiredUnless(&'static str),
-    /// It requires the first, and conflicts with the second. Where those two conflict with each other, the parser would
-    /// else waive the first.
+    /// It requires the first, and conflicts with the second. Where those two conflict with each
+    /// other, the parser would else waive the first.
     NeedsWithout(&'static str, &'static str),
     /// It requires this one.
     Needs(&'static str),

@@ -2,7 +2,7 @@
 
 use crate::args::parser::{Grammar, Page, Values};
 use crate::args::shared::file;
-use crate::args::start::{contacts, count, day, start_options, time};
+use crate::args::start::{start_options, with_start};
 use crate::args::{Request, UsageError};
 use cli_plans::play::PlayRequest;
 use std::alloc::{AllocError, Global};
@@ -59,26 +59,20 @@ Exit status:
 
 /// The command `play`.
 pub(crate) fn grammar<'a>(alloc: Global) -> Result<Grammar<'a>, AllocError> {
-    Grammar::of_command(alloc, PAGE)
+    let files = Grammar::of_command(alloc, PAGE)
         .argument(file("code", "CODE", "The code file"))?
         .argument(file("events", "EVENTS", "The event file"))?
-        .argument(file("out", "OUT", "The file to write the frames to"))?
-        .argument(count())?
-        .argument(day())?
-        .argument(time())?
-        .argument(contacts())
+        .argument(file("out", "OUT", "The file to write the frames to"))?;
+    with_start(files)
 }
 
 /// Reads the arguments of `play`.
 pub(crate) fn request<'a>(values: &Values<'_, 'a>) -> Result<Request<'a>, UsageError<'a>> {
     let start = start_options(values)?;
-    let code = values.some_text("code")?;
-    let events = values.some_text("events")?;
-    let out = values.some_text("out")?;
     Ok(Request::Play(PlayRequest {
-        code,
-        events,
-        out,
+        code: values.some_text("code")?,
+        events: values.some_text("events")?,
+        out: values.some_text("out")?,
         start,
     }))
 }

@@ -115,8 +115,8 @@ pub(crate) fn reserve() -> Argument {
     number("reserve", "R", 1, 2, None, help)
 }
 
-/// The layout of a frame: the transmission mode, and the reserve, if there is one. `Reserve` if it is not one of the
-/// mode.
+/// The layout of a frame: the transmission mode, and the reserve, if there is one. `Reserve` if it
+/// is not one of the mode.
 pub(crate) fn layout_of<'a>(values: &Values<'_, 'a>) -> Result<FrameLayout, UsageError<'a>> {
     let mode = some_mode(values)?;
     if values.number("reserve").is_none() {

@@ -1,27 +1,38 @@
-//! The start options of `play`, `debug` and `live`: CIF count, time of day and contacts of the first frame.
+//! The start options of `play`, `debug` and `live`: CIF count, time of day and contacts of the
+//! first frame.
 
 use crate::args::UsageError;
-use crate::args::parser::{Argument, Kind, Rule, Values};
+use crate::args::parser::{Argument, Grammar, Kind, Rule, Values};
 use crate::args::shared::number;
 use console::hexadecimal::u16_of;
 use plan_code::Contacts;
 use plan_session::StartOptions;
 use script_tokens::number as numbers;
+use std::alloc::AllocError;
+
+/// A command with the start options.
+pub(crate) fn with_start<'a>(grammar: Grammar<'a>) -> Result<Grammar<'a>, AllocError> {
+    grammar
+        .argument(count())?
+        .argument(day())?
+        .argument(time())?
+        .argument(contacts())
+}
 
 /// The CIF count of the first frame.
-pub(crate) fn count() -> Argument {
+fn count() -> Argument {
     let help = "The CIF count of the first frame, 0 to 4999";
     number("count", "N", 0, 65535, Some("0"), help)
 }
 
 /// The first frame's index in the day.
-pub(crate) fn day() -> Argument {
+fn day() -> Argument {
     let help = "The time of day of the first frame, in frames since midnight, 0 to 3599999";
     number("day", "N", 0, 4294967295, Some("0"), help)
 }
 
 /// The time of day at the first frame.
-pub(crate) fn time() -> Argument {
+fn time() -> Argument {
     Argument {
         name: "time",
         value_name: "HH:MM:SS",
@@ -32,7 +43,7 @@ pub(crate) fn time() -> Argument {
 }
 
 /// The contacts that are closed at the start.
-pub(crate) fn contacts() -> Argument {
+fn contacts() -> Argument {
     Argument {
         name: "contacts",
         value_name: "HHHH",
@@ -63,27 +74,19 @@ pub(crate) fn start_options<'a>(values: &Values<'_, 'a>) -> Result<StartOptions,
 /// The first frame's index in the day, from `--time` or else from `--day`.
 fn day_option<'a>(values: &Values<'_, 'a>) -> Result<u32, UsageError<'a>> {
     match values.text("time") {
-        Some(text) => match day_at(text) {
-            Some(day) => Ok(day),
-            None => Err(UsageError::Time(text)),
-        },
+        Some(text) => day_at(text).ok_or(UsageError::Time(text)),
         None => values.some_number("day"),
     }
 }
 
-/// The second of the day of the time `HH:MM:SS`; `None` if the text is not a time from 00:00:00 to 23:59:59.
+/// The second of the day of the time `HH:MM:SS`; `None` if the text is not a time from 00:00:00 to
+/// 23:59:59.
 pub(crate) fn second_at(text: &str) -> Option<u32> {
-    match numbers::time(text.as_bytes()) {
-        Some(time) => Some(time.seconds()),
-        _ => None,
-    }
+    Some(numbers::time(text.as_bytes())?.seconds())
 }
 
-/// The first frame of the day, in frames of 24 ms, that begins at or after the time `HH:MM:SS`, as a script's
-/// times are counted; `None` if the text is not a time from 00:00:00 to 23:59:59.
+/// The first frame of the day, in frames of 24 ms, that begins at or after the time `HH:MM:SS`, as
+/// a script's times are counted; `None` if the text is not a time from 00:00:00 to 23:59:59.
 pub fn day_at(text: &str) -> Option<u32> {
-    match numbers::time(text.as_bytes()) {
-        Some(time) => Some(time.frame().get()),
-        None => None,
-    }
+    Some(numbers::time(text.as_bytes())?.frame().get())
 }
