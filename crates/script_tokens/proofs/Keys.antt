@@ -1,5 +1,5 @@
 -- The keywords of the grammar have different letters.
-use Rattle.script_tokens.proofs.Words.{[], ◌++◌, ◌<◌, ◌∙◌, ◌∷◌, ◌≡◌, ◌≢◌, Address, Apply, At, Audio, Begin, Bool}
+use Rattle.script_tokens.proofs.Words.{[], ◌<◌, ◌∙◌, ◌∷◌, ◌≡◌, ◌≢◌, Address, Apply, At, Audio, Begin, Bool}
 use Rattle.script_tokens.proofs.Words.{Budget, Carry, CloseBrace, Closed, Commit, Component, Contact, Data, Define}
 use Rattle.script_tokens.proofs.Words.{Drop, Early, Eep, Else, End, Ensemble, Forever, Groups, If, IfSome, In}
 use Rattle.script_tokens.proofs.Words.{IsNoKeyword, Join, Keyword, List, Mode, Move, None, Notice, Open, OpenBrace}

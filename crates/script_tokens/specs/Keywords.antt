@@ -1,7 +1,7 @@
 -- The keywords of the grammar, as the bytes that spell them, and the names of blocks, which are not keywords.
-use Rattle.std.specs.Prelude.{◌≡◌, ◌≢◌, ℕ, ◌≤◌, ◌||◌, ◌&&◌, ◌==◌, Bool, true, false, List, [], ◌∷◌, ◌++◌, length}
+use Rattle.std.specs.Prelude.{◌≡◌, ◌≢◌, ℕ, ◌≤◌, ◌||◌, ◌&&◌, ◌==◌, Bool, true, false, List, [], ◌∷◌, length}
 use Rattle.std.specs.Prelude.{nat_le, codes, if◌then◌else◌}
-use Rattle.std.specs.List.{list_all, AllByRecursion}
+use Rattle.std.specs.List.{list_all}
 use Rattle.std.specs.Str.{bytes_eq}
 use Rattle.script_tokens.specs.declared.keyword.Keyword.{Keyword}
 use Rattle.script_tokens.specs.declared.keyword.Keyword.TheVariants.{Ensemble, Mode, Period, Notice, Budget, Reserve}
@@ -64,13 +64,13 @@ pub data Lexeme : Type 0 where
   the : (keyword : Keyword) → Lexeme
   text : (bytes : List ℕ) → Lexeme
 
--- all of them
+-- all of them, by their first letters
 abbrev pub keywords : List Keyword
 keywords =
-    Ensemble ∷ Mode ∷ Period ∷ Notice ∷ Budget ∷ Reserve ∷ Define ∷ Begin ∷ Sub ∷ At ∷ Eep ∷ Service ∷ Audio ∷ In ∷ Data
-    ∷ Carry ∷ Packet ∷ Groups ∷ Raw ∷ TypeWord ∷ Address ∷ Drop ∷ Component ∷ Move ∷ Rate ∷ Wait ∷ Contact ∷ Closed
-    ∷ Open ∷ Until ∷ Early ∷ Or ∷ Time ∷ To ∷ Commit ∷ Join ∷ Settle ∷ End ∷ If ∷ Else ∷ Repeat ∷ Forever ∷ Apply
-    ∷ OpenBrace ∷ CloseBrace ∷ []
+    Address ∷ Apply ∷ At ∷ Audio ∷ Begin ∷ Budget ∷ Carry ∷ Closed ∷ Commit ∷ Component ∷ Contact ∷ Data ∷ Define
+    ∷ Drop ∷ Early ∷ Eep ∷ Else ∷ End ∷ Ensemble ∷ Forever ∷ Groups ∷ If ∷ In ∷ Join ∷ Mode ∷ Move ∷ Notice ∷ Open
+    ∷ Or ∷ Packet ∷ Period ∷ Rate ∷ Raw ∷ Repeat ∷ Reserve ∷ Service ∷ Settle ∷ Sub ∷ Time ∷ To ∷ TypeWord ∷ Until
+    ∷ Wait ∷ OpenBrace ∷ CloseBrace ∷ []
 
 abbrev pub lexeme_among : List Keyword → List ℕ → Lexeme
 lexeme_among [] bytes = text bytes

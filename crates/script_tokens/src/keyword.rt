@@ -97,53 +97,60 @@ pub enum Keyword {
     CloseBrace,
 }
 
-/// All keywords, and the braces.
-const KEYWORDS: [Keyword; 45] = [
-    Keyword::Ensemble,
-    Keyword::Mode,
-    Keyword::Period,
-    Keyword::Notice,
-    Keyword::Budget,
-    Keyword::Reserve,
-    Keyword::Define,
-    Keyword::Begin,
-    Keyword::Sub,
-    Keyword::At,
-    Keyword::Eep,
-    Keyword::Service,
-    Keyword::Audio,
-    Keyword::In,
-    Keyword::Data,
-    Keyword::Carry,
-    Keyword::Packet,
-    Keyword::Groups,
-    Keyword::Raw,
-    Keyword::TypeWord,
+/// All keywords by their first letters, and the braces.
+static KEYWORDS: [Keyword; 45] = [
     Keyword::Address,
-    Keyword::Drop,
-    Keyword::Component,
-    Keyword::Move,
-    Keyword::Rate,
-    Keyword::Wait,
-    Keyword::Contact,
+    Keyword::Apply,
+    Keyword::At,
+    Keyword::Audio,
+    Keyword::Begin,
+    Keyword::Budget,
+    Keyword::Carry,
     Keyword::Closed,
-    Keyword::Open,
-    Keyword::Until,
+    Keyword::Commit,
+    Keyword::Component,
+    Keyword::Contact,
+    Keyword::Data,
+    Keyword::Define,
+    Keyword::Drop,
     Keyword::Early,
+    Keyword::Eep,
+    Keyword::Else,
+    Keyword::End,
+    Keyword::Ensemble,
+    Keyword::Forever,
+    Keyword::Groups,
+    Keyword::If,
+    Keyword::In,
+    Keyword::Join,
+    Keyword::Mode,
+    Keyword::Move,
+    Keyword::Notice,
+    Keyword::Open,
     Keyword::Or,
+    Keyword::Packet,
+    Keyword::Period,
+    Keyword::Rate,
+    Keyword::Raw,
+    Keyword::Repeat,
+    Keyword::Reserve,
+    Keyword::Service,
+    Keyword::Settle,
+    Keyword::Sub,
     Keyword::Time,
     Keyword::To,
-    Keyword::Commit,
-    Keyword::Join,
-    Keyword::Settle,
-    Keyword::End,
-    Keyword::If,
-    Keyword::Else,
-    Keyword::Repeat,
-    Keyword::Forever,
-    Keyword::Apply,
+    Keyword::TypeWord,
+    Keyword::Until,
+    Keyword::Wait,
     Keyword::OpenBrace,
     Keyword::CloseBrace,
+];
+
+/// Where the keywords of each first letter begin in `KEYWORDS`, from `a` up to `}`, and where the
+/// table ends.
+static STARTS: [usize; 30] = [
+    0, 4, 6, 11, 14, 19, 20, 21, 21, 23, 24, 24, 24, 26, 27, 29, 31, 31, 35, 38, 41, 42, 42, 43,
+    43, 43, 43, 44, 44, 45,
 ];
 
 impl Keyword {
@@ -204,11 +211,24 @@ impl Keyword {
     }
 
     /// The keyword that these bytes spell; None if they spell neither a keyword nor a brace.
+    ///
+    /// Only those with the first letter of the bytes are compared with them, at most five.
     pub fn of(bytes: &[u8]) -> Option<Keyword>
         ensures found { IfSome result (λ k. bytes.now ≡ letters k) }
         ensures none { result ≡ None → IsNoKeyword bytes.now }
     {
-        for index in 0..KEYWORDS.len() {
+        let first = match bytes {
+            [] => return None,
+            [first, ..] => *first,
+        };
+        if first < b'a' {
+            return None;
+        }
+        if first > b'}' {
+            return None;
+        }
+        let group = usize::from(first - b'a');
+        for index in STARTS[group]..STARTS[group + 1] {
             let keyword = KEYWORDS[index];
             if keyword.spelling() == bytes {
                 return Some(keyword);

@@ -1,24 +1,26 @@
-use Rattle.script_tokens.proofs.Words.{◌+◌, ◌<◌, ◌∙◌, ◌≡◌, ◌≢◌, ◌≤◌, Ensemble, ap, arith, bytes_eq-Decides, cases_lt}
-use Rattle.script_tokens.proofs.Words.{false, false≢true, get_or, inl, inr, keywords, letters, sym, true, ℕ}
-use Rattle.script_tokens.proofs.Keys.{no_keyword}
+use Rattle.script_tokens.proofs.Words.{◌+◌, ◌<◌, ◌≤◌, arith, get_or, subst, ℕ}
+use Rattle.script_tokens.proofs.Groups.{none_empty, none_outside, none_within, starts, within}
 use Rattle.script_tokens.proofs.keyword.Keyword.of.Goals as goal
 
-pub loop-index-init : goal.loop-index-init
-loop-index-init c j lt = absurd (omega (arith, lt))
+pub returns-in-empty-clause-none : goal.returns-in-empty-clause-none
+returns-in-empty-clause-none c none = none_empty c.args.bytes.now c.in-empty.len_below
 
-pub loop-index-preserved : goal.loop-index-preserved
-loop-index-preserved c j lt e = elim (cases_lt j c.loop-index.index) [
-  | inl before ↦ c.loop-index.invariant j before e
-  | inr here ↦ (
-      let same : j ≡ c.loop-index.index = omega (arith, lt, here) in
-      let spelled : c.spelling.result.now ≡ letters (get_or keywords c.loop-index.index Ensemble) =
-      c.spelling.ensures in
-      let is : c.spelling.result.now ≡ c.args.bytes.now =
-      spelled ∙ sym (ap (λ i. letters (get_or keywords i Ensemble)) same) ∙ sym e in
-      false≢true (sym c.if-eq.false ∙ c.eq.ensures ∙ (bytes_eq-Decides c.spelling.result.now c.args.bytes.now).1 is)
-      )
-]
+pub returns-then-first-lt97-clause-none : goal.returns-then-first-lt97-clause-none
+returns-then-first-lt97-clause-none c none =
+    none_outside c.args.bytes.now (λ low high. omega (arith, c.if-first-lt97.true, low))
+
+pub returns-then-first-gt125-clause-none : goal.returns-then-first-gt125-clause-none
+returns-then-first-gt125-clause-none c none =
+    none_outside c.args.bytes.now (λ low high. omega (arith, c.if-first-gt125.true, high))
+
+pub bounds-index : goal.bounds-index
+bounds-index c =
+    let before : c.loop-index.index < get_or starts (c.from-group.result + 1) 0 = c.loop-index-test.true in
+    omega (arith, before, within (c.from-group.result + 1))
 
 pub returns-clause-none : goal.returns-clause-none
-returns-clause-none c none = no_keyword c.args.bytes.now
-    (λ j lt. c.loop-index.invariant j (omega (arith, lt, c.loop-index-test.false)))
+returns-clause-none c none =
+    none_within c.args.bytes.now c.loop-index.index
+    (subst (λ (group : ℕ). get_or starts (group + 1) 0 ≤ c.loop-index.index) c.from-group.ensures
+    c.loop-index-test.false)
+    c.loop-index.invariant
