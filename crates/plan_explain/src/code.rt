@@ -1,117 +1,22 @@
 //! Explains why a code is refused, by what is known at the instruction.
 
-use crate::changes::{enter, unknown};
 use crate::edits::Place;
 use crate::facts::facts_of;
 use crate::hint::{hint_on_instr, hint_on_opening};
 use crate::list::push_owned;
-use crate::note::{Note, put_notes};
+use crate::note::Note;
+use crate::reach::{Reach, declared_at, flow_of};
 use crate::sentence::{Case, Search, put_instr, put_opening};
 use crate::stop::{Refused, Stop, copied};
 use crate::trial::Refusal;
 use crate::trier::Trier;
 use crate::words::{Sides, put_fact};
-use mux_config::{Config, Store};
-use plan_code::{Code, CounterId, Counters, Instr, Label, Plan};
+use plan_code::{Code, CounterId, Counters, Instr};
 use plan_verifier::flow::{is_idle, is_same};
-use plan_verifier::properties::{continues, suspends, target_of};
-use plan_verifier::{Cause, Flow, test_opening};
+use plan_verifier::properties::target_of;
+use plan_verifier::{Cause, test_opening};
 use std::alloc::Global;
 use std::io::{self, Write};
-
-/// What is known on entry to an instruction from the one before.
-#[derive(Drop)]
-struct Reach {
-    flow: Flow<Config>,
-    /// The set counters.
-    counters: Counters,
-    /// How many instructions may still run in this frame.
-    left: u8,
-    /// Whether that is what is left of the budget since a suspension, and not of a label's cost.
-    is_of_budget: bool,
-    /// Whether the instruction before continues to this one.
-    comes: bool,
-}
-
-/// The configurations and the swap that a label declares.
-fn flow_of(code: &Code, label: Label) -> Option<Flow<Config>> {
-    Some(Flow {
-        current: Config::from_config(code.config(label.cur)?),
-        next: Config::from_config(code.config(label.next)?),
-        pending: label.pending,
-    })
-}
-
-/// A label of a code that can be looked up, and what it declares of the configurations and the
-/// swap.
-fn declared_at(code: &Code, pc: u16) -> Option<(Label, Flow<Config>)> {
-    let label = code.label_at(pc)?;
-    Some((label, flow_of(code, label)?))
-}
-
-/// The counters after an instruction.
-fn counters_after(counters: Counters, instr: &Instr) -> Counters {
-    match instr {
-        Instr::Set { counter, .. } => counters.with(*counter),
-        Instr::Loop { counter, .. } => counters.without(*counter),
-        _ => counters,
-    }
-}
-
-impl Reach {
-    /// Changes to what the label at an instruction declares, if it has one.
-    fn enter(&mut self, code: &Code, pc: u16) {
-        let Some(label) = code.label_at(pc) else {
-            return;
-        };
-        enter(code, pc, &mut self.flow);
-        self.counters = label.counters;
-        self.left = label.cost;
-        self.is_of_budget = false;
-    }
-
-    /// Applies an instruction.
-    fn pass(&mut self, plan: &Plan, instr: &Instr) {
-        let _ = self.flow.apply(plan, *instr);
-        self.counters = counters_after(self.counters, instr);
-        if suspends(*instr) {
-            self.left = plan.budget;
-            self.is_of_budget = true;
-        } else {
-            self.left = self.left.saturating_sub(1);
-        }
-        self.comes = continues(*instr);
-    }
-
-    /// What is known on entry to an instruction of a code.
-    fn at(code: &Code, pc: u16) -> Reach {
-        let plan = code.plan();
-        let mut reach = Reach {
-            flow: unknown(),
-            counters: Counters(0),
-            left: 0,
-            is_of_budget: true,
-            comes: false,
-        };
-        for at in 0..pc {
-            let Some(instr) = code.instr(at) else {
-                return reach;
-            };
-            reach.enter(code, at);
-            reach.pass(&plan, &instr);
-        }
-        reach
-    }
-
-    /// What the allowance is part of.
-    fn source(&self) -> &'static str {
-        if self.is_of_budget {
-            "by the budget since the wait before"
-        } else {
-            "as the label before declares"
-        }
-    }
-}
 
 /// The target of the instruction at this pc, if it jumps.
 fn target_at(code: &Code, pc: u16) -> Option<u16> {
@@ -412,21 +317,4 @@ pub fn notes_on_code(alloc: Global, code: &Code, pc: u16, cause: Cause) -> io::R
     let mut notes = Vec::new(alloc);
     push_owned(&mut notes, note)?;
     Ok(notes)
-}
-
-/// Writes why a code is refused at an instruction, as a note.
-///
-/// # Errors
-///
-/// Those of the writer, and `OutOfMemory`.
-pub fn explain_code<W: Write>(
-    alloc: Global,
-    path: &str,
-    code: &Code,
-    pc: u16,
-    cause: Cause,
-    out: &mut W,
-) -> io::Result<()> {
-    let notes = notes_on_code(alloc, code, pc, cause)?;
-    put_notes(path, "", notes.as_slice(), out)
 }

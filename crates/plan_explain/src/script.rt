@@ -7,7 +7,7 @@ use crate::follow::follow;
 use crate::hint::{advise_paths, hint_on_instr, hint_on_loop};
 use crate::limit::explain_limit;
 use crate::list::push_owned;
-use crate::note::{Note, put_notes};
+use crate::note::Note;
 use crate::opening::notes_on_opening;
 use crate::sentence::{Case, Search, put_instr};
 use crate::stop::{Refused, Stop};
@@ -204,21 +204,4 @@ pub fn notes_on_script(
         CompileFault::Memory => {}
     }
     Ok(notes)
-}
-
-/// Writes why a script with this text is not compiled, as notes.
-///
-/// # Errors
-///
-/// Those of the writer, and `OutOfMemory`.
-pub fn explain_script<W: Write>(
-    alloc: Global,
-    path: &str,
-    text: &str,
-    script: &Script,
-    fault: CompileFault,
-    out: &mut W,
-) -> io::Result<()> {
-    let notes = notes_on_script(alloc, text, script, fault)?;
-    put_notes(path, text, notes.as_slice(), out)
 }

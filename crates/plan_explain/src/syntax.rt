@@ -3,7 +3,7 @@
 use crate::expected::Expected;
 use crate::keywords::HEADER;
 use crate::list::push_owned;
-use crate::note::{Note, put_notes};
+use crate::note::Note;
 use crate::probe::Front;
 use crate::repair::{Wrong, attempt_until, is_close, is_level};
 use crate::source::{Source, put_bytes, text_from, token_at};
@@ -390,20 +390,4 @@ pub fn notes_on_fault(alloc: Global, text: &str, fault: ScriptFault) -> io::Resu
         note_numbers(alloc, text, &mut notes)?;
     }
     Ok(notes)
-}
-
-/// Writes why a text is not a script, as notes.
-///
-/// # Errors
-///
-/// Those of the writer, and `OutOfMemory`.
-pub fn explain_fault<W: Write>(
-    alloc: Global,
-    path: &str,
-    text: &str,
-    fault: ScriptFault,
-    out: &mut W,
-) -> io::Result<()> {
-    let notes = notes_on_fault(alloc, text, fault)?;
-    put_notes(path, text, notes.as_slice(), out)
 }
