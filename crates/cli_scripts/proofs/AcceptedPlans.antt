@@ -1,11 +1,11 @@
 -- The plan between two openings is accepted, if nothing prevents a plan.
 use Rattle.cli_scripts.proofs.Words.{[], ◌%◌, ◌++◌, ◌+◌, ◌-◌, ◌==◌, ◌∙◌, ◌∷◌, ◌≡◌, ◌≢◌, ◌≤◌, Act, AreFine, Block, Bool}
-use Rattle.cli_scripts.proofs.Words.{Configuration, FitFrames, Flow, IsAccepted, IsConfiguration, IsJudged, IsOpening}
-use Rattle.cli_scripts.proofs.Words.{IsPlain, IsPlanFault, IsScript, IsWithinBudget, List, Opening, PlacedInstr, Plan}
-use Rattle.cli_scripts.proofs.Words.{Tabled, Tree, Wait, acts_from, all_places, ap, append_assoc, arith, beginning}
-use Rattle.cli_scripts.proofs.Words.{block_of, body_of, false, if◌then◌else◌, instrs_of, length, length-append}
-use Rattle.cli_scripts.proofs.Words.{lines_of_placed, nested, nothing, opening_of, pages_alone, placed_instrs, refl}
-use Rattle.cli_scripts.proofs.Words.{subst, sym, table_of, true, unpriced_labels, with_items, ℕ}
+use Rattle.cli_scripts.proofs.Words.{Configuration, FitFrames, Flow, IsAccepted, IsConfiguration, IsJudged, IsPlain}
+use Rattle.cli_scripts.proofs.Words.{IsPlanFault, IsScript, IsSoundOpening, IsWithinBudget, List, Opening, PlacedInstr}
+use Rattle.cli_scripts.proofs.Words.{Plan, Tabled, Tree, Wait, acts_from, all_places, ap, append_assoc, arith}
+use Rattle.cli_scripts.proofs.Words.{beginning, block_of, body_of, false, if◌then◌else◌, instrs_of, length}
+use Rattle.cli_scripts.proofs.Words.{length-append, lines_of_placed, nested, nothing, opening_of, pages_alone}
+use Rattle.cli_scripts.proofs.Words.{placed_instrs, refl, subst, sym, table_of, true, unpriced_labels, with_items, ℕ}
 use Rattle.mux_config.specs.Edits.{changed}
 use Rattle.mux_config.specs.Sound.{IsSound}
 use Rattle.mux_config.specs.declared.edit.Edit.{Edit}
@@ -61,7 +61,7 @@ fine_edits plan full n (e ∷ es) c d rest fine h =
           (fine_pause (n % full == 0) plan (paced full (n + 1) es ++ rest) c (changed e d) more),
     )
 
-fine_commit : (from to : Opening) → IsOpening to → FitsPeriod to → CanBePlanned from to
+fine_commit : (from to : Opening) → IsSoundOpening to → FitsPeriod to → CanBePlanned from to
     → FineActs to.header (committed to.header) (idle from.config to.config)
 fine_commit from to o fits can = (
   (
@@ -158,7 +158,7 @@ plan_short header from to is_from is_to =
     omega (arith, few, waits, size)
 
 pub accepted_plan : (from to : Opening) (tree : Tree) → IsConfiguration from.config → IsConfiguration to.config
-    → IsOpening from → IsOpening to
+    → IsSoundOpening from → IsSoundOpening to
     → FitsPeriod to → CanBePlanned from to → Transform (edits_between from.config to.config) from.config to.config
     → FitFrames to.header.budget to.header.budget (plan_acts to.header from.config to.config)
     → Transform (added_by tree.items) no_configuration from.config
@@ -188,18 +188,18 @@ accepted_plan from to tree is_from is_to first second fits can leads frames make
 -- so the compiler refuses it only if the first configuration is not sound, or the second one does not fit its own
 -- period
 not_refused : (from to : Opening) (tree : Tree) (fault : CompileFault) → IsConfiguration from.config
-    → IsConfiguration to.config → IsOpening to → CanBePlanned from to
+    → IsConfiguration to.config → IsSoundOpening to → CanBePlanned from to
     → Transform (edits_between from.config to.config) from.config to.config
     → FitFrames to.header.budget to.header.budget (plan_acts to.header from.config to.config)
     → Transform (added_by tree.items) no_configuration from.config
     → IsPlain to.header (edits_that_make from.config) (plan_acts to.header from.config to.config) tree
     → (fault ≢ Memory → IsAccepted tree → ⊥) → fault ≢ Memory
-    → IsOpening from → FitsPeriod to → ⊥
+    → IsSoundOpening from → FitsPeriod to → ⊥
 not_refused from to tree fault is_from is_to second can leads frames makes plain refused reason first fits =
     refused reason (accepted_plan from to tree is_from is_to first second fits can leads frames makes plain)
 
 pub refused_fault : (from to : Opening) (tree : Tree) (fault : CompileFault) → IsConfiguration from.config
-    → IsConfiguration to.config → IsScript tree → IsOpening to → CanBePlanned from to
+    → IsConfiguration to.config → IsScript tree → IsSoundOpening to → CanBePlanned from to
     → Transform (edits_between from.config to.config) from.config to.config
     → FitFrames to.header.budget to.header.budget (plan_acts to.header from.config to.config)
     → Transform (added_by tree.items) no_configuration from.config

@@ -32,7 +32,7 @@ pub use Rattle.script_compiler.specs.Scheme.{placed_instr, places, point_after, 
 pub use Rattle.script_compiler.specs.Scheme.{without_label}
 pub use Rattle.script_config.specs.Ensembles.{NamesAfter, named_by_figs}
 pub use Rattle.script_config.specs.Frames.{FitFrames, ends_frame}
-pub use Rattle.script_config.specs.Openings.{IsOpening, Opens}
+pub use Rattle.script_config.specs.Openings.{IsSoundOpening, Opens}
 pub use Rattle.script_config.specs.Plain.{IsPlain, acts_from}
 pub use Rattle.script_config.specs.declared.opening.Opening.{Opening}
 pub use Rattle.script_front.specs.Block.{Block, block_of, nothing, table_of}

@@ -3,7 +3,7 @@ use Rattle.std.specs.Prelude.{◌≡◌, ◌≢◌, ℕ, List}
 use Rattle.script_config.specs.Making.{edits_that_make}
 use Rattle.plan_code.specs.Program.{Program}
 use Rattle.plan_verifier.specs.Typing.{IsTyped}
-use Rattle.script_config.specs.Openings.{IsOpening}
+use Rattle.script_config.specs.Openings.{IsSoundOpening}
 use Rattle.script_config.specs.declared.opening.Opening.{Opening}
 use Rattle.script_config.specs.Plan.{plan_acts}
 use Rattle.script_config.specs.Refusals.{FitsPeriod, CanBePlanned, IsInTheWay}
@@ -42,5 +42,5 @@ pub record IsRefusedPlan (from to : Opening) (fault : CompileFault) : Type 0 whe
 abbrev pub IsPlanFault : Opening → Opening → PlanFault → Type 0
 IsPlanFault from to (Between fault) = IsInTheWay from to fault
 IsPlanFault from to (Refused fault) = CanBePlanned from to × IsRefusedPlan from to fault
-    × (IsOpening from → FitsPeriod to → ⊥)
+    × (IsSoundOpening from → FitsPeriod to → ⊥)
 IsPlanFault from to Memory = CanBePlanned from to

@@ -3,7 +3,7 @@
 ghost use Rattle.std.specs.Prelude.{◌≡◌, ℕ, List, take, IfOk, IfErr, IfSome, string_bytes};
 ghost use Rattle.std.specs.Io.KnownBytes.{Appends, Keeps};
 ghost use Rattle.console.specs.declared.exit.Status.TheVariants.{Refused};
-ghost use Rattle.script_config.specs.Openings.{IsOpening};
+ghost use Rattle.script_config.specs.Openings.{IsSoundOpening};
 ghost use Rattle.script_config.specs.Refusals.{CanBePlanned};
 ghost use Rattle.cli_scripts.specs.Planned.{IsPlanText, IsPlanFault};
 ghost use Rattle.cli_scripts.specs.Success.{Diffs, HasScriptOpening, HasPlan};
@@ -85,7 +85,7 @@ fn opening_in<'a, F: Files>(
     files: &mut F,
     path: &'a str,
 ) -> Result<Result<Opening, NoOpening>, Failure<'a>>
-    ensures formed { IfOk result (λ found. IfOk found IsOpening) }
+    ensures formed { IfOk result (λ found. IfOk found IsSoundOpening) }
     ensures opening { IfOk result (λ found. IfOk found (λ opening.
         IfSome (F.known files.old path.now) (λ bytes. HasScriptOpening bytes opening))) }
     ensures known { (other : List ℕ)
@@ -104,7 +104,7 @@ fn opening_of_bytes<'a>(
     path: &'a str,
     bytes: &[u8],
 ) -> Result<Result<Opening, OpeningFault>, Failure<'a>>
-    ensures formed { IfOk result (λ found. IfOk found IsOpening) }
+    ensures formed { IfOk result (λ found. IfOk found IsSoundOpening) }
     ensures opening { IfOk result (λ found. IfOk found (λ opening.
         (file : List ℕ) → bytes.now ≡ take 1048581 file → HasScriptOpening file opening)) }
 {
@@ -165,8 +165,8 @@ fn print_plan<'a, W: Write>(
     to: &Opening,
     out: &mut W,
 ) -> Result<Status, Failure<'a>>
-    requires first { IsOpening from.now }
-    requires second { IsOpening to.now }
+    requires first { IsSoundOpening from.now }
+    requires second { IsSoundOpening to.now }
     ensures { IfOk result
         (HasPlan from.now to.now (Appends (W.contents out.old) (W.contents out.new))) }
 {
@@ -196,7 +196,7 @@ fn print_plan<'a, W: Write>(
 /// `Between` if there is no such plan. Of two sound openings, of which the second one fits its own
 /// period, the plan is always accepted.
 pub fn plan_text(alloc: Global, from: &Opening, to: &Opening) -> Result<String, PlanFault>
-    requires { IsOpening to.now }
+    requires { IsSoundOpening to.now }
     ensures plan { IfOk result (λ text. IsPlanText from.now to.now (string_bytes text)) }
     ensures leads { IfOk result (λ text. CanBePlanned from.now to.now) }
     ensures fault { IfErr result (IsPlanFault from.now to.now) }

@@ -14,7 +14,7 @@ use Rattle.plan_explain.specs.declared.straight.Way.{Way}
 use Rattle.plan_explain.specs.declared.day_wait.DayWait.{DayWait}
 use Rattle.plan_explain.specs.declared.warning.Warning.TheVariants.{NextDay}
 use Rattle.plan_explain.specs.LateUntils.{contact_wait}
-use Rattle.plan_explain.specs.DayWaits.{time_of, start, further, straight, along, comes_late, IsAhead, WaitsADay}
+use Rattle.plan_explain.specs.DayWaits.{time_of, new_way, further, straight, along, comes_late, IsAhead, WaitsADay}
 use Rattle.plan_explain.specs.DayWaits.{HasDayWaitIn}
 use Rattle.plan_explain.specs.Straight.{Before, way_from, behind, late_of, day_of, at_until, at_act, straight_from}
 use Rattle.plan_explain.specs.Straight.{straight_warnings}
@@ -129,7 +129,7 @@ behind_time before act rest d h =
       wait = contact_wait act;
       way = way_from o before.way act;
     }) rest) (NextDay d)) (sym h.begins)
-    (ahead_listed (contact_wait act) (start h.from) rest d h.ahead)
+    (ahead_listed (contact_wait act) (new_way h.from) rest d h.ahead)
 
 pub day_listed : (script : Tree) (d : DayWait) → HasDayWaitIn script d → Contains (straight_warnings script) (NextDay d)
 day_listed script d h = act_listed (NextDay d) (λ act rest. WaitsADay act rest d)

@@ -9,7 +9,7 @@ use Rattle.script_front.specs.Block.{Block, nothing, basic}
 use Rattle.plan_explain.specs.declared.straight.Way.{Way}
 use Rattle.plan_explain.specs.declared.day_wait.DayWait.{DayWait}
 use Rattle.plan_explain.specs.declared.warning.Warning.TheVariants.{NextDay}
-use Rattle.plan_explain.specs.DayWaits.{time_of, along, start, comes_late, HasDayWait}
+use Rattle.plan_explain.specs.DayWaits.{time_of, along, new_way, comes_late, HasDayWait}
 use Rattle.plan_explain.specs.Straight.{nowhere, straight_from}
 
 -- 22:00:00, and three seconds and six seconds later
@@ -20,7 +20,7 @@ abbrev on_air : Way
 on_air = record { from = 3300000; frames = 250; swap = Some 250 }
 
 -- a commit in 250 frames, and its join
-way_of_swap : along (start 3300000) ((2, Edits (DropSub 3)) ∷ (3, CommitIn 250) ∷ (4, Join) ∷ []) ≡ on_air
+way_of_swap : along (new_way 3300000) ((2, Edits (DropSub 3)) ∷ (3, CommitIn 250) ∷ (4, Join) ∷ []) ≡ on_air
 way_of_swap = refl
 
 three_seconds : comes_late on_air (at 79203) ≡ true

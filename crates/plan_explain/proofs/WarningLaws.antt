@@ -25,7 +25,7 @@ use Rattle.plan_explain.specs.Straight.{straight_warnings}
 use Rattle.plan_explain.specs.Repeats.{AreApart, AreEachOnce}
 use Rattle.plan_explain.specs.ConfigurationChanges.{between, at_instr, at_commits, at_opening}
 use Rattle.plan_explain.specs.Listed.{at_wait, warnings}
-use Rattle.plan_explain.specs.Warnings.{IsOpening, IsCommit, Comes, IsNewFlaw, IsWarranted}
+use Rattle.plan_explain.specs.Warnings.{IsFirstOnAir, IsCommit, Comes, IsNewFlaw, IsWarranted}
 use Rattle.plan_explain.proofs.Lists.{from_flat, to_flat, from_map, to_map, from_one}
 use Rattle.plan_explain.proofs.FlawLaws.{has_flaw, flaw_listed, is_new, new_listed}
 use Rattle.plan_explain.proofs.PrimaryLaws.{is_other, other_listed}
@@ -161,7 +161,7 @@ opening_warranted : (script : Tree) (code : Program) (typing : List Known) (ts :
 opening_warranted script code typing [] w h e has = absurd (contains_none w has)
 opening_warranted script code typing (t ∷ ts) w h e has =
     let there : slice_get typing 0 ≡ Some t = ap (λ (xs : List Known). slice_get xs 0) e in
-    let opening : IsOpening code t.current =
+    let opening : IsFirstOnAir code t.current =
     record { typing = typing; is = h; known = t; there = there; same = refl } in
     between_warranted script code script.begin_line nothing t.current w (inl (refl, refl, opening)) has
 
@@ -283,7 +283,7 @@ Lists script code ws = (typing : List Known) → IsTyping code typing → ws ≡
 
 listed_of_opening : (script : Tree) (code : Program) (ws : List Warning) (w : Warning) (line : ℕ)
     (before after : Configuration) → Lists script code ws → line ≡ script.begin_line → before ≡ nothing
-    → IsOpening code after
+    → IsFirstOnAir code after
     → Contains (between line before after) w → Contains ws w
 listed_of_opening script code ws w line before after lists at was opening has =
     let first : Contains (between script.begin_line before after) w =

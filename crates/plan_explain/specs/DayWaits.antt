@@ -39,8 +39,8 @@ abbrev pub swapped : ℕ → Option ℕ → ℕ
 swapped frames None = frames
 swapped frames (Some swap) = if nat_lt frames swap then swap else frames
 
-abbrev pub start : ℕ → Way
-start from = record { from = from; frames = 0; swap = None }
+abbrev pub new_way : ℕ → Way
+new_way from = record { from = from; frames = 0; swap = None }
 
 -- `wait N` takes N frames, each other wait 1; from `commit in K` to `join` it is K at least
 abbrev pub further : Way → Act → Way
@@ -82,7 +82,7 @@ pub record IsAhead (way : Way) (rest : Block) (d : DayWait) : Type 0 where
 pub record WaitsADay (act : Act) (rest : Block) (d : DayWait) : Type 0 where
   pub from : ℕ
   pub begins : time_of act ≡ Some from
-  pub ahead : IsAhead (start from) rest d
+  pub ahead : IsAhead (new_way from) rest d
 
 -- among these statements, or in their braces; and in a script
 abbrev pub HasDayWait : Block → DayWait → Type 0

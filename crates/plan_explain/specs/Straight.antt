@@ -12,7 +12,7 @@ use Rattle.plan_explain.specs.declared.straight.Way.{Way}
 use Rattle.plan_explain.specs.declared.warning.Warning.{Warning}
 use Rattle.plan_explain.specs.declared.warning.Warning.TheVariants.{Late, NextDay}
 use Rattle.plan_explain.specs.LateUntils.{contact_wait}
-use Rattle.plan_explain.specs.DayWaits.{time_of, start, further, comes_late}
+use Rattle.plan_explain.specs.DayWaits.{time_of, new_way, further, comes_late}
 
 -- what is before a statement in its list: a wait for a contact, directly; and the way from the last wait for a time of
 -- day, if acts alone lead from there
@@ -24,7 +24,7 @@ abbrev pub nowhere : Before
 nowhere = record { wait = None; way = None }
 
 abbrev pub way_from : Option ℕ → Option Way → Act → Option Way
-way_from (Some from) way act = Some (start from)
+way_from (Some from) way act = Some (new_way from)
 way_from None None act = None
 way_from None (Some w) act = Some (further w act)
 

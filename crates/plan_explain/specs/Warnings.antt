@@ -21,7 +21,7 @@ use Rattle.plan_explain.specs.DayWaits.{HasDayWaitIn}
 -- ---- what comes on air, and what was there before
 
 -- the plan begins with a configuration, in the line of `begin`
-pub record IsOpening (code : Program) (after : Configuration) : Type 0 where
+pub record IsFirstOnAir (code : Program) (after : Configuration) : Type 0 where
   pub typing : List Known
   pub is : IsTyping code typing
   pub known : Known
@@ -44,7 +44,7 @@ pub record IsCommit (code : Program) (line : ℕ) (before after : Configuration)
 
 abbrev pub Comes : Tree → Program → ℕ → Configuration → Configuration → Type 0
 Comes script code line before after =
-    ((line ≡ script.begin_line) × (before ≡ nothing) × IsOpening code after) ⊎ IsCommit code line before after
+    ((line ≡ script.begin_line) × (before ≡ nothing) × IsFirstOnAir code after) ⊎ IsCommit code line before after
 
 -- ---- when a warning is true
 

@@ -2,7 +2,7 @@
 //! to its time.
 
 ghost use Rattle.std.specs.Prelude.{◌≡◌};
-ghost use Rattle.plan_explain.specs.DayWaits.{more, swapped, moment_in, time_of, start, further};
+ghost use Rattle.plan_explain.specs.DayWaits.{more, swapped, moment_in, time_of, new_way, further};
 ghost use Rattle.plan_explain.specs.DayWaits.{comes_late};
 
 use crate::straight::Way;
@@ -67,8 +67,8 @@ pub(crate) fn time_of(act: &Act) -> Option<DayFrame>
 }
 
 /// The way where it begins.
-pub(crate) fn start(from: DayFrame) -> Way
-    ensures { result ≡ start from }
+pub(crate) fn new_way(from: DayFrame) -> Way
+    ensures { result ≡ new_way from }
 {
     Way {
         from,

@@ -8,7 +8,7 @@ ghost use Rattle.plan_explain.specs.LateUntils.{contact_wait};
 ghost use Rattle.plan_explain.specs.Straight.{way_behind, late_of, day_of, at_until, at_act};
 ghost use Rattle.plan_explain.specs.Straight.{straight_from, straight_in, straight_warnings};
 
-use crate::day_wait::{DayWait, comes_late, further, start, time_of};
+use crate::day_wait::{DayWait, comes_late, further, new_way, time_of};
 use crate::late_until::{LateUntil, contact_wait};
 use crate::list::push;
 use crate::warning::Warning;
@@ -42,7 +42,7 @@ fn way_behind(way: Option<Way>, act: &Act) -> Option<Way>
     ensures { result ≡ way_behind way act.now }
 {
     match time_of(act) {
-        Some(from) => Some(start(from)),
+        Some(from) => Some(new_way(from)),
         None => match way {
             Some(way) => Some(further(way, act)),
             None => None,

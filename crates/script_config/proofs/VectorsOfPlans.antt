@@ -1,7 +1,7 @@
 -- Test vectors: small plans for which each definition holds, and for which it fails.
 use Rattle.script_config.proofs.Words.{[], ◌∷◌, ◌≡◌, ◌≢◌, CommitIn, DropSub, Edit, FitFrames, FrameLayout, I, II}
-use Rattle.script_config.proofs.Words.{IsOpening, Join, Plan, ReserveOne, Wait, Whole, arith, edits_in, nothing, paced}
-use Rattle.script_config.proofs.Words.{pause_after, refl, ℕ}
+use Rattle.script_config.proofs.Words.{IsSoundOpening, Join, Plan, ReserveOne, Wait, Whole, arith, edits_in, nothing}
+use Rattle.script_config.proofs.Words.{paced, pause_after, refl, ℕ}
 use Rattle.script_config.specs.declared.opening.Opening.{Opening}
 use Rattle.script_config.specs.declared.refusal.DiffFault.TheVariants.{AnotherEnsemble}
 use Rattle.script_config.specs.Refusals.{IsOneEnsemble, CanBePlanned, IsInTheWay}
@@ -43,7 +43,7 @@ header eid budget = record { eid = eid; layout = Whole I; period = 4; notice = 2
 abbrev empty : ℕ → ℕ → Opening
 empty eid budget = record { header = header eid budget; begin_line = 3; config = nothing }
 
-out_of_range : IsOpening (empty 1 0) → ⊥
+out_of_range : IsSoundOpening (empty 1 0) → ⊥
 out_of_range h = let from = h.headed.budget_from in absurd (omega (arith, from))
 
 another : IsInTheWay (empty 1 20) (empty 2 20) AnotherEnsemble

@@ -54,7 +54,7 @@ pub use Rattle.script_config.specs.Frames.{FitFrames, edits_in}
 pub use Rattle.script_config.specs.HeardAgain.{PagesAreHeardAgain, page_frames, steady}
 pub use Rattle.script_config.specs.Items.{made_by, unless_fault}
 pub use Rattle.script_config.specs.Making.{components_added, edits_that_make, packet_edits, service_edits, sub_edits}
-pub use Rattle.script_config.specs.Openings.{IsOpening, IsOpeningReason}
+pub use Rattle.script_config.specs.Openings.{IsSoundOpening, IsOpeningReason}
 pub use Rattle.script_config.specs.Plain.{acts_from, items_from}
 pub use Rattle.script_config.specs.Plan.{committed, paced, pause_after, plan_acts}
 pub use Rattle.script_config.specs.Sequences.{HaveNoFault, Transform, after}

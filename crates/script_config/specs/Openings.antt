@@ -12,7 +12,7 @@ use Rattle.script_config.specs.declared.opening.OpeningFault.{OpeningFault}
 use Rattle.script_config.specs.declared.opening.OpeningFault.TheVariants.{Script as NoScript, Item, Unsound, Memory}
 
 -- its header is in range, and its configuration is sound
-pub record IsOpening (o : Opening) : Type 0 where
+pub record IsSoundOpening (o : Opening) : Type 0 where
   pub headed : IsPlan o.header
   pub sound : IsSound o.config
 

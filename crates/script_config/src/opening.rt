@@ -1,7 +1,8 @@
 //! Reads the opening of a script: its header and the configuration that its items make.
 
 ghost use Rattle.std.specs.Prelude.{◌≢◌, IfOk, IfErr};
-ghost use Rattle.script_config.specs.Openings.{IsOpening, Opens, HasNoOpening, IsOpeningReason};
+ghost use Rattle.script_config.specs.Openings.{HasNoOpening, IsOpeningReason, IsSoundOpening};
+ghost use Rattle.script_config.specs.Openings.{Opens};
 ghost use Rattle.script_config.specs.declared.opening.OpeningFault.TheVariants.{Memory as NoMemory};
 
 use crate::items::{ItemFault, opening_of};
@@ -46,7 +47,7 @@ pub enum OpeningFault {
 /// The first fault, in the order of [`OpeningFault`].
 pub fn read_opening(alloc: Global, text: &str) -> Result<Opening, OpeningFault>
     ensures opens { IfOk result (Opens text.now) }
-    ensures formed { IfOk result IsOpening }
+    ensures formed { IfOk result IsSoundOpening }
     ensures fault { IfErr result (HasNoOpening text.now) }
     ensures reason { IfErr result (λ fault. fault ≢ NoMemory → IsOpeningReason fault) }
 {
