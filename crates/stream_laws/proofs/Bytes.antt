@@ -305,6 +305,9 @@ pub record FibLaws : Type 0 where
   pub spelled : EntryIsSpelled
   pub ensemble : EnsembleIsHeard
 
+pub fib_laws : OneList → FibHas32Bytes → EntryIsSpelled → EnsembleIsHeard → FibLaws
+fib_laws one size spelled ensemble = record { one = one; size = size; spelled = spelled; ensemble = ensemble }
+
 -- ---- ensemble information
 
 abbrev bare : List ℕ → Raw

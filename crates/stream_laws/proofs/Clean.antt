@@ -1,5 +1,5 @@
 -- Streams without a fault, entry by entry.
-use Rattle.stream_laws.proofs.Words.{[], ◌++◌, ◌+◌, ◌∷◌, ◌≡◌, AllByRecursion, Bool, Contradiction, Ended, EntrySent}
+use Rattle.stream_laws.proofs.Words.{[], ◌++◌, ◌∷◌, ◌≡◌, AllByRecursion, Bool, Contradiction, Ended, EntrySent}
 use Rattle.stream_laws.proofs.Words.{Fib, FigSent, Finding, FrameAt, IsFaultless, IsNoFault, IsSaidIn, Item, List}
 use Rattle.stream_laws.proofs.Words.{Moment, Said, Sent, What, after_frames, all_append, cond, contradictions_at, due}
 use Rattle.stream_laws.proofs.Words.{false, false≢true, findings_at, findings_at_items, findings_at_sent, findings_from}

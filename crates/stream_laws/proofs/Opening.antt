@@ -1,5 +1,5 @@
 -- A frame of a run: its FIG 0/0, the entries after it, and what is known after them.
-use Rattle.stream_laws.proofs.Words.{[], ◌%◌, ◌&&◌, ◌++◌, ◌+◌, ◌-◌, ◌==◌, ◌||◌, ◌∙◌, ◌∷◌, ◌≡◌, ◌≢◌, ◌≤◌, ◌⊎◌, Airs}
+use Rattle.stream_laws.proofs.Words.{[], ◌%◌, ◌&&◌, ◌++◌, ◌+◌, ◌==◌, ◌||◌, ◌∙◌, ◌∷◌, ◌≡◌, ◌≤◌, ◌⊎◌, Airs}
 use Rattle.stream_laws.proofs.Words.{AllByRecursion, Bool, Configuration, Contains, EnsembleInformation, FibHas32Bytes}
 use Rattle.stream_laws.proofs.Words.{Holds, InFrame, IsCode, IsHeardInRow, Item, Known, KnowsAt, KnowsBy, Laws, List}
 use Rattle.stream_laws.proofs.Words.{Listening, Marked, Moment, None, Nothing, OneList, Option, Or, Plan, Program, Raw}

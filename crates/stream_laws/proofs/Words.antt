@@ -61,7 +61,7 @@ pub use Rattle.plan_runs.proofs.Periods.{Goes, after_goes, sends, sent_period}
 pub use Rattle.plan_runs.proofs.Pictures.{HasAll, IsOf, IsPartial, contains_in, each_whole, entries_of, entry_is_of}
 pub use Rattle.plan_runs.proofs.Pictures.{fact_in, in_append, in_contains, in_fact, in_first, in_second, said_by}
 pub use Rattle.plan_runs.proofs.Pictures.{whole_is_set, whole_of}
-pub use Rattle.plan_runs.proofs.Right.{PageLaws, ensemble_right, ensemble_within, pageable, sent_within}
+pub use Rattle.plan_runs.proofs.Right.{PageLaws, ensemble_right, ensemble_within, page_laws, pageable, sent_within}
 pub use Rattle.plan_runs.proofs.Tracked.{Airs, SwapsOn, noticed, noticed_from, page_after_below, page_of, page_of_first}
 pub use Rattle.plan_runs.proofs.Tracked.{page_of_next, some_rounds, split_le, turn_is_page}
 pub use Rattle.plan_runs.proofs.Tuned.{IsSentOf, NextBy, Or, SaidIn, Tuned, hears_entries, tuned_weaker}

@@ -135,7 +135,6 @@ pub fn findings()
     fib_codec::laws::spelling();
     fib_reader::laws::ensemble();
     fib_carousel::laws::pages();
-    fib_carousel::laws::carried();
     mux_config::laws::changes();
     plan_runs::laws::headline();
     stream_check::laws::parts();
@@ -169,7 +168,6 @@ pub fn named_swaps()
     fib_codec::laws::one_list();
     fib_reader::laws::ensemble();
     fib_carousel::laws::pages();
-    fib_carousel::laws::carried();
 }
 
 /// The law of announcements: in the frames of a run of a typed code, from one with a FIG 0/0 on,
@@ -238,10 +236,7 @@ pub fn no_false_alarm()
 /// of the mode's step, and in no other, with C/N 0, that count and the EId of the run.
 pub fn counts()
     ensures { RunsAreCounted }
-{
-    fib_carousel::laws::pages();
-    fib_carousel::laws::carried();
-}
+{}
 
 /// The law of bytes: a checker that is given the bytes of a run of a typed code, or any piece of
 /// them that begins and ends between two FIBs, always has room and reports no fault, with N at

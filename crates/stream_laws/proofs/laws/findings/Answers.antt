@@ -1,4 +1,4 @@
-use Rattle.stream_laws.proofs.Words.{Laws, PageLaws}
+use Rattle.stream_laws.proofs.Words.{Laws, page_laws}
 use Rattle.stream_laws.proofs.Following.{SwapLaws}
 use Rattle.stream_laws.proofs.NoFault.{runs_are_free}
 use Rattle.stream_laws.proofs.Opening.{FrameLaws}
@@ -6,15 +6,7 @@ use Rattle.stream_laws.proofs.laws.findings.Goals as goal
 
 pub returns : goal.returns
 returns c =
-    let pages : PageLaws =
-    record {
-      each = c.pages.ensures.each;
-      pageable = c.carried.ensures.pageable;
-      valid = c.carried.ensures.valid;
-      heard = c.carried.ensures.heard;
-      ensemble = c.carried.ensures.ensemble;
-    } in
-    let heard : Laws = record { pages = pages; fibs = c.pages.ensures.fibs; ensemble = c.ensemble.ensures } in
+    let heard : Laws = record { pages = page_laws; fibs = c.pages.ensures.fibs; ensemble = c.ensemble.ensures } in
     let swap : SwapLaws = record {
       one = c.one_list.ensures;
       heard = heard;

@@ -1,13 +1,8 @@
-use Rattle.stream_laws.proofs.Bytes.{FibLaws}
+use Rattle.stream_laws.proofs.Bytes.{fib_laws}
 use Rattle.stream_laws.proofs.Announced.{changes_are_announced}
 use Rattle.stream_laws.proofs.laws.notices.Goals as goal
 
 pub returns : goal.returns
 returns c =
-    let fibs : FibLaws = record {
-      one = c.one_list.ensures;
-      size = c.fib_length.ensures;
-      spelled = c.spelling.ensures.is_spelled;
-      ensemble = c.ensemble.ensures;
-    } in
+    let fibs = fib_laws c.one_list.ensures c.fib_length.ensures c.spelling.ensures.is_spelled c.ensemble.ensures in
     changes_are_announced fibs c.parts.ensures
