@@ -1,6 +1,6 @@
 -- What `compile` leaves, from what its steps leave.
 use Rattle.cli_scripts.proofs.Words.{◌∙◌, ◌≡◌, Appends, Appends-kept, Compiles, Done, FindsCompiled, IfSome, IsCompiled}
-use Rattle.cli_scripts.proofs.Words.{IsReadOf, IsReason, IsUncompiled, Keeps, List, None, Option, Refused}
+use Rattle.cli_scripts.proofs.Words.{IsReadOf, IsReason, IsUncompiled, Keeps, List, None, Option}
 use Rattle.cli_scripts.proofs.Words.{ScriptRefusal, Some, arith, length, subst, take, take_all, ℕ}
 use Rattle.console.specs.World.{World, Becomes, Stays, HasWritten}
 use Rattle.console.proofs.Worlds.{stays_then_written}
@@ -51,8 +51,3 @@ pub compiles : (known : Option (List ℕ)) (f : Found) (Holds : List ℕ → Typ
     → IfSome known (λ script. Compiles script Holds Done)
 compiles None f Holds h held = tt
 compiles (Some script) f Holds h held = (f.compiled, h, held)
-
-pub refuses : (known : Option (List ℕ)) (Holds : List ℕ → Type 0)
-    → IfSome known (λ script. FindsCompiled script None) → IfSome known (λ script. Compiles script Holds Refused)
-refuses None Holds h = tt
-refuses (Some script) Holds h = h

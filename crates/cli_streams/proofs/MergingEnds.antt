@@ -22,11 +22,6 @@ pub whole_read : (left now : Option (List ℕ)) (frame : List ℕ) (more : Bool)
 whole_read left now frame true is read = read
 whole_read left now frame false is read = absurd (cc)
 
-pub none_read : (left now : Option (List ℕ)) (frame : List ℕ) (more : Bool) → more ≡ false
-    → ReadsFrame left now frame (Ok more) → Consumes left now [] × IsAtEnd now
-none_read left now frame false is read = read
-none_read left now frame true is read = absurd (cc)
-
 -- what is taken of a frame of this size, whatever was before
 abbrev pub TakesOn : ℕ → (left now : Option (List ℕ)) → (was_open is_open : Bool) → (was status : Status)
     → (old new : Merging) → Type 0

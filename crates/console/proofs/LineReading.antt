@@ -2,7 +2,7 @@
 use Rattle.std.proofs.Common.{◌≡◌, ℕ, ◌==◌, ◌<◌, false, List, [], ◌∷◌, ◌++◌, length, Option, None, Some, refl, sym, ap}
 use Rattle.std.proofs.Common.{◌∙◌, arith, append-nil, length-append, subst, Bool, true, true≢false, ◌≤◌}
 use Rattle.std.proofs.lemmas.Bool.{eqb-true}
-use Rattle.std.proofs.KnownBytes.{Consumes-trans, Consumes-nil}
+use Rattle.std.proofs.KnownBytes.{Consumes-trans}
 use Rattle.std.specs.Io.KnownBytes.{Consumes, Keeps, IsAtEnd}
 use Rattle.console.specs.Lines.{lines_of, GivesLine}
 
@@ -56,16 +56,6 @@ pub record Held (before now : Option (List ℕ)) (line : List ℕ) (is_long : Bo
   pub short : is_long ≡ false → line ≡ bytes
   pub long : is_long ≡ true → 65536 < length bytes
   pub bound : length line ≤ 65536
-
-pub held_first : (a b : Option (List ℕ)) (line : List ℕ) → b ≡ a → line ≡ [] → Held a b line false
-held_first a b line same none = record {
-  bytes = [];
-  taken = subst (λ (o : Option (List ℕ)). Consumes a o []) (sym same) (Consumes-nil a);
-  no_feed = tt;
-  short = λ _. none;
-  long = λ e. absurd (true≢false (sym e));
-  bound = let n = ap (λ (l : List ℕ). length l) none in omega (arith, n);
-}
 
 long_bytes : (is_long : Bool) (line bytes : List ℕ) → (is_long ≡ false → line ≡ bytes)
     → (is_long ≡ true → 65536 < length bytes) → length line ≡ 65536 → 65536 ≤ length bytes

@@ -1,6 +1,6 @@
 //! Exit statuses, and failures to access a file.
 
-ghost use Rattle.std.specs.Prelude.{◌≡◌, ◌≢◌, ℕ, List, [], Some, take, codes, IfOk, OnOk, IfSome};
+ghost use Rattle.std.specs.Prelude.{◌≡◌, ◌≢◌, ℕ, List, take, codes, IfOk, OnOk, IfSome};
 ghost use Rattle.std.specs.Io.KnownBytes.{Keeps};
 ghost use Rattle.console.specs.World.{Becomes, Stays, IsSameBut, HasWritten, HasTouched};
 
@@ -182,18 +182,6 @@ pub fn read_input<'a, F: Files>(
 {
     let source = open_input(files, path)?;
     read_within(alloc, source, most).map_err(|fault| Failure::of_file(fault, path))
-}
-
-/// Creates the file of this path, or truncates it. `Create` on a system error, `Memory` if out of
-/// memory: all files are as they were then. Other files are as they were in any case.
-pub fn create_file<'a, F: Files>(files: &mut F, path: &'a str) -> Result<F::Out, Failure<'a>>
-    ensures empty { IfOk result (λ file. IfSome (F.world files.old)
-        (λ _. F.Out.contents file ≡ Some [])) }
-    ensures others { Becomes (IsSameBut path.now) (F.world files.old) (F.world files.new) }
-{
-    files
-        .create(path)
-        .map_err(|fault| Failure::of_output(fault, path))
 }
 
 /// Gives the file of this path these bytes, or leaves it as it was. Other files are as they were in

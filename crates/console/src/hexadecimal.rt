@@ -38,17 +38,6 @@ pub fn u16_of(text: &str) -> Option<u16> {
     Some(((first * 16 + second) * 16 + third) * 16 + fourth)
 }
 
-/// The four digits of a number.
-pub fn hex_of_u16(number: u16) -> [u8; 4] {
-    let [high, low] = number.to_be_bytes();
-    [
-        digit_of(high / 16),
-        digit_of(high % 16),
-        digit_of(low / 16),
-        digit_of(low % 16),
-    ]
-}
-
 /// The 64 digits of the 32 bytes of a FIB.
 pub fn digits_of_fib(fib: &[u8; 32]) -> ArrayVec<u8, 64> {
     let mut digits = ArrayVec::new();

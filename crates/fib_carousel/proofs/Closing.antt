@@ -2,7 +2,7 @@
 use Rattle.fib_carousel.proofs.Words.{[], ◌+◌, ◌-◌, ◌<◌, ◌∙◌, ◌∷◌, ◌≡◌, ◌≤◌, ◌⊎◌, AllByRecursion, AreSendable, Entry}
 use Rattle.fib_carousel.proofs.Words.{EntryShape, FrameLayout, HasPassed, Head, IfSome, IsAtFib, IsSendable}
 use Rattle.fib_carousel.proofs.Words.{IsThenWithin, List, Long, Marked, NextIsAfter, None, Option, PackState, Position}
-use Rattle.fib_carousel.proofs.Words.{Short, Sid, Some, ap, arith, closed, cost, drop, drop_all, entries_in_fib}
+use Rattle.fib_carousel.proofs.Words.{Short, Sid, Some, ap, arith, closed, cost, drop, entries_in_fib}
 use Rattle.fib_carousel.proofs.Words.{entry_size, ext_of, fib_entries, get_or, if◌then◌else◌, inl, inr, is_some}
 use Rattle.fib_carousel.proofs.Words.{last_number, le-leb, length, length-drop, lt-leb, nat_le, numbers_from, opened}
 use Rattle.fib_carousel.proofs.Words.{packing, placed, refl, room, sid_size, size_of, state_at, subst, suc, sym, take}
@@ -66,13 +66,6 @@ pub past_entry : (layout : FrameLayout) (ms : List Marked) (n : ℕ) (c : Positi
 past_entry layout ms n c q s over m rest h =
     let same : s.entry ≡ m = head_is m s.entry (drop c.index ms) (drop (c.index + 1) ms) rest s.row h in
     subst (λ (e : Marked). n < (placed layout e c.state).fib) same (subst (λ (r : PackState). n < r.fib) s.next over)
-
--- because none is left
-pub past_end : (layout : FrameLayout) (ms : List Marked) (n : ℕ) (c : Position) → length ms ≤ c.index
-    → NextIsAfter layout ms n c
-past_end layout ms n c end m rest h =
-    let none : 0 ≡ suc (length rest) = ap length (sym (drop_all c.index ms end) ∙ h) in
-    absurd (omega (arith, none))
 
 -- because the room is too small for the shortest entry
 pub shortest : (m : Marked) → IsSendable m → 3 ≤ size_of m

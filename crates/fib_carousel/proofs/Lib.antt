@@ -9,7 +9,6 @@ pub mod Components
 pub mod Sent
 pub mod Filling
 pub mod Rows
-pub mod Turning
 pub mod Closing
 pub mod Headed
 pub mod Hearing

@@ -65,10 +65,6 @@ last_step layout ms at p q top s h =
     subst (λ xs. last_number p.fib (numbers_from layout p xs) ≡ top) s.row h in
     subst (λ (r : PackState). last_number r.fib (numbers_from layout r (drop (at + 1) ms)) ≡ top) (sym s.next) along
 
-pub last_end : (layout : FrameLayout) (ms : List Marked) (at : ℕ) (p : PackState) (top : ℕ) → length ms ≤ at
-    → last_number p.fib (numbers_from layout p (drop at ms)) ≡ top → p.fib ≡ top
-last_end layout ms at p top h l = subst (λ xs. last_number p.fib (numbers_from layout p xs) ≡ top) (drop_all at ms h) l
-
 -- the entries that the rest of the list has in FIB n
 abbrev pub rest_in : (layout : FrameLayout) → ℕ → List Marked → ℕ → PackState → List Marked
 rest_in layout n ms at p = entries_in_fib n (drop at ms) (numbers_from layout p (drop at ms))

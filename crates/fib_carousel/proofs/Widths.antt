@@ -1,5 +1,5 @@
 -- The number of FIBs of a page: two to four.
-use Rattle.fib_carousel.proofs.Words.{◌%◌, ◌*◌, ◌+◌, ◌-◌, ◌/◌, ◌<◌, ◌≡◌, ◌≤◌, FrameLayout, I, II, III, IV, ReserveOne}
+use Rattle.fib_carousel.proofs.Words.{◌%◌, ◌*◌, ◌+◌, ◌/◌, ◌<◌, ◌≡◌, ◌≤◌, FrameLayout, I, II, III, IV, ReserveOne}
 use Rattle.fib_carousel.proofs.Words.{ReserveTwo, Whole, arith, subst, suc, sym, used_fibs, ℕ}
 
 -- what holds of each width holds of each layout
@@ -69,14 +69,3 @@ few_pages layout n count =
 pub few_fibs : (layout : FrameLayout) (w k : ℕ) → w ≡ used_fibs layout → w * k ≤ 4 * k
 few_fibs layout w k e = subst (λ n. n * k ≤ 4 * k) (sym e)
     (by_width (λ n. n * k ≤ 4 * k) (omega arith) (omega arith) (omega arith) layout)
-
--- the page of a FIB that is in page k or before, or after page k
-pub last_in : (layout : FrameLayout) (k top : ℕ) → top ≤ used_fibs layout * k + used_fibs layout - 1
-    → top / used_fibs layout ≤ k
-last_in layout k top = by_width (λ w. top ≤ w * k + w - 1 → top / w ≤ k) (λ h. omega (arith, h)) (λ h. omega (arith, h))
-    (λ h. omega (arith, h)) layout
-
-pub last_over : (layout : FrameLayout) (k top : ℕ) → used_fibs layout * k + used_fibs layout - 1 < top
-    → k + 1 ≤ top / used_fibs layout
-last_over layout k top = by_width (λ w. w * k + w - 1 < top → k + 1 ≤ top / w) (λ h. omega (arith, h))
-    (λ h. omega (arith, h)) (λ h. omega (arith, h)) layout

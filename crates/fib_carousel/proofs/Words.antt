@@ -8,7 +8,7 @@ pub use Rattle.fib_carousel.specs.Items.{config_entries, item_entry}
 pub use Rattle.fib_carousel.specs.Packing.{AreSmall, IsDivision, IsPacking, NeverFalls, cost, entries_in_fib}
 pub use Rattle.fib_carousel.specs.Packing.{entries_where, figs_size, last_number, room, rounds_of, same_flag, same_head}
 pub use Rattle.fib_carousel.specs.Packing.{size_of}
-pub use Rattle.fib_carousel.specs.Pages.{fib_entries, fibs_of_page, first_fib, later_fibs, page_after, page_entries}
+pub use Rattle.fib_carousel.specs.Pages.{fib_entries, fibs_of_page, first_fib, later_fibs, page_entries}
 pub use Rattle.fib_carousel.specs.Pages.{page_set, pages_below, rounds}
 pub use Rattle.fib_carousel.specs.Runs.{IsPlacedAfter, IsThenWithin, all_placed, closed, packet_shape, shape_cost}
 pub use Rattle.fib_carousel.specs.Runs.{shape_of, state_at, step, steps, sub_shape}

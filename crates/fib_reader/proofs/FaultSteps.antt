@@ -68,10 +68,6 @@ pub record LeadsToFig (at : ℕ) (rest : List ℕ) (fault : Option FibFault) : T
   pub enough : length rest ≤ left
   pub same : figs_fault left at rest ≡ fault
 
-drop_none : (xs : List ℕ) → drop 0 xs ≡ xs
-drop_none [] = refl
-drop_none (x ∷ xs) = refl
-
 fig_here :
     (left at : ℕ) (rest : List ℕ) (fault : Option FibFault) → length rest ≤ left → 0 < length rest
     → figs_fault left at rest ≡ fault

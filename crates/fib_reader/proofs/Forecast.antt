@@ -1,11 +1,11 @@
 -- A pass over FIGs predicts that they contain nothing new, or that there is room for it.
-use Rattle.fib_reader.proofs.Words.{[], ◌+◌, ◌<◌, ◌==◌, ◌||◌, ◌∙◌, ◌∷◌, ◌≡◌, ◌≢◌, ◌≤◌, Bool, EnsembleInformation, Fig}
-use Rattle.fib_reader.proofs.Words.{HasGrown, HasGrownBy, Head, IfSome, IsKnownTo, LeavesRoom, List, Listening, None}
-use Rattle.fib_reader.proofs.Words.{Open, Option, Other, Pictured, Raw, Some, ap, arith, at_ensemble, awaiting, cond}
+use Rattle.fib_reader.proofs.Words.{[], ◌+◌, ◌<◌, ◌==◌, ◌||◌, ◌∙◌, ◌∷◌, ◌≡◌, ◌≢◌, ◌≤◌, Bool, Fig}
+use Rattle.fib_reader.proofs.Words.{HasGrown, HasGrownBy, Head, IfSome, LeavesRoom, List, Listening, None}
+use Rattle.fib_reader.proofs.Words.{Open, Option, Other, Pictured, Raw, Some, ap, arith, at_ensemble, cond}
 use Rattle.fib_reader.proofs.Words.{ensemble_in, entries_in, eq-eqb, eqb-true, false, has_entry, has_room, head_in}
 use Rattle.fib_reader.proofs.Words.{hear_entries, hear_entry, hear_fig, identifier_of, into, is_known, is_next, kept}
 use Rattle.fib_reader.proofs.Words.{length, length-map, length_with, nat_lt, ne_eqb, or_right, picture_of, pictured}
-use Rattle.fib_reader.proofs.Words.{refl, subst, suc, swapped, sym, true, where_heard, with_entry, with_entry_changed}
+use Rattle.fib_reader.proofs.Words.{refl, subst, suc, sym, true, where_heard, with_entry, with_entry_changed}
 use Rattle.fib_reader.proofs.Words.{ℕ}
 use Rattle.fib_reader.proofs.Keeping.{room_for_known, room_for_new}
 
@@ -175,23 +175,6 @@ pub takes_if_packet :
 takes_if_packet old raw others None is not known new = tt
 takes_if_packet old raw others (Some all) is not known new = takes_packet old raw others all is not (known, new)
 
--- ---- ensemble information
-
-tuned_again : (l : Listening) → l.tuned ≡ true → record l { tuned = true } ≡ l
-tuned_again l tuned = rw (← tuned) refl
-
-awaits_again : (b : Bool) (e : EnsembleInformation) (l : Listening) → (e.change == 0) ≡ b
-    → ((e.change == 0) ≡ false → e.occurrence ≡ l.awaited)
-    → cond b l (record l { awaited = e.occurrence }) ≡ l
-awaits_again true e l is awaits = refl
-awaits_again false e l is awaits = rw (awaits is) refl
-
-pub stays : (l : Listening) (e : EnsembleInformation) → IsKnownTo l e → at_ensemble e l ≡ l
-stays l e h =
-    ap (λ b. awaiting e (record (cond b (swapped l) l) { tuned = true })) h.not_made
-    ∙ ap (awaiting e) (tuned_again l h.tuned)
-    ∙ awaits_again (e.change == 0) e l refl h.awaits
-
 -- ---- an entry, heard
 
 heard_tuned : (next : Bool) (raw : Raw) (l : Listening) → raw.ext ≢ 0 → l.tuned ≡ true
@@ -200,10 +183,6 @@ heard_tuned next raw l other tuned =
     ap (λ b. cond b (Some (at_ensemble (ensemble_in raw) l))
     (cond l.tuned (into next l (pictured raw (picture_of next l))) (Some l))) (ne_eqb raw.ext 0 other)
     ∙ ap (λ b. cond b (into next l (pictured raw (picture_of next l))) (Some l)) tuned
-
-pub known_next : (raw : Raw) (l : Listening) → raw.ext ≢ 0 → l.tuned ≡ true → pictured raw l.next ≡ Some l.next
-    → hear_entry true raw l ≡ Some l
-known_next raw l other tuned is = heard_tuned true raw l other tuned ∙ ap (into true l) is
 
 leaves_next :
     (old : Listening) (others all : ℕ) (raw : Raw) → raw.ext ≢ 0 → old.tuned ≡ true → Takes old.next raw others all

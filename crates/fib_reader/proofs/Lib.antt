@@ -12,7 +12,6 @@ pub mod Components
 pub mod FromEntries
 pub mod Shown
 pub mod Vectors
-mod KnownFibs
 mod Remembered
 mod Remembering
 mod Words

@@ -11,12 +11,12 @@ pub use Rattle.fib_reader.specs.Faults.{IsNoEntryAt, IsNotOneAt, IsOverrun, Lead
 pub use Rattle.fib_reader.specs.FirstFault.{body_fault, ensemble_fault, entries_fault, entry_at_fault, fig_fault}
 pub use Rattle.fib_reader.specs.FirstFault.{figs_fault, or_else}
 pub use Rattle.fib_reader.specs.Forecast.{HasGrown, HasGrownBy, IsKnownTo, LeavesRoom}
-pub use Rattle.fib_reader.specs.Listening.{Hears, Listening, Pictured, all_entries, at_ensemble, awaiting, has_room}
+pub use Rattle.fib_reader.specs.Listening.{Listening, Pictured, all_entries, at_ensemble, has_room}
 pub use Rattle.fib_reader.specs.Listening.{hear_entries, hear_entry, hear_fig, hear_figs, identifier_of, into, is_known}
-pub use Rattle.fib_reader.specs.Listening.{is_made, kept, picture_of, pictured, swapped, untuned, where_heard}
+pub use Rattle.fib_reader.specs.Listening.{is_made, kept, picture_of, pictured, untuned, where_heard}
 pub use Rattle.fib_reader.specs.Picture.{AreInOrder, IsBefore, IsKept, IsPictured, IsSubOf, Shows}
 pub use Rattle.fib_reader.specs.Raw.{IsRaw, Raw, ensemble_in, entries_in, head_in, raw_entry, raw_of}
-pub use Rattle.fib_reader.specs.Remembering.{AddsNothing, Agrees, AreRemembered, KeepsCurrent, Remembers, basis_of}
+pub use Rattle.fib_reader.specs.Remembering.{Agrees, KeepsCurrent, Remembers, basis_of}
 pub use Rattle.fib_reader.specs.Walk.{AreRaw, IsWholeFig, entries_of, fig_of_bytes, figs_of_bytes, pieces_of, raws_of}
 pub use Rattle.fib_reader.specs.declared.basis.Basis.{Basis}
 pub use Rattle.fib_reader.specs.declared.basis.Basis.TheVariants.{All, Current, Pictures}
@@ -42,8 +42,8 @@ pub use Rattle.std.proofs.Common.{nat_lt, refl, rules, slice_get, subst, suc, sy
 pub use Rattle.std.proofs.Math.Seq.{drop-append_seam, take-append_seam}
 pub use Rattle.std.proofs.lemmas.Bool.{cases_Bool, cases_eq, cases_lt, cond_both, eq-eqb, eqb-false, eqb-true}
 pub use Rattle.std.proofs.lemmas.Bool.{false≢true, ltb-false, ltb-true, ne_eqb, or_left, or_right}
-pub use Rattle.std.proofs.lemmas.List.{append-nil, drop_min, get_or-map, get_or-replicate, get_or-set_other}
-pub use Rattle.std.proofs.lemmas.List.{get_or-set_same, get_or_append_left, length-append, length-map, length-take-le}
+pub use Rattle.std.proofs.lemmas.List.{append-nil, drop_min, get_or-map, get_or-replicate}
+pub use Rattle.std.proofs.lemmas.List.{get_or_append_left, length-append, length-map, length-take-le}
 pub use Rattle.std.proofs.lemmas.List.{map-append, take-append-drop, take-map, take_min, take_more}
 pub use Rattle.std.proofs.lemmas.Option.{get_or_from_slice_get, slice_get-get_or, slice_get_within}
 pub use Rattle.std.specs.List.{AllByRecursion, list_any}

@@ -24,9 +24,6 @@ pub record IsLeft (k : Pictured) (ext : ℕ) (long : Bool) (all rest : List ℕ)
   pub enough : length rest ≤ fuel
   pub same : are_there k (mentions_in fuel ext long rest) ≡ are_there k (mentions_in (length all) ext long all)
 
-pub begins : (k : Pictured) (ext : ℕ) (long : Bool) (all : List ℕ) → IsLeft k ext long all all
-begins k ext long all = record { fuel = length all; enough = omega arith; same = refl }
-
 pub mentions-none : (n ext : ℕ) (long : Bool) → mentions_in n ext long [] ≡ Some []
 unfolding mentions_in
 mentions-none zero ext long = refl

@@ -1,8 +1,8 @@
 -- The lanes of the unit map: a span is added and removed, and a lane above 1 is found.
-use Rattle.mux_tables.proofs.Words.{[], ◌%◌, ◌*◌, ◌+◌, ◌-◌, ◌/◌, ◌<◌, ◌^◌, ◌∙◌, ◌∷◌, ◌≡◌, ◌≢◌, ◌≤◌, ◌⊎◌, Block, Bool}
-use Rattle.mux_tables.proofs.Words.{Counts, List, Span, add-one, ap, arith, below_more, cases_lt, cond, false, get_or}
-use Rattle.mux_tables.proofs.Words.{get_or-set_other, get_or-set_same, inl, inr, le-ltb, length, length-map, lt-ltb}
-use Rattle.mux_tables.proofs.Words.{ltb, map, nat_tests, no_units, range_with_len, refl, set, share, subst, suc, sym}
+use Rattle.mux_tables.proofs.Words.{[], ◌%◌, ◌*◌, ◌+◌, ◌-◌, ◌/◌, ◌<◌, ◌^◌, ◌∙◌, ◌∷◌, ◌≡◌, ◌≤◌, ◌⊎◌, Block, Bool}
+use Rattle.mux_tables.proofs.Words.{Counts, List, Span, add-one, ap, arith, cases_lt, cond, false, get_or}
+use Rattle.mux_tables.proofs.Words.{inl, inr, le-ltb, length, length-map, lt-ltb}
+use Rattle.mux_tables.proofs.Words.{ltb, map, nat_tests, no_units, range_with_len, refl, share, subst, suc, sym}
 use Rattle.mux_tables.proofs.Words.{true, units_at, zero, ℕ}
 use Rattle.std.specs.Simd.Lanes.{zip2, top, mask_l}
 use Rattle.std.specs.Prelude.{replicate}
@@ -77,26 +77,6 @@ pub record Stepped (op : ℕ → ℕ → ℕ) (before blocks : List Block) (s : 
   pub done : (b : ℕ) → from ≤ b → b < n → units_at blocks b ≡ zip2 op (units_at before b) (counts_of_block (share s) b)
   pub low : (b : ℕ) → b < from → units_at blocks b ≡ units_at before b
   pub left : (b : ℕ) → n ≤ b → units_at blocks b ≡ units_at before b
-
-pub step : (op : ℕ → ℕ → ℕ) (before blocks : List Block) (s : Span) (from n : ℕ) (x : List ℕ) (y : Block)
-    → n < length blocks → from ≤ n
-    → x ≡ units_at blocks n → y.units ≡ zip2 op x (counts_of_block (share s) n)
-    → Stepped op before blocks s from n → Stepped op before (set blocks n y) s from (n + 1)
-step op before blocks s from n x y lt le is made h =
-    let same : get_or (set blocks n y) n no_units ≡ y = rw get_or-set_same refl in
-    let others : (b : ℕ) → b ≢ n → units_at (set blocks n y) b ≡ units_at blocks b =
-    λ b ne. let e : get_or (set blocks n y) b no_units ≡ get_or blocks b no_units = rw get_or-set_other refl in
-    ap (λ (k : Block). k.units) e in
-    record {
-      done = λ b low less. below_more (λ (k : ℕ). from ≤ k
-          → units_at (set blocks n y) k ≡ zip2 op (units_at before k) (counts_of_block (share s) k)) n
-          (λ k lk lf. let ne : k ≢ n = omega arith in others k ne ∙ h.done k lf lk)
-          (λ lf. ap (λ (k : Block). k.units) same ∙ made
-          ∙ ap (λ (xs : List ℕ). zip2 op xs (counts_of_block (share s) n)) (is ∙ h.left n (omega arith)))
-          b less low;
-      low = λ b less. let ne : b ≢ n = omega arith in others b ne ∙ h.low b less;
-      left = λ b more. let ne : b ≢ n = omega arith in others b ne ∙ h.left b (omega arith);
-    }
 
 -- a block outside the span has none of its units
 none_below : (s : Span) (b j : ℕ) → j < 32 → b < s.start / 32 → share s (32 * b + j) ≡ 0

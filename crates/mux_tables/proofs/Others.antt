@@ -1,10 +1,9 @@
 -- Edits of services and packet components are those of a configuration without sub-channels.
 use Rattle.mux_tables.proofs.Words.{[], ◌∙◌, ◌≡◌, AddComponent, AddPacket, AddService, AddSub, Configuration}
 use Rattle.mux_tables.proofs.Words.{DropComponent, DropPacket, DropService, DropSub, IsConfiguration, IsInRange, List}
-use Rattle.mux_tables.proofs.Words.{MoveSub, None, Ok, Option, RateSub, Some, Sub, ap, changed, edit_fault, edits_keep}
-use Rattle.mux_tables.proofs.Words.{outcome, refl, subst, sym, with_sub_channels}
+use Rattle.mux_tables.proofs.Words.{MoveSub, None, RateSub, Sub, ap, changed, edit_fault, edits_keep}
+use Rattle.mux_tables.proofs.Words.{refl, subst, sym, with_sub_channels}
 use Rattle.mux_config.specs.declared.edit.Edit.{Edit}
-use Rattle.mux_config.specs.declared.fault.EditFault.{EditFault}
 
 abbrev pub IsOfOthers : Edit → Type 0
 IsOfOthers (AddSub s) = ⊥
@@ -64,8 +63,3 @@ known_keeps e of within xs old new none c fault is = (
   subst IsConfiguration (sym (known e of xs old new is))
       (edits_keep e (with_sub_channels xs old) within c (same_fault e of xs old ∙ fault)),
 )
-
--- and with its result
-no_fault : (f : Option EditFault) (d new : Configuration) → outcome f d ≡ Ok new → (f ≡ None) × (new ≡ d)
-no_fault None d new e = (refl, cc)
-no_fault (Some fault) d new e = absurd (cc)

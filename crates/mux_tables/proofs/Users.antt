@@ -1,6 +1,6 @@
 -- The number of sub-channels that cover a unit: how edits change it, and that two share the unit if it is above 1.
 use Rattle.mux_tables.proofs.Words.{[], ◌*◌, ◌+◌, ◌<◌, ◌==◌, ◌∙◌, ◌∷◌, ◌≡◌, ◌≢◌, ◌≤◌, AllByRecursion, Block, Bool}
-use Rattle.mux_tables.proofs.Words.{Contains, Counts, CountsIn, CountsOut, IsAscending, IsUnitOf, List, Option, Some}
+use Rattle.mux_tables.proofs.Words.{Contains, Counts, CountsIn, CountsOut, IsAscending, IsUnitOf, List, Some}
 use Rattle.mux_tables.proofs.Words.{Span, Sub, ap, arith, cases_lt, cond, contains_cases, contains_first}
 use Rattle.mux_tables.proofs.Words.{contains_later, contains_none, each_contains, entry_at, eqb-true, false, filter}
 use Rattle.mux_tables.proofs.Words.{has_unit, inl, inr, length, ltb, nat_tests, not, refl, share, span_of, sub_key}
@@ -39,14 +39,6 @@ users_with y (x ∷ xs) u =
     let rest = users_with y xs u in
     users_cond (ltb (sub_key y) (sub_key x)) (y ∷ x ∷ xs) (x ∷ with_entry sub_key y xs) u
     (users (x ∷ xs) u + share (span_of y) u) (omega (arith, e)) (omega (arith, f, g, rest))
-
-found_here : (t : Bool) (x s : Sub) (rest : Option Sub) → t ≡ true → cond t (Some x) rest ≡ Some s → x ≡ s
-found_here true x s rest is e = cc
-found_here false x s rest is e = absurd (cc)
-
-found_later : (t : Bool) (x s : Sub) (rest : Option Sub) → t ≡ false → cond t (Some x) rest ≡ Some s → rest ≡ Some s
-found_later true x s rest is e = absurd (cc)
-found_later false x s rest is e = e
 
 without_by : (t : Bool) (x s : Sub) (k u : ℕ) (xs : List Sub) → (sub_key x == k) ≡ t → IsAscending sub_key (x ∷ xs)
     → cond t (Some x) (entry_at sub_key k xs) ≡ Some s

@@ -3,7 +3,7 @@ pub use Rattle.mux_config.proofs.Keeping.{absent_found, add_sub_fits, add_sub_ke
 pub use Rattle.mux_config.proofs.Keeping.{edits_keep, entry_holds, entry_key, subs_keep}
 pub use Rattle.mux_config.specs.Configuration.{Configuration, IsAscending, IsComponent, IsConfiguration, IsPlaced}
 pub use Rattle.mux_config.specs.Configuration.{IsSid, size_of_sub, sub_key}
-pub use Rattle.mux_config.specs.Edits.{IsInRange, add_sub_fault, at_rate, at_start, changed, edit_fault, outcome}
+pub use Rattle.mux_config.specs.Edits.{IsInRange, add_sub_fault, at_rate, at_start, changed, edit_fault}
 pub use Rattle.mux_config.specs.Edits.{placing_fault, sub_added}
 pub use Rattle.mux_config.specs.Sound.{IsCrowded, IsUnitOf}
 pub use Rattle.mux_config.specs.Tables.{entry_at, with_entry, with_entry_changed, without_entry}
@@ -19,8 +19,8 @@ pub use Rattle.mux_types.proofs.Elements.{contains_cases, contains_first, contai
 pub use Rattle.mux_types.proofs.Tables.{ascends_changed, changed_absent, each_changed, without_absent}
 pub use Rattle.mux_types.specs.declared.parts.Sub.{Sub}
 pub use Rattle.std.proofs.Common.{[], ◌%◌, ◌*◌, ◌+◌, ◌-◌, ◌/◌, ◌<◌, ◌==◌, ◌^◌, ◌↔◌, ◌∙◌, ◌∷◌, ◌≡◌, ◌≢◌, ◌≤◌, ◌⊎◌, Bool}
-pub use Rattle.std.proofs.Common.{Contains, IfSome, IsTrue, List, None, Ok, Option, Some, add-one, ap, arith}
-pub use Rattle.std.proofs.Common.{below_more, cond, false, filter, get_or, get_or-set_other, get_or-set_same, inl, inr}
+pub use Rattle.std.proofs.Common.{Contains, IfSome, IsTrue, List, None, Option, Some, add-one, ap, arith}
+pub use Rattle.std.proofs.Common.{cond, false, filter, get_or, inl, inr}
 pub use Rattle.std.proofs.Common.{length, ltb, map, not, refl, rules, set, slice_get, subst, suc, sym, take, true, zero}
 pub use Rattle.std.proofs.Common.{ℕ}
 pub use Rattle.std.proofs.lemmas.Bool.{cases_lt, eq-eqb, eqb-true, false≢true, le-ltb, lt-ltb, ne_eqb}

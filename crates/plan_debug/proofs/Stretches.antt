@@ -7,7 +7,7 @@ use Rattle.plan_debug.proofs.Words.{last_bytes, length, line_at, most_frames, re
 use Rattle.plan_player.specs.Playing.{Playing, played}
 use Rattle.plan_player.proofs.Delivering.{played_join}
 use Rattle.plan_session.specs.declared.command.Command.{Command}
-use Rattle.plan_debug.proofs.Lasts.{kept_again, kept_more}
+use Rattle.plan_debug.proofs.Lasts.{kept_again}
 
 one_frame_more : (n : ℕ) → frames (suc n) ≡ frames n ++ Frame ∷ []
 one_frame_more zero = refl
@@ -34,18 +34,6 @@ pub record IsStretch (old : Playing) (before : List Announcement) (stop : Option
   pub state : player ≡ played old (frames n)
   pub kept : log ≡ keep_last 64 (before ++ announced old.code old.state (frames n))
   pub few : length log ≤ 64
-
-pub no_frame : (old : Playing) (before : List Announcement) (stop : Option ℕ) (command : Command) (last : List ℕ)
-    → length before ≤ 64 → IsStretch old before stop command 0 old before last false
-no_frame old before stop command last few = record {
-  within = omega arith;
-  none_before = λ m lt. absurd (omega (arith, lt));
-  ends = (λ h. cc, λ h. absurd h);
-  last_is = λ lt. absurd (omega (arith, lt));
-  state = refl;
-  kept = kept_more 64 before few;
-  few = few;
-}
 
 not_false : IsTrue false → ⊥
 not_false h = cc

@@ -117,10 +117,6 @@ pub record IsView (p : Playing) (r : Report) : Type 0 where
 
 -- ---- a command as a whole
 
--- a debugger that begins with this player
-abbrev pub fresh : Playing → Debugging
-fresh p = record { player = p; stop = None; announcements = [] }
-
 -- the report of a command, and the debugger after it
 pub record Answers (before : Debugging) (command : Command) (after : Debugging) (r : Report) : Type 0 where
   pub count : IsCount before.player.code before.stop command before.player.state r.frames

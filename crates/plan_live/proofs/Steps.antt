@@ -1,6 +1,6 @@
 -- Frames one after another, and the events of steps: those of the first, of the next, and of the rest.
-use Rattle.plan_live.proofs.Words.{[], ◌++◌, ◌+◌, ◌∙◌, ◌∷◌, ◌≡◌, Event, Frame, List, Step, ap, append-nil, arith, drop}
-use Rattle.plan_live.proofs.Words.{events_of, events_of_step, replicate, suc, sym, take, take-append-drop, zero, ℕ}
+use Rattle.plan_live.proofs.Words.{[], ◌++◌, ◌+◌, ◌∙◌, ◌∷◌, ◌≡◌, Event, Frame, List, Step, ap, append-nil, arith}
+use Rattle.plan_live.proofs.Words.{events_of, events_of_step, replicate, suc, take, zero, ℕ}
 use Rattle.plan_live.proofs.Joining.{events_join}
 
 pub replicate_more : (m n : ℕ) → replicate (m + n) Frame ≡ replicate m Frame ++ replicate n Frame
@@ -17,10 +17,3 @@ pub events_more : (steps : List Step) (i : ℕ) (step : Step) → take (i + 1) s
 events_more steps i step more =
     ap (λ (l : List Step). events_of l) more ∙ events_join (take i steps) (step ∷ [])
     ∙ ap (λ (l : List Event). events_of (take i steps) ++ l) (append-nil (events_of_step step))
-
-pub events_cut : (steps : List Step) (i : ℕ) (step : Step) → take (i + 1) steps ≡ take i steps ++ step ∷ []
-    → (events_of (take i steps) ++ events_of_step step) ++ events_of (drop (i + 1) steps) ≡ events_of steps
-events_cut steps i step more =
-    ap (λ (l : List Event). l ++ events_of (drop (i + 1) steps)) (sym (events_more steps i step more))
-    ∙ sym (events_join (take (i + 1) steps) (drop (i + 1) steps))
-    ∙ ap (λ (l : List Step). events_of l) (take-append-drop (i + 1) steps)

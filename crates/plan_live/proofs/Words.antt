@@ -21,7 +21,7 @@ pub use Rattle.plan_session.specs.declared.step.Step.{Step}
 pub use Rattle.plan_session.specs.declared.step.Step.TheVariants.{Frames}
 pub use Rattle.std.proofs.Common.{[], ◌++◌, ◌+◌, ◌-◌, ◌<◌, ◌∙◌, ◌∷◌, ◌≡◌, ◌≤◌, ◌⊎◌, Bool, Err, List, None, Ok, Option}
 pub use Rattle.std.proofs.Common.{Result, Some, ap, append-nil, append_assoc, arith, drop, inl, inr, length}
-pub use Rattle.std.proofs.Common.{length-append, refl, replicate, subst, suc, sym, take, take-append-drop, true, zero}
+pub use Rattle.std.proofs.Common.{length-append, refl, replicate, subst, suc, sym, take, true, zero}
 pub use Rattle.std.proofs.Common.{ℕ}
 pub use Rattle.std.proofs.KnownBytes.{Appends-kept, Appends-nil, Appends-trans}
 pub use Rattle.std.proofs.lemmas.List.{length-replicate, take_more}

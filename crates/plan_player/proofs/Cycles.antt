@@ -55,21 +55,6 @@ bytes_long plan n (suc k) s pages h le =
     ∙ ap₂ (λ a b. a + b) before long
     ∙ sym more
 
--- ---- fewer frames
-
-fewer_away : (notice m n : ℕ) (left : Option ℕ) → m ≤ n → SwapIsAway notice left n → SwapIsAway notice left m
-fewer_away notice m n None le away = tt
-fewer_away notice m n (Some l) le away =
-    (omega (arith, le, away.0), λ from. let far = away.1 from in omega (arith, le, far))
-
-pub fewer : (plan : Plan) (m n : ℕ) (s : State) (pages : PhasePages) → m ≤ n → IsStretch plan n s pages
-    → IsStretch plan m s pages
-fewer plan m n s pages le h = record {
-  whole = h.whole;
-  away = fewer_away plan.notice m n s.left le h.away;
-  ready = λ k lt. h.ready k (omega (arith, lt, le));
-}
-
 -- ---- what is the same after a cycle
 
 entries_later : (plan : Plan) (n k : ℕ) (s : State) → SwapIsAway plan.notice s.left n → k < n

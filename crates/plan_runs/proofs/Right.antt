@@ -4,7 +4,7 @@ use Rattle.plan_runs.proofs.Words.{AllByRecursion, AreFibs, AreSendable, Bool, C
 use Rattle.plan_runs.proofs.Words.{Contains-append_cases, EachInAPage, EnsembleInformation, EnsembleIsCarried}
 use Rattle.plan_runs.proofs.Words.{EnsembleOf, Entry, FrameLayout, Head, I, IfSome, IsConfiguration}
 use Rattle.plan_runs.proofs.Words.{IsEnsembleInformation, IsEnsembleOf, IsFlaggedBy, IsHeadedBy, IsHeardInRow, IsInFig}
-use Rattle.plan_runs.proofs.Words.{IsNoHeader, IsPageable, IsRight, IsSendable, IsUnheaded, IsValid, List, Marked, Mode}
+use Rattle.plan_runs.proofs.Words.{IsNoHeader, IsPageable, IsRight, IsUnheaded, IsValid, List, Marked, Mode}
 use Rattle.plan_runs.proofs.Words.{None, Open, Option, Other, PageSetsArePageable, PagesAreHeard, PagesAreValid, Plan}
 use Rattle.plan_runs.proofs.Words.{ReserveOne, ReserveTwo, Some, State, Whole, Written, and_parts, announced_next, ap}
 use Rattle.plan_runs.proofs.Words.{arith, bit_of, bits_of, change_of, cond, count_step, drop, drop-drop, each_in_a_page}
@@ -232,11 +232,6 @@ no_headers [] h = tt
 no_headers (w ∷ ws) h = (no_header w h.0, no_headers ws h.1)
 
 -- ---- the FIBs of a page
-
-sendable_by : (e : Marked) (xs : List Marked) → IsSendable e → AreSendable xs → (b : Bool)
-    → AreSendable (cond b (e ∷ xs) xs)
-sendable_by e xs h hs true = (h, hs)
-sendable_by e xs h hs false = hs
 
 -- FIB n of these FIBs
 pub record IsFibAt (all : List (List Written)) (bytes : List ℕ) (n : ℕ) : Type 0 where

@@ -1,7 +1,7 @@
 -- One instruction of a typed code is allowed, and leaves what is known wherever the machine continues.
-use Rattle.plan_runs.proofs.Words.{◌<◌, ◌∙◌, ◌≡◌, ◌≤◌, ◌⊎◌, Arrives, Configuration, Counters, Ended, Hold, IfSome}
+use Rattle.plan_runs.proofs.Words.{◌<◌, ◌∙◌, ◌≡◌, ◌≤◌, ◌⊎◌, Arrives, Configuration, Ended, Hold, IfSome}
 use Rattle.plan_runs.proofs.Words.{Instr, IsTyping, Known, Label, List, None, Option, Program, Running, Some, State}
-use Rattle.plan_runs.proofs.Words.{Swap, Waits, WaitsAny, WaitsContact, WaitsDay, WaitsSwap, ap, arith, eqb, eqb-true}
+use Rattle.plan_runs.proofs.Words.{Waits, WaitsAny, WaitsContact, WaitsDay, WaitsSwap, ap, arith, eqb, eqb-true}
 use Rattle.plan_runs.proofs.Words.{false, hold_after_frame, instr_at, is_running, label_at, left_after_frame, length}
 use Rattle.plan_runs.proofs.Words.{option_map, refl, slice_get, subst, sym, true, ℕ}
 use Rattle.plan_verifier.proofs.Tabled.{declared_once}
@@ -69,47 +69,6 @@ abbrev pub Outcome : Program → List Known → ℕ → State → Type 0
 Outcome p ts b s = Suspends p ts s ⊎ RunsAt p ts b s
 
 -- ---- the machine arrives at an instruction
-
-same_known : (a b : Known) → a.current ≡ b.current → a.next ≡ b.next → a.pending ≡ b.pending → a.counters ≡ b.counters
-    → a.allowance ≡ b.allowance → a ≡ b
-same_known a b c n p s w =
-    ap (λ (x : Configuration).
-    let k : Known = record {
-      current = x;
-      next = a.next;
-      pending = a.pending;
-      counters = a.counters;
-      allowance = a.allowance;
-    } in k) c
-    ∙ ap (λ (x : Configuration).
-    let k : Known = record {
-      current = b.current;
-      next = x;
-      pending = a.pending;
-      counters = a.counters;
-      allowance = a.allowance;
-    } in k) n
-    ∙ ap (λ (x : Swap). let k : Known = record {
-      current = b.current;
-      next = b.next;
-      pending = x;
-      counters = a.counters;
-      allowance = a.allowance;
-    } in k) p
-    ∙ ap (λ (x : Counters). let k : Known = record {
-      current = b.current;
-      next = b.next;
-      pending = b.pending;
-      counters = x;
-      allowance = a.allowance;
-    } in k) s
-    ∙ ap (λ (x : ℕ). let k : Known = record {
-      current = b.current;
-      next = b.next;
-      pending = b.pending;
-      counters = b.counters;
-      allowance = x;
-    } in k) w
 
 pub same_some : {A : Type 0} (a b : A) (o : Option A) → o ≡ Some a → o ≡ Some b → a ≡ b
 same_some a b o e f = cc (sym e ∙ f)

@@ -51,12 +51,6 @@ pub added_end : (ts : List Token) → all_added ts (Ok []) ≡ Ok ts
 added_end [] = refl
 added_end (t ∷ ts) = ap (added t) (added_end ts)
 
--- where tokens come before others, there are others
-tokens_after : (t : Token) (r : Result (List Token) ScriptFault) (all : List Token) → added t r ≡ Ok all
-    → (rest : List Token) × (r ≡ Ok rest)
-tokens_after t (Ok rest) all e = (rest, refl)
-tokens_after t (Err f) all e = absurd cc
-
 added_before : (t : Token) (ts : List Token) (r mid : Result (List Token) ScriptFault) (all : List Token)
     → ((us : List Token) → mid ≡ Ok us → (rest : List Token) × (r ≡ Ok rest) × (us ≡ ts ++ rest))
     → added t mid ≡ Ok all → (rest : List Token) × (r ≡ Ok rest) × (all ≡ (t ∷ ts) ++ rest)
@@ -90,9 +84,6 @@ pub record IsTaken (count : ℕ) (old new : Scan) (tokens : List Token) : Type 0
   pub within : AreWithin (length old.text) tokens
   pub number : length tokens ≡ count
   pub bytes : bytes_left new ≤ bytes_left old
-
-pub none_taken : (s : Scan) → IsTaken 0 s s []
-none_taken s = record { text = refl; left = refl; within = tt; number = refl; bytes = omega arith }
 
 pub one_taken : (i : ℕ) (old mid new : Scan) (ts : List Token) (t : Token) → IsTaken i old mid ts
     → FindsNext mid new (Ok (Some t)) → Advances mid new → IsTaken (i + 1) old new (ts ++ t ∷ [])

@@ -1,7 +1,7 @@
 -- The search for the pcs that can be reached in a frame finds them all.
 use Rattle.script_compiler.proofs.Words.{[], ◌++◌, ◌+◌, ◌<◌, ◌∙◌, ◌∷◌, ◌≡◌, ◌≤◌, ◌⊎◌, Bool, CanReach, CanRevisit}
-use Rattle.script_compiler.proofs.Words.{GrowsBy, Instr, IsAt, IsExpanded, IsIn, Line, List, None, Option, Searched}
-use Rattle.script_compiler.proofs.Words.{Some, StepsTo, ap, arith, false, get_or, inl, inr, instrs_of, length}
+use Rattle.script_compiler.proofs.Words.{GrowsBy, Instr, IsAt, IsExpanded, IsIn, List, None, Option, Searched}
+use Rattle.script_compiler.proofs.Words.{Some, StepsTo, ap, arith, false, get_or, inl, inr, length}
 use Rattle.script_compiler.proofs.Words.{length-append, refl, slice_get, slice_get_within, slice_set, subst, suc, sym}
 use Rattle.script_compiler.proofs.Words.{true, trues, zero, ℕ}
 
@@ -252,9 +252,3 @@ step_past code pc n ps old ws place at e s =
     step_sound code pc n ps ps old ws ws place None at (λ k. ⊥) (λ k x. absurd x)
     (λ j k f x. let y : None ≡ Some j = sym at ∙ f in cc) e s
     (grows_none ps ws (λ k. ⊥) (λ k x lt. absurd x))
-
-pub instr_there : (lines : List Line) (pc : ℕ) (l : Line) → slice_get lines pc ≡ Some l
-    → slice_get (instrs_of lines) pc ≡ Some l.instr
-instr_there [] pc l e = cc
-instr_there (x ∷ lines) zero l e = (let same : x ≡ l = cc in ap (λ (y : Line). Some y.instr) same)
-instr_there (x ∷ lines) (suc pc) l e = instr_there lines pc l e

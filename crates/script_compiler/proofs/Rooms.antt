@@ -93,16 +93,6 @@ leaves_both t0 t1 t2 ms ns h k = λ more room.
     ap (λ xs. xs ++ more) (named_both ms ns) ∙ append_assoc (named_by ms) (named_by ns) more in
     k more (h (named_by ns ++ more) (subst (λ cs. HasRoomFor t0 cs) e room))
 
-pub room_next : (table one : List Configuration) (m : UnpricedLabel) → Added m.flow.current table one
-    → (HasRoomFor one (m.flow.next ∷ []) → ⊥) → HasRoomFor table (named_by (m ∷ [])) → ⊥
-room_next table one m a full room =
-    let more = room_added m.flow.current table one (named_by (m ∷ [])) a (0, refl) room in
-    full (room_fewer one (m.flow.next ∷ []) (named_by (m ∷ [])) (λ c h. by c h.0 h.1) more)
-  where
-    by : (c : Configuration) (i : ℕ) → slice_get (m.flow.next ∷ []) i ≡ Some c → IsInTable c (named_by (m ∷ []))
-    by c zero e = (1, e)
-    by c (suc i) e = absurd (none_in_nothing c (i, e))
-
 -- ---- no room
 
 pub full_table : (table : List Configuration) (c : Configuration) → ((i : ℕ) → slice_get table i ≢ Some c)

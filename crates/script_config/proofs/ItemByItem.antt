@@ -1,7 +1,7 @@
 -- Items applied in order: the loop's invariant and result.
-use Rattle.script_config.proofs.Words.{[], ◌+◌, ◌<◌, ◌∙◌, ◌∷◌, ◌≡◌, ◌≤◌, Configuration, Err, Item, List, None, Ok}
+use Rattle.script_config.proofs.Words.{[], ◌∙◌, ◌∷◌, ◌≡◌, ◌≤◌, Configuration, Err, Item, List, None, Ok}
 use Rattle.script_config.proofs.Words.{Option, Result, Some, Transform, added_by, ap, changed, drop, drop_all}
-use Rattle.script_config.proofs.Words.{drop_more, edit_fault, get_or, length, made_by, refl, sym, unless_fault, ℕ}
+use Rattle.script_config.proofs.Words.{edit_fault, length, made_by, refl, sym, unless_fault, ℕ}
 use Rattle.mux_config.specs.declared.fault.EditFault.{EditFault}
 use Rattle.script_config.specs.declared.items.ItemFault.{ItemFault}
 
@@ -23,10 +23,6 @@ made_leads (item ∷ items) c d e =
     leads_by item items c d (edit_fault item.edit c) refl e (made_leads items (changed item.edit c) d)
 
 -- ---- the loop
-
-cut : (items : List Item) (i : ℕ) (item : Item) → i < length items → item ≡ get_or items i item
-    → drop i items ≡ item ∷ drop (i + 1) items
-cut items i item lt same = drop_more items i item lt ∙ ap (λ (x : Item). x ∷ drop (i + 1) items) (sym same)
 
 pub all_made : (items : List Item) (i : ℕ) (c : Configuration) (r : Result Configuration ItemFault) → length items ≤ i
     → made_by (drop i items) c ≡ r → Ok c ≡ r

@@ -1,7 +1,7 @@
 -- Loop invariants.
-use Rattle.script_config.proofs.Words.{[], ◌++◌, ◌+◌, ◌<◌, ◌∙◌, ◌∷◌, ◌≡◌, ◌≤◌, Component, Configuration, Edit}
-use Rattle.script_config.proofs.Words.{HaveNoFault, List, Sid, after, after_common, ap, append_assoc, changed}
-use Rattle.script_config.proofs.Words.{components_dropped, drop, drop_all, drop_more, get_or, length, refl, subst, sym}
+use Rattle.script_config.proofs.Words.{[], ◌++◌, ◌+◌, ◌∙◌, ◌∷◌, ◌≡◌, ◌≤◌, Component, Configuration, Edit}
+use Rattle.script_config.proofs.Words.{HaveNoFault, List, Sid, after, after_common, ap, append_assoc}
+use Rattle.script_config.proofs.Words.{components_dropped, drop, drop_all, length, refl, sym}
 use Rattle.script_config.proofs.Words.{ℕ}
 
 -- ---- applying edits
@@ -10,18 +10,6 @@ use Rattle.script_config.proofs.Words.{ℕ}
 pub record IsUnderWay (all left : List Edit) (c d : Configuration) : Type 0 where
   pub fine : HaveNoFault left d
   pub arrives : after left d ≡ after all c
-
-pub one_on : (all : List Edit) (i : ℕ) (e : Edit) (c d f : Configuration) → i < length all → e ≡ get_or all i e
-    → f ≡ changed e d
-    → IsUnderWay all (drop i all) c d → IsUnderWay all (drop (i + 1) all) c f
-one_on all i e c d f lt same is h =
-    let cut : drop i all ≡ e ∷ drop (i + 1) all = drop_more all i e lt
-    ∙ ap (λ (x : Edit). x ∷ drop (i + 1) all) (sym same) in
-    let fine : HaveNoFault (e ∷ drop (i + 1) all) d = subst (λ (es : List Edit). HaveNoFault es d) cut h.fine in
-    record {
-      fine = subst (HaveNoFault (drop (i + 1) all)) (sym is) fine.1;
-      arrives = ap (after (drop (i + 1) all)) is ∙ sym (ap (λ (es : List Edit). after es d) cut) ∙ h.arrives;
-    }
 
 -- ---- dropping components, the last one first
 

@@ -12,9 +12,6 @@ fib_by_fib fibs i lt = rw (add-one, drop-cons fibs i [] lt) refl
 abbrev pub LeadsOn : List (List ℕ) → Option ℕ → List (List ℕ) → Option ℕ → Type 0
 LeadsOn rest now fibs before = (after : Option ℕ) → NamesAfter rest now after → NamesAfter fibs before after
 
-pub begun : (fibs : List (List ℕ)) (before : Option ℕ) → LeadsOn fibs before fibs before
-begun fibs before after h = h
-
 pub whole_more : (fibs : List (List ℕ)) (i : ℕ) (before now new : Option ℕ) (figs : List Fig) → i < length fibs
     → IsFib (get_or fibs i []) figs → new ≡ named_by_figs figs now
     → LeadsOn (drop i fibs) now fibs before → LeadsOn (drop (i + 1) fibs) new fibs before

@@ -6,7 +6,7 @@ use Rattle.script_config.proofs.Words.{IsEdit, IsInBounds, IsItem, IsPlaced, IsP
 use Rattle.script_config.proofs.Words.{List, Packet, Plan, Service, Sid, Sub, Tree, acts_from, added_by, ap, arith}
 use Rattle.script_config.proofs.Words.{components_added, cond, counted, counted_in, edits_that_make, false, flat_map}
 use Rattle.script_config.proofs.Words.{get_or, items_from, length, length-take-le, packet_edits, rate_step, refl}
-use Rattle.script_config.proofs.Words.{service_edits, sub_edits, subst, suc, sym, take, take_all, take_more, true}
+use Rattle.script_config.proofs.Words.{service_edits, sub_edits, subst, suc, sym, take, take_more, true}
 use Rattle.script_config.proofs.Words.{units_of_step, zero, ℕ}
 use Rattle.script_front.specs.declared.tree.Statement.{Statement}
 use Rattle.script_front.specs.Block.{Block, nothing, basic, before, and_then, block_of}
@@ -61,10 +61,6 @@ item_on line now es i e out lt same h =
           ∙ ap (λ (n : ℕ). items_from line (take i es) ++ record { line = n; edit = e } ∷ []) long
           ∙ ap (λ (is : List Item). is ++ record { line = now; edit = e } ∷ []) (sym h.so_far));
     }
-
-pub items_done : (line now : ℕ) (es : List Edit) (i : ℕ) (out : List Item) → length es ≤ i
-    → AreItemsFrom line now es i out → out ≡ items_from line es
-items_done line now es i out past h = h.so_far ∙ ap (items_from line) (take_all i es past)
 
 pub record AreActsFrom (line now : ℕ) (acts : List Act) (i : ℕ) (out : List Statement) : Type 0 where
   pub here : now ≡ line + i

@@ -164,13 +164,6 @@ pub record SoFarSaid (rest whole : List Raw) : Type 0 where
   pub all : AreSaid rest → AreSaid whole
   pub first : (raw : Raw) → IsFirstUnsaid rest raw → IsFirstUnsaid whole raw
 
-pub none_yet : (whole : List Raw) → SoFarSaid whole whole
-none_yet whole = record { all = λ h. h; first = λ raw h. h }
-
-pub one_unsaid : (raw : Raw) (rest whole : List Raw) → (IsSaid raw → ⊥) → SoFarSaid (raw ∷ rest) whole
-    → IsFirstUnsaid whole raw
-one_unsaid raw rest whole none so_far = so_far.first raw (inr (refl, none))
-
 -- ---- a picture all of whose entries configurations have shows a configuration
 
 apart : (xs ys : List Raw) → AreSaid (xs ++ ys) → AreSaid xs × AreSaid ys

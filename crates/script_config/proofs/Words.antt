@@ -72,5 +72,5 @@ pub use Rattle.std.proofs.Common.{length-append, length-take-le, ltb, map, nat_l
 pub use Rattle.std.proofs.Common.{true, zero, ℕ}
 pub use Rattle.std.proofs.Math.Nat.{div-mul-le_self, mod-eq_of_lt, mod-lt, mod_self, suc-mod}
 pub use Rattle.std.proofs.lemmas.Bool.{cases_eq, cases_lt, eq-eqb, eqb-true, false≢true, le-ltb, lt-leb, lt-ltb, ne_eqb}
-pub use Rattle.std.proofs.lemmas.List.{append-nil, drop_all, drop_more, map-append, take_all, take_more}
+pub use Rattle.std.proofs.lemmas.List.{append-nil, drop_all, map-append, take_more}
 pub use Rattle.std.specs.List.{All, AllByRecursion, filter, flat_map, list_any}

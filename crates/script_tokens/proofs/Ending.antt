@@ -50,10 +50,6 @@ pub last_line : (all : List Token) (t : Token) → slice_get all (length all - 1
     → min t.position.line 65535 ≡ line_of_left (shown_lines all) 1
 last_line all t e = let m = length_lines all in rw (m) (line_at (length all - 1) all t e)
 
-pub no_lines : (all : List Token) → length all ≡ 0 → line_of_left (shown_lines all) 1 ≡ 0
-no_lines [] e = refl
-no_lines (t ∷ ts) e = absurd (omega (arith, e))
-
 pub passed_last : (all ts : List Token) (t : Token) → AreLastOf all (t ∷ ts) → AreLastOf all ts
 passed_last all ts t h = record { front = h.front ++ t ∷ []; whole = h.whole ∙ sym (append_assoc h.front (t ∷ []) ts) }
 

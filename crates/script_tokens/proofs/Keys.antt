@@ -1,18 +1,19 @@
 -- The keywords of the grammar have different letters.
-use Rattle.script_tokens.proofs.Words.{[], ◌<◌, ◌∙◌, ◌∷◌, ◌≡◌, ◌≢◌, Address, Apply, At, Audio, Begin, Bool}
+use Rattle.script_tokens.proofs.Words.{[], ◌++◌, ◌<◌, ◌∙◌, ◌∷◌, ◌≡◌, ◌≢◌, Address, Apply, At, Audio, Begin, Bool}
 use Rattle.script_tokens.proofs.Words.{Budget, Carry, CloseBrace, Closed, Commit, Component, Contact, Data, Define}
 use Rattle.script_tokens.proofs.Words.{Drop, Early, Eep, Else, End, Ensemble, Forever, Groups, If, IfSome, In}
 use Rattle.script_tokens.proofs.Words.{IsNoKeyword, Join, Keyword, List, Mode, Move, None, Notice, Open, OpenBrace}
 use Rattle.script_tokens.proofs.Words.{Option, Or, Packet, Period, Rate, Raw, Repeat, Reserve, Service, Settle, Some}
 use Rattle.script_tokens.proofs.Words.{Spelled, Sub, Time, To, TypeWord, Until, Wait, all_ascii_digits, ap, arith}
-use Rattle.script_tokens.proofs.Words.{bytes_eq, bytes_eq-Decides, decimal, digits_decimal, false, false≢true, get_or}
-use Rattle.script_tokens.proofs.Words.{keywords, length, level_text, lexeme_among, refl, subst, suc, sym, text, the}
+use Rattle.script_tokens.proofs.Words.{bytes_eq, bytes_eq-Decides, decimal, digits_decimal, false, false≢true}
+use Rattle.script_tokens.proofs.Words.{keywords, level_text, lexeme_among, refl, subst, sym, text, the}
 use Rattle.script_tokens.proofs.Words.{true, ℕ}
 use denote.Enum.Bare.{sameb}
 use denote.Enum.Declared.{tag_of}
 use Rattle.std.specs.Cmp.{nat_eq_equiv}
 use Rattle.script_tokens.specs.contracts.keyword.Keyword.{the_type}
-use Rattle.script_tokens.specs.Keywords.{letters, word_of}
+use Rattle.script_tokens.specs.Keywords.{IsNoneOf, change_keywords, flow_keywords, head_keywords, item_keywords, letters}
+use Rattle.script_tokens.specs.Keywords.{packet_keywords, wait_keywords, word_of}
 use Rattle.script_tokens.proofs.Digits.{own}
 
 pub word_the : (k : Keyword) → word_of (letters k) ≡ the k
@@ -106,19 +107,28 @@ pub found_of : (r : Option Keyword) (w : List ℕ) → IfSome r (λ k. w ≡ let
 found_of None w h none k e = absurd (none refl k e)
 found_of (Some j) w h none k e = ap Some (letters_injective j k (sym h ∙ e))
 
--- bytes that differ from those of each keyword spell none
-not_among : (ks : List Keyword) (w : List ℕ)
-    → ((j : ℕ) → j < length ks → w ≢ letters (get_or ks j Ensemble)) → lexeme_among ks w ≡ text w
+-- bytes that spell no keyword of any subject spell no keyword
+both_none : (js ks : List Keyword) (w : List ℕ) → IsNoneOf js w → IsNoneOf ks w → IsNoneOf (js ++ ks) w
+both_none [] ks w h k = k
+both_none (j ∷ js) ks w h k = (h.0, both_none js ks w h.1 k)
+
+not_among : (ks : List Keyword) (w : List ℕ) → IsNoneOf ks w → lexeme_among ks w ≡ text w
 not_among [] w h = refl
 not_among (k ∷ ks) w h =
-    let e = false_if (bytes_eq w (letters k)) (λ f. h 0 (omega arith) ((bytes_eq-Decides w (letters k)).0 f)) in
-    rw (e) (not_among ks w (λ j lt. h (suc j) (omega (arith, lt))))
+    let e = false_if (bytes_eq w (letters k)) (λ f. h.0 ((bytes_eq-Decides w (letters k)).0 f)) in
+    rw (e) (not_among ks w h.1)
 
-pub no_keyword : (w : List ℕ) → ((j : ℕ) → j < length keywords → w ≢ letters (get_or keywords j Ensemble))
-    → IsNoKeyword w
+pub no_keyword : (w : List ℕ) → IsNoneOf head_keywords w → IsNoneOf item_keywords w → IsNoneOf packet_keywords w
+    → IsNoneOf change_keywords w → IsNoneOf wait_keywords w → IsNoneOf flow_keywords w → IsNoKeyword w
 unfolding word_of
-no_keyword w h k e =
-    let other : the k ≡ text w = sym (word_the k) ∙ ap word_of (sym e) ∙ not_among keywords w h in
+no_keyword w head item packet change wait flow k e =
+    let late = both_none wait_keywords flow_keywords w wait flow in
+    let changes = both_none change_keywords (wait_keywords ++ flow_keywords) w change late in
+    let packets = both_none packet_keywords (change_keywords ++ (wait_keywords ++ flow_keywords)) w packet changes in
+    let body = packet_keywords ++ (change_keywords ++ (wait_keywords ++ flow_keywords)) in
+    let items = both_none item_keywords body w item packets in
+    let none = both_none head_keywords (item_keywords ++ body) w head items in
+    let other : the k ≡ text w = sym (word_the k) ∙ ap word_of (sym e) ∙ not_among keywords w none in
     absurd cc
 
 -- ---- levels of contacts

@@ -143,9 +143,6 @@ fault_at_end limits all ts m p bs i e long push h =
     rw (drop_all i bs long) refl in
     h.given ∙ ap (tokens_before limits ts) (step ∙ push) ∙ before_err limits ts e h.fit
 
-pub nothing_cut : (limits : Limits) (r : Cuts) → CutSoFar limits r [] r
-nothing_cut limits r = record { given = refl; fit = refl }
-
 -- a fault other than out of memory is that of the tokens
 pub its_fault : (limits : Limits) (old new ts : List Token) (e : ScriptFault) → Pushes limits old new ts (Err e)
     → e ≢ Memory → tokens_before limits ts (Ok []) ≡ Err e

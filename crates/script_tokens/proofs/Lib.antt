@@ -2,7 +2,6 @@ pub mod Atoms
 pub mod Braces
 pub mod Digits
 pub mod Ending
-pub mod Groups
 pub mod Keys
 pub mod KindTable
 mod Lexing

@@ -217,9 +217,6 @@ other_comment bs cs (comment ds ∷ ps) h = h
 other_comment bs cs (brace b ∷ ps) h = h
 other_comment bs cs (atom ds ∷ ps) h = h
 
-longer : (q p : Place) (n : ℕ) → token_at q (p.at + (n + 1)) ≡ token_at q (p.at + 1 + n)
-longer q p n = ap (λ (to : ℕ). token_at q to) (omega arith)
-
 atom_more : (q p : Place) (b : ℕ) (bs : List ℕ) (ts : List Token) → kind_of b ≡ Letter
     → Found (Atom q) (position_after p Letter) bs ts → Found (Atom q) p (b ∷ bs) ts
 atom_more q p b bs ts e h = record {

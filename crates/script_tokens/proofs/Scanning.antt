@@ -1,6 +1,6 @@
 -- A scan of bytes up to the end of the first token.
 use Rattle.script_tokens.proofs.Words.{[], ◌+◌, ◌<◌, ◌∙◌, ◌∷◌, ◌≡◌, ◌≤◌, ◌⊎◌, Atom, Bad, Blank, Brace, Byte, Comment}
-use Rattle.script_tokens.proofs.Words.{Err, FindsFirst, Fits, Hash, Inside, IsFurther, IsPlaceIn, Kind, Letter, Limits}
+use Rattle.script_tokens.proofs.Words.{Err, FindsFirst, Fits, Hash, Inside, Kind, Letter, Limits}
 use Rattle.script_tokens.proofs.Words.{LineEnd, List, None, Nothing, Ok, Option, Place, Result, ScriptFault, Some}
 use Rattle.script_tokens.proofs.Words.{Token, ap, arith, drop, drop_all, false, get_or, inl, inr, inside_after, is_bad}
 use Rattle.script_tokens.proofs.Words.{kind_of, length, made, position_after, refl, role_of, subst, sym, token_at}
@@ -91,15 +91,6 @@ first_found limits all text token after (Ok None) f h = absurd f
 first_found limits all text token after (Ok (Some (t, next))) f h = h ∙ rw (f.2, f.0, f.1) refl
 first_found limits all text token after (Err e) f h = (h ∙ rw (f.1, f.0) refl, λ m. absurd (cc (f.0, m)))
 
-pub further : (limits : Limits) (text : List ℕ) (from after : Place) (token : Token)
-    (result : Result (Option (Token × Place)) ScriptFault) → Fits limits token after result
-    → token.start < token.end → token.end ≤ length text → from.at < after.at → IsPlaceIn text after
-    → IsFurther text from result
-further limits text from after token (Ok None) f some within later place = tt
-further limits text from after token (Ok (Some (t, next))) f some within later place =
-    rw (f.0, f.1) (some, within, later, place)
-further limits text from after token (Err e) f some within later place = tt
-
 ended : (limits : Limits) (m : Inside) (p : Place) (b : ℕ) (bs : List ℕ) (k : Kind) (r : Place) → k ≡ kind_of b
     → role_of m k ≡ Ends r
     → lexed limits m p (b ∷ bs) ≡ tokens_before limits (token_at r p.at ∷ []) (lexed limits Nothing p (b ∷ bs))
@@ -129,23 +120,6 @@ found_ended limits all m p r text k result lt is role f h =
     is role
     ∙ ap (λ (bs : List ℕ). tokens_before limits (token_at r p.at ∷ []) (lexed limits Nothing p bs))
     (sym (cut_at text p.at lt)))
-
--- the atom that ends is the one that is looked for
-pub began : (from : ℕ) (m : Inside) (p r : Place) (k : Kind) → role_of m k ≡ Ends r → IsOpen from m p → (from ≤ r.at)
-    × (r.at < p.at)
-began from Comment p r k role h = absurd cc
-began from Nothing p r Blank role h = absurd cc
-began from Nothing p r LineEnd role h = absurd cc
-began from Nothing p r Hash role h = absurd cc
-began from Nothing p r Brace role h = absurd cc
-began from Nothing p r Letter role h = absurd cc
-began from Nothing p r Bad role h = absurd cc
-began from (Atom q) p r Blank role h = let e : q ≡ r = cc in subst (λ (x : Place). (from ≤ x.at) × (x.at < p.at)) e h
-began from (Atom q) p r LineEnd role h = let e : q ≡ r = cc in subst (λ (x : Place). (from ≤ x.at) × (x.at < p.at)) e h
-began from (Atom q) p r Hash role h = let e : q ≡ r = cc in subst (λ (x : Place). (from ≤ x.at) × (x.at < p.at)) e h
-began from (Atom q) p r Brace role h = let e : q ≡ r = cc in subst (λ (x : Place). (from ≤ x.at) × (x.at < p.at)) e h
-began from (Atom q) p r Letter role h = absurd cc
-began from (Atom q) p r Bad role h = let e : q ≡ r = cc in subst (λ (x : Place). (from ≤ x.at) × (x.at < p.at)) e h
 
 brace : (limits : Limits) (m : Inside) (p : Place) (b : ℕ) (bs : List ℕ) (k : Kind) → k ≡ kind_of b
     → role_of m k ≡ IsBrace
@@ -177,11 +151,6 @@ found_brace limits all m p q text k result lt is role place next f h =
     ∙ ap (λ (r : Place). tokens_before limits (token_at p (p.at + 1) ∷ [])
     (lexed limits Nothing r (drop (p.at + 1) text))) (sym place)
     ∙ ap (λ (j : ℕ). tokens_before limits (token_at p j ∷ []) (lexed limits Nothing q (drop j text))) (sym next))
-
-pub not_begun : (from : ℕ) (m : Inside) (p : Place) (k : Kind) → role_of m k ≡ IsBrace → IsOpen from m p → from ≤ p.at
-not_begun from Comment p k role h = h
-not_begun from Nothing p k role h = h
-not_begun from (Atom q) p k role h = omega (arith, h)
 
 bad : (limits : Limits) (m : Inside) (p : Place) (b : ℕ) (bs : List ℕ) (k : Kind) → k ≡ kind_of b → role_of m k ≡ IsBad
     → lexed limits m p (b ∷ bs) ≡ Err (Byte p.position)

@@ -1,7 +1,7 @@
 -- The keywords of the grammar, as the bytes that spell them, and the names of blocks, which are not keywords.
-use Rattle.std.specs.Prelude.{◌≡◌, ◌≢◌, ℕ, ◌≤◌, ◌||◌, ◌&&◌, ◌==◌, Bool, true, false, List, [], ◌∷◌, length}
-use Rattle.std.specs.Prelude.{nat_le, codes, if◌then◌else◌}
-use Rattle.std.specs.List.{list_all}
+use Rattle.std.specs.Prelude.{◌≡◌, ◌≢◌, ℕ, ◌≤◌, ◌||◌, ◌&&◌, ◌==◌, Bool, true, false, List, [], ◌∷◌, ◌++◌}
+use Rattle.std.specs.Prelude.{length, nat_le, codes, if◌then◌else◌}
+use Rattle.std.specs.List.{list_all, AllByRecursion}
 use Rattle.std.specs.Str.{bytes_eq}
 use Rattle.script_tokens.specs.declared.keyword.Keyword.{Keyword}
 use Rattle.script_tokens.specs.declared.keyword.Keyword.TheVariants.{Ensemble, Mode, Period, Notice, Budget, Reserve}
@@ -64,13 +64,29 @@ pub data Lexeme : Type 0 where
   the : (keyword : Keyword) → Lexeme
   text : (bytes : List ℕ) → Lexeme
 
--- all of them, by their first letters
+-- the keywords by subject: the head of a script, its items, packet components, changes, waiting and times, and control
+-- flow
+abbrev pub head_keywords : List Keyword
+head_keywords = Ensemble ∷ Mode ∷ Period ∷ Notice ∷ Budget ∷ Reserve ∷ Define ∷ Begin ∷ []
+
+abbrev pub item_keywords : List Keyword
+item_keywords = Sub ∷ At ∷ Eep ∷ Service ∷ Audio ∷ In ∷ Data ∷ Carry ∷ []
+
+abbrev pub packet_keywords : List Keyword
+packet_keywords = Packet ∷ Groups ∷ Raw ∷ TypeWord ∷ Address ∷ []
+
+abbrev pub change_keywords : List Keyword
+change_keywords = Drop ∷ Component ∷ Move ∷ Rate ∷ Commit ∷ Join ∷ Settle ∷ []
+
+abbrev pub wait_keywords : List Keyword
+wait_keywords = Wait ∷ Contact ∷ Closed ∷ Open ∷ Until ∷ Early ∷ Or ∷ Time ∷ To ∷ []
+
+abbrev pub flow_keywords : List Keyword
+flow_keywords = End ∷ If ∷ Else ∷ Repeat ∷ Forever ∷ Apply ∷ OpenBrace ∷ CloseBrace ∷ []
+
 abbrev pub keywords : List Keyword
 keywords =
-    Address ∷ Apply ∷ At ∷ Audio ∷ Begin ∷ Budget ∷ Carry ∷ Closed ∷ Commit ∷ Component ∷ Contact ∷ Data ∷ Define
-    ∷ Drop ∷ Early ∷ Eep ∷ Else ∷ End ∷ Ensemble ∷ Forever ∷ Groups ∷ If ∷ In ∷ Join ∷ Mode ∷ Move ∷ Notice ∷ Open
-    ∷ Or ∷ Packet ∷ Period ∷ Rate ∷ Raw ∷ Repeat ∷ Reserve ∷ Service ∷ Settle ∷ Sub ∷ Time ∷ To ∷ TypeWord ∷ Until
-    ∷ Wait ∷ OpenBrace ∷ CloseBrace ∷ []
+    head_keywords ++ (item_keywords ++ (packet_keywords ++ (change_keywords ++ (wait_keywords ++ flow_keywords))))
 
 abbrev pub lexeme_among : List Keyword → List ℕ → Lexeme
 lexeme_among [] bytes = text bytes
@@ -80,7 +96,11 @@ lexeme_among (k ∷ ks) bytes = if bytes_eq bytes (letters k) then the k else le
 unfoldable pub word_of : List ℕ → Lexeme
 word_of bytes = lexeme_among keywords bytes
 
--- these bytes spell no keyword
+-- these bytes spell none of these keywords
+abbrev pub IsNoneOf : List Keyword → List ℕ → Type 0
+IsNoneOf ks bytes = AllByRecursion (λ k. bytes ≢ letters k) ks
+
+-- these bytes spell no keyword at all
 abbrev pub IsNoKeyword : List ℕ → Type 0
 IsNoKeyword bytes = (k : Keyword) → bytes ≢ letters k
 

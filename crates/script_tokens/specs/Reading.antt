@@ -47,10 +47,6 @@ line_of lines lexemes = line_of_left lines (length lexemes)
 abbrev pub Passes : List (List ℕ) → (old new : Input) → Type 0
 Passes lexemes old new = (old.lexemes ≡ lexemes ++ new.lexemes) × (new.lines ≡ old.lines)
 
--- the input with this keyword in front
-abbrev pub preceded_by : Keyword → Input → Input
-preceded_by keyword input = record { lexemes = letters keyword ∷ input.lexemes; lines = input.lines }
-
 -- the spans are not empty, and within the text
 abbrev pub AreWithin : ℕ → List Token → Type 0
 AreWithin n [] = Unit {0}

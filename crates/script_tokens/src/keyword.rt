@@ -1,6 +1,9 @@
 //! The keywords of the grammar.
 
 ghost use Rattle.std.specs.Prelude.{◌≡◌, IfSome, None};
+ghost use Rattle.script_tokens.specs.Keywords.{letters, IsNoneOf, head_keywords, item_keywords};
+ghost use Rattle.script_tokens.specs.Keywords.{packet_keywords, change_keywords, wait_keywords};
+ghost use Rattle.script_tokens.specs.Keywords.{flow_keywords};
 
 /// A keyword of the grammar, or a brace.
 #[derive(Clone, Copy, Debug, PartialEq, Eq)]
@@ -97,143 +100,146 @@ pub enum Keyword {
     CloseBrace,
 }
 
-/// All keywords by their first letters, and the braces.
-static KEYWORDS: [Keyword; 45] = [
-    Keyword::Address,
-    Keyword::Apply,
-    Keyword::At,
-    Keyword::Audio,
-    Keyword::Begin,
-    Keyword::Budget,
-    Keyword::Carry,
-    Keyword::Closed,
-    Keyword::Commit,
-    Keyword::Component,
-    Keyword::Contact,
-    Keyword::Data,
-    Keyword::Define,
-    Keyword::Drop,
-    Keyword::Early,
-    Keyword::Eep,
-    Keyword::Else,
-    Keyword::End,
-    Keyword::Ensemble,
-    Keyword::Forever,
-    Keyword::Groups,
-    Keyword::If,
-    Keyword::In,
-    Keyword::Join,
-    Keyword::Mode,
-    Keyword::Move,
-    Keyword::Notice,
-    Keyword::Open,
-    Keyword::Or,
-    Keyword::Packet,
-    Keyword::Period,
-    Keyword::Rate,
-    Keyword::Raw,
-    Keyword::Repeat,
-    Keyword::Reserve,
-    Keyword::Service,
-    Keyword::Settle,
-    Keyword::Sub,
-    Keyword::Time,
-    Keyword::To,
-    Keyword::TypeWord,
-    Keyword::Until,
-    Keyword::Wait,
-    Keyword::OpenBrace,
-    Keyword::CloseBrace,
-];
-
-/// Where the keywords of each first letter begin in `KEYWORDS`, from `a` up to `}`, and where the
-/// table ends.
-static STARTS: [usize; 30] = [
-    0, 4, 6, 11, 14, 19, 20, 21, 21, 23, 24, 24, 24, 26, 27, 29, 31, 31, 35, 38, 41, 42, 42, 43,
-    43, 43, 43, 44, 44, 45,
-];
-
 impl Keyword {
     ghost use Rattle.script_tokens.specs.Keywords.{letters, IsNoKeyword};
 
-    /// The bytes that spell it.
-    #[tactic(auto, unfolding(crate::specs::Keywords::letters))]
-    fn spelling(self) -> &'static [u8]
-        ensures { result.now ≡ letters self }
-    {
-        match self {
-            Keyword::Ensemble => b"ensemble",
-            Keyword::Mode => b"mode",
-            Keyword::Period => b"period",
-            Keyword::Notice => b"notice",
-            Keyword::Budget => b"budget",
-            Keyword::Reserve => b"reserve",
-            Keyword::Define => b"define",
-            Keyword::Begin => b"begin",
-            Keyword::Sub => b"sub",
-            Keyword::At => b"at",
-            Keyword::Eep => b"eep",
-            Keyword::Service => b"service",
-            Keyword::Audio => b"audio",
-            Keyword::In => b"in",
-            Keyword::Data => b"data",
-            Keyword::Carry => b"carry",
-            Keyword::Packet => b"packet",
-            Keyword::Groups => b"groups",
-            Keyword::Raw => b"raw",
-            Keyword::TypeWord => b"type",
-            Keyword::Address => b"address",
-            Keyword::Drop => b"drop",
-            Keyword::Component => b"component",
-            Keyword::Move => b"move",
-            Keyword::Rate => b"rate",
-            Keyword::Wait => b"wait",
-            Keyword::Contact => b"contact",
-            Keyword::Closed => b"closed",
-            Keyword::Open => b"open",
-            Keyword::Until => b"until",
-            Keyword::Early => b"early",
-            Keyword::Or => b"or",
-            Keyword::Time => b"time",
-            Keyword::To => b"to",
-            Keyword::Commit => b"commit",
-            Keyword::Join => b"join",
-            Keyword::Settle => b"settle",
-            Keyword::End => b"end",
-            Keyword::If => b"if",
-            Keyword::Else => b"else",
-            Keyword::Repeat => b"repeat",
-            Keyword::Forever => b"forever",
-            Keyword::Apply => b"apply",
-            Keyword::OpenBrace => b"{",
-            Keyword::CloseBrace => b"}",
-        }
-    }
-
     /// The keyword that these bytes spell; None if they spell neither a keyword nor a brace.
-    ///
-    /// Only those with the first letter of the bytes are compared with them, at most five.
+    #[tactic(auto, using(crate::proofs::Keys::no_keyword))]
     pub fn of(bytes: &[u8]) -> Option<Keyword>
         ensures found { IfSome result (λ k. bytes.now ≡ letters k) }
         ensures none { result ≡ None → IsNoKeyword bytes.now }
     {
-        let first = match bytes {
-            [] => return None,
-            [first, ..] => *first,
-        };
-        if first < b'a' {
-            return None;
+        if let Some(keyword) = find_head(bytes) {
+            return Some(keyword);
         }
-        if first > b'}' {
-            return None;
+        if let Some(keyword) = find_item(bytes) {
+            return Some(keyword);
         }
-        let group = usize::from(first - b'a');
-        for index in STARTS[group]..STARTS[group + 1] {
-            let keyword = KEYWORDS[index];
-            if keyword.spelling() == bytes {
-                return Some(keyword);
-            }
+        if let Some(keyword) = find_packet(bytes) {
+            return Some(keyword);
         }
-        None
+        if let Some(keyword) = find_change(bytes) {
+            return Some(keyword);
+        }
+        if let Some(keyword) = find_wait(bytes) {
+            return Some(keyword);
+        }
+        find_flow(bytes)
+    }
+}
+
+// The keywords by subject, one function for each. A `match` compares a token with all its patterns
+// by its length and a word or two, where a table takes a comparison of bytes for each; for the
+// prover it costs the square of its length.
+
+/// The keyword that these bytes spell, if it is one of the head of a script, up to `begin`.
+#[tactic(auto, unfolding(crate::specs::Keywords::letters))]
+fn find_head(bytes: &[u8]) -> Option<Keyword>
+    ensures found { IfSome result (λ k. bytes.now ≡ letters k) }
+    ensures none { result ≡ None → IsNoneOf head_keywords bytes.now }
+{
+    match bytes {
+        b"ensemble" => Some(Keyword::Ensemble),
+        b"mode" => Some(Keyword::Mode),
+        b"period" => Some(Keyword::Period),
+        b"notice" => Some(Keyword::Notice),
+        b"budget" => Some(Keyword::Budget),
+        b"reserve" => Some(Keyword::Reserve),
+        b"define" => Some(Keyword::Define),
+        b"begin" => Some(Keyword::Begin),
+        _ => None,
+    }
+}
+
+/// The keyword that these bytes spell, if it is one of a sub-channel, a service or a component of a
+/// service.
+#[tactic(auto, unfolding(crate::specs::Keywords::letters))]
+fn find_item(bytes: &[u8]) -> Option<Keyword>
+    ensures found { IfSome result (λ k. bytes.now ≡ letters k) }
+    ensures none { result ≡ None → IsNoneOf item_keywords bytes.now }
+{
+    match bytes {
+        b"sub" => Some(Keyword::Sub),
+        b"at" => Some(Keyword::At),
+        b"eep" => Some(Keyword::Eep),
+        b"service" => Some(Keyword::Service),
+        b"audio" => Some(Keyword::Audio),
+        b"in" => Some(Keyword::In),
+        b"data" => Some(Keyword::Data),
+        b"carry" => Some(Keyword::Carry),
+        _ => None,
+    }
+}
+
+/// The keyword that these bytes spell, if it is one of a packet component.
+#[tactic(auto, unfolding(crate::specs::Keywords::letters))]
+fn find_packet(bytes: &[u8]) -> Option<Keyword>
+    ensures found { IfSome result (λ k. bytes.now ≡ letters k) }
+    ensures none { result ≡ None → IsNoneOf packet_keywords bytes.now }
+{
+    match bytes {
+        b"packet" => Some(Keyword::Packet),
+        b"groups" => Some(Keyword::Groups),
+        b"raw" => Some(Keyword::Raw),
+        b"type" => Some(Keyword::TypeWord),
+        b"address" => Some(Keyword::Address),
+        _ => None,
+    }
+}
+
+/// The keyword that these bytes spell, if it is one of a change or its swap.
+#[tactic(auto, unfolding(crate::specs::Keywords::letters))]
+fn find_change(bytes: &[u8]) -> Option<Keyword>
+    ensures found { IfSome result (λ k. bytes.now ≡ letters k) }
+    ensures none { result ≡ None → IsNoneOf change_keywords bytes.now }
+{
+    match bytes {
+        b"drop" => Some(Keyword::Drop),
+        b"component" => Some(Keyword::Component),
+        b"move" => Some(Keyword::Move),
+        b"rate" => Some(Keyword::Rate),
+        b"commit" => Some(Keyword::Commit),
+        b"join" => Some(Keyword::Join),
+        b"settle" => Some(Keyword::Settle),
+        _ => None,
+    }
+}
+
+/// The keyword that these bytes spell, if it is one of the waits and the times of day.
+#[tactic(auto, unfolding(crate::specs::Keywords::letters))]
+fn find_wait(bytes: &[u8]) -> Option<Keyword>
+    ensures found { IfSome result (λ k. bytes.now ≡ letters k) }
+    ensures none { result ≡ None → IsNoneOf wait_keywords bytes.now }
+{
+    match bytes {
+        b"wait" => Some(Keyword::Wait),
+        b"contact" => Some(Keyword::Contact),
+        b"closed" => Some(Keyword::Closed),
+        b"open" => Some(Keyword::Open),
+        b"until" => Some(Keyword::Until),
+        b"early" => Some(Keyword::Early),
+        b"or" => Some(Keyword::Or),
+        b"time" => Some(Keyword::Time),
+        b"to" => Some(Keyword::To),
+        _ => None,
+    }
+}
+
+/// The keyword that these bytes spell, if it is one of control flow, or a brace.
+#[tactic(auto, unfolding(crate::specs::Keywords::letters))]
+fn find_flow(bytes: &[u8]) -> Option<Keyword>
+    ensures found { IfSome result (λ k. bytes.now ≡ letters k) }
+    ensures none { result ≡ None → IsNoneOf flow_keywords bytes.now }
+{
+    match bytes {
+        b"end" => Some(Keyword::End),
+        b"if" => Some(Keyword::If),
+        b"else" => Some(Keyword::Else),
+        b"repeat" => Some(Keyword::Repeat),
+        b"forever" => Some(Keyword::Forever),
+        b"apply" => Some(Keyword::Apply),
+        b"{" => Some(Keyword::OpenBrace),
+        b"}" => Some(Keyword::CloseBrace),
+        _ => None,
     }
 }

@@ -1,5 +1,5 @@
 -- A cut with one part more or less at its end.
-use Rattle.stream_check.proofs.Words.{[], ◌++◌, ◌+◌, ◌∙◌, ◌∷◌, ◌≡◌, AllByRecursion, Contains, HasAll, IsCutInto, IsPart}
+use Rattle.stream_check.proofs.Words.{[], ◌++◌, ◌+◌, ◌∙◌, ◌∷◌, ◌≡◌, AllByRecursion, HasAll, IsCutInto, IsPart}
 use Rattle.stream_check.proofs.Words.{List, ap, append-nil, append_assoc, arith, flat_map, flat_map-append, length}
 use Rattle.stream_check.proofs.Words.{length-append, refl, suc, sym, ℕ}
 use Rattle.stream_check.proofs.Rows.{heard_left, heard_right}
@@ -71,18 +71,6 @@ more wanted n front part c whole = record {
 -- no part
 pub none : (wanted : List ℕ) → IsCutInto wanted 0 []
 none wanted = record { parts = []; count = refl; whole = refl; each = tt }
-
-none_by : (wanted : List ℕ) (frames : List (List ℕ)) (parts : List (List (List ℕ))) → length parts ≡ 0
-    → flat_map (λ q. q) parts ≡ frames → frames ≡ []
-none_by wanted frames [] count whole = sym whole
-none_by wanted frames (p ∷ ps) count whole = absurd (omega arith)
-
--- with fewer identifiers wanted
-each_of : (wanted other : List ℕ) → ((x : ℕ) → Contains other x → Contains wanted x) → (parts : List (List (List ℕ)))
-    → AllByRecursion (IsPart wanted) parts → AllByRecursion (IsPart other) parts
-each_of wanted other less [] each = tt
-each_of wanted other less (p ∷ ps) each =
-    ((each.0.0, λ x h. each.0.1 x (less x h)), each_of wanted other less ps each.1)
 
 -- with more frames
 pub has_left : (wanted : List ℕ) (xs ys : List (List ℕ)) → HasAll wanted xs → HasAll wanted (xs ++ ys)

@@ -28,10 +28,6 @@ frames_then size (f ∷ fs) tail held rest more e t all =
       frames_then size fs tail held rest more e t all.3,
     )
 
-holds_more : (xs ys : List Fib) → HoldsFirst ys → HoldsFirst xs → HoldsFirst (xs ++ ys)
-holds_more [] ys h g = h
-holds_more (x ∷ xs) ys h g = g
-
 pub all_append : {X : Type 0} (P : X → Type 0) (xs ys : List X) → AllByRecursion P xs → AllByRecursion P ys
     → AllByRecursion P (xs ++ ys)
 all_append P [] ys a b = b

@@ -162,16 +162,6 @@ most_is_one wanted n m frames one other =
     let ge = at_most wanted m n frames other one in
     omega (arith, le, ge)
 
--- any frames are one part if they contain all that is wanted
-itself : (wanted : List ℕ) (f : List ℕ) (fs : List (List ℕ)) → HasAll wanted (f ∷ fs) → IsCutInto wanted 1 (f ∷ fs)
-itself wanted f fs all = let some : f ∷ fs ≢ [] = λ q. absurd cc in more wanted 0 [] (f ∷ fs) (none wanted) (some, all)
-
-cut_of : (n : ℕ) (frames : List (List ℕ)) → IsMostParts (concat frames) n frames → IsCutInto (concat frames) n frames
-cut_of (suc k) frames h = h.cut (omega arith)
-cut_of zero [] h = none []
-cut_of zero (f ∷ fs) h = let one = h.most 1 (itself (concat (f ∷ fs)) f fs (λ x want. want)) in
-    absurd (omega (arith, one))
-
 -- ---- three parts
 
 some_right : {X : Type 0} (xs ys : List X) → ys ≢ [] → xs ++ ys ≢ []

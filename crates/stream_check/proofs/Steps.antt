@@ -1,16 +1,16 @@
 -- Hearing one entry: what is reported, and what is known afterwards.
-use Rattle.stream_check.proofs.Words.{[], ◌&&◌, ◌++◌, ◌+◌, ◌<◌, ◌==◌, ◌||◌, ◌∙◌, ◌∷◌, ◌≡◌, ◌≢◌, ◌≤◌, Bool, CheckerState}
-use Rattle.stream_check.proofs.Words.{EnsembleInformation, FrameAt, Heard, HeardPicture, HearsItems, IsLater, IsSane}
+use Rattle.stream_check.proofs.Words.{[], ◌&&◌, ◌++◌, ◌+◌, ◌<◌, ◌==◌, ◌∙◌, ◌∷◌, ◌≡◌, ◌≢◌, Bool, CheckerState}
+use Rattle.stream_check.proofs.Words.{FrameAt, Heard, HeardPicture, HearsItems, IsLater, IsSane}
 use Rattle.stream_check.proofs.Words.{Item, KnownBefore, Knows, List, Listening, Moment, Option, Raw, Reported, Said}
 use Rattle.stream_check.proofs.Words.{What, all_entries, ap, append-nil, append_assoc, arith, at_most, began_early}
 use Rattle.stream_check.proofs.Words.{cases_lt, cond, current_findings, drop, due, ensemble_findings, ensemble_in}
 use Rattle.stream_check.proofs.Words.{false, false≢true, findings_at, finds_no_room, frames_ended, has_begun}
-use Rattle.stream_check.proofs.Words.{has_ensemble, has_flags, has_no_room, in_frame, inl, inr, is_cut_off, items_of}
-use Rattle.stream_check.proofs.Words.{key_of, keys, keys_of, known_in, known_of, last_eid, last_flags, le-ltb}
-use Rattle.stream_check.proofs.Words.{listener_after, listener_in, lookup_in, lt-ltb, makes_swap, map, map-append}
+use Rattle.stream_check.proofs.Words.{has_ensemble, has_no_room, in_frame, inl, inr, is_cut_off, items_of}
+use Rattle.stream_check.proofs.Words.{key_of, keys, keys_of, known_in, known_of, last_eid, last_flags}
+use Rattle.stream_check.proofs.Words.{listener_after, listener_in, lookup_in, makes_swap, map, map-append}
 use Rattle.stream_check.proofs.Words.{member_findings, most_parts, ne_eqb, next_findings, not, picture_of_heard, raws}
 use Rattle.stream_check.proofs.Words.{refl, rows, subst, sym, take, take-append-drop, times_announced, times_heard}
-use Rattle.stream_check.proofs.Words.{true, with_current, with_ensemble, with_flags, with_more, with_next, with_swap, ℕ}
+use Rattle.stream_check.proofs.Words.{true, with_current, with_ensemble, with_more, with_next, with_swap, ℕ}
 use Rattle.stream_check.proofs.PartCount.{parts_counted}
 use Rattle.stream_check.proofs.Members.{after_is}
 use Rattle.stream_check.proofs.Knowing.{knows_passed, knows_current, knows_next}
@@ -241,12 +241,6 @@ full_next at first raw old new before after other tuned room reported =
 
 -- ---- what does not change within a frame
 
-below_three : (n : ℕ) → at_most 3 n ≤ 3
-below_three n = elim (cases_lt n 3) [
-  | inl lt ↦ subst (λ (t : Bool). cond t n 3 ≤ 3) (sym (lt-ltb n 3 lt)) (omega (arith, lt))
-  | inr ge ↦ subst (λ (t : Bool). cond t n 3 ≤ 3) (sym (le-ltb n 3 ge)) (omega arith)
-]
-
 pub later_itself : (m : CheckerState) → IsSane m → IsLater m m
 later_itself m s = record { step = refl; period = refl; frames = refl; sane = s }
 
@@ -257,50 +251,6 @@ later_twice a b c x y = record {
   frames = y.frames ∙ x.frames;
   sane = y.sane;
 }
-
-later_flags : (e : EnsembleInformation) (m : CheckerState) → IsSane m → IsLater m (with_flags e m)
-later_flags e m s = elim (has_flags e)
-    as (λ t. IsLater m (cond t
-    (record m {
-      is_cut_off = m.is_cut_off || not m.tuned;
-      awaited = e.occurrence;
-      flags = e.change;
-      times = at_most 3 (m.times + 1);
-      has_begun = true;
-    }) m)) [
-      | true ↦ record {
-        step = refl;
-        period = refl;
-        frames = refl;
-        sane = record {
-          mode = s.mode;
-          page_index = s.page_index;
-          due = s.due;
-          times = below_three (m.times + 1);
-          rows = s.rows;
-          parts = s.parts;
-        };
-      }
-      | false ↦ later_itself m s
-    ]
-
-later_noted : (first : Bool) (e : EnsembleInformation) (m : CheckerState) → IsSane m
-    → IsLater m (with_ensemble first e m)
-later_noted first e m s =
-    let f = later_flags e m s in
-    record {
-      step = f.step;
-      period = f.period;
-      frames = f.frames;
-      sane = record {
-        mode = f.sane.mode;
-        page_index = f.sane.page_index;
-        due = f.sane.due;
-        times = f.sane.times;
-        rows = f.sane.rows;
-        parts = f.sane.parts;
-      };
-    }
 
 -- ---- by the result of a call
 

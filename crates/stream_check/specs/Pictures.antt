@@ -34,9 +34,6 @@ empty_picture = record { subs = []; services = []; packets = [] }
 abbrev pub picture_of_heard : HeardPicture → Pictured
 picture_of_heard p = record { subs = raws p.subs; services = raws p.services; packets = raws p.packets }
 
-abbrev pub all_heard : HeardPicture → List Heard
-all_heard p = p.subs ++ p.services ++ p.packets
-
 abbrev pub picture_kept : Heard → HeardPicture → HeardPicture
 picture_kept h p =
     if h.raw.ext == 1 then record p { subs = heard_kept h p.subs }

@@ -9,9 +9,6 @@ use Rattle.stream_monitor.specs.declared.ending.Ending.TheVariants as endings
 use Rattle.stream_monitor.specs.declared.line.Cause.TheVariants as causes
 use Rattle.stream_monitor.proofs.Steps.{goes_on, summary_is}
 
-flat : List (List Fib) → List Fib
-flat frames = flat_map (λ f. f) frames
-
 -- ---- nothing is framed
 
 pub none_framed : (size : ℕ) (frames : List (List Fib)) (rest : List Fib) → AreFrames size frames rest

@@ -1,13 +1,9 @@
 -- What a log has after one step and then another.
 use Rattle.stream_monitor.proofs.Words.{[], ◌++◌, ◌∙◌, ◌∷◌, ◌≡◌, CheckOptions, End, HasLines, IsLog, Line, List, Log}
 use Rattle.stream_monitor.proofs.Words.{LogsLines, LogsNext, Next, None, Option, Part, Some, after_lines, after_next}
-use Rattle.stream_monitor.proofs.Words.{ap, append-nil, append_assoc, log_of, refl, subst, sym, ℕ}
+use Rattle.stream_monitor.proofs.Words.{ap, append_assoc, log_of, subst, sym, ℕ}
 use Rattle.std.specs.Option.{option_map}
 use Rattle.stream_monitor.specs.declared.fibs.Next.TheVariants.{Fib}
-
-pub no_lines : (a : Option Log) → LogsLines a a []
-no_lines None = refl
-no_lines (Some x) = sym (ap (λ l. Some (log_of x.options x.fibs l)) (append-nil x.lines))
 
 pub more_lines : (a b c : Option Log) (one two : List Line) → LogsLines a b one → LogsLines b c two
     → LogsLines a c (one ++ two)
