@@ -7,9 +7,10 @@
 //! standard input for a day.
 #![tactic(auto)]
 
-mod calls;
+mod codes;
 mod damaged;
 mod day;
+mod texts;
 mod trial;
 
 use plan_code::{Code, decode};
@@ -26,7 +27,7 @@ fn main(rt: HostRuntime) -> io::Result<ExitCode> {
     let kind = words.get(1).map(String::as_str);
     let name = words.get(2).map(String::as_str);
     let is_done = match (kind, name) {
-        (Some("call"), Some(name)) => calls::try_named(
+        (Some("call"), Some(name)) => texts::try_named(
             rt.alloc(),
             name,
             text_of(&input)?,
