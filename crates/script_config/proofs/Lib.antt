@@ -3,7 +3,6 @@ pub mod Transforming
 pub mod Lookups
 pub mod Loops
 pub mod PacketSteps
-pub mod Passage
 pub mod ServiceTurns
 pub mod SubTurns
 pub mod Walks
@@ -15,7 +14,6 @@ pub mod MorePages
 mod Named
 pub mod Pacing
 mod PlainScripts
-mod Ranged
 mod Scriptable
 mod VectorsOfPlans
 mod VectorsOfStreams

@@ -1,11 +1,12 @@
 -- Lookups in ordered sets: how edits change them, that they determine the set, and the number of members of a set whose
 -- keys are among those of another.
 use Rattle.script_config.proofs.Words.{[], ◌<◌, ◌∙◌, ◌∷◌, ◌≡◌, ◌≢◌, ◌≤◌, AllByRecursion, IsAscending, List, None, Some}
-use Rattle.script_config.proofs.Words.{ap, arith, cases_eq, cases_lt, changed_at, each_weaker, entry_at, eq-eqb, eqb}
-use Rattle.script_config.proofs.Words.{false, inl, inr, le-ltb, length, lt-ltb, ne_eqb, refl, sym, with_entry}
-use Rattle.script_config.proofs.Words.{without_entry, ℕ}
+use Rattle.script_config.proofs.Words.{ap, arith, ascends_with, cases_eq, cases_lt, changed_at, each_weaker, entry_at}
+use Rattle.script_config.proofs.Words.{eq-eqb, eqb, false, inl, inr, le-ltb, length, length_with, lt-ltb, ne_eqb, refl}
+use Rattle.script_config.proofs.Words.{sym, with_entry, without_entry, ℕ}
+use Rattle.script_config.proofs.Members.{each_both}
 
-some_is_none : {T : Type 0} {P : Type 0} (x : T) → Some x ≡ None → P
+pub some_is_none : {T : Type 0} {P : Type 0} (x : T) → Some x ≡ None → P
 some_is_none x e = absurd (cc)
 
 -- ---- one lookup
@@ -28,6 +29,17 @@ found_never key k (x ∷ xs) above = found_later key k x xs (λ same. let h = ab
 pub found_cases : {T : Type 0} (key : T → ℕ) (k : ℕ) (x : T) (xs : List T) (y : T) → entry_at key k (x ∷ xs) ≡ Some y
     → (key x ≢ k) → entry_at key k xs ≡ Some y
 found_cases key k x xs y e other = sym (found_later key k x xs other) ∙ e
+
+-- each member is found by its key
+pub each_found : {T : Type 0} (key : T → ℕ) (xs : List T) → IsAscending key xs
+    → AllByRecursion (λ y. entry_at key (key y) xs ≡ Some y) xs
+each_found key [] up = tt
+each_found key (x ∷ xs) up = (
+  found_first key (key x) x xs refl,
+  each_both (λ y. key x < key y) (λ y. entry_at key (key y) xs ≡ Some y) (λ y. entry_at key (key y) (x ∷ xs) ≡ Some y)
+      (λ y above found. found_later key (key y) x xs (λ same. omega (arith, above, same)) ∙ found) xs up.0
+      (each_found key xs up.1),
+)
 
 -- ---- after edits
 
@@ -194,3 +206,22 @@ among_shorter key (x ∷ xs) (y ∷ ys) h k among =
             absurd (omega (arith, above, ge))
       ]
     ]
+
+with_among : {T : Type 0} (key : T → ℕ) (y : T) (xs ys : List T) (z : T) → entry_at key (key y) ys ≡ Some z
+    → AreAmong key xs ys → AreAmong key (with_entry key y xs) ys
+with_among key y xs ys z there among k x e =
+    elim (cases_eq k (key y)) [
+      | inl same ↦ (z, ap (λ (i : ℕ). entry_at key i ys) same ∙ there)
+      | inr other ↦ among k x (sym (with_others key y xs k other) ∙ e)
+    ]
+
+-- there is room for one more member whose key is in the list and unused
+pub room_for : {T : Type 0} (key : T → ℕ) (y : T) (xs ys : List T) → IsAscending key xs → IsAscending key ys
+    → entry_at key (key y) xs ≡ None → (z : T) → entry_at key (key y) ys ≡ Some z
+    → AreAmong key xs ys → length xs < length ys
+room_for key y xs ys up above free z there among =
+    let one_more : length (with_entry key y xs) ≤ length ys =
+    among_shorter key (with_entry key y xs) ys (ascends_with key y xs up free) above
+    (with_among key y xs ys z there among) in
+    let longer = length_with key y xs in
+    omega (arith, one_more, longer)

@@ -1,8 +1,9 @@
 -- Loop invariants.
-use Rattle.script_config.proofs.Words.{[], ◌++◌, ◌+◌, ◌∙◌, ◌∷◌, ◌≡◌, ◌≤◌, Component, Configuration, Edit}
-use Rattle.script_config.proofs.Words.{HaveNoFault, List, Sid, after, after_common, ap, append_assoc}
-use Rattle.script_config.proofs.Words.{components_dropped, drop, drop_all, length, refl, sym}
-use Rattle.script_config.proofs.Words.{ℕ}
+use Rattle.script_config.proofs.Words.{[], ◌++◌, ◌∙◌, ◌∷◌, ◌≡◌, ◌≤◌, Component, Configuration, Edit, HaveNoFault, List}
+use Rattle.script_config.proofs.Words.{Packet, Service, Sid, Sub, after, after_common, ap, append_assoc}
+use Rattle.script_config.proofs.Words.{components_dropped, drop, drop_all, flat_map, length, nothing, packet_at}
+use Rattle.script_config.proofs.Words.{packet_edits, packet_new, refl, service_at, service_edits, service_grown, sub_at}
+use Rattle.script_config.proofs.Words.{sub_edits, sub_new, sym, ℕ}
 
 -- ---- applying edits
 
@@ -36,13 +37,24 @@ common_there ms ns place past h =
 
 -- ---- concatenation
 
--- three lists appended one after another
-pub three_joined : {T : Type 0} (a b c none one two three : List T) → none ≡ [] → one ≡ none ++ a → two ≡ one ++ b
-    → three ≡ two ++ c → three ≡ a ++ (b ++ c)
-three_joined a b c none one two three n1 n2 n3 n4 =
-    n4 ∙ ap (λ xs. xs ++ c) n3 ∙ append_assoc one b c
-    ∙ ap (λ xs. xs ++ (b ++ c)) n2 ∙ append_assoc none a (b ++ c)
-    ∙ ap (λ xs. xs ++ (a ++ (b ++ c))) n1
+-- the edits that add the members of three sets to a configuration, which is empty
+pub made_joined : (n : Configuration) (ss : List Sub) (vs : List Service) (ps : List Packet)
+    (none one two three : List Edit) → n ≡ nothing → none ≡ []
+    → one ≡ none ++ flat_map (λ t. sub_new (sub_at t.id n) t) ss
+    → two ≡ one ++ flat_map (λ t. service_grown (service_at t.sid n) t) vs
+    → three ≡ two ++ flat_map (λ q. packet_new (packet_at q.scid n) q) ps
+    → three ≡ flat_map sub_edits ss ++ (flat_map service_edits vs ++ flat_map packet_edits ps)
+made_joined n ss vs ps none one two three empty n0 n1 n2 n3 =
+    let a : List Edit = flat_map (λ t. sub_new (sub_at t.id n) t) ss in
+    let b : List Edit = flat_map (λ t. service_grown (service_at t.sid n) t) vs in
+    let c : List Edit = flat_map (λ q. packet_new (packet_at q.scid n) q) ps in
+    let joined : three ≡ a ++ (b ++ c) =
+    n3 ∙ ap (λ (es : List Edit). es ++ c) n2 ∙ append_assoc one b c
+    ∙ ap (λ (es : List Edit). es ++ (b ++ c)) n1 ∙ append_assoc none a (b ++ c)
+    ∙ ap (λ (es : List Edit). es ++ (a ++ (b ++ c))) n0 in
+    joined ∙ ap (λ (m : Configuration). flat_map (λ t. sub_new (sub_at t.id m) t) ss
+    ++ (flat_map (λ t. service_grown (service_at t.sid m) t) vs
+    ++ flat_map (λ q. packet_new (packet_at q.scid m) q) ps)) empty
 
 pub eight_joined : {T : Type 0} (a b c d e f g h none one two three four five six seven eight : List T) → none ≡ []
     → one ≡ none ++ a → two ≡ one ++ b → three ≡ two ++ c → four ≡ three ++ d

@@ -1,7 +1,7 @@
 -- The paced edits of a plan.
 use Rattle.script_config.proofs.Words.{[], ◌%◌, ◌*◌, ◌++◌, ◌+◌, ◌-◌, ◌<◌, ◌==◌, ◌∙◌, ◌∷◌, ◌≡◌, ◌≤◌, Act, All}
 use Rattle.script_config.proofs.Words.{AllByRecursion, Bool, Configuration, Edit, FitFrames, IsAct, IsConfiguration}
-use Rattle.script_config.proofs.Words.{IsEdit, IsPlan, List, Plan, Transform, Wait, ap, append-nil, append_assoc, arith}
+use Rattle.script_config.proofs.Words.{IsEdit, IsPlan, List, Plan, SizesGrow, Transform, Wait, ap, append-nil, append_assoc, arith}
 use Rattle.script_config.proofs.Words.{cases_eq, committed, edits_between, edits_in, eq-eqb, eqb-true, false, get_or}
 use Rattle.script_config.proofs.Words.{if◌then◌else◌, inl, inr, length, length-append, length-take-le, mod-eq_of_lt}
 use Rattle.script_config.proofs.Words.{mod-lt, mod_self, paced, pause_after, plan_acts, refl, subst, suc, suc-mod, sym}
@@ -10,7 +10,7 @@ use Rattle.std.proofs.Math.Numerals.{suc-eq-add-one}
 use Rattle.script_front.specs.declared.tree.Act.TheVariants.{Edit as Edits}
 use Rattle.script_config.proofs.FewEdits.{between_few}
 use Rattle.script_config.proofs.Members.{both, each_at}
-use Rattle.script_config.proofs.Ranged.{between_formed}
+use Rattle.script_config.proofs.Transforming.{between_formed}
 
 -- ---- appending one
 
@@ -147,10 +147,10 @@ fits full m (e ∷ es) header some =
 
 -- ---- a whole plan
 
-pub plan_formed : (header : Plan) (from to : Configuration) → IsPlan header → IsConfiguration from → IsConfiguration to
-    → All IsAct (plan_acts header from to)
-plan_formed header from to headed is_from is_to =
-    acts_formed header (header.budget - 1) 1 (edits_between from to) headed (between_formed from to is_from is_to)
+pub plan_formed : SizesGrow → (header : Plan) (from to : Configuration) → IsPlan header → IsConfiguration from
+    → IsConfiguration to → All IsAct (plan_acts header from to)
+plan_formed grow header from to headed is_from is_to =
+    acts_formed header (header.budget - 1) 1 (edits_between from to) headed (between_formed grow from to is_from is_to)
 
 pub plan_few : (header : Plan) (from to : Configuration) → IsConfiguration from → IsConfiguration to
     → length (plan_acts header from to) ≤ 7000

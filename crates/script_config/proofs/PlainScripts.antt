@@ -1,17 +1,17 @@
 -- Scripts without blocks: their items and statements one by one, and that they are scripts.
-use Rattle.script_config.proofs.Words.{[], ◌%◌, ◌*◌, ◌++◌, ◌+◌, ◌/◌, ◌<◌, ◌==◌, ◌∙◌, ◌∷◌, ◌≡◌, ◌≤◌, A, Act, AddPacket}
-use Rattle.script_config.proofs.Words.{AddSub, Adds, All, AllByRecursion, AllFit, AreNamedApart, B, Bool, Component}
-use Rattle.script_config.proofs.Words.{Configuration, Edit, EepSet, IsAct, IsAddressed, IsComponent, IsConfiguration}
-use Rattle.script_config.proofs.Words.{IsEdit, IsInBounds, IsItem, IsPlaced, IsPlan, IsScript, IsService, IsSid, Item}
-use Rattle.script_config.proofs.Words.{List, Packet, Plan, Service, Sid, Sub, Tree, acts_from, added_by, ap, arith}
-use Rattle.script_config.proofs.Words.{components_added, cond, counted, counted_in, edits_that_make, false, flat_map}
-use Rattle.script_config.proofs.Words.{get_or, items_from, length, length-take-le, packet_edits, rate_step, refl}
-use Rattle.script_config.proofs.Words.{service_edits, sub_edits, subst, suc, sym, take, take_more, true}
-use Rattle.script_config.proofs.Words.{units_of_step, zero, ℕ}
+use Rattle.script_config.proofs.Words.{[], ◌++◌, ◌+◌, ◌<◌, ◌∙◌, ◌∷◌, ◌≡◌, ◌≤◌, Act, Adds, All, AllByRecursion, AllFit}
+use Rattle.script_config.proofs.Words.{AreNamedApart, Component, Configuration, Edit, IsAct, IsAddressed, IsComponent}
+use Rattle.script_config.proofs.Words.{IsConfiguration, IsEdit, IsInBounds, IsItem, IsPlaced, IsPlan, IsScript}
+use Rattle.script_config.proofs.Words.{IsService, IsSid, Item, List, Plan, Service, Sid, Tree, acts_from, added_by, ap}
+use Rattle.script_config.proofs.Words.{arith, components_added, counted, counted_in, edits_that_make, flat_map, get_or}
+use Rattle.script_config.proofs.Words.{items_from, length, length-take-le, packet_edits, refl, service_edits, sub_edits}
+use Rattle.script_config.proofs.Words.{subst, suc, sym, take, take_more, zero, ℕ}
 use Rattle.script_front.specs.declared.tree.Statement.{Statement}
-use Rattle.script_front.specs.Block.{Block, nothing, basic, before, and_then, block_of}
+use Rattle.script_front.specs.Block.{Block, and_then, basic, before, block_of, nothing}
 use Rattle.script_front.specs.Keywords.{IsName}
 use Rattle.script_config.proofs.Members.{both, each_of}
+use Rattle.script_config.proofs.PacketSteps.{new_packet}
+use Rattle.script_config.proofs.SubTurns.{new_sub}
 
 -- ---- appending one
 
@@ -96,53 +96,7 @@ items_length line (e ∷ es) = let rest = items_length (line + 1) es in omega (a
 abbrev pub IsAdding : Edit → Type 0
 IsAdding e = IsEdit e × Adds e
 
--- ---- a rate with a size is a number of 16 bits
-
--- what holds of two numbers holds of the selected one
-chosen : (P : ℕ → Type 0) (b : Bool) (x y : ℕ) → P x → P y → P (cond b x y)
-chosen P true x y h k = h
-chosen P false x y h k = k
-
--- the size is within 864 capacity units, so the number of rate steps is small
-abbrev AreFew : ℕ → ℕ → Type 0
-AreFew q units = units * q ≤ 864 → q ≤ 864
-
-steps_few : (set : EepSet) (level q : ℕ) → AreFew q (units_of_step set level)
-steps_few A level q =
-    chosen (AreFew q) (level == 1) 12 _ (λ h. omega (arith, h))
-    (chosen (AreFew q) (level == 2) 8 _ (λ h. omega (arith, h))
-    (chosen (AreFew q) (level == 3) 6 4 (λ h. omega (arith, h)) (λ h. omega (arith, h))))
-steps_few B level q =
-    chosen (AreFew q) (level == 1) 27 _ (λ h. omega (arith, h))
-    (chosen (AreFew q) (level == 2) 21 _ (λ h. omega (arith, h))
-    (chosen (AreFew q) (level == 3) 18 15 (λ h. omega (arith, h)) (λ h. omega (arith, h))))
-
-rate_by : (set : EepSet) (kbits : ℕ) → kbits % rate_step set ≡ 0 → kbits / rate_step set ≤ 864 → kbits < 65536
-rate_by A kbits whole few = omega (arith, whole, few)
-rate_by B kbits whole few = omega (arith, whole, few)
-
-pub rate_short : (s : Sub) → IsPlaced s → s.kbits < 65536
-rate_short s h =
-    let size = h.sized.from_table in
-    let within = h.sized.within in
-    let few : units_of_step s.protection.set s.protection.level * (s.kbits / rate_step s.protection.set) ≤ 864 =
-    omega (arith, size, within) in
-    rate_by s.protection.set s.kbits h.sized.multiple
-    (steps_few s.protection.set s.protection.level (s.kbits / rate_step s.protection.set) few)
-
-pub sub_adding : (s : Sub) → IsPlaced s → IsAdding (AddSub s)
-sub_adding s h = (
-  record {
-    named = h.named;
-    start = let ends = h.ends in omega (arith, ends);
-    from_one = h.from_one;
-    to_four = h.to_four;
-    rate = rate_short s h;
-  },
-  tt,
-)
-
-pub components_adding : (sid : Sid) (ms : List Component) → IsSid sid → AllByRecursion IsComponent ms
+components_adding : (sid : Sid) (ms : List Component) → IsSid sid → AllByRecursion IsComponent ms
     → AllByRecursion IsAdding (components_added sid ms)
 components_adding sid [] named h = tt
 components_adding sid (m ∷ ms) named h = (((named, h.0), tt), components_adding sid ms named h.1)
@@ -150,25 +104,13 @@ components_adding sid (m ∷ ms) named h = (((named, h.0), tt), components_addin
 service_adding : (s : Service) → IsService s → AllByRecursion IsAdding (service_edits s)
 service_adding s h = ((h.named, tt), components_adding s.sid s.components h.named h.within)
 
-pub packet_adding : (p : Packet) → IsAddressed p → IsAdding (AddPacket p)
-packet_adding p h = (
-  record {
-    named = h.named;
-    typed = h.typed;
-    carried = h.carried;
-    to_last = let last = h.to_last in
-        omega (arith, last);
-  },
-  tt,
-)
-
 pub made_adding : (c : Configuration) → IsConfiguration c → AllByRecursion IsAdding (edits_that_make c)
 made_adding c h =
     both IsAdding (flat_map sub_edits c.subs) (flat_map service_edits c.services ++ flat_map packet_edits c.packets)
-    (each_of IsPlaced IsAdding sub_edits (λ x k. (sub_adding x k, tt)) c.subs h.subs_placed)
+    (each_of IsPlaced IsAdding sub_edits (λ x k. ((new_sub x k, tt), tt)) c.subs h.subs_placed)
     (both IsAdding (flat_map service_edits c.services) (flat_map packet_edits c.packets)
     (each_of IsService IsAdding service_edits service_adding c.services h.services_formed)
-    (each_of IsAddressed IsAdding packet_edits (λ x k. (packet_adding x k, tt)) c.packets h.packets_addressed))
+    (each_of IsAddressed IsAdding packet_edits (λ x k. ((new_packet x k, tt), tt)) c.packets h.packets_addressed))
 
 -- ---- the result is a script
 

@@ -1,25 +1,26 @@
 -- The sub-channels after the edits for one of them.
-use Rattle.script_config.proofs.Words.{[], ◌%◌, ◌&&◌, ◌++◌, ◌+◌, ◌==◌, ◌∙◌, ◌∷◌, ◌≡◌, ◌≢◌, ◌≤◌, A, AddSub, B, Bool}
-use Rattle.script_config.proofs.Words.{Configuration, DropSub, EepSet, IsConfiguration, IsPlaced, IsSize, List, MoveSub}
-use Rattle.script_config.proofs.Words.{None, Ok, Option, Packet, PastEnd, Profile, RateSub, Service, SizesGrow, Some}
-use Rattle.script_config.proofs.Words.{Sub, absent_found, absent_or, add_sub_fault, add_sub_keeps, after, alterations}
-use Rattle.script_config.proofs.Words.{ap, arith, at_rate, at_start, cases_lt, cond, drop_sub_keeps, eqb-true, false}
-use Rattle.script_config.proofs.Words.{false≢true, has_bad_rate, inl, inr, is_past_end, is_same_profile, is_same_set}
-use Rattle.script_config.proofs.Words.{le-ltb, lt-ltb, ltb, move_sub_fault, move_sub_keeps, ne_eqb, placing_fault}
-use Rattle.script_config.proofs.Words.{rate_altered, rate_step, rate_sub_fault, rate_sub_keeps, refl, size_of_sub}
-use Rattle.script_config.proofs.Words.{size_or_fault, start_altered, sub_altered, sub_at, sub_gone, sub_key, sub_new}
-use Rattle.script_config.proofs.Words.{subst, sym, table_size, true, ℕ}
+use Rattle.script_config.proofs.Words.{[], ◌%◌, ◌&&◌, ◌*◌, ◌++◌, ◌+◌, ◌/◌, ◌<◌, ◌==◌, ◌∙◌, ◌∷◌, ◌≡◌, ◌≢◌, ◌≤◌, A}
+use Rattle.script_config.proofs.Words.{AddSub, B, Bool, Configuration, DropSub, EepSet, IsConfiguration, IsPlaced}
+use Rattle.script_config.proofs.Words.{IsSize, MoveSub, None, Ok, Option, PastEnd, Profile, RateSub, SizesGrow, Some}
+use Rattle.script_config.proofs.Words.{Sub, absent_found, absent_or, add_sub_fault, after, alterations, ap, arith}
+use Rattle.script_config.proofs.Words.{at_rate, at_start, cases_lt, cond, eqb-true, false, false≢true, has_bad_rate}
+use Rattle.script_config.proofs.Words.{inl, inr, is_past_end, is_same_profile, is_same_set, le-ltb, ltb, ne_eqb}
+use Rattle.script_config.proofs.Words.{placing_fault, rate_altered, rate_step, refl, size_of_sub, size_or_fault}
+use Rattle.script_config.proofs.Words.{start_altered, sub_altered, sub_at, sub_gone, sub_key, sub_new, subst, sym}
+use Rattle.script_config.proofs.Words.{table_size, true, units_of_step, ℕ}
+use Rattle.plan_code.specs.Program.{IsNewSub}
+use Rattle.std.proofs.lemmas.Bool.{ltb-false, ltb-true}
 use Rattle.std.specs.Result.{is_err}
-use Rattle.script_config.proofs.Lookups.{with_here, with_others, without_here, without_others, changed_found}
-use Rattle.script_config.proofs.Lookups.{changed_others}
-use Rattle.script_config.proofs.Walks.{Turns, turns_both, turns_nothing}
-use Rattle.script_config.proofs.Passage.{Fits, all_left}
+use Rattle.script_config.proofs.Walks.{Part, Turns, adds, alters, back, joint, removes, turns_both, turns_gone}
+use Rattle.script_config.proofs.Walks.{turns_nothing, turns_unless}
 
--- a configuration with these services and packet components
-pub record SubsKept (vs : List Service) (ps : List Packet) (c : Configuration) : Type 0 where
-  pub formed : IsConfiguration c
-  pub services : c.services ≡ vs
-  pub packets : c.packets ≡ ps
+abbrev pub subs : Part Sub
+subs = record {
+  key = sub_key;
+  set = λ c. c.subs;
+  rest = λ c. record { subs = []; services = c.services; packets = c.packets };
+  ascends = λ c h. h.subs_ascend;
+}
 
 -- ---- sub-channels with a size
 
@@ -38,81 +39,87 @@ placed_fine s h =
     let good : has_bad_rate s ≡ false = ap is_err (sized_fine s.protection s.kbits (size_of_sub s) h.sized) in
     rw (good, within_fine s h) refl
 
--- ---- one edit
+-- ---- a rate with a size is a number of 16 bits
 
-pub drops : (vs : List Service) (ps : List Packet) (s : Sub) (c : Configuration) → SubsKept vs ps c
-    → sub_at s.id c ≡ Some s
-    → Turns sub_at (SubsKept vs ps) (DropSub s.id ∷ []) s.id None c
-drops vs ps s c h e = record {
-  fine = (ap (λ (o : Option Sub). absent_or o (λ s. None)) e, tt);
-  here = without_here sub_key s.id c.subs;
-  others = λ j other. without_others sub_key s.id c.subs j other;
-  keeps = record { formed = drop_sub_keeps s.id c h.formed; services = h.services; packets = h.packets };
+-- what holds of two numbers holds of the selected one
+chosen : (P : ℕ → Type 0) (b : Bool) (x y : ℕ) → P x → P y → P (cond b x y)
+chosen P true x y h k = h
+chosen P false x y h k = k
+
+-- the size is within 864 capacity units, so the number of rate steps is small
+abbrev AreFew : ℕ → ℕ → Type 0
+AreFew q units = units * q ≤ 864 → q ≤ 864
+
+steps_few : (set : EepSet) (level q : ℕ) → AreFew q (units_of_step set level)
+steps_few A level q =
+    chosen (AreFew q) (level == 1) 12 _ (λ h. omega (arith, h))
+    (chosen (AreFew q) (level == 2) 8 _ (λ h. omega (arith, h))
+    (chosen (AreFew q) (level == 3) 6 4 (λ h. omega (arith, h)) (λ h. omega (arith, h))))
+steps_few B level q =
+    chosen (AreFew q) (level == 1) 27 _ (λ h. omega (arith, h))
+    (chosen (AreFew q) (level == 2) 21 _ (λ h. omega (arith, h))
+    (chosen (AreFew q) (level == 3) 18 15 (λ h. omega (arith, h)) (λ h. omega (arith, h))))
+
+rate_by : (set : EepSet) (kbits : ℕ) → kbits % rate_step set ≡ 0 → kbits / rate_step set ≤ 864 → kbits < 65536
+rate_by A kbits whole few = omega (arith, whole, few)
+rate_by B kbits whole few = omega (arith, whole, few)
+
+rate_short : (s : Sub) → IsPlaced s → s.kbits < 65536
+rate_short s h =
+    let size = h.sized.from_table in
+    let within = h.sized.within in
+    let few : units_of_step s.protection.set s.protection.level * (s.kbits / rate_step s.protection.set) ≤ 864 =
+    omega (arith, size, within) in
+    rate_by s.protection.set s.kbits h.sized.multiple
+    (steps_few s.protection.set s.protection.level (s.kbits / rate_step s.protection.set) few)
+
+pub new_sub : (s : Sub) → IsPlaced s → IsNewSub s
+new_sub s h = record {
+  named = h.named;
+  start = let ends = h.ends in omega (arith, ends);
+  from_one = h.from_one;
+  to_four = h.to_four;
+  rate = rate_short s h;
 }
 
-pub adds : (vs : List Service) (ps : List Packet) (t : Sub) (c : Configuration) → SubsKept vs ps c → IsPlaced t
-    → sub_at t.id c ≡ None
-    → Turns sub_at (SubsKept vs ps) (AddSub t ∷ []) t.id (Some t) c
-adds vs ps t c h placed e =
+-- ---- one edit
+
+drops : (s : Sub) (c : Configuration) → IsPlaced s → IsConfiguration c → sub_at s.id c ≡ Some s
+    → Turns subs (DropSub s.id ∷ []) s.id None c
+drops s c placed h e =
+    removes subs (DropSub s.id) s.id c placed.named h (ap (λ (o : Option Sub). absent_or o (λ s. None)) e) refl refl
+
+comes_new : (t : Sub) (c : Configuration) → IsPlaced t → IsConfiguration c → sub_at t.id c ≡ None
+    → Turns subs (AddSub t ∷ []) t.id (Some t) c
+comes_new t c placed h e =
     let fine : add_sub_fault t c ≡ None = rw (absent_found sub_key t.id c.subs e) (placed_fine t placed) in
-    record {
-      fine = (fine, tt);
-      here = with_here sub_key t c.subs e;
-      others = λ j other. with_others sub_key t c.subs j other;
-      keeps = record {
-        formed = add_sub_keeps t c placed.named placed.from_one placed.to_four h.formed fine;
-        services = h.services;
-        packets = h.packets;
-      };
-    }
-
-pub rates : (vs : List Service) (ps : List Packet) (id kbits : ℕ) (s : Sub) (c : Configuration) → SubsKept vs ps c
-    → sub_at id c ≡ Some s → IsPlaced (at_rate kbits s)
-    → Turns sub_at (SubsKept vs ps) (RateSub id kbits ∷ []) id (Some (at_rate kbits s)) c
-rates vs ps id kbits s c h e placed =
-    let fine : rate_sub_fault id kbits c ≡ None =
-    ap (λ (o : Option Sub). absent_or o (λ s. placing_fault (at_rate kbits s))) e
-    ∙ placed_fine (at_rate kbits s) placed in
-    record {
-      fine = (fine, tt);
-      here = changed_found sub_key id (at_rate kbits) c.subs s (λ x. refl) e;
-      others = λ j other. changed_others sub_key id (at_rate kbits) c.subs j (λ x. refl) other;
-      keeps = record { formed = rate_sub_keeps id kbits c h.formed fine; services = h.services; packets = h.packets };
-    }
-
-pub moves : (vs : List Service) (ps : List Packet) (id start : ℕ) (s : Sub) (c : Configuration) → SubsKept vs ps c
-    → sub_at id c ≡ Some s → IsPlaced (at_start start s)
-    → Turns sub_at (SubsKept vs ps) (MoveSub id start ∷ []) id (Some (at_start start s)) c
-moves vs ps id start s c h e placed =
-    let fine : move_sub_fault id start c ≡ None =
-    ap (λ (o : Option Sub). absent_or o (λ s. cond (is_past_end (at_start start s)) (Some PastEnd) None)) e
-    ∙ ap (λ (b : Bool). cond b (Some PastEnd) None) (within_fine (at_start start s) placed) in
-    record {
-      fine = (fine, tt);
-      here = changed_found sub_key id (at_start start) c.subs s (λ x. refl) e;
-      others = λ j other. changed_others sub_key id (at_start start) c.subs j (λ x. refl) other;
-      keeps = record { formed = move_sub_keeps id start c h.formed fine; services = h.services; packets = h.packets };
-    }
+    adds subs (AddSub t) t c (new_sub t placed) h fine refl refl e
 
 -- ---- only what differs
 
-rates_by : (vs : List Service) (ps : List Packet) (t s : Sub) (c : Configuration) (b : Bool) → s.kbits == t.kbits ≡ b
-    → SubsKept vs ps c → sub_at t.id c ≡ Some s → IsPlaced (at_rate t.kbits s)
-    → Turns sub_at (SubsKept vs ps) (cond b [] (RateSub t.id t.kbits ∷ [])) t.id (Some (at_rate t.kbits s)) c
-rates_by vs ps t s c true is h e placed =
-    let same : s ≡ at_rate t.kbits s =
+rates : (t s : Sub) (c : Configuration) → IsPlaced t → IsConfiguration c → sub_at t.id c ≡ Some s → IsPlaced (at_rate t.kbits s)
+    → Turns subs (rate_altered s t) t.id (Some (at_rate t.kbits s)) c
+rates t s c target h e placed =
+    turns_unless subs (s.kbits == t.kbits) (RateSub t.id t.kbits ∷ []) t.id (Some (at_rate t.kbits s)) c h
+    (λ is. let same : s ≡ at_rate t.kbits s =
     λ i. record { id = s.id; start = s.start; protection = s.protection; kbits = eqb-true s.kbits t.kbits is i } in
-    turns_nothing sub_at (SubsKept vs ps) t.id (Some (at_rate t.kbits s)) c h (e ∙ ap Some same)
-rates_by vs ps t s c false is h e placed = rates vs ps t.id t.kbits s c h e placed
+    e ∙ ap Some same)
+    (λ _. alters subs (RateSub t.id t.kbits) t.id (at_rate t.kbits) s c (target.named, rate_short t target) h
+    (ap (λ (o : Option Sub). absent_or o (λ s. placing_fault (at_rate t.kbits s))) e
+    ∙ placed_fine (at_rate t.kbits s) placed)
+    refl refl (λ x. refl) e)
 
-moves_by : (vs : List Service) (ps : List Packet) (t s : Sub) (c : Configuration) (b : Bool) → s.start == t.start ≡ b
-    → SubsKept vs ps c → sub_at t.id c ≡ Some s → IsPlaced (at_start t.start s)
-    → Turns sub_at (SubsKept vs ps) (cond b [] (MoveSub t.id t.start ∷ [])) t.id (Some (at_start t.start s)) c
-moves_by vs ps t s c true is h e placed =
-    let same : s ≡ at_start t.start s =
+moves : (t s : Sub) (c : Configuration) → IsPlaced t → IsConfiguration c → sub_at t.id c ≡ Some s → IsPlaced (at_start t.start s)
+    → Turns subs (start_altered s t) t.id (Some (at_start t.start s)) c
+moves t s c target h e placed =
+    turns_unless subs (s.start == t.start) (MoveSub t.id t.start ∷ []) t.id (Some (at_start t.start s)) c h
+    (λ is. let same : s ≡ at_start t.start s =
     λ i. record { id = s.id; start = eqb-true s.start t.start is i; protection = s.protection; kbits = s.kbits } in
-    turns_nothing sub_at (SubsKept vs ps) t.id (Some (at_start t.start s)) c h (e ∙ ap Some same)
-moves_by vs ps t s c false is h e placed = moves vs ps t.id t.start s c h e placed
+    e ∙ ap Some same)
+    (λ _. alters subs (MoveSub t.id t.start) t.id (at_start t.start) s c (target.named, (new_sub t target).start) h
+    (ap (λ (o : Option Sub). absent_or o (λ s. cond (is_past_end (at_start t.start s)) (Some PastEnd) None)) e
+    ∙ ap (λ (b : Bool). cond b (Some PastEnd) None) (within_fine (at_start t.start s) placed))
+    refl refl (λ x. refl) e)
 
 -- ---- turning a sub-channel into another with the same profile
 
@@ -174,42 +181,26 @@ moves_placed grow s t k le = record {
 rebuilt : (s t : Sub) → AreKin s t → at_start t.start (at_rate t.kbits s) ≡ t
 rebuilt s t k i = record { id = k.id i; start = t.start; protection = k.protection i; kbits = t.kbits }
 
-alters_by : SizesGrow → (vs : List Service) (ps : List Packet) (s t : Sub) (c : Configuration) (b : Bool)
-    → ltb t.kbits s.kbits ≡ b → (b ≡ true → t.kbits ≤ s.kbits) → (b ≡ false → s.kbits ≤ t.kbits)
-    → AreKin s t → SubsKept vs ps c → sub_at t.id c ≡ Some s
-    → Turns sub_at (SubsKept vs ps)
-    (cond b (rate_altered s t ++ start_altered s t) (start_altered s t ++ rate_altered s t)) t.id (Some t) c
-alters_by grow vs ps s t c true is falls rises k h e =
+alters_by : SizesGrow → (s t : Sub) (c : Configuration) (b : Bool) → ltb t.kbits s.kbits ≡ b → AreKin s t
+    → IsConfiguration c → sub_at t.id c ≡ Some s
+    → Turns subs (cond b (rate_altered s t ++ start_altered s t) (start_altered s t ++ rate_altered s t)) t.id (Some t) c
+alters_by grow s t c true is k h e =
     let built = rebuilt s t k in
-    let first = rates_by vs ps t s c (s.kbits == t.kbits) refl h e (falls_placed grow s t k (falls refl)) in
     let mid : Sub = at_rate t.kbits s in
-    let second = moves_by vs ps t mid (after (rate_altered s t) c) (s.start == t.start) refl first.keeps first.here
+    let falls : t.kbits ≤ s.kbits = let lt = ltb-true t.kbits s.kbits is in omega (arith, lt) in
+    let first = rates t s c k.target h e (falls_placed grow s t k falls) in
+    let second = moves t mid (after (rate_altered s t) c) k.target first.formed first.here
     (subst IsPlaced (sym built) k.target) in
-    let last : Turns sub_at (SubsKept vs ps) (start_altered s t) t.id (Some t) (after (rate_altered s t) c) =
-    subst (λ (x : Sub). Turns sub_at (SubsKept vs ps) (start_altered s t) t.id (Some x) (after (rate_altered s t) c))
-    built second in
-    turns_both sub_at (SubsKept vs ps) (rate_altered s t) (start_altered s t) t.id (Some mid) (Some t) c first last
-alters_by grow vs ps s t c false is falls rises k h e =
+    turns_both subs (rate_altered s t) (start_altered s t) t.id (Some mid) (Some t) c first
+    (subst (λ (x : Sub). Turns subs (start_altered s t) t.id (Some x) (after (rate_altered s t) c)) built second)
+alters_by grow s t c false is k h e =
     let built = rebuilt s t k in
-    let first = moves_by vs ps t s c (s.start == t.start) refl h e (moves_placed grow s t k (rises refl)) in
     let mid : Sub = at_start t.start s in
-    let second = rates_by vs ps t mid (after (start_altered s t) c) (s.kbits == t.kbits) refl first.keeps first.here
+    let first = moves t s c k.target h e (moves_placed grow s t k (ltb-false t.kbits s.kbits is)) in
+    let second = rates t mid (after (start_altered s t) c) k.target first.formed first.here
     (subst IsPlaced (sym built) k.target) in
-    let last : Turns sub_at (SubsKept vs ps) (rate_altered s t) t.id (Some t) (after (start_altered s t) c) =
-    subst (λ (x : Sub). Turns sub_at (SubsKept vs ps) (rate_altered s t) t.id (Some x) (after (start_altered s t) c))
-    built second in
-    turns_both sub_at (SubsKept vs ps) (start_altered s t) (rate_altered s t) t.id (Some mid) (Some t) c first last
-
-pub alters : SizesGrow → (vs : List Service) (ps : List Packet) (s t : Sub) (c : Configuration) → AreKin s t
-    → SubsKept vs ps c → sub_at t.id c ≡ Some s
-    → Turns sub_at (SubsKept vs ps) (alterations s t) t.id (Some t) c
-alters grow vs ps s t c k h e =
-    elim (cases_lt t.kbits s.kbits) [
-      | inl lt ↦ alters_by grow vs ps s t c (ltb t.kbits s.kbits) refl (λ _. omega (arith, lt))
-          (λ no. absurd (false≢true (sym no ∙ lt-ltb t.kbits s.kbits lt))) k h e
-      | inr ge ↦ alters_by grow vs ps s t c (ltb t.kbits s.kbits) refl
-          (λ yes. absurd (false≢true (sym (le-ltb t.kbits s.kbits ge) ∙ yes))) (λ _. ge) k h e
-    ]
+    turns_both subs (start_altered s t) (rate_altered s t) t.id (Some mid) (Some t) c first
+    (subst (λ (x : Sub). Turns subs (rate_altered s t) t.id (Some x) (after (start_altered s t) c)) built second)
 
 -- ---- profiles
 
@@ -232,67 +223,47 @@ profile_same p q e =
 
 -- ---- the three walks over sub-channels
 
--- what is left after the drops, and after the alterations
-abbrev pub sub_kept : Option Sub → Sub → Option Sub
-sub_kept None s = None
-sub_kept (Some t) s = cond (is_same_profile s.protection t.protection) (Some s) None
+-- one with another profile is dropped, and one that stays is altered
+abbrev pub sub_kept : Sub → Sub → Option Sub
+sub_kept s t = cond (is_same_profile s.protection t.protection) (Some s) None
 
-abbrev pub sub_turned : Option Sub → Sub → Option Sub
-sub_turned None s = None
-sub_turned (Some t) s = cond (is_same_profile s.protection t.protection) (Some t) None
+abbrev pub sub_turned : Sub → Sub → Option Sub
+sub_turned s t = cond (is_same_profile s.protection t.protection) (Some t) None
 
--- what the walk that adds sub-channels finds
-abbrev pub sub_awaited : Option Sub → Sub → Option Sub
-sub_awaited None t = None
-sub_awaited (Some s) t = cond (is_same_profile s.protection t.protection) (Some t) None
-
-pub subs_fit : Fits sub_key sub_turned sub_awaited
-subs_fit = record { gone = λ x. refl; new = λ y. refl; both = λ x y same. refl }
-
-gone_by : (vs : List Service) (ps : List Packet) (s t : Sub) (c : Configuration) (b : Bool) → SubsKept vs ps c
+pub goes : (o : Option Sub) (s : Sub) (c : Configuration) → IsPlaced s → IsConfiguration c
     → sub_at s.id c ≡ Some s
-    → Turns sub_at (SubsKept vs ps) (cond b [] (DropSub s.id ∷ [])) s.id (cond b (Some s) None) c
-gone_by vs ps s t c true h e = turns_nothing sub_at (SubsKept vs ps) s.id (Some s) c h e
-gone_by vs ps s t c false h e = drops vs ps s c h e
+    → Turns subs (sub_gone o s) s.id (joint sub_kept (Some s) o) c
+goes None s c placed h e = drops s c placed h e
+goes (Some t) s c placed h e =
+    turns_gone subs (is_same_profile s.protection t.protection) (DropSub s.id) s c h e (drops s c placed h e)
 
-pub goes : (vs : List Service) (ps : List Packet) (o : Option Sub) (s : Sub) (c : Configuration) → SubsKept vs ps c
-    → sub_at s.id c ≡ all_left o s
-    → Turns sub_at (SubsKept vs ps) (sub_gone o s) s.id (sub_kept o s) c
-goes vs ps None s c h e = drops vs ps s c h e
-goes vs ps (Some t) s c h e = gone_by vs ps s t c (is_same_profile s.protection t.protection) h e
-
-stays_by : SizesGrow → (vs : List Service) (ps : List Packet) (s t : Sub) (c : Configuration) (b : Bool)
-    → is_same_profile s.protection t.protection ≡ b → IsPlaced s → IsPlaced t → s.id ≡ t.id
-    → SubsKept vs ps c → sub_at s.id c ≡ cond b (Some s) None
-    → Turns sub_at (SubsKept vs ps) (cond b (alterations s t) []) s.id (cond b (Some t) None) c
-stays_by grow vs ps s t c true is placed target id h e =
+stays_by : SizesGrow → (s t : Sub) (c : Configuration) (b : Bool) → is_same_profile s.protection t.protection ≡ b
+    → IsPlaced s → IsPlaced t → s.id ≡ t.id → IsConfiguration c → sub_at s.id c ≡ cond b (Some s) None
+    → Turns subs (cond b (alterations s t) []) s.id (cond b (Some t) None) c
+stays_by grow s t c true is placed target id h e =
     let k : AreKin s t = record {
       id = id;
       protection = profile_same s.protection t.protection is;
       placed = placed;
       target = target;
     } in
-    subst (λ (n : ℕ). Turns sub_at (SubsKept vs ps) (alterations s t) n (Some t) c) (sym id)
-    (alters grow vs ps s t c k h (ap (λ (n : ℕ). sub_at n c) (sym id) ∙ e))
-stays_by grow vs ps s t c false is placed target id h e = turns_nothing sub_at (SubsKept vs ps) s.id None c h e
+    subst (λ (n : ℕ). Turns subs (alterations s t) n (Some t) c) (sym id)
+    (alters_by grow s t c (ltb t.kbits s.kbits) refl k h (ap (λ (n : ℕ). sub_at n c) (sym id) ∙ e))
+stays_by grow s t c false is placed target id h e = turns_nothing subs s.id None c h e
 
-pub stays : SizesGrow → (vs : List Service) (ps : List Packet) (o : Option Sub) (s : Sub) (c : Configuration)
-    → IsPlaced s → ((t : Sub) → o ≡ Some t → IsPlaced t × (s.id ≡ t.id))
-    → SubsKept vs ps c → sub_at s.id c ≡ sub_kept o s → Turns sub_at (SubsKept vs ps) (sub_altered o s) s.id
-    (sub_turned o s) c
-stays grow vs ps None s c placed known h e = turns_nothing sub_at (SubsKept vs ps) s.id None c h e
-stays grow vs ps (Some t) s c placed known h e =
+pub stays : SizesGrow → (o : Option Sub) (s : Sub) (c : Configuration) → IsPlaced s
+    → ((t : Sub) → o ≡ Some t → IsPlaced t × (s.id ≡ t.id))
+    → IsConfiguration c → sub_at s.id c ≡ joint sub_kept (Some s) o
+    → Turns subs (sub_altered o s) s.id (joint sub_turned (Some s) o) c
+stays grow None s c placed known h e = turns_nothing subs s.id None c h e
+stays grow (Some t) s c placed known h e =
     let k = known t refl in
-    stays_by grow vs ps s t c (is_same_profile s.protection t.protection) refl placed k.0 k.1 h e
+    stays_by grow s t c (is_same_profile s.protection t.protection) refl placed k.0 k.1 h e
 
-comes_by : (vs : List Service) (ps : List Packet) (t : Sub) (c : Configuration) (b : Bool) → IsPlaced t
-    → SubsKept vs ps c → sub_at t.id c ≡ cond b (Some t) None
-    → Turns sub_at (SubsKept vs ps) (cond b [] (AddSub t ∷ [])) t.id (Some t) c
-comes_by vs ps t c true placed h e = turns_nothing sub_at (SubsKept vs ps) t.id (Some t) c h e
-comes_by vs ps t c false placed h e = adds vs ps t c h placed e
-
-pub comes : (vs : List Service) (ps : List Packet) (o : Option Sub) (t : Sub) (c : Configuration) → IsPlaced t
-    → SubsKept vs ps c → sub_at t.id c ≡ sub_awaited o t
-    → Turns sub_at (SubsKept vs ps) (sub_new o t) t.id (Some t) c
-comes vs ps None t c placed h e = adds vs ps t c h placed e
-comes vs ps (Some s) t c placed h e = comes_by vs ps t c (is_same_profile s.protection t.protection) placed h e
+pub comes : (o : Option Sub) (t : Sub) (c : Configuration) → IsPlaced t → IsConfiguration c
+    → sub_at t.id c ≡ back sub_turned (Some t) o → Turns subs (sub_new o t) t.id (Some t) c
+comes None t c placed h e = comes_new t c placed h e
+comes (Some s) t c placed h e =
+    turns_unless subs (is_same_profile s.protection t.protection) (AddSub t ∷ []) t.id (Some t) c h
+    (λ yes. e ∙ ap (λ (b : Bool). cond b (Some t) None) yes)
+    (λ no. comes_new t c placed h (e ∙ ap (λ (b : Bool). cond b (Some t) None) no))

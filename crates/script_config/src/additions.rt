@@ -6,56 +6,28 @@ ghost use Rattle.std.specs.List.{flat_map, AllByRecursion};
 ghost use Rattle.mux_config.specs.Configuration.{IsPlaced};
 ghost use Rattle.mux_config.specs.Edits.{sub_at, service_at, packet_at};
 ghost use Rattle.script_config.specs.Differences.{sub_new, packet_new, service_grown};
+ghost use Rattle.script_config.specs.Making.{components_added};
 
-use crate::making::{add_components, add_packet, add_service, add_sub};
+use crate::list::put_copy;
 use crate::removals::{common, has_same_profile};
-use mux_config::{Config, Edit, Packet, Service, Store, Sub};
+use mux_config::{Component, Config, Edit, NewSub, Packet, Service, Sid, Store, Sub};
 use mux_types::sameness::is_same_packet;
 use std::alloc::AllocError;
 
-/// The edit that adds a sub-channel, if the other configuration lacks it or has it with another
-/// protection profile.
-fn new_sub(edits: &mut Vec<Edit>, sub: &Sub, from: &Config) -> Result<(), AllocError>
-    requires { IsPlaced sub.now }
+/// The edits that add these components to a service, in order.
+fn add_components(
+    edits: &mut Vec<Edit>,
+    sid: Sid,
+    components: &[Component],
+) -> Result<(), AllocError>
     ensures { OnOk result (edits.new.items ≡ edits.old.items
-        ++ sub_new (sub_at sub.now.id from.now) sub.now) }
+        ++ components_added sid components.now) }
 {
-    if let Some(other) = from.sub(sub.id) {
-        if has_same_profile(&other, sub) {
-            return Ok(());
-        }
+    for component in components {
+        let component = *component;
+        put_copy(edits, Edit::AddComponent { sid, component })?;
     }
-    add_sub(edits, sub)
-}
-
-/// The edit that adds a packet component, if the other configuration lacks it or has a different
-/// one with its SCId.
-fn new_packet(edits: &mut Vec<Edit>, packet: &Packet, from: &Config) -> Result<(), AllocError>
-    ensures { OnOk result (edits.new.items ≡ edits.old.items
-        ++ packet_new (packet_at packet.now.scid from.now) packet.now) }
-{
-    if let Some(other) = from.packet(packet.scid) {
-        if is_same_packet(other, *packet) {
-            return Ok(());
-        }
-    }
-    add_packet(edits, packet)
-}
-
-/// The edits that add a service with its components, if the other configuration lacks it; otherwise
-/// only the components after the longest common prefix.
-fn grow_service(edits: &mut Vec<Edit>, service: &Service, from: &Config) -> Result<(), AllocError>
-    ensures { OnOk result (edits.new.items ≡ edits.old.items
-        ++ service_grown (service_at service.now.sid from.now) service.now) }
-{
-    match from.service(service.sid) {
-        Some(other) => {
-            let components = service.components.as_slice();
-            let place = common(components, other.components.as_slice());
-            add_components(edits, service.sid, &components[place..])
-        }
-        None => add_service(edits, service),
-    }
+    Ok(())
 }
 
 /// The edits that add the sub-channels that the other configuration lacks or has with another
@@ -66,7 +38,12 @@ pub(crate) fn new_subs(edits: &mut Vec<Edit>, subs: &[Sub], from: &Config) -> Re
         ++ flat_map (λ t. sub_new (sub_at t.id from.now) t) subs.now) }
 {
     for sub in subs {
-        new_sub(edits, sub, from)?;
+        if let Some(other) = from.sub(sub.id) {
+            if has_same_profile(&other, sub) {
+                continue;
+            }
+        }
+        put_copy(edits, Edit::AddSub(NewSub::new(*sub).unwrap()))?;
     }
     Ok(())
 }
@@ -82,13 +59,18 @@ pub(crate) fn new_packets(
         ++ flat_map (λ q. packet_new (packet_at q.scid from.now) q) packets.now) }
 {
     for packet in packets {
-        new_packet(edits, packet, from)?;
+        if let Some(other) = from.packet(packet.scid) {
+            if is_same_packet(other, *packet) {
+                continue;
+            }
+        }
+        put_copy(edits, Edit::AddPacket(*packet))?;
     }
     Ok(())
 }
 
-/// The edits that add the services that the other configuration lacks, and components to those that
-/// it has.
+/// The edits that add the services that the other configuration lacks, with their components, and
+/// to those that it has only the components after the longest common prefix.
 pub(crate) fn grow_services(
     edits: &mut Vec<Edit>,
     services: &[Service],
@@ -98,7 +80,15 @@ pub(crate) fn grow_services(
         ++ flat_map (λ t. service_grown (service_at t.sid from.now) t) services.now) }
 {
     for service in services {
-        grow_service(edits, service, from)?;
+        let components = service.components.as_slice();
+        let place = match from.service(service.sid) {
+            Some(other) => common(components, other.components.as_slice()),
+            None => {
+                put_copy(edits, Edit::AddService(service.sid))?;
+                0
+            }
+        };
+        add_components(edits, service.sid, &components[place..])?;
     }
     Ok(())
 }

@@ -7,7 +7,7 @@ ghost use Rattle.mux_config.specs.Edits.{sub_at};
 ghost use Rattle.script_config.specs.Differences.{start_altered, rate_altered, alterations};
 ghost use Rattle.script_config.specs.Differences.{sub_altered};
 
-use crate::making::put;
+use crate::list::put_copy;
 use crate::removals::has_same_profile;
 use mux_config::{Config, Edit, StartAddress, Store, Sub};
 use std::alloc::AllocError;
@@ -23,7 +23,7 @@ fn move_sub(edits: &mut Vec<Edit>, sub: &Sub, other: &Sub) -> Result<(), AllocEr
     }
     let start = StartAddress::new(other.start).unwrap();
     let id = other.id;
-    put(edits, Edit::MoveSub { id, start })
+    put_copy(edits, Edit::MoveSub { id, start })
 }
 
 /// The edit that sets the rate of a sub-channel to that of the other one, if that differs.
@@ -35,7 +35,7 @@ fn rate_sub(edits: &mut Vec<Edit>, sub: &Sub, other: &Sub) -> Result<(), AllocEr
     }
     let id = other.id;
     let kbits = other.kbits;
-    put(edits, Edit::RateSub { id, kbits })
+    put_copy(edits, Edit::RateSub { id, kbits })
 }
 
 /// The edits that turn a sub-channel into the other one, which has the same profile. A lower rate
@@ -53,28 +53,18 @@ fn alter(edits: &mut Vec<Edit>, sub: &Sub, other: &Sub) -> Result<(), AllocError
     rate_sub(edits, sub, other)
 }
 
-/// The edits that alter a sub-channel that the other configuration has with the same protection
+/// The edits that alter the sub-channels that the other configuration has with the same protection
 /// profile.
-fn alter_sub(edits: &mut Vec<Edit>, sub: &Sub, to: &Config) -> Result<(), AllocError>
-    ensures { OnOk result (edits.new.items ≡ edits.old.items
-        ++ sub_altered (sub_at sub.now.id to.now) sub.now) }
-{
-    let Some(other) = to.sub(sub.id) else {
-        return Ok(());
-    };
-    if has_same_profile(sub, &other) {
-        return alter(edits, sub, &other);
-    }
-    Ok(())
-}
-
-/// The edits that alter the sub-channels that stay.
 pub(crate) fn alter_subs(edits: &mut Vec<Edit>, subs: &[Sub], to: &Config) -> Result<(), AllocError>
     ensures { OnOk result (edits.new.items ≡ edits.old.items
         ++ flat_map (λ s. sub_altered (sub_at s.id to.now) s) subs.now) }
 {
     for sub in subs {
-        alter_sub(edits, sub, to)?;
+        if let Some(other) = to.sub(sub.id) {
+            if has_same_profile(sub, &other) {
+                alter(edits, sub, &other)?;
+            }
+        }
     }
     Ok(())
 }

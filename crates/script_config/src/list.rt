@@ -8,8 +8,14 @@ use std::alloc::AllocError;
 pub(crate) fn put<T: Drop>(list: &mut Vec<T>, item: T) -> Result<(), AllocError>
     ensures { OnOk result (list.new.items ≡ list.old.items ++ item ∷ []) }
 {
-    match list.push(item) {
-        Ok(()) => Ok(()),
-        Err(_full) => Err(AllocError),
-    }
+    list.push(item)?;
+    Ok(())
+}
+
+/// Appends a copy of an item.
+pub(crate) fn put_copy<T: Copy + Drop>(list: &mut Vec<T>, item: T) -> Result<(), AllocError>
+    ensures { OnOk result (list.new.items ≡ list.old.items ++ item ∷ []) }
+{
+    list.push(item)?;
+    Ok(())
 }

@@ -85,6 +85,7 @@ pub fn plan_between(
     ensures leads { Transform (edits_in (plan_acts header from.now to.now)) from.now to.now }
     ensures frames { FitFrames header.budget header.budget (plan_acts header from.now to.now) }
 {
+    mux_eep::laws::sizes();
     crate::laws::transforming();
     from.subs();
     to.subs();

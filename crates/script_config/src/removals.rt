@@ -8,7 +8,7 @@ ghost use Rattle.script_config.specs.Differences.{after_common, components_dropp
 ghost use Rattle.script_config.specs.Differences.{service_cut, packet_gone, sub_gone};
 ghost use Rattle.script_config.specs.Differences.{is_same_profile};
 
-use crate::making::put;
+use crate::list::put_copy;
 use mux_config::{Component, Config, Edit, Packet, Service, Sid, Store, Sub};
 use mux_types::sameness::is_same_packet;
 use std::alloc::AllocError;
@@ -41,50 +41,9 @@ fn drop_components(
     while place > 0 {
         place -= 1;
         let carrier = components[place].carrier();
-        put(edits, Edit::DropComponent { sid, carrier })?;
+        put_copy(edits, Edit::DropComponent { sid, carrier })?;
     }
     Ok(())
-}
-
-/// The edit that drops a service, if the other configuration lacks it.
-fn drop_service(edits: &mut Vec<Edit>, service: &Service, to: &Config) -> Result<(), AllocError>
-    ensures { OnOk result (edits.new.items ≡ edits.old.items
-        ++ service_gone (service_at service.now.sid to.now) service.now) }
-{
-    match to.service(service.sid) {
-        Some(_) => Ok(()),
-        None => put(edits, Edit::DropService(service.sid)),
-    }
-}
-
-/// The edits that drop the components of a service after the longest common prefix, if the other
-/// configuration has the service.
-fn cut_service(edits: &mut Vec<Edit>, service: &Service, to: &Config) -> Result<(), AllocError>
-    ensures { OnOk result (edits.new.items ≡ edits.old.items
-        ++ service_cut (service_at service.now.sid to.now) service.now) }
-{
-    match to.service(service.sid) {
-        Some(other) => {
-            let components = service.components.as_slice();
-            let place = common(components, other.components.as_slice());
-            drop_components(edits, service.sid, &components[place..])
-        }
-        None => Ok(()),
-    }
-}
-
-/// The edit that drops a packet component, if the other configuration lacks it or has a different
-/// one with its SCId.
-fn drop_packet(edits: &mut Vec<Edit>, packet: &Packet, to: &Config) -> Result<(), AllocError>
-    ensures { OnOk result (edits.new.items ≡ edits.old.items
-        ++ packet_gone (packet_at packet.now.scid to.now) packet.now) }
-{
-    if let Some(other) = to.packet(packet.scid) {
-        if is_same_packet(*packet, other) {
-            return Ok(());
-        }
-    }
-    put(edits, Edit::DropPacket(packet.scid))
 }
 
 /// Whether two sub-channels have the same protection profile.
@@ -92,20 +51,6 @@ pub(crate) fn has_same_profile(sub: &Sub, other: &Sub) -> bool
     ensures { result ≡ is_same_profile sub.now.protection other.now.protection }
 {
     sub.protection == other.protection
-}
-
-/// The edit that drops a sub-channel, if the other configuration lacks it or has it with another
-/// protection profile.
-fn drop_sub(edits: &mut Vec<Edit>, sub: &Sub, to: &Config) -> Result<(), AllocError>
-    ensures { OnOk result (edits.new.items ≡ edits.old.items
-        ++ sub_gone (sub_at sub.now.id to.now) sub.now) }
-{
-    if let Some(other) = to.sub(sub.id) {
-        if has_same_profile(sub, &other) {
-            return Ok(());
-        }
-    }
-    put(edits, Edit::DropSub(sub.id))
 }
 
 /// The edits that drop the services that the other configuration lacks.
@@ -118,12 +63,14 @@ pub(crate) fn drop_services(
         ++ flat_map (λ s. service_gone (service_at s.sid to.now) s) services.now) }
 {
     for service in services {
-        drop_service(edits, service, to)?;
+        if to.service(service.sid).is_none() {
+            put_copy(edits, Edit::DropService(service.sid))?;
+        }
     }
     Ok(())
 }
 
-/// The edits that drop components of the services that stay.
+/// The edits that drop the components of the services that stay after the longest common prefix.
 pub(crate) fn cut_services(
     edits: &mut Vec<Edit>,
     services: &[Service],
@@ -133,7 +80,11 @@ pub(crate) fn cut_services(
         ++ flat_map (λ s. service_cut (service_at s.sid to.now) s) services.now) }
 {
     for service in services {
-        cut_service(edits, service, to)?;
+        if let Some(other) = to.service(service.sid) {
+            let components = service.components.as_slice();
+            let place = common(components, other.components.as_slice());
+            drop_components(edits, service.sid, &components[place..])?;
+        }
     }
     Ok(())
 }
@@ -149,7 +100,12 @@ pub(crate) fn drop_packets(
         ++ flat_map (λ p. packet_gone (packet_at p.scid to.now) p) packets.now) }
 {
     for packet in packets {
-        drop_packet(edits, packet, to)?;
+        if let Some(other) = to.packet(packet.scid) {
+            if is_same_packet(*packet, other) {
+                continue;
+            }
+        }
+        put_copy(edits, Edit::DropPacket(packet.scid))?;
     }
     Ok(())
 }
@@ -161,7 +117,12 @@ pub(crate) fn drop_subs(edits: &mut Vec<Edit>, subs: &[Sub], to: &Config) -> Res
         ++ flat_map (λ s. sub_gone (sub_at s.id to.now) s) subs.now) }
 {
     for sub in subs {
-        drop_sub(edits, sub, to)?;
+        if let Some(other) = to.sub(sub.id) {
+            if has_same_profile(sub, &other) {
+                continue;
+            }
+        }
+        put_copy(edits, Edit::DropSub(sub.id))?;
     }
     Ok(())
 }

@@ -1,5 +1,5 @@
 use Rattle.script_config.proofs.Words.{IsPlaced, entry_holds, sub_key, sym}
-use Rattle.script_config.proofs.alterations.alter_sub.Goals as goal
+use Rattle.script_config.proofs.alterations.alter_subs.Goals as goal
 
 pub alter-requires : goal.alter-requires
 alter-requires c = entry_holds IsPlaced sub_key _ _ _ c.sub.ensures.configuration.subs_placed
