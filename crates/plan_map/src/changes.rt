@@ -81,12 +81,7 @@ impl Part for Packet {
 
 /// Whether one of the parts is the same.
 pub(crate) fn has<P: Part>(parts: &[P], part: &P) -> bool {
-    for other in parts {
-        if part.is_same(other) {
-            return true;
-        }
-    }
-    false
+    parts.iter().any(|other| part.is_same(other))
 }
 
 /// Prints the parts that the others do not have, each after a sign.

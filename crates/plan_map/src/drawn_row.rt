@@ -11,12 +11,8 @@ use std::io::{self, Write};
 
 /// Whether one of these sub-channels has this capacity unit.
 fn is_used(unit: u32, subs: &[Sub]) -> bool {
-    for sub in subs {
-        if u32::from(sub.start) <= unit && unit < end_of(sub) {
-            return true;
-        }
-    }
-    false
+    subs.iter()
+        .any(|sub| u32::from(sub.start) <= unit && unit < end_of(sub))
 }
 
 /// The first capacity unit, from this one on, at which a sub-channel begins; the end of the
@@ -105,14 +101,6 @@ fn draw_label<W: Write>(row: &Row, base: u64, out: &mut W) -> io::Result<()> {
     Ok(())
 }
 
-/// Writes these sub-channels of a row whose top is at `y`, below one with another configuration.
-fn draw_subs<W: Write>(above: &Config, config: &Config, y: u64, out: &mut W) -> io::Result<()> {
-    for sub in config.subs() {
-        draw_sub(above, config, y, sub, out)?;
-    }
-    Ok(())
-}
-
 /// Writes a row whose top is at `y`, below one with another configuration: its label, its bar with
 /// what is changed framed in red, and how many capacity units are free.
 pub(crate) fn draw_row<W: Write>(above: &Config, row: &Row, y: u64, out: &mut W) -> io::Result<()> {
@@ -124,7 +112,9 @@ pub(crate) fn draw_row<W: Write>(above: &Config, row: &Row, y: u64, out: &mut W)
     writeln!(out, "<g><title>{word}, line {line}: {free} CU free</title>")?;
     draw_label(row, base, out)?;
     draw_gaps(config.subs(), y, out)?;
-    draw_subs(above, config, y, out)?;
+    for sub in config.subs() {
+        draw_sub(above, config, y, sub, out)?;
+    }
     writeln!(
         out,
         "<text x=\"1890\" y=\"{base}\">free {free}</text>\n</g>"

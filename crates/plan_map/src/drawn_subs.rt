@@ -5,7 +5,7 @@ use crate::cells::{end_of, units_of};
 use crate::changes::{has, print_sid};
 use crate::drawn_parts::{WIDE, below, draw_colour, draw_profile, x_of};
 use crate::key::is_carried_by;
-use mux_config::{Config, Service, Sid, Sub, SubId};
+use mux_config::{Config, Service, Sid, Store, Sub, SubId};
 use std::io::{self, Write};
 
 /// Writes the services of a configuration that a sub-channel carries.
@@ -21,22 +21,15 @@ fn draw_services<W: Write>(config: &Config, id: SubId, out: &mut W) -> io::Resul
 
 /// Whether a service of a configuration has a component on a sub-channel.
 fn carries(config: &Config, sid: Sid, id: SubId) -> bool {
-    for service in config.services() {
-        if service.sid == sid && is_carried_by(config, service.components.as_slice(), id) {
-            return true;
-        }
+    match config.service(sid) {
+        Some(service) => is_carried_by(config, service.components.as_slice(), id),
+        None => false,
     }
-    false
 }
 
 /// Whether a service of these is on a sub-channel in one of two configurations alone.
 fn is_moved(a: &Config, b: &Config, id: SubId, services: &[Service]) -> bool {
-    for service in services {
-        if carries(a, service.sid, id) != carries(b, service.sid, id) {
-            return true;
-        }
-    }
-    false
+    services.iter().any(|service| carries(a, service.sid, id) != carries(b, service.sid, id))
 }
 
 /// Whether a sub-channel differs from that of the configuration above, or carries other services

@@ -69,10 +69,8 @@ fn first_with(id: u8, subs: &[Sub]) -> Option<Sub>
 fn push(subs: &mut Vec<Sub>, sub: Sub) -> Result<(), AllocError>
     ensures { OnOk result (subs.new.items ≡ subs.old.items ++ sub ∷ []) }
 {
-    match subs.push(sub) {
-        Ok(()) => Ok(()),
-        Err(_full) => Err(AllocError),
-    }
+    subs.push(sub)?;
+    Ok(())
 }
 
 /// Appends the place of an identifier.
@@ -138,16 +136,6 @@ fn first_clash(layout: &[Sub], subs: &[Sub]) -> Option<Clash>
     None
 }
 
-/// Appends the sub-channels of a row.
-fn push_subs(subs: &mut Vec<Sub>, more: &[Sub]) -> Result<(), AllocError>
-    ensures { OnOk result (subs.new.items ≡ subs.old.items ++ more.now) }
-{
-    for sub in more {
-        push(subs, *sub)?;
-    }
-    Ok(())
-}
-
 /// The sub-channels of each row, row by row.
 fn subs_of(alloc: Global, rows: &[Row]) -> Result<Vec<Sub>, AllocError>
     ensures subs { IfOk result (λ v. v.items ≡ subs_of rows.now) }
@@ -155,8 +143,7 @@ fn subs_of(alloc: Global, rows: &[Row]) -> Result<Vec<Sub>, AllocError>
 {
     let mut subs = Vec::new(alloc);
     for row in rows {
-        let more = row.config.subs();
-        push_subs(&mut subs, more)?;
+        subs.extend_from_slice(row.config.subs())?;
     }
     Ok(subs)
 }

@@ -15,20 +15,10 @@ const COLUMN: u64 = 640;
 /// The distance from one service to the one below it.
 const ENTRY: u64 = 26;
 
-/// Whether a key has an entry of a service.
-fn has_service(key: &[Use], sid: Sid) -> bool {
-    for entry in key {
-        if entry.sid == sid {
-            return true;
-        }
-    }
-    false
-}
-
 /// Whether an entry of a key is the first one of its service.
 fn is_first(key: &[Use], index: usize, sid: Sid) -> bool {
     match key.get(..index) {
-        Some(before) => !has_service(before, sid),
+        Some(before) => before.iter().all(|entry| entry.sid != sid),
         None => false,
     }
 }

@@ -1,7 +1,7 @@
 //! The rows of a map: the configurations of a plan, in the order of its text.
 
 ghost use Rattle.std.specs.Prelude.{◌≡◌, ◌++◌, ◌∷◌, [], IfOk, OnOk};
-ghost use Rattle.plan_map.specs.Leads.{after, lead_of, ways_from};
+ghost use Rattle.plan_map.specs.Leads.{lead_of};
 ghost use Rattle.plan_map.specs.Rows.{rows_of, row_at, known_next, left_by};
 
 use crate::lead::{Lead, Reached, Ways, after, lead_of, ways_to};
@@ -65,29 +65,11 @@ fn pass(passed: &mut Vec<Reached>, line: &Line, ways: &Ways) -> Result<(), Alloc
       ways = ways.now;
     } ∷ []) }
 {
-    let reached = Reached {
+    passed.push(Reached {
         instr: line.instr,
         ways: *ways,
-    };
-    match passed.push(reached) {
-        Ok(()) => Ok(()),
-        Err(_full) => Err(AllocError),
-    }
-}
-
-/// What leads to the instruction at a pc, given what leads on from the one before it, and those
-/// passed.
-fn arrive(pc: u16, passed: &[Reached], ways: &mut Ways)
-    ensures { ways.new ≡ ways_from pc ways.old passed.now }
-{
-    *ways = ways_to(pc, *ways, passed);
-}
-
-/// What leads on from an instruction, given what leads to it.
-fn leave(line: &Line, ways: &mut Ways)
-    ensures { let l = line.now in ways.new ≡ after l.instr ways.old }
-{
-    *ways = after(line.instr, *ways);
+    })?;
+    Ok(())
 }
 
 /// A row of this configuration.
@@ -115,10 +97,8 @@ fn row_of(kind: RowKind, line: u16, lead: Option<Lead>, config: &Config) -> Row
 fn push(rows: &mut Vec<Row>, row: Row) -> Result<(), AllocError>
     ensures { OnOk result (rows.new.items ≡ rows.old.items ++ row ∷ []) }
 {
-    match rows.push(row) {
-        Ok(()) => Ok(()),
-        Err(_full) => Err(AllocError),
-    }
+    rows.push(row)?;
+    Ok(())
 }
 
 /// Appends a row, if an instruction commits this configuration.
@@ -162,10 +142,10 @@ pub fn rows_of(alloc: Global, begin_line: u16, code: &Code) -> Result<Vec<Row>, 
     let mut pc = 0u16;
     for line in code.lines() {
         enter(code, pc, &mut next);
-        arrive(pc, passed.as_slice(), &mut ways);
+        ways = ways_to(pc, ways, passed.as_slice());
         push_commit(&mut rows, line, &ways, &next)?;
         pass(&mut passed, line, &ways)?;
-        leave(line, &mut ways);
+        ways = after(line.instr, ways);
         follow(line.instr, &mut next);
         pc += 1;
     }
