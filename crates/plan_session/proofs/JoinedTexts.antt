@@ -1,45 +1,14 @@
--- Two texts with a byte between them that ends each token and each comment: the items of the first, and then those of
--- the second. No token of the first goes on in the second.
-use Rattle.plan_session.proofs.Words.{[], ◌++◌, ◌+◌, ◌-◌, ◌∙◌, ◌∷◌, ◌≡◌, ◌≤◌, ◌⊎◌, AllByRecursion, Bad, Blank, Bool}
-use Rattle.plan_session.proofs.Words.{Brace, Hash, HoldsItems, Kind, Letter, LineEnd, List, NO_LIMITS, Nothing, Ok}
-use Rattle.plan_session.proofs.Words.{Place, Token, ap, append_assoc, arith, drop, drop-append_seam, false}
-use Rattle.plan_session.proofs.Words.{first_position, fits, flat_map, inl, inr, kind_of, le-leb, length, length-append}
-use Rattle.plan_session.proofs.Words.{lexed, lexemes_of, position_after, position_past, refl, slice_range, subst, sym}
-use Rattle.plan_session.proofs.Words.{take, take-append_seam, token_at, true, ℕ}
+-- Two texts with a line feed between them, which ends each token and each comment: the items of the first, and then
+-- those of the second. No token of the first goes on in the second.
+use Rattle.plan_session.proofs.Words.{[], ◌++◌, ◌+◌, ◌-◌, ◌∙◌, ◌∷◌, ◌≡◌, ◌≤◌, AllByRecursion, Bad, Blank, Brace, Hash}
+use Rattle.plan_session.proofs.Words.{HoldsItems, Kind, Letter, LineEnd, List, NO_LIMITS, Nothing, Ok, Place, Token, ap}
+use Rattle.plan_session.proofs.Words.{append_assoc, arith, drop, drop-append_seam, first_position, fits, flat_map, inr}
+use Rattle.plan_session.proofs.Words.{kind_of, le-leb, length, length-append, lexed, lexemes_of, position_after}
+use Rattle.plan_session.proofs.Words.{position_past, refl, slice_range, sym, take, take-append_seam, token_at, true, ℕ}
 use Rattle.std.proofs.lemmas.Grind.{flat_map-append}
-use Rattle.script_tokens.specs.Texts.{Piece, blank, comment, brace, atom, text_of, AreLetters, HaveNoLineEnd, IsPiece}
-use Rattle.script_tokens.specs.Texts.{CanPrecede, AreText, tokens_of, TokensFit, IsCutInto}
-use Rattle.script_tokens.proofs.Pieces.{texts_are_cut, cut_into}
-
--- ---- where a text can be cut
-
--- whether what follows a byte of this kind is outside comments, where the byte itself is or is not
-abbrev pub outside_after : Bool → Kind → Bool
-outside_after out LineEnd = true
-outside_after true Hash = false
-outside_after true Blank = true
-outside_after true Brace = true
-outside_after true Letter = true
-outside_after true Bad = true
-outside_after false Hash = false
-outside_after false Blank = false
-outside_after false Brace = false
-outside_after false Letter = false
-outside_after false Bad = false
-
--- the same after these bytes
-abbrev pub is_outside : Bool → List ℕ → Bool
-is_outside out [] = out
-is_outside out (b ∷ bs) = is_outside (outside_after out (kind_of b)) bs
-
--- a byte that ends each token and each comment before it: a line end, or a blank outside comments
-abbrev pub separates : Bool → Kind → Bool
-separates out LineEnd = true
-separates out Blank = out
-separates out Hash = false
-separates out Brace = false
-separates out Letter = false
-separates out Bad = false
+use Rattle.script_tokens.specs.Texts.{AreText, CanPrecede, IsCutInto, Piece, TokensFit, atom, blank, brace, comment}
+use Rattle.script_tokens.specs.Texts.{text_of, tokens_of}
+use Rattle.script_tokens.proofs.Pieces.{cut_into, texts_are_cut}
 
 -- ---- positions
 
@@ -163,143 +132,48 @@ all_fit p (atom bs ∷ ps) formed near short =
       all_fit (position_past p bs) ps formed.2 (near_past p bs near) (omega (arith, at, long, short)),
     )
 
--- ---- pieces with a byte that separates between them
+-- ---- pieces with a line feed between them
 
-abbrev joined : ℕ → List Piece → List Piece → List Piece
-joined g ps qs = ps ++ blank g ∷ qs
+abbrev joined : List Piece → List Piece → List Piece
+joined ps qs = ps ++ blank 10 ∷ qs
 
-text_joined : (g : ℕ) (ps qs : List Piece) → text_of (joined g ps qs) ≡ text_of ps ++ g ∷ text_of qs
-text_joined g [] qs = refl
-text_joined g (blank b ∷ ps) qs = ap (λ (l : List ℕ). b ∷ l) (text_joined g ps qs)
-text_joined g (comment bs ∷ ps) qs = ap (λ (l : List ℕ). (35 ∷ bs) ++ l) (text_joined g ps qs)
-    ∙ sym (append_assoc (35 ∷ bs) (text_of ps) (g ∷ text_of qs))
-text_joined g (brace b ∷ ps) qs = ap (λ (l : List ℕ). b ∷ l) (text_joined g ps qs)
-text_joined g (atom bs ∷ ps) qs = ap (λ (l : List ℕ). bs ++ l) (text_joined g ps qs)
-    ∙ sym (append_assoc bs (text_of ps) (g ∷ text_of qs))
+text_joined : (ps qs : List Piece) → text_of (joined ps qs) ≡ text_of ps ++ 10 ∷ text_of qs
+text_joined [] qs = refl
+text_joined (blank b ∷ ps) qs = ap (λ (l : List ℕ). b ∷ l) (text_joined ps qs)
+text_joined (comment bs ∷ ps) qs = ap (λ (l : List ℕ). (35 ∷ bs) ++ l) (text_joined ps qs)
+    ∙ sym (append_assoc (35 ∷ bs) (text_of ps) (10 ∷ text_of qs))
+text_joined (brace b ∷ ps) qs = ap (λ (l : List ℕ). b ∷ l) (text_joined ps qs)
+text_joined (atom bs ∷ ps) qs = ap (λ (l : List ℕ). bs ++ l) (text_joined ps qs)
+    ∙ sym (append_assoc bs (text_of ps) (10 ∷ text_of qs))
 
-words_joined : (g : ℕ) (ps qs : List Piece) → words_of (joined g ps qs) ≡ words_of ps ++ words_of qs
-words_joined g [] qs = refl
-words_joined g (blank b ∷ ps) qs = words_joined g ps qs
-words_joined g (comment bs ∷ ps) qs = words_joined g ps qs
-words_joined g (brace b ∷ ps) qs = ap (λ (ws : List (List ℕ)). (b ∷ []) ∷ ws) (words_joined g ps qs)
-words_joined g (atom bs ∷ ps) qs = ap (λ (ws : List (List ℕ)). bs ∷ ws) (words_joined g ps qs)
+words_joined : (ps qs : List Piece) → words_of (joined ps qs) ≡ words_of ps ++ words_of qs
+words_joined [] qs = refl
+words_joined (blank b ∷ ps) qs = words_joined ps qs
+words_joined (comment bs ∷ ps) qs = words_joined ps qs
+words_joined (brace b ∷ ps) qs = ap (λ (ws : List (List ℕ)). (b ∷ []) ∷ ws) (words_joined ps qs)
+words_joined (atom bs ∷ ps) qs = ap (λ (ws : List (List ℕ)). bs ∷ ws) (words_joined ps qs)
 
--- a comment at the end goes up to a line end
-abbrev Precede : List Piece → ℕ → Type 0
-Precede [] g = Unit {0}
-Precede (comment bs ∷ []) g = kind_of g ≡ LineEnd
-Precede (blank b ∷ []) g = Unit {0}
-Precede (brace b ∷ []) g = Unit {0}
-Precede (atom bs ∷ []) g = Unit {0}
-Precede (p ∷ q ∷ ps) g = Precede (q ∷ ps) g
+can_precede : (p : Piece) (ps qs : List Piece) → CanPrecede p ps → CanPrecede p (joined ps qs)
+can_precede (blank b) [] qs h = tt
+can_precede (comment bs) [] qs h = refl
+can_precede (brace b) [] qs h = tt
+can_precede (atom bs) [] qs h = tt
+can_precede (blank b) (q ∷ ps) qs h = tt
+can_precede (brace b) (q ∷ ps) qs h = tt
+can_precede (comment bs) (blank b ∷ ps) qs h = h
+can_precede (comment bs) (comment cs ∷ ps) qs h = absurd h
+can_precede (comment bs) (brace b ∷ ps) qs h = absurd h
+can_precede (comment bs) (atom cs ∷ ps) qs h = absurd h
+can_precede (atom bs) (blank b ∷ ps) qs h = tt
+can_precede (atom bs) (comment cs ∷ ps) qs h = tt
+can_precede (atom bs) (brace b ∷ ps) qs h = tt
+can_precede (atom bs) (atom cs ∷ ps) qs h = absurd h
 
-precede_later : (p : Piece) (ps : List Piece) (g : ℕ) → Precede (p ∷ ps) g → Precede ps g
-precede_later p [] g h = tt
-precede_later p (q ∷ ps) g h = h
+formed_joined : (ps qs : List Piece) → AreText ps → AreText qs → AreText (joined ps qs)
+formed_joined [] qs h k = (inr refl, tt, k)
+formed_joined (p ∷ ps) qs h k = (h.0, can_precede p ps qs h.1, formed_joined ps qs h.2 k)
 
-precede_more : (p : Piece) (ps : List Piece) (g : ℕ) → Precede (p ∷ []) g → Precede ps g → Precede (p ∷ ps) g
-precede_more p [] g h k = h
-precede_more p (q ∷ ps) g h k = k
-
-can_precede : (g : ℕ) (p : Piece) (ps qs : List Piece) → CanPrecede p ps → Precede (p ∷ ps) g
-    → CanPrecede p (joined g ps qs)
-can_precede g (blank b) [] qs h e = tt
-can_precede g (comment bs) [] qs h e = e
-can_precede g (brace b) [] qs h e = tt
-can_precede g (atom bs) [] qs h e = tt
-can_precede g (blank b) (q ∷ ps) qs h e = tt
-can_precede g (brace b) (q ∷ ps) qs h e = tt
-can_precede g (comment bs) (blank b ∷ ps) qs h e = h
-can_precede g (comment bs) (comment cs ∷ ps) qs h e = absurd h
-can_precede g (comment bs) (brace b ∷ ps) qs h e = absurd h
-can_precede g (comment bs) (atom cs ∷ ps) qs h e = absurd h
-can_precede g (atom bs) (blank b ∷ ps) qs h e = tt
-can_precede g (atom bs) (comment cs ∷ ps) qs h e = tt
-can_precede g (atom bs) (brace b ∷ ps) qs h e = tt
-can_precede g (atom bs) (atom cs ∷ ps) qs h e = absurd h
-
-formed_joined : (g : ℕ) (ps qs : List Piece) → IsPiece (blank g) → AreText ps → Precede ps g → AreText qs
-    → AreText (joined g ps qs)
-formed_joined g [] qs is h e k = (is, tt, k)
-formed_joined g (p ∷ ps) qs is h e k =
-    (h.0, can_precede g p ps qs h.1 e, formed_joined g ps qs is h.2 (precede_later p ps g e) k)
-
--- ---- where a text ends outside comments
-
-pub outside_join : (out : Bool) (xs ys : List ℕ) → is_outside out (xs ++ ys) ≡ is_outside (is_outside out xs) ys
-outside_join out [] ys = refl
-outside_join out (x ∷ xs) ys = outside_join (outside_after out (kind_of x)) xs ys
-
-pub letters_outside : (bs : List ℕ) → AreLetters bs → is_outside true bs ≡ true
-letters_outside [] h = refl
-letters_outside (b ∷ bs) h = ap (λ (k : Kind). is_outside (outside_after true k) bs) h.0 ∙ letters_outside bs h.1
-
-pub inside_still : (k : Kind) → (k ≡ LineEnd → ⊥) → outside_after false k ≡ false
-inside_still LineEnd other = absurd (other refl)
-inside_still Blank other = refl
-inside_still Hash other = refl
-inside_still Brace other = refl
-inside_still Letter other = refl
-inside_still Bad other = refl
-
-comment_inside : (bs : List ℕ) → HaveNoLineEnd bs → is_outside false bs ≡ false
-comment_inside [] h = refl
-comment_inside (b ∷ bs) h = ap (λ (out : Bool). is_outside out bs) (inside_still (kind_of b) h.0)
-    ∙ comment_inside bs h.1
-
-pub blank_outside : (k : Kind) → (k ≡ Blank) ⊎ (k ≡ LineEnd) → outside_after true k ≡ true
-blank_outside k (inl e) = ap (λ (j : Kind). outside_after true j) e
-blank_outside k (inr e) = ap (λ (j : Kind). outside_after true j) e
-
-pub only_line_end : (k : Kind) → separates false k ≡ true → k ≡ LineEnd
-only_line_end LineEnd e = refl
-only_line_end Blank e = absurd cc
-only_line_end Hash e = absurd cc
-only_line_end Brace e = absurd cc
-only_line_end Letter e = absurd cc
-only_line_end Bad e = absurd cc
-
-pub separator : (out : Bool) (k : Kind) → separates out k ≡ true → (k ≡ Blank) ⊎ (k ≡ LineEnd)
-separator out LineEnd e = inr refl
-separator out Blank e = inl refl
-separator out Hash e = absurd cc
-separator out Brace e = absurd cc
-separator out Letter e = absurd cc
-separator out Bad e = absurd cc
-
-pub through_comment : (bs ps : List ℕ) → HaveNoLineEnd bs → is_outside false (bs ++ ps) ≡ is_outside false ps
-through_comment bs ps h = outside_join false bs ps ∙ ap (λ (o : Bool). is_outside o ps) (comment_inside bs h)
-
--- a byte that separates follows a comment only as a line end
-ends_before : (ps : List Piece) (g : ℕ) → AreText ps → separates (is_outside true (text_of ps)) (kind_of g) ≡ true
-    → Precede ps g
-ends_before [] g h e = tt
-ends_before (blank b ∷ ps) g h e =
-    let out : outside_after true (kind_of b) ≡ true = blank_outside (kind_of b) h.0 in
-    precede_more (blank b) ps g tt
-    (ends_before ps g h.2 (subst (λ (o : Bool). separates (is_outside o (text_of ps)) (kind_of g) ≡ true) out e))
-ends_before (comment bs ∷ []) g h e =
-    only_line_end (kind_of g) (subst (λ (o : Bool). separates o (kind_of g) ≡ true) (through_comment bs [] h.0) e)
-ends_before (comment bs ∷ blank b ∷ ps) g h e =
-    let out : outside_after false (kind_of b) ≡ true = ap (λ (k : Kind). outside_after false k) h.1 in
-    let here = subst (λ (o : Bool). separates o (kind_of g) ≡ true) (through_comment bs (b ∷ text_of ps) h.0) e in
-    precede_more (blank b) ps g tt
-    (ends_before ps g h.2.2 (subst (λ (o : Bool). separates (is_outside o (text_of ps)) (kind_of g) ≡ true) out
-    here))
-ends_before (comment bs ∷ comment cs ∷ ps) g h e = absurd h.1
-ends_before (comment bs ∷ brace b ∷ ps) g h e = absurd h.1
-ends_before (comment bs ∷ atom cs ∷ ps) g h e = absurd h.1
-ends_before (brace b ∷ ps) g h e =
-    let out : outside_after true (kind_of b) ≡ true = ap (λ (k : Kind). outside_after true k) h.0 in
-    precede_more (brace b) ps g tt
-    (ends_before ps g h.2 (subst (λ (o : Bool). separates (is_outside o (text_of ps)) (kind_of g) ≡ true) out e))
-ends_before (atom bs ∷ ps) g h e =
-    let through : is_outside true (bs ++ text_of ps) ≡ is_outside true (text_of ps) =
-    outside_join true bs (text_of ps) ∙ ap (λ (o : Bool). is_outside o (text_of ps)) (letters_outside bs h.0.1) in
-    precede_more (atom bs) ps g tt
-    (ends_before ps g h.2 (subst (λ (o : Bool). separates o (kind_of g) ≡ true) through e))
-
--- ---- texts with such a byte between them
+-- ---- texts with a line feed between them
 
 -- a text and its tokens as their bytes
 pub record Cut (text : List ℕ) (words : List (List ℕ)) : Type 0 where
@@ -320,16 +194,13 @@ cut_of_tokens text tokens e =
           ∙ ap (λ (l : List ℕ). lexemes_of l (tokens_of first_position h.pieces)) h.whole ∙ ap (lexemes_of text) h.are;
     }
 
-cut_joined : (g : ℕ) (a b : List ℕ) (xs ys : List (List ℕ)) → separates (is_outside true a) (kind_of g) ≡ true
-    → Cut a xs → Cut b ys → Cut (a ++ g ∷ b) (xs ++ ys)
-cut_joined g a b xs ys e h k = record {
-  pieces = joined g h.pieces k.pieces;
-  formed = formed_joined g h.pieces k.pieces (separator (is_outside true a) (kind_of g) e) h.formed
-      (ends_before h.pieces g h.formed
-      (subst (λ (l : List ℕ). separates (is_outside true l) (kind_of g) ≡ true) (sym h.whole) e)) k.formed;
-  whole = text_joined g h.pieces k.pieces ∙ ap (λ (l : List ℕ). l ++ g ∷ text_of k.pieces) h.whole
-      ∙ ap (λ (l : List ℕ). a ++ g ∷ l) k.whole;
-  are = words_joined g h.pieces k.pieces ∙ ap (λ (ws : List (List ℕ)). ws ++ words_of k.pieces) h.are
+cut_joined : (a b : List ℕ) (xs ys : List (List ℕ)) → Cut a xs → Cut b ys → Cut (a ++ 10 ∷ b) (xs ++ ys)
+cut_joined a b xs ys h k = record {
+  pieces = joined h.pieces k.pieces;
+  formed = formed_joined h.pieces k.pieces h.formed k.formed;
+  whole = text_joined h.pieces k.pieces ∙ ap (λ (l : List ℕ). l ++ 10 ∷ text_of k.pieces) h.whole
+      ∙ ap (λ (l : List ℕ). a ++ 10 ∷ l) k.whole;
+  are = words_joined h.pieces k.pieces ∙ ap (λ (ws : List (List ℕ)). ws ++ words_of k.pieces) h.are
       ∙ ap (λ (ws : List (List ℕ)). xs ++ ws) k.are;
 }
 
@@ -360,17 +231,17 @@ all_both : {T : Type 0} (P : T → Type 0) (xs ys : List T) → AllByRecursion P
 all_both P [] ys h k = k
 all_both P (x ∷ xs) ys h k = (h.0, all_both P xs ys h.1 k)
 
--- two texts that list items, with a byte between them that ends each token and each comment, list the items of both
-pub holds_parted : {T : Type 0} (spelled : T → List (List ℕ)) (IsItem : T → Type 0) (g : ℕ) (a b : List ℕ)
-    (xs ys : List T) → length (a ++ g ∷ b) ≤ 18446744073709551615
-    → separates (is_outside true a) (kind_of g) ≡ true → HoldsItems spelled IsItem a xs → HoldsItems spelled IsItem b ys
-    → HoldsItems spelled IsItem (a ++ g ∷ b) (xs ++ ys)
-holds_parted spelled IsItem g a b xs ys short ends h k =
-    let both : Cut (a ++ g ∷ b) (lexemes_of a h.tokens ++ lexemes_of b k.tokens) =
-    cut_joined g a b (lexemes_of a h.tokens) (lexemes_of b k.tokens) ends (cut_of_tokens a h.tokens h.cut)
+-- two texts that list items, with a line feed between them, list the items of both
+pub holds_joined : {T : Type 0} (spelled : T → List (List ℕ)) (IsItem : T → Type 0) (a b : List ℕ) (xs ys : List T)
+    → length (a ++ 10 ∷ b) ≤ 18446744073709551615
+    → HoldsItems spelled IsItem a xs → HoldsItems spelled IsItem b ys
+    → HoldsItems spelled IsItem (a ++ 10 ∷ b) (xs ++ ys)
+holds_joined spelled IsItem a b xs ys short h k =
+    let both : Cut (a ++ 10 ∷ b) (lexemes_of a h.tokens ++ lexemes_of b k.tokens) =
+    cut_joined a b (lexemes_of a h.tokens) (lexemes_of b k.tokens) (cut_of_tokens a h.tokens h.cut)
     (cut_of_tokens b k.tokens k.cut) in
-    let all : Tokens (a ++ g ∷ b) (lexemes_of a h.tokens ++ lexemes_of b k.tokens) =
-    tokens_of_cut (a ++ g ∷ b) (lexemes_of a h.tokens ++ lexemes_of b k.tokens) short both in
+    let all : Tokens (a ++ 10 ∷ b) (lexemes_of a h.tokens ++ lexemes_of b k.tokens) =
+    tokens_of_cut (a ++ 10 ∷ b) (lexemes_of a h.tokens ++ lexemes_of b k.tokens) short both in
     record {
       tokens = all.tokens;
       cut = all.cut;
@@ -378,10 +249,3 @@ holds_parted spelled IsItem g a b xs ys short ends h k =
           ∙ ap (λ (ws : List (List ℕ)). flat_map spelled xs ++ ws) k.lexemes ∙ sym (flat_map-append spelled xs ys);
       in_range = all_both IsItem xs ys h.in_range k.in_range;
     }
-
--- the same with a line feed
-pub holds_joined : {T : Type 0} (spelled : T → List (List ℕ)) (IsItem : T → Type 0) (a b : List ℕ) (xs ys : List T)
-    → length (a ++ 10 ∷ b) ≤ 18446744073709551615
-    → HoldsItems spelled IsItem a xs → HoldsItems spelled IsItem b ys
-    → HoldsItems spelled IsItem (a ++ 10 ∷ b) (xs ++ ys)
-holds_joined spelled IsItem a b xs ys short h k = holds_parted spelled IsItem 10 a b xs ys short refl h k
