@@ -12,10 +12,10 @@ use Rattle.mux_types.specs.declared.entry.ShortEntry.{ShortEntry}
 use Rattle.mux_types.specs.declared.entry.ServiceEntry.{ServiceEntry}
 use Rattle.mux_types.specs.declared.entry.PacketEntry.{PacketEntry}
 use Rattle.fib_codec.specs.Spelling.{SpellingIdentifies}
-use Rattle.fib_reader.proofs.FromEntries.{sub_within, service_within, packet_within}
+use Rattle.fib_reader.proofs.FromEntries.{packet_within, service_within, sub_within}
 use Rattle.fib_reader.proofs.Shown.{ShowsEach, each_shows, makes_configuration}
-use Rattle.mux_types.specs.declared.entry.Entry.TheVariants.{Ensemble as EnsembleOf, Sub as SubOf, Short as ShortOf}
-use Rattle.mux_types.specs.declared.entry.Entry.TheVariants.{Service as ServiceOf, Packet as PacketOf}
+use Rattle.mux_types.specs.declared.entry.Entry.TheVariants.{Ensemble as EnsembleOf, Packet as PacketOf}
+use Rattle.mux_types.specs.declared.entry.Entry.TheVariants.{Service as ServiceOf, Short as ShortOf, Sub as SubOf}
 
 -- ---- the member that an entry describes
 
@@ -123,39 +123,14 @@ unsaid tells e within no_sub no_service no_packet said =
           (same_entry tells (packet_entry packet.0) e (packet_within packet.0 packet.1) within packet.2)
     ]
 
-pub sub_is_no_service : (e : SubEntry) (s : Service) → service_entry s ≡ SubOf e → ⊥
-sub_is_no_service e s is = absurd (cc)
-
-pub sub_is_no_packet : (e : SubEntry) (p : Packet) → packet_entry p ≡ SubOf e → ⊥
-sub_is_no_packet e p is = absurd (cc)
-
-pub service_is_no_sub : (e : ServiceEntry) (s : Sub) → sub_entry s ≡ ServiceOf e → ⊥
-service_is_no_sub e s is = absurd (cc)
-
-pub service_is_no_packet : (e : ServiceEntry) (p : Packet) → packet_entry p ≡ ServiceOf e → ⊥
-service_is_no_packet e p is = absurd (cc)
-
-pub packet_is_no_sub : (e : PacketEntry) (s : Sub) → sub_entry s ≡ PacketOf e → ⊥
-packet_is_no_sub e s is = absurd (cc)
-
-pub packet_is_no_service : (e : PacketEntry) (s : Service) → service_entry s ≡ PacketOf e → ⊥
-packet_is_no_service e s is = absurd (cc)
-
-ensemble_unsaid : SpellingIdentifies → (e : EnsembleInformation) → IsWithin (EnsembleOf e)
-    → IsSaid (raw_entry (EnsembleOf e)) → ⊥
-ensemble_unsaid tells e within said =
-    unsaid tells (EnsembleOf e) within (λ s h is. absurd (cc)) (λ s h is. absurd (cc)) (λ p h is. absurd (cc)) said
-
-short_unsaid : SpellingIdentifies → (e : ShortEntry) → IsWithin (ShortOf e) → IsSaid (raw_entry (ShortOf e)) → ⊥
-short_unsaid tells e within said =
-    unsaid tells (ShortOf e) within (λ s h is. absurd (cc)) (λ s h is. absurd (cc)) (λ p h is. absurd (cc)) said
-
 pub neither_said : SpellingIdentifies → (e : Entry) → IsWithin e → ((x : EnsembleInformation) × (e ≡ EnsembleOf x))
     ⊎ ((x : ShortEntry) × (e ≡ ShortOf x)) → IsSaid (raw_entry e) → ⊥
 neither_said tells e within (inl (x, is)) said =
-    ensemble_unsaid tells x (subst IsWithin is within) (subst (λ (d : Entry). IsSaid (raw_entry d)) is said)
+    unsaid tells e within (λ s h at. absurd (cc (at, is))) (λ s h at. absurd (cc (at, is)))
+    (λ p h at. absurd (cc (at, is))) said
 neither_said tells e within (inr (x, is)) said =
-    short_unsaid tells x (subst IsWithin is within) (subst (λ (d : Entry). IsSaid (raw_entry d)) is said)
+    unsaid tells e within (λ s h at. absurd (cc (at, is))) (λ s h at. absurd (cc (at, is)))
+    (λ p h at. absurd (cc (at, is))) said
 
 -- ---- entry by entry
 

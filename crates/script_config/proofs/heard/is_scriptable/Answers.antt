@@ -1,8 +1,6 @@
 use Rattle.script_config.proofs.Words.{Entry, IsSaid, IsWithin, raw_entry, subst, sym}
-use Rattle.mux_types.specs.declared.entry.Entry.TheVariants.{Sub as SubOf, Service as ServiceOf, Packet as PacketOf}
-use Rattle.script_config.proofs.Scriptable.{sub_said, service_said, packet_said, unsaid, sub_is_no_service}
-use Rattle.script_config.proofs.Scriptable.{sub_is_no_packet, service_is_no_sub, service_is_no_packet, packet_is_no_sub}
-use Rattle.script_config.proofs.Scriptable.{packet_is_no_service, neither_said}
+use Rattle.mux_types.specs.declared.entry.Entry.TheVariants.{Packet as PacketOf, Service as ServiceOf, Sub as SubOf}
+use Rattle.script_config.proofs.Scriptable.{neither_said, packet_said, service_said, sub_said, unsaid}
 use Rattle.script_config.proofs.heard.is_scriptable.Goals as goal
 
 pub returns-in-Some-clause-said : goal.returns-in-Some-clause-said
@@ -13,8 +11,8 @@ pub returns-in-None-clause-unsaid : goal.returns-in-None-clause-unsaid
 returns-in-None-clause-unsaid c = λ no.
     subst (λ (e : Entry). IsWithin e → IsSaid (raw_entry e) → ⊥) (sym c.in-Sub.is)
     (λ within. unsaid c.spelling.ensures.tells (SubOf c.in-Sub.entry) within c.in-None.ensures.none
-    (λ s h. sub_is_no_service c.in-Sub.entry s)
-    (λ p h. sub_is_no_packet c.in-Sub.entry p)) c.requires
+    (λ s h is. absurd (cc))
+    (λ p h is. absurd (cc))) c.requires
 
 pub returns-in-Some-service_from_entry-clause-said : goal.returns-in-Some-service_from_entry-clause-said
 returns-in-Some-service_from_entry-clause-said c = λ yes.
@@ -26,8 +24,8 @@ pub returns-in-None-service_from_entry-clause-unsaid : goal.returns-in-None-serv
 returns-in-None-service_from_entry-clause-unsaid c = λ no.
     subst (λ (e : Entry). IsWithin e → IsSaid (raw_entry e) → ⊥) (sym c.in-Service.is)
     (λ within. unsaid c.spelling.ensures.tells (ServiceOf c.in-Service.entry) within
-    (λ s h. service_is_no_sub c.in-Service.entry s)
-    c.in-None-service_from_entry.ensures.none (λ p h. service_is_no_packet c.in-Service.entry p)) c.requires
+    (λ s h is. absurd (cc))
+    c.in-None-service_from_entry.ensures.none (λ p h is. absurd (cc))) c.requires
 
 pub returns-in-Some-packet_from_entry-clause-said : goal.returns-in-Some-packet_from_entry-clause-said
 returns-in-Some-packet_from_entry-clause-said c = λ yes.
@@ -39,8 +37,8 @@ pub returns-in-None-packet_from_entry-clause-unsaid : goal.returns-in-None-packe
 returns-in-None-packet_from_entry-clause-unsaid c = λ no.
     subst (λ (e : Entry). IsWithin e → IsSaid (raw_entry e) → ⊥) (sym c.in-Packet.is)
     (λ within. unsaid c.spelling.ensures.tells (PacketOf c.in-Packet.entry) within
-    (λ s h. packet_is_no_sub c.in-Packet.entry s)
-    (λ s h. packet_is_no_service c.in-Packet.entry s) c.in-None-packet_from_entry.ensures.none) c.requires
+    (λ s h is. absurd (cc))
+    (λ s h is. absurd (cc)) c.in-None-packet_from_entry.ensures.none) c.requires
 
 pub returns-in-Ensemble-clause-unsaid : goal.returns-in-Ensemble-clause-unsaid
 returns-in-Ensemble-clause-unsaid c =
