@@ -20,14 +20,12 @@ use Rattle.plan_runs.proofs.Notice.{both_rounds, notice_at, notice_at_is, base_o
 
 -- ---- the cycle of pages
 
-page_up : (pages k : ℕ) → k < pages → page_of pages k ≡ k
+pub page_up : (pages k : ℕ) → k < pages → page_of pages k ≡ k
 page_up pages zero below = page_of_first pages
 page_up pages (suc k) below =
     let before = page_up pages k (omega (arith, below)) in
-    let test : k + 1 < pages = omega (arith, below) in
     let one : k + 1 ≡ suc k = omega arith in
-    page_of_next pages k ∙ ap (page_after pages) before
-    ∙ ap (λ (b : Bool). cond b (k + 1) 0) (lt-ltb (k + 1) pages test) ∙ one
+    cc (page_of_next pages k, before, lt-ltb (k + 1) pages (omega (arith, below)), one)
 
 wraps_by : (pages k : ℕ) → k + 1 ≡ pages → (b : Bool) → ltb (k + 1) pages ≡ b → cond b (k + 1) 0 ≡ 0
 wraps_by pages k last true e = let below = ltb-true (k + 1) pages e in absurd (omega (arith, below, last))
@@ -44,12 +42,10 @@ page_whole (suc k) some = page_of_next (suc k) k ∙ ap (page_after (suc k)) (pa
 
 page_round : (pages k : ℕ) → 1 ≤ pages → page_of pages (pages + k) ≡ page_of pages k
 page_round pages zero some =
-    let same : pages + 0 ≡ pages = omega arith in
-    ap (page_of pages) same ∙ page_whole pages some ∙ sym (page_of_first pages)
+    ap (page_of pages) (omega arith) ∙ page_whole pages some ∙ sym (page_of_first pages)
 page_round pages (suc k) some =
     let up : pages + suc k ≡ suc (pages + k) = omega arith in
-    ap (page_of pages) up ∙ page_of_next pages (pages + k) ∙ ap (page_after pages) (page_round pages k some)
-    ∙ sym (page_of_next pages k)
+    cc (up, page_of_next pages (pages + k), page_round pages k some, page_of_next pages k)
 
 -- ---- one frame of a notice
 
@@ -77,7 +73,6 @@ pub notice_airs : (plan : Plan) (c n : Configuration) (eid count i : ℕ) → Is
     → Airs plan (noticed_state plan c n eid (base_of plan count 0) i)
 notice_airs plan c n eid count i d below =
     let ahead : 1 ≤ plan.notice - i = omega (arith, below) in
-    let back : plan.notice - (plan.notice - i) ≡ i = omega (arith, below) in
     record {
       count = frame_count (base_of plan count 0 + i);
       eid = d.eid_low;
@@ -88,7 +83,7 @@ notice_airs plan c n eid count i d below =
       committed = d.committed;
       swaps = swap_base (layout_mode plan.layout) plan.notice count i below d.notice_to d.count_low d.on_step;
       page_index = record {
-        within = λ inside. sym (ap (page_of (both_rounds plan c n)) back);
+        within = λ inside. sym (ap (page_of (both_rounds plan c n)) (omega (arith, below)));
         before = λ past. absurd (omega (arith, past));
       };
     }
@@ -100,7 +95,7 @@ notice_entries plan c n eid base i below =
     ap (λ (b : Bool). page_set c (cond b (Some n) None)) yes
 
 -- an entry of the page in turn is heard
-notice_hears : PageLaws → (plan : Plan) (c n : Configuration) (eid count i : ℕ) → IsDue plan c n eid count
+pub notice_hears : PageLaws → (plan : Plan) (c n : Configuration) (eid count i : ℕ) → IsDue plan c n eid count
     → i < plan.notice → (m : Marked)
     → Contains (page_entries plan.layout (page_of (both_rounds plan c n) i) (page_set c (Some n))) m
     → IsHeardInRow (notice_at plan c n eid (base_of plan count 0) i) m
@@ -109,8 +104,7 @@ notice_hears laws plan c n eid count i d below m inside =
     let st : State = noticed_state plan c n eid base i in
     let a = notice_airs plan c n eid count i d below in
     let there : Contains (page_entries plan.layout st.page_index (sent_entries plan st)) m =
-    subst (λ (es : List Marked). Contains (page_entries plan.layout (page_of (both_rounds plan c n) i) es) m)
-    (sym (notice_entries plan c n eid base i below)) inside in
+    rw (notice_entries plan c n eid base i below) inside in
     let heard : IsHeardInRow (shown_bytes plan st) m =
     (laws.heard plan.layout (ensemble_sent plan st) st.page_index (sent_entries plan st) (pageable laws plan st a)
     m).1 there in
@@ -176,8 +170,7 @@ headed_at laws plan c n eid count j d some three =
     let below : i < plan.notice = header_below (layout_mode plan.layout) plan.notice j some d.notice_from in
     let whole = header_count (layout_mode plan.layout) plan.notice count j some three d.notice_from d.notice_to
     d.count_low d.on_step in
-    let at : slice_get (frames_from f 0 plan.notice) i ≡ Some (f i) =
-    frames_get f 0 plan.notice i below ∙ ap (λ (x : ℕ). Some (f x)) (omega arith) in
+    let at = frames_get f 0 plan.notice i below ∙ ap (λ (x : ℕ). Some (f x)) (omega arith) in
     (f i, at, header_at laws plan c n eid count i d below whole)
 
 headers_rise : (m : Mode) (notice : ℕ) → 12 ≤ notice → (notice - 3 * count_step m < notice - 2 * count_step m)
@@ -244,18 +237,15 @@ flagged_at : PageLaws → (plan : Plan) (c n : Configuration) (eid count i : ℕ
 flagged_at laws plan c n eid count i d below marked e heard =
     let base : ℕ = base_of plan count 0 in
     let st : State = noticed_state plan c n eid base i in
-    let a = notice_airs plan c n eid count i d below in
-    let there : IsEnsembleHeardInRow (shown_bytes plan st) marked e =
-    subst (λ (b : List ℕ). IsEnsembleHeardInRow b marked e) (notice_at_is plan c n eid base i) heard in
+    let there = subst (λ (b : List ℕ). IsEnsembleHeardInRow b marked e) (notice_at_is plan c n eid base i) heard in
     let sent = (laws.ensemble plan.layout (ensemble_sent plan st) st.page_index (sent_entries plan st)
-    (pageable laws plan st a) marked e).0 there in
-    let same = sent_is plan st e sent.1 in
+    (pageable laws plan st (notice_airs plan c n eid count i d below)) marked e).0 there in
     let info = noticed_information plan st
     (noticed plan.notice (plan.notice - i) (omega (arith, below)) (omega arith)) in
     let low = swap_low plan.notice count i below d.notice_to d.count_low in
     let flags : IsFlagged c n count (ensemble_of plan st) =
     (info.change, info.occurrence ∙ ap (λ (x : ℕ). Some x) low) in
-    subst (λ (x : EnsembleInformation). IsFlagged c n count x) same flags
+    subst (λ (x : EnsembleInformation). IsFlagged c n count x) (sent_is plan st e sent.1) flags
 
 -- ---- the notice
 
@@ -265,9 +255,8 @@ notice_announces laws plan c n eid count d =
     let f : ℕ → List ℕ = notice_at plan c n eid (base_of plan count 0) in
     let pages : ℕ = both_rounds plan c n in
     let some = some_rounds plan.layout (page_set c (Some n)) in
-    let room : 3 * pages ≤ plan.notice = d.committed.three_times in
     let rest : ℕ = plan.notice - (pages + pages) in
-    let all : plan.notice ≡ pages + (pages + rest) = omega (arith, room) in
+    let all : plan.notice ≡ pages + (pages + rest) = omega arith in
     let cut : frames_from f 0 plan.notice ≡ frames_from f 0 pages ++ frames_from f (0 + pages) pages
     ++ frames_from f (0 + pages + pages) rest =
     ap (frames_from f 0) all ∙ frames_cut f 0 pages (pages + rest)
@@ -286,10 +275,10 @@ notice_announces laws plan c n eid count d =
       second = frames_from f (0 + pages) pages;
       third = frames_from f (0 + pages + pages) rest;
       cut = cut;
-      whole_in_first = part_whole laws plan c n eid count 0 pages d none (omega arith) (omega (arith, room));
-      whole_in_second = part_whole laws plan c n eid count (0 + pages) pages d once (omega arith) (omega (arith, room));
-      whole_in_third = part_whole laws plan c n eid count (0 + pages + pages) rest d twice (omega (arith, room))
-          (omega (arith, room));
+      whole_in_first = part_whole laws plan c n eid count 0 pages d none (omega arith) (omega arith);
+      whole_in_second = part_whole laws plan c n eid count (0 + pages) pages d once (omega arith) (omega arith);
+      whole_in_third = part_whole laws plan c n eid count (0 + pages + pages) rest d twice (omega arith)
+          (omega arith);
       headers = three_headers laws plan c n eid count d;
       flagged = λ frame marked e inside heard.
           let at = frames_contain f 0 plan.notice frame inside in
@@ -307,9 +296,7 @@ swap_announced : PageLaws → (p : Program) (ts : List Known) → IsCode p ts �
     → is_due s.left ≡ true → IsAnnounced s.current s.next s.count (heard_of p.plan s)
 swap_announced laws p ts c s h due =
     let is = due_left s.left due in
-    let whole : (s.count + 0) % count_step (layout_mode p.plan.layout) ≡ 0 =
-    subst (λ (o : Option ℕ). SwapsOn p.plan s.count o) is h.tracked.swaps in
-    let none : s.count + 0 ≡ s.count = omega arith in
+    let whole = subst (λ (o : Option ℕ). SwapsOn p.plan s.count o) is h.tracked.swaps in
     let all : p.plan.notice - 0 ≡ p.plan.notice = omega arith in
     let d : IsDue p.plan s.current s.next s.eid s.count =
     record {
@@ -321,20 +308,16 @@ swap_announced laws p ts c s h due =
       next = h.tracked.next;
       on_air = h.between.kept.on_air;
       committed = subst (λ (o : Option ℕ). CommittedBy p.plan o s.current s.next) is h.between.kept.committed;
-      on_step = subst (λ (x : ℕ). x % count_step (layout_mode p.plan.layout) ≡ 0) none whole;
+      on_step = subst (λ (x : ℕ). x % count_step (layout_mode p.plan.layout) ≡ 0) (omega arith) whole;
     } in
     let heard : heard_of p.plan s ≡ frames_from (notice_at p.plan s.current s.next s.eid (base_of p.plan s.count 0)) 0
-    p.plan.notice =
-    heard_is p.plan s 0 is ∙ ap (frames_from (notice_at p.plan s.current s.next s.eid (base_of p.plan s.count 0)) 0)
-    all in
-    subst (λ (xs : List (List ℕ)). IsAnnounced s.current s.next s.count xs) (sym heard)
-    (notice_announces laws p.plan s.current s.next s.eid s.count d)
+    p.plan.notice = cc (heard_is p.plan s 0 is, all) in
+    rw heard (notice_announces laws p.plan s.current s.next s.eid s.count d)
 
 -- contacts do not affect what was heard
 pub heard_contacts : (plan : Plan) (s : State) (d : ℕ) (closed : Bool) (left : Option ℕ) → s.left ≡ left
     → heard_of plan (let r : State = record s { contacts = with_contact d closed s.contacts } in r) ≡ heard_of plan s
-heard_contacts plan s d closed None e =
-    ap (heard_left plan (record s { contacts = with_contact d closed s.contacts })) e ∙ sym (ap (heard_left plan s) e)
+heard_contacts plan s d closed None e = cc (e)
 heard_contacts plan s d closed (Some l) e = heard_is plan (record s { contacts = with_contact d closed s.contacts }) l e
     ∙ sym (heard_is plan s l e)
 

@@ -42,8 +42,7 @@ pub bursts : (b : ℕ) (p : Program) (ts : List Known) (s : State) → IsProgram
 bursts b p ts s pr ty within (inl h) =
     record { steps = 0; end = s; executes = (not_running s.hold h.stops, refl); within = omega arith; after = h }
 bursts zero p ts s pr ty within (inr h) =
-    let safe = ty.safe s.pc h.instr h.known h.at h.there in
-    absurd (omega (arith, safe.allowance, h.affords))
+    absurd (omega (arith, (ty.safe s.pc h.instr h.known h.at h.there).allowance, h.affords))
 bursts (suc b) p ts s pr ty within (inr h) =
     let safe = ty.safe s.pc h.instr h.known h.at h.there in
     let here : IsHere p ts b s h.instr h.known =
@@ -60,8 +59,7 @@ bursts (suc b) p ts s pr ty within (inr h) =
       kept = h.kept;
     } in
     let done = succeeds p ts b s h.instr h.known here in
-    let next : Outcome p ts b (step p s) =
-    subst (λ (t : State). Outcome p ts b t) (sym (step_is p s h.instr h.at)) done.1 in
+    let next = subst (λ (t : State). Outcome p ts b t) (sym (step_is p s h.instr h.at)) done.1 in
     let rest = bursts b p ts (step p s) pr ty (omega (arith, within)) next in
     record {
       steps = suc rest.steps;
@@ -138,20 +136,12 @@ resumed p ts ty s (Waits k) here ahead kept h =
     h.comes in
     arrive p ts ty p.plan.budget (record s { hold = Running }) h.known refl h.arrives h.affords
     (now h.known.pending h.known s.left s.current s.next ahead comes) h.set kept
-resumed p ts ty s (WaitsDay d) here ahead kept h =
-    let comes = pauses_come h.known.pending h.known s.left s.current s.next h.comes in
-    arrive p ts ty p.plan.budget (record s { hold = Running }) h.known refl h.arrives h.affords
-    (now h.known.pending h.known s.left s.current s.next ahead comes) h.set kept
-resumed p ts ty s (WaitsContact d closed) here ahead kept h =
-    let comes = pauses_come h.known.pending h.known s.left s.current s.next h.comes in
-    arrive p ts ty p.plan.budget (record s { hold = Running }) h.known refl h.arrives h.affords
-    (now h.known.pending h.known s.left s.current s.next ahead comes) h.set kept
-resumed p ts ty s (WaitsAny closed opened until left) here ahead kept h =
-    let comes = pauses_come h.known.pending h.known s.left s.current s.next h.comes in
-    arrive p ts ty p.plan.budget (record s { hold = Running }) h.known refl h.arrives h.affords
-    (now h.known.pending h.known s.left s.current s.next ahead comes) h.set kept
 resumed p ts ty s WaitsSwap here ahead kept h = absurd cc
 resumed p ts ty s Ended here ahead kept h = absurd cc
+resumed p ts ty s _ here ahead kept h =
+    let comes = pauses_come h.known.pending h.known s.left s.current s.next h.comes in
+    arrive p ts ty p.plan.budget (record s { hold = Running }) h.known refl h.arrives h.affords
+    (now h.known.pending h.known s.left s.current s.next ahead comes) h.set kept
 
 -- the wait continues for another frame
 holds : (p : Program) (ts : List Known) (s : State) (hold : Hold) → is_here s hold ≡ false → IsAhead s.left
@@ -159,11 +149,9 @@ holds : (p : Program) (ts : List Known) (s : State) (hold : Hold) → is_here s 
     → ResumesBy p ts s.pc (hold_after_frame hold) (left_after_frame s.left) s.current s.next s.counters
 holds p ts s Running away ahead h = absurd cc
 holds p ts s (Waits k) away ahead h =
-    let apart = eqb-false k 0 away in
-    let more : k ≡ k - 1 + 1 = omega (arith, apart) in
+    let more : k ≡ k - 1 + 1 = omega (arith, eqb-false k 0 away) in
     let comes : ComesBy (k - 1 + 1) h.known.pending h.known.current h.known.next s.left s.current s.next =
-    subst (λ (n : ℕ). ComesBy n h.known.pending h.known.current h.known.next s.left s.current s.next) more
-    h.comes in
+    rw (← more) h.comes in
     record {
       known = h.known;
       arrives = h.arrives;

@@ -85,9 +85,6 @@ at_step : (m : Mode) (count notice n : ℕ) → n < 5000 → n % count_step m �
 at_step I count notice n below whole = omega (arith, below, whole)
 at_step _ count notice n below whole = omega (arith, below, whole)
 
-at_notice : (count notice n : ℕ) → notice ≤ left_at count notice n
-at_notice count notice n = omega arith
-
 committed : (plan : Plan) (s : State) (l : ℕ) → s.left ≡ None → IsNewly plan s.count (Some l)
     → Carries plan s (commit l s)
 committed plan s l idle new =
@@ -111,7 +108,7 @@ effect_carries plan (CommitIn k) s f a =
     (in_notice (layout_mode plan.layout) s.count k plan.notice a.1, in_step (layout_mode plan.layout) s.count k)
 effect_carries plan (CommitAt n) s f a =
     committed plan s (left_at s.count plan.notice n) a.0.idle
-    (at_notice s.count plan.notice n, at_step (layout_mode plan.layout) s.count plan.notice n a.1.1 a.1.0)
+    ((omega arith), at_step (layout_mode plan.layout) s.count plan.notice n a.1.1 a.1.0)
 effect_carries plan Settle s f a = settle_carries plan s.left s
 effect_carries plan (Edits e) s f a =
     record {
@@ -132,8 +129,7 @@ burst_carries p pr s zero t h = subst (λ (u : State). Carries p.plan s u) h.1 (
 burst_carries p pr s (suc n) t h =
     let i = h.1.instr in
     let one = effect_carries p.plan i s (line_formed p.lines s.pc i pr.lines_formed h.1.within) h.1.allowed in
-    let first : Carries p.plan s (step p s) =
-    subst (λ (u : State). Carries p.plan s u) (sym (step_is p s i h.1.within)) one in
+    let first = subst (λ (u : State). Carries p.plan s u) (sym (step_is p s i h.1.within)) one in
     carries_joined p.plan s (step p s) t first (burst_carries p pr (step p s) n t h.2)
 
 held_carries : (plan : Plan) (s : State) (b : Bool) → Carries plan s

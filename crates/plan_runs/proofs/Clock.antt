@@ -85,10 +85,8 @@ later : (p : Program) (s : State) (count day frames : ℕ) → IsLater count day
     → IsLater count day (frames + 1) (after_frame p s)
 later p s count day frames h =
     let at : (shown p s).count ≡ (count + frames) % 5000 = shown_count p s ∙ h.0 in
-    let on : (shown p s).day ≡ (day + frames) % 3600000 = shown_day p s ∙ h.1 in
-    let counted : ((shown p s).count + 1) % 5000 ≡ (count + (frames + 1)) % 5000 = omega (arith, at) in
-    let dated : ((shown p s).day + 1) % 3600000 ≡ (day + (frames + 1)) % 3600000 = omega (arith, on) in
-    (counted, dated)
+    let dated : ((shown p s).day + 1) % 3600000 ≡ (day + (frames + 1)) % 3600000 = omega (arith, shown_day p s ∙ h.1) in
+    ((omega (arith, at)), dated)
 
 counted_from : (p : Program) (s : State) (count day frames : ℕ) (events : List Event) → IsLater count day frames s
     → IsLater count day (frames + length (run_frames p s events)) (run p s events)
@@ -99,17 +97,15 @@ counted_from p s count day frames (Contact c closed ∷ es) h =
 counted_from p s count day frames (Frame ∷ es) h =
     let rest = counted_from p (after_frame p s) count day (frames + 1) es (later p s count day frames h) in
     let n : ℕ = length (run_frames p (after_frame p s) es) in
-    let same : frames + 1 + n ≡ frames + suc n = omega arith in
-    subst (λ (k : ℕ). IsLater count day k (run p (after_frame p s) es)) same rest
+    subst (λ (k : ℕ). IsLater count day k (run p (after_frame p s) es)) (omega arith) rest
 
 pub frames_are_counted : FramesAreCounted
 frames_are_counted p start first events in_range started =
     let count : first.count ≡ (start.count + 0) % 5000 = omega (arith, started.count, in_range.count) in
     let day : first.day ≡ (start.day + 0) % 3600000 = omega (arith, started.day, in_range.day) in
     let frames : ℕ = length (run_frames p first events) in
-    let all : 0 + frames ≡ frames = omega arith in
     let end : IsLater start.count start.day frames (run p first events) =
-    subst (λ (n : ℕ). IsLater start.count start.day n (run p first events)) all
+    subst (λ (n : ℕ). IsLater start.count start.day n (run p first events)) (omega arith)
     (counted_from p first start.count start.day 0 events (count, day)) in
     record { count = end.0; day = end.1 }
 
@@ -119,12 +115,9 @@ set_by : (contacts : Contacts) (contact c : ℕ) (closed : Bool) → contact < 1
     → eqb c contact ≡ same
     → is_closed (with_contact c closed contacts) contact ≡ cond same closed (is_closed contacts contact)
 set_by contacts contact c closed low within true is =
-    let e : c ≡ contact = eqb-true c contact is in
-    subst (λ (d : ℕ). is_closed (with_contact c closed contacts) d ≡ closed) e
-    (contacts_change_alone contacts c closed within).0
+    rw (← (eqb-true c contact is)) (contacts_change_alone contacts c closed within).0
 set_by contacts contact c closed low within false is =
-    let apart : c ≢ contact = eqb-false c contact is in
-    (contacts_change_alone contacts c closed within).1 contact low (λ e. apart (sym e))
+    (contacts_change_alone contacts c closed within).1 contact low (λ e. (eqb-false c contact is) (sym e))
 
 pub contacts_are_as_set : ContactsAreAsSet
 contacts_are_as_set p s contact [] low within = refl
@@ -132,5 +125,4 @@ contacts_are_as_set p s contact (Contact c closed ∷ es) low within =
     contacts_are_as_set p (happens p s (Contact c closed)) contact es low within.1
     ∙ ap (λ (b : Bool). level_after contact b es) (set_by s.contacts contact c closed low within.0 (eqb c contact) refl)
 contacts_are_as_set p s contact (Frame ∷ es) low within =
-    contacts_are_as_set p (after_frame p s) contact es low within.1
-    ∙ ap (λ (x : Contacts). level_after contact (is_closed x contact) es) (frame_contacts p s)
+    cc (contacts_are_as_set p (after_frame p s) contact es low within.1, frame_contacts p s)

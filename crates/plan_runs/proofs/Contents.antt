@@ -67,10 +67,8 @@ none_say : (count place : ℕ) (frame : List ℕ) → AreFibs (replicate count [
     → AllSay (fibs_from count place frame) (replicate count [])
 none_say zero place frame h = tt
 none_say (suc count) place frame h =
-    let next : drop 32 (drop (32 * place) frame) ≡ drop (32 * (place + 1)) frame =
-    drop-drop 32 (32 * place) frame ∙ ap (λ k. drop k frame) (omega arith) in
-    let rest : AreFibs (replicate count []) (drop (32 * (place + 1)) frame) =
-    subst (λ (b : List ℕ). AreFibs (replicate count []) b) next h.1 in
+    let next = drop-drop 32 (32 * place) frame ∙ ap (λ k. drop k frame) (omega arith) in
+    let rest = subst (λ (b : List ℕ). AreFibs (replicate count []) b) next h.1 in
     (record { figs = []; is_fib = h.0.fib; hears = figs_heard [] }, none_say count (place + 1) frame rest)
 
 later_say : (layout : FrameLayout) (es : List Marked) (ns : List ℕ) (count place : ℕ) (frame : List ℕ)
@@ -83,9 +81,7 @@ later_say layout es (n ∷ ns) count place frame h =
     let next : drop 32 (drop (32 * place) frame) ≡ drop (32 * (place + 1)) frame =
     drop-drop 32 (32 * place) frame ∙ ap (λ k. drop k frame) (omega arith) in
     let rest : AreFibs (map (λ n. figs_of (fib_entries layout n es)) ns ++ replicate count [])
-    (drop (32 * (place + 1)) frame) =
-    subst (λ (b : List ℕ). AreFibs (map (λ n. figs_of (fib_entries layout n es)) ns ++ replicate count []) b) next
-    h.1 in
+    (drop (32 * (place + 1)) frame) = rw (← next) h.1 in
     let one : suc (length ns) + count ≡ suc (length ns + count) = omega arith in
     subst (λ (k : ℕ). AllSay (fibs_from k place frame)
     (map (λ n. fib_entries layout n es) (n ∷ ns) ++ replicate count [])) (sym one) (
@@ -169,13 +165,10 @@ frame_says laws plan u a =
       more_sent = sent_and_none (is_noticed plan.notice u.left) u.current u.next (map (λ n. fib_entries layout n es) ns)
           (reserved_fibs layout) (fibs_sent plan u ns);
       heard = λ m h.
-          let inside : Contains (page_entries layout k es) m =
-          (laws.pages.heard layout o k es (pageable laws.pages plan u a) m).0 h in
+          let inside = (laws.pages.heard layout o k es (pageable laws.pages plan u a) m).0 h in
           let among : In m (page_entries layout k es) = contains_in (page_entries layout k es) m inside in
-          let parts : In m (fib_entries layout (first_fib layout k) es ++ flat_map (λ n. fib_entries layout n es) ns) =
-          subst (λ (xs : List Marked). In m xs) (laws.fibs layout es k) among in
           elim (in_append m (fib_entries layout (first_fib layout k) es) (flat_map (λ n. fib_entries layout n es) ns)
-          parts) [
+          (subst (λ (xs : List Marked). In m xs) (laws.fibs layout es k) among)) [
             | inl here ↦ inl (said_in (fib_entries layout (first_fib layout k) es) m here)
             | inr there ↦ inr (said_in_more m.next (map (λ n. fib_entries layout n es) ns)
                 (replicate (reserved_fibs layout) []) (raw_entry m.entry)

@@ -49,11 +49,9 @@ announced_by : (plan : Plan) (u : State) (low : ℕ) (b : Bool) → is_noticed p
     → (ensemble_of plan u).occurrence ≡ Some low → IsOfNotice plan u low
 announced_by plan u low true e o =
     let info = noticed_information plan u e in
-    let same : low ≡ low_of_swap u.count u.left =
-    some_low low (low_of_swap u.count u.left) (ensemble_of plan u).occurrence o info.occurrence in
+    let same = some_low low (low_of_swap u.count u.left) (ensemble_of plan u).occurrence o info.occurrence in
     of_notice_by plan u u.left low refl e same
 announced_by plan u low false e o =
-    let none : (ensemble_of plan u).occurrence ≡ None = unflagged_by u (is_noticed plan.notice u.left) e in
     absurd cc
 
 pub of_notice : PageLaws → (plan : Plan) (u : State) (low : ℕ) → Airs plan u → IsAnnouncedIn (shown_bytes plan u) low
@@ -61,9 +59,7 @@ pub of_notice : PageLaws → (plan : Plan) (u : State) (low : ℕ) → Airs plan
 of_notice laws plan u low a (next, e, heard, occurrence) =
     let sent = (laws.ensemble plan.layout (ensemble_sent plan u) u.page_index (sent_entries plan u)
     (pageable laws plan u a) next e).0 heard in
-    let same = sent_is plan u e sent.1 in
-    let here : (ensemble_of plan u).occurrence ≡ Some low =
-    ap (λ (x : EnsembleInformation). x.occurrence) same ∙ occurrence in
+    let here = ap (λ (x : EnsembleInformation). x.occurrence) (sent_is plan u e sent.1) ∙ occurrence in
     announced_by plan u low (is_noticed plan.notice u.left) refl here
 
 -- ---- frames after an announcement
@@ -127,8 +123,7 @@ frame_waits laws p ts c low s es h w some rest =
     let waits : is_due s.left ≡ false = not_due_left s.left w.frames w.left some in
     let link = links p ts c s h in
     let left : u.left ≡ Some w.frames = shown_left p.plan s u w.frames s.left w.left (link.left waits) in
-    let now : low ≡ (u.count + w.frames) % 5000 % 250 =
-    w.low_is ∙ ap (λ (x : ℕ). (x + w.frames) % 5000 % 250) (sym link.count) in
+    let now = w.low_is ∙ ap (λ (x : ℕ). (x + w.frames) % 5000 % 250) (sym link.count) in
     let of : IsOfNotice p.plan u low =
     record { frames = w.frames; left = left; some = some; within = omega (arith, w.within); low_is = now } in
     let only : AnnouncesOnly low (frame_bytes p s) =

@@ -26,8 +26,7 @@ SomeSaid frames flag x = (e : Entry) × (raw_entry e ≡ x) × IsHeardInSome fra
 
 pub said_first : (frame : List ℕ) (frames : List (List ℕ)) (flag : Bool) (x : Raw) → SomeSaid (frame ∷ frames) flag x
     → RowSaid frame flag x ⊎ SomeSaid frames flag x
-said_first frame frames flag x (e, is, (f, (zero, lt, same), heard)) =
-    inl (e, is, subst (λ (b : List ℕ). IsHeardInRow b (marked flag e)) (sym same) heard)
+said_first frame frames flag x (e, is, (f, (zero, lt, same), heard)) = inl (e, is, rw same heard)
 said_first frame frames flag x (e, is, (f, (suc k, lt, same), heard)) =
     inr (e, is, (f, (k, omega (arith, lt), same), heard))
 
@@ -56,15 +55,12 @@ window_on : Laws → (p : Program) (ts : List Known) → IsCode p ts → (s : St
     → BeginsNoPhase p s es → (c : Configuration) → s.current ≡ c → (C N : Raw → Type 0) (l : Listening)
     → KnowsAt p.plan s C N l → HearsWindow p s c es C l
 window_on laws p ts code s [] h phase c same C N l knows =
-    let here : IsPartial (whole_of s.current) C l.current =
-    current_part p.plan s.left s.current s.next s.count C N l knows in
-    let there : IsPartial (whole_of c) C l.current =
-    subst (λ (x : Configuration). IsPartial (whole_of x) C l.current) same here in
+    let here = current_part p.plan s.left s.current s.next s.count C N l knows in
     record {
       after = l;
       hears = refl;
       current = weaker (whole_of c) C (Or C (SomeSaid [] false)) l.current
-          (none_more C false) there;
+          (none_more C false) (subst (λ (x : Configuration). IsPartial (whole_of x) C l.current) same here);
     }
 window_on laws p ts code s (Contact k closed ∷ es) h phase c same C N l knows =
     let rest = window_on laws p ts code (happens p s (Contact k closed)) es
@@ -75,14 +71,12 @@ window_on laws p ts code s (Frame ∷ es) h phase c same C N l knows =
     let plan : Plan = p.plan in
     let a = airs p ts code s h in
     let parts = or_parts (is_due s.left) (is_first_noticed plan.notice u.left) phase.0 in
-    let link = links p ts code s h in
     let M : Raw → Type 0 = Still plan u.left N in
     let heard = frame_heard laws plan u a C M l (enters p ts code s h C N l parts.0 knows) in
     let D : Raw → Type 0 = Or C (RowSaid (shown_bytes plan u) false) in
-    let next : KnowsAt plan (after_frame p s) D (Or M (RowSaid (shown_bytes plan u) true)) heard.after =
-    knows_after plan u D (Or M (RowSaid (shown_bytes plan u) true)) heard.after a heard.knows in
+    let next = knows_after plan u D (Or M (RowSaid (shown_bytes plan u) true)) heard.after a heard.knows in
     let rest = window_on laws p ts code (after_frame p s) es (frame_holds p ts code s h) phase.1 c
-    (link.current parts.0 ∙ same) D (Or M (RowSaid (shown_bytes plan u) true)) heard.after next in
+    ((links p ts code s h).current parts.0 ∙ same) D (Or M (RowSaid (shown_bytes plan u) true)) heard.after next in
     record {
       after = rest.after;
       hears = frame_then p s (run_frames p (after_frame p s) es) l heard.after rest.after heard.hears rest.hears;
@@ -97,13 +91,12 @@ window_from : Laws → (p : Program) (ts : List Known) → IsCode p ts → (s : 
 window_from laws p ts code s [] h phase some l tuning = absurd (omega (arith, some))
 window_from laws p ts code s (Contact k closed ∷ es) h phase some l tuning =
     let t : State = happens p s (Contact k closed) in
-    let same : (with_due_swap t).current ≡ (with_due_swap s).current = contact_current s t (is_due s.left) refl refl in
     let rest = window_from laws p ts code t es (happens_holds p ts code s (Contact k closed) h) phase some l tuning in
     record {
       after = rest.after;
       hears = rest.hears;
       current = subst (λ (x : Configuration). IsPartial (whole_of x) (Or Nothing (SomeSaid (run_frames p t es) false))
-          rest.after.current) same rest.current;
+          rest.after.current) (contact_current s t (is_due s.left) refl refl) rest.current;
     }
 window_from laws p ts code s (Frame ∷ es) h phase some l tuning =
     let u : State = shown p s in
@@ -112,9 +105,8 @@ window_from laws p ts code s (Frame ∷ es) h phase some l tuning =
     let heard = frame_heard laws plan u a Nothing Nothing l (enters_tuning p ts code s h l tuning) in
     let D : Raw → Type 0 = Or Nothing (RowSaid (shown_bytes plan u) false) in
     let M : Raw → Type 0 = Or Nothing (RowSaid (shown_bytes plan u) true) in
-    let next : KnowsAt plan (after_frame p s) D M heard.after = knows_after plan u D M heard.after a heard.knows in
     let rest = window_on laws p ts code (after_frame p s) es (frame_holds p ts code s h) phase (with_due_swap s).current
-    (current_shown p ts code s h) D M heard.after next in
+    (current_shown p ts code s h) D M heard.after (knows_after plan u D M heard.after a heard.knows) in
     record {
       after = rest.after;
       hears = frame_then p s (run_frames p (after_frame p s) es) l heard.after rest.after heard.hears rest.hears;

@@ -50,8 +50,7 @@ run_holds p ts c s (e ∷ es) h = run_holds p ts c (happens p s e) es (happens_h
 started_tracked : (p : Program) (start : Start) (s : State) → IsProgram p → StartIsInRange start → IsStart p start s
     → Tracked p.plan s
 started_tracked p start s pr range st =
-    let current : IsConfiguration s.current =
-    each_at IsConfiguration p.configurations st.label.cur s.current pr.configurations_formed st.current in
+    let current = each_at IsConfiguration p.configurations st.label.cur s.current pr.configurations_formed st.current in
     let page_index : TurnBefore p.plan None s.current s.next 0 = some_rounds p.plan.layout (page_set s.current None) in
     record {
       count = subst (λ (x : ℕ). x < 5000) (sym st.count) range.count;

@@ -106,12 +106,10 @@ some_heard laws plan u a C N k l h =
     one.knows in
     let first : HearsFib says.first_fib_is l one.after =
     (says.first.figs, says.first.is_fib, says.first.hears l ∙ one.is) in
-    let all : HearsAll (take (suc k) (says.first_fib_is ∷ says.later_are)) l rest.after =
-    (one.after, first, rest.hears) in
     record {
       after = rest.after;
       hears = as_fibs (take (suc k) (fibs_in plan u)) (take (suc k) (says.first_fib_is ∷ says.later_are)) l rest.after
-          (ap (take (suc k)) says.fibs) all;
+          (ap (take (suc k)) says.fibs) (one.after, first, rest.hears);
       current = weaker (whole_of u.current)
           (Or (Or C (SaidIn false says.entries)) (SaidInSome false (take k says.more))) C rest.after.current
           (λ x c. inl (inl c)) rest.knows.current;
@@ -124,8 +122,7 @@ frame_passed laws plan u a apart =
     let says = frame_says laws plan u a in
     let on : Bool = is_noticed plan.notice u.left in
     let none : hear_marked says.entries (headed (ensemble_sent plan u) untuned) ≡ Some untuned =
-    ap (λ (o : Option EnsembleInformation). hear_marked says.entries (headed o untuned)) (not_sent plan u apart)
-    ∙ passes_entries on u.current u.next says.entries says.entries_sent in
+    cc (not_sent plan u apart, passes_entries on u.current u.next says.entries says.entries_sent) in
     let first : HearsFib says.first_fib_is untuned untuned =
     (says.first.figs, says.first.is_fib, says.first.hears untuned ∙ none) in
     let all : HearsAll (says.first_fib_is ∷ says.later_are) untuned untuned =
@@ -160,9 +157,7 @@ enters p ts c s h C N l due knows =
     let there : Ready plan u.left s.current u.next s.count C M l =
     ready_by plan s.left u.left s.current s.next u.next s.count C N l (ahead_from s.left due) a.ahead
     (link.left due) knows in
-    let here : Ready plan u.left u.current u.next u.count C M l =
-    subst (λ (x : Configuration). Ready plan u.left x u.next u.count C M l) (sym (link.current due))
-    (subst (λ (k : ℕ). Ready plan u.left s.current u.next k C M l) (sym link.count) there) in
+    let here : Ready plan u.left u.current u.next u.count C M l = rw (link.current due) (rw link.count there) in
     elim (zero_or_not (u.count % count_step (layout_mode plan.layout))) [
       | inl whole ↦ as_headed plan u C M l (Some (ensemble_of plan u)) (is_sent plan u whole)
           (headed_ready plan u C M l a (omega (arith, c.program.planned.notice_to)) here)
@@ -182,17 +177,13 @@ enters_swap p ts c s h C N l due knows =
     let a = airs p ts c s h in
     let link = links p ts c s h in
     let is = due_left s.left due in
-    let pending : KnowsPending plan 0 s.current s.next s.count C N l =
-    subst (λ (o : Option ℕ). KnowsBy plan o s.current s.next s.count C N l) is knows in
-    let step : (s.count + 0) % count_step (layout_mode plan.layout) ≡ 0 =
-    subst (λ (o : Option ℕ). SwapsOn plan s.count o) is h.tracked.swaps in
+    let step = subst (λ (o : Option ℕ). SwapsOn plan s.count o) is h.tracked.swaps in
     let none : u.count ≡ s.count + 0 = link.count ∙ (let same : s.count ≡ s.count + 0 = omega arith in same) in
-    let whole : u.count % count_step (layout_mode plan.layout) ≡ 0 =
-    ap (λ (k : ℕ). k % count_step (layout_mode plan.layout)) none ∙ step in
+    let whole = ap (λ (k : ℕ). k % count_step (layout_mode plan.layout)) none ∙ step in
     let current : u.current ≡ s.next = current_shown p ts c s h ∙ due_current s due in
     as_headed plan u N (λ x. ⊥) l (Some (ensemble_of plan u)) (is_sent plan u whole)
     (headed_swap plan u s.current s.next s.count C N l a (omega (arith, c.program.planned.notice_from)) h.tracked.count
-    link.count current pending)
+    link.count current (subst (λ (o : Option ℕ). KnowsBy plan o s.current s.next s.count C N l) is knows))
 
 -- the first FIG 0/0 that is heard
 pub enters_untuned : (p : Program) (ts : List Known) → IsCode p ts → (s : State) → Holds p ts s
@@ -201,8 +192,6 @@ pub enters_untuned : (p : Program) (ts : List Known) → IsCode p ts → (s : St
 enters_untuned p ts c s h whole =
     let u : State = shown p s in
     let plan : Plan = p.plan in
-    let link = links p ts c s h in
-    let here : u.count % count_step (layout_mode plan.layout) ≡ 0 =
-    ap (λ (k : ℕ). k % count_step (layout_mode plan.layout)) link.count ∙ whole in
+    let here = ap (λ (k : ℕ). k % count_step (layout_mode plan.layout)) (links p ts c s h).count ∙ whole in
     as_headed plan u (λ x. ⊥) (λ x. ⊥) untuned (Some (ensemble_of plan u)) (is_sent plan u here)
     (headed_untuned plan u (airs p ts c s h))

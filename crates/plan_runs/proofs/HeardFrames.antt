@@ -166,9 +166,8 @@ waits_run laws p ts c s (Frame ∷ es) h =
           }
       | inr apart ↦
           let u : State = shown p s in
-          let link = links p ts c s h in
           let here : u.count % count_step (layout_mode p.plan.layout) ≢ 0 =
-          λ e. apart (ap (λ (k : ℕ). k % count_step (layout_mode p.plan.layout)) (sym link.count) ∙ e) in
+          λ e. apart (ap (λ (k : ℕ). k % count_step (layout_mode p.plan.layout)) (sym (links p ts c s h).count) ∙ e) in
           let rest = waits_run laws p ts c (after_frame p s) es (frame_holds p ts c s h) in
           record {
             after = rest.after;
@@ -190,6 +189,4 @@ pub enters_tuning : (p : Program) (ts : List Known) → IsCode p ts → (s : Sta
     → IsTuning p.plan s l
     → InFrame p.plan (shown p s) Nothing Nothing (headed (ensemble_sent p.plan (shown p s)) l)
 enters_tuning p ts c s h l (inl knows) = enters_known p ts c s h l knows
-enters_tuning p ts c s h l (inr (new, whole)) =
-    subst (λ (x : Listening). InFrame p.plan (shown p s) Nothing Nothing (headed (ensemble_sent p.plan (shown p s)) x))
-    (sym new) (enters_untuned p ts c s h whole)
+enters_tuning p ts c s h l (inr (new, whole)) = rw new (enters_untuned p ts c s h whole)

@@ -25,7 +25,7 @@ then_nothing : (o : Option Listening) (f : Listening → Option Listening) → (
 then_nothing None f h = refl
 then_nothing (Some l) f h = h l
 
-then_joined : (o : Option Listening) (f g h : Listening → Option Listening)
+pub then_joined : (o : Option Listening) (f g h : Listening → Option Listening)
     → ((l : Listening) → where_heard (f l) g ≡ h l) → where_heard (where_heard o f) g ≡ where_heard o h
 then_joined None f g h e = refl
 then_joined (Some l) f g h e = e l
@@ -57,20 +57,14 @@ raw_said _ = refl
 
 pub raw_is : (m : Marked) → raw_of (head_byte (head_of m) % 32) (is_long (head_byte (head_of m))) (entry_bytes m.entry)
     ≡ raw_entry m.entry
-raw_is m =
-    ap (λ (n : ℕ). raw_of n (is_long (head_byte (head_of m))) (entry_bytes m.entry)) (second_ext m)
-    ∙ ap (λ (b : Bool). raw_of (ext_of m.entry) b (entry_bytes m.entry)) (second_long m)
-    ∙ raw_said m.entry
+raw_is m = cc (second_ext m, second_long m, raw_said m.entry)
 
 -- an entry in a FIG with its own head
 entry_heard : (m : Marked) (l : Listening)
     → hear_entry (is_next (head_byte (head_of m)))
     (raw_of (head_byte (head_of m) % 32) (is_long (head_byte (head_of m))) (entry_bytes m.entry)) l
     ≡ hear_entry m.next (raw_entry m.entry) l
-entry_heard m l =
-    ap (λ (b : Bool). hear_entry b
-    (raw_of (head_byte (head_of m) % 32) (is_long (head_byte (head_of m))) (entry_bytes m.entry)) l) (second_next m)
-    ∙ ap (λ (r : Raw). hear_entry m.next r l) (raw_is m)
+entry_heard m l = cc (second_next m, raw_is m)
 
 -- ---- FIGs
 
@@ -98,11 +92,8 @@ joined_by : (m : Marked) (f : Written) (fs : List Written) (l : Listening) (b : 
     ≡ where_heard (hear_entry m.next (raw_entry m.entry) l) (hear_figs (map fig_of (f ∷ fs)))
 joined_by m f fs l true e =
     let same : head_of m ≡ f.head = same_head_is (head_of m) f.head e in
-    let one : hear_fig (fig_of (record { head = f.head; entries = m.entry ∷ f.entries })) l
-    ≡ where_heard (hear_entry m.next (raw_entry m.entry) l) (hear_fig (fig_of f)) =
-    subst (λ (h : Head). hear_fig (fig_of (record { head = h; entries = m.entry ∷ f.entries })) l
-    ≡ where_heard (hear_entry m.next (raw_entry m.entry) l)
-    (hear_fig (fig_of (record { head = h; entries = f.entries })))) same (fig_more m f.entries l) in
+    let one : hear_fig (fig_of (record { head = f.head; entries = m.entry ∷ f.entries })) l ≡ where_heard
+    (hear_entry m.next (raw_entry m.entry) l) (hear_fig (fig_of f)) = rw (← same) (fig_more m f.entries l) in
     ap (λ (o : Option Listening). where_heard o (hear_figs (map fig_of fs))) one
     ∙ then_joined (hear_entry m.next (raw_entry m.entry) l) (hear_fig (fig_of f)) (hear_figs (map fig_of fs))
     (hear_figs (map fig_of (f ∷ fs))) (λ k. refl)
@@ -132,8 +123,4 @@ pub first_heard : EnsembleIsHeard → (o : Option EnsembleInformation) → IfSom
     → (ms : List Marked) (l : Listening)
     → hear_figs (map fig_of (ensemble_figs o ++ figs_of ms)) l ≡ hear_marked ms (headed o l)
 first_heard law None h ms l = figs_heard ms l
-first_heard law (Some e) h ms l =
-    ap (λ (o : Option Listening). where_heard o (hear_figs (map fig_of (figs_of ms))))
-    (fig_one (marked false (EnsembleOf e)) l)
-    ∙ ap (λ (x : EnsembleInformation). hear_figs (map fig_of (figs_of ms)) (at_ensemble x l)) (law e h)
-    ∙ figs_heard ms (at_ensemble e l)
+first_heard law (Some e) h ms l = cc (fig_one (marked false (EnsembleOf e)) l, law e h, figs_heard ms (at_ensemble e l))

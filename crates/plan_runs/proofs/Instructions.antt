@@ -161,9 +161,8 @@ pub record IsSure (y : Configuration) (left : Option ℕ) (n : Configuration) : 
 
 surely : (q : Swap) (x y : Configuration) (left : Option ℕ) (c n : Configuration) → IsSurelyPending q
     → AgreesBy q x y left c n → IsSure y left n
-surely Idle x y left c n sure h = absurd sure
 surely (Within lo hi) x y left c n sure h = record { frames = h.frames; is = h.is; next = h.next }
-surely (Perhaps hi) x y left c n sure h = absurd sure
+surely _ x y left c n sure h = absurd sure
 
 -- ---- settling
 
@@ -173,8 +172,7 @@ settle_pending : (p : Program) (ts : List Known) (b : ℕ) (s : State) (u : Know
     → u.pending ≡ Idle → s.next ≡ u.current → s.next ≡ u.next → Outcome p ts b (settle s.left s)
 settle_pending p ts b s u l is ahead kept arrives affords set idle current next =
     let expects = joins p ts s u l is arrives affords set idle current next in
-    let out : Outcome p ts b (suspend WaitsSwap s) =
-    inl (record { stops = tt; ahead = subst IsAhead (sym is) ahead; resumes = expects; kept = kept }) in
+    let out = inl (record { stops = tt; ahead = subst IsAhead (sym is) ahead; resumes = expects; kept = kept }) in
     subst (λ (o : Option ℕ). Outcome p ts b (settle o s)) (sym is) out
 
 settle_idle : (p : Program) (ts : List Known) (ty : IsTyping p ts) (b : ℕ) (s : State) (u : Known) → s.left ≡ None
@@ -211,7 +209,6 @@ pub record IsWithin (low high l : ℕ) : Type 0 where
 
 in_time : (m : Mode) (count least : ℕ) → IsWithin least (least + (count_step m - 1))
     (left_in (count_step m) count least)
-in_time I count least = record { low_is = omega arith; high_is = omega arith }
 in_time _ count least = record { low_is = omega arith; high_is = omega arith }
 
 at_count : (count least n : ℕ) → IsWithin least (least + 4999) (left_at count least n)
@@ -220,7 +217,6 @@ at_count count least n = record { low_is = omega arith; high_is = omega arith }
 can_ready : (p : Program) (s : State) (t : Known) → CanCommit p.plan t
     → IsIdleAs t.current t.next s.left s.current s.next → IsReady s × IsCommitted p.plan s.current s.next
 can_ready p s t can idle =
-    let apart : s.next ≢ s.current = λ e. can.changes (sym idle.next ∙ e ∙ idle.current) in
     let committed : IsCommitted p.plan t.current t.next → IsCommitted p.plan s.current s.next =
     λ known.
     subst (λ (c : Configuration). IsCommitted p.plan c s.next) (sym idle.current)
@@ -228,7 +224,7 @@ can_ready p s t can idle =
       record {
         idle = idle.none;
         sound = subst (λ (n : Configuration). IsSound n) (sym idle.next) can.sound;
-        changes = apart;
+        changes = (λ e. can.changes (sym idle.next ∙ e ∙ idle.current));
       },
       committed (record {
         changes = can.changes;
@@ -255,8 +251,7 @@ committing p ts ty b s t u l lo hi runs idle committed kept c n is some within a
       current = idle.current ∙ sym c;
       next = idle.next ∙ sym n;
     } in
-    let agrees : AgreesBy u.pending u.current u.next (Some l) s.current s.next =
-    subst (λ (q : Swap). AgreesBy q u.current u.next (Some l) s.current s.next) (sym is) pending in
+    let agrees = subst (λ (q : Swap). AgreesBy q u.current u.next (Some l) s.current s.next) (sym is) pending in
     inr (arrive p ts ty b (commit l s) u runs arrives affords agrees set
     (record { on_air = kept.on_air; committed = committed; eight = kept.eight }))
 
@@ -292,9 +287,6 @@ tests p ts b s i target t false h same goes there = jumps p ts b s i target t h 
 written_same : (xs : List ℕ) (r n : ℕ) → r < length xs → slice_index (slice_set xs r n) r ≡ n
 written_same xs r n below = get_or-set_same xs r n 0 below
 
-written_other : (xs : List ℕ) (r q n : ℕ) → q ≢ r → slice_index (slice_set xs r n) q ≡ slice_index xs q
-written_other xs r q n apart = get_or-set_other xs r q n 0 apart
-
 write_one : (known after : Counters) (xs : List ℕ) (r n : ℕ) → (is_set after r ≡ true → (r < length xs) × (1 ≤ n))
     → ((q : ℕ) → q < 8 → q ≢ r → is_set after q ≡ is_set known q)
     → AreSet known xs → AreSet after (slice_set xs r n)
@@ -308,7 +300,7 @@ write_one known after xs r n here others h q below on = by (eqb q r) refl
         (omega (arith, written_same xs r n some.0, some.1))
     by false e =
         let apart : q ≢ r = eqb-false q r e in
-        omega (arith, written_other xs r q n apart, h q below (sym (others q below apart) ∙ on))
+        omega (arith, (get_or-set_other xs r q n 0 apart), h q below (sym (others q below apart) ∙ on))
 
 set_one : (known : Counters) (xs : List ℕ) (r n : ℕ) → r < 8 → length xs ≡ 8 → 1 ≤ n → AreSet known xs
     → AreSet (with_counter r known) (slice_set xs r n)
@@ -416,9 +408,8 @@ succeeds p ts b s End t h = (
 succeeds p ts b s (Edits e) t h =
     let idle = idle_agrees t s.left s.current s.next h.safe.fine.0 h.agrees in
     let u : Known = leaves p.plan (Edits e) t in
-    let same : changed e s.next ≡ changed e t.next = ap (changed e) idle.next in
     let now : IsIdleAs u.current u.next s.left s.current (changed e s.next) =
-    record { none = idle.none; current = idle.current; next = same } in
+    record { none = idle.none; current = idle.current; next = (ap (changed e) idle.next) } in
     let no_fault : edit_fault e s.next ≡ None = ap (edit_fault e) idle.next ∙ h.safe.fine.1 in (
       (idle.none, no_fault),
       inr (arrive p ts h.typing b (effect p.plan (Edits e) s) u h.runs (h.safe.onward refl) (omega (arith, h.affords))

@@ -73,8 +73,7 @@ retuned c n m C N M awaited l h =
 begun : (c n m : Configuration) (C N M : Raw → Type 0) (awaited : Option ℕ) (l : Listening) → ((x : Raw) → M x → ⊥)
     → Tuned false c n C N awaited l → Tuned true c m C M awaited l
 begun c n m C N M awaited l none h =
-    let empty : IsPartial (whole_of m) M blank =
-    weaker (whole_of m) (λ x. ⊥) M blank none (empty_is_partial (whole_of m)) in
+    let empty = weaker (whole_of m) (λ x. ⊥) M blank none (empty_is_partial (whole_of m)) in
     record {
       is_tuned = h.is_tuned;
       current = h.current;
@@ -89,7 +88,6 @@ Still plan left N x = (is_first_noticed plan.notice left ≡ false) × N x
 none_still : (plan : Plan) (k : ℕ) (N : Raw → Type 0) (x : Raw) → k ≡ plan.notice → Still plan (Some k) N x → ⊥
 none_still plan k N x same h =
     let yes : (k == plan.notice) ≡ true = eq-eqb k plan.notice same in
-    let clash : true ≡ false = sym yes ∙ h.0 in
     absurd cc
 
 as_noticed : (a b : Bool) (c n : Configuration) (C N : Raw → Type 0) (awaited : Option ℕ) (l : Listening) → a ≡ b
@@ -151,8 +149,7 @@ pub ready_by : (plan : Plan) (before left : Option ℕ) (c n m : Configuration) 
 ready_by plan None left c n m count C N l ahead later g h = ready_newly plan left c n m count C N l later g h
 ready_by plan (Some k) left c n m count C N l ahead later g h =
     let there = ready_pending plan k c n count C N l ahead h in
-    subst (λ (o : Option ℕ). Ready plan o c m count C (Still plan o N) l) (sym g.0)
-    (subst (λ (x : Configuration). Ready plan (Some k) c x count C (Still plan (Some k) N) l) (sym g.1) there)
+    rw g.0 (rw g.1 there)
 
 -- ---- FIG 0/0
 
@@ -178,8 +175,7 @@ awaits_same e l none = ap (λ (b : Bool). cond b l (let r : Listening =
 some_change : (e : EnsembleInformation) (low : ℕ) → IsEnsembleInformation e → e.occurrence ≡ Some low
     → (e.change == 0) ≡ false
 some_change e low h is =
-    let more : 0 < e.change = h.flagged.0 (ap is_some is) in
-    ne_eqb e.change 0 (λ none. omega (arith, more, none))
+    ne_eqb e.change 0 (λ none. omega (arith, h.flagged.0 (ap is_some is), none))
 
 no_change : (e : EnsembleInformation) → e.change ≡ 0 → (e.change == 0) ≡ true
 no_change e none = eq-eqb e.change 0 none
@@ -189,8 +185,7 @@ waits_low : (plan : Plan) (left : Option ℕ) (count : ℕ) → is_noticed plan.
     → WaitsBy plan left count (Some (low_of_swap count left))
 waits_low plan None count e = absurd cc
 waits_low plan (Some k) count e =
-    let both = noticed_from plan.notice k e in
-    record { outside = λ past. absurd (omega (arith, past, both.1)); inside = λ inside. refl }
+    record { outside = λ past. absurd (omega (arith, past, (noticed_from plan.notice k e).1)); inside = λ inside. refl }
 
 -- nothing is awaited outside a notice
 waits_none : (plan : Plan) (left : Option ℕ) (count : ℕ) → IsAhead left → is_noticed plan.notice left ≡ false
@@ -201,7 +196,7 @@ waits_none plan (Some k) count ahead e = record {
   inside = λ inside. clash (is_noticed plan.notice (Some k)) (noticed plan.notice k ahead inside) e;
 }
 
-none_awaited : (plan : Plan) (left : Option ℕ) (count : ℕ) (awaited : Option ℕ) → IsAhead left
+pub none_awaited : (plan : Plan) (left : Option ℕ) (count : ℕ) (awaited : Option ℕ) → IsAhead left
     → is_noticed plan.notice left ≡ false → WaitsBy plan left count awaited → awaited ≡ None
 none_awaited plan None count awaited ahead e w = w
 none_awaited plan (Some k) count awaited ahead e w =
@@ -264,17 +259,12 @@ not_made_by plan u airs short (Some low) (Some k) is ahead w =
     let e : EnsembleInformation = ensemble_of plan u in
     elim (split_le k plan.notice) [
       | inl within ↦
-          let on : is_noticed plan.notice u.left ≡ true =
-          ap (is_noticed plan.notice) is ∙ noticed plan.notice k ahead within in
-          let info = noticed_information plan u on in
+          let info = noticed_information plan u (ap (is_noticed plan.notice) is ∙ noticed plan.notice k ahead within) in
           let change = some_change e (low_of_swap u.count u.left) (ensemble_within plan u airs) info.occurrence in
           let now : low ≡ (u.count + k) % 5000 % 250 = w.inside within in
-          let apart : u.count % 250 ≢ low =
-          swap_not_now u.count low k airs.count ahead (omega (arith, within, short)) now in
-          let count : e.count ≡ u.count = (ensemble_right plan u).count in
           ap (λ (b : Bool). b || (e.count % 250 == low)) change
-          ∙ ap (λ (n : ℕ). n % 250 == low) count
-          ∙ ne_eqb (u.count % 250) low apart
+          ∙ ap (λ (n : ℕ). n % 250 == low) ((ensemble_right plan u).count)
+          ∙ ne_eqb (u.count % 250) low (swap_not_now u.count low k airs.count ahead (omega (arith, within, short)) now)
       | inr past ↦
           let none : Some low ≡ None = w.outside past in
           absurd cc
@@ -298,7 +288,7 @@ unheaded_ready plan u C N l apart h =
 
 -- ---- the swap
 
-long_notice : (m : Mode) (notice count : ℕ) → 12 ≤ notice → notice - 0 ≤ (count + (count_step m - 1)) % count_step m → ⊥
+pub long_notice : (m : Mode) (notice count : ℕ) → 12 ≤ notice → notice - 0 ≤ (count + (count_step m - 1)) % count_step m → ⊥
 long_notice I notice count long h = omega (arith, long, h)
 long_notice _ notice count long h = omega (arith, long, h)
 
@@ -323,8 +313,7 @@ headed_swap plan u c n count C N l airs long below same current h =
     let at = h.inside (omega (arith, long)) in
     let made : is_made l.awaited e ≡ true = ap (λ (o : Option ℕ). is_made o e) at.knows.awaits
     ∙ made_by plan u count at.awaited long below same at.waits in
-    let is_part : IsPartial (whole_of u.current) N l.next =
-    subst (λ (x : Configuration). IsPartial (whole_of x) N l.next) (sym current) at.knows.next in
+    let is_part = subst (λ (x : Configuration). IsPartial (whole_of x) N l.next) (sym current) at.knows.next in
     subst (λ (x : Listening). InFrame plan u N (λ x. ⊥) x) (sym (heard_swap e l made))
     (settled plan u airs N (λ x. ⊥) l.next blank None is_part (next_blank (is_noticed plan.notice u.left) u.next)
     (λ off. refl))

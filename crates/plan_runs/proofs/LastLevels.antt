@@ -39,12 +39,9 @@ level_after_one : (x : Setting) (contacts : Contacts) (c : ℕ) → IsSetting x 
     → is_closed (with_contact x.contact x.closed contacts) c
     ≡ level_or (cond same (Some x.closed) None) (is_closed contacts c)
 level_after_one x contacts c within low true is =
-    let e : x.contact ≡ c = eqb-true _ _ is in
-    subst (λ (d : ℕ). is_closed (with_contact x.contact x.closed contacts) d ≡ x.closed) e
-    (contacts_change_alone contacts x.contact x.closed within).0
+    rw (← (eqb-true _ _ is)) (contacts_change_alone contacts x.contact x.closed within).0
 level_after_one x contacts c within low false is =
-    let apart : x.contact ≢ c = eqb-false _ _ is in
-    (contacts_change_alone contacts x.contact x.closed within).1 c low (λ e. apart (sym e))
+    (contacts_change_alone contacts x.contact x.closed within).1 c low (λ e. (eqb-false _ _ is) (sym e))
 
 level_joined : (earlier later : Option Bool) (before : Bool)
     → level_or later (level_or earlier before) ≡ level_or (last_of earlier later) before
@@ -61,9 +58,6 @@ level_after (x ∷ xs) contacts c within low =
 
 -- ---- equivalent settings have the same effect
 
-one_bit : (a b : ℕ) → a < 2 → b < 2 → eqb a 1 ≡ eqb b 1 → a ≡ b
-one_bit a b below_a below_b same = grind (arith, below_a, below_b, same)
-
 same_contacts : (a b : Contacts) → a.0 ≡ b.0 → a ≡ b
 same_contacts a b e = ap (λ (n : ℕ). let r : Contacts = record { 0 = n } in r) e
 
@@ -78,7 +72,7 @@ alike_contacts xs ys contacts in_xs in_ys below alike =
     let same : is_closed a i ≡ is_closed b i =
     level_after xs contacts i in_xs low ∙ ap (λ l. level_or l (is_closed contacts i)) (alike i)
     ∙ sym (level_after ys contacts i in_ys low) in
-    one_bit (bit_at a.0 i) (bit_at b.0 i) (bit_at-lt a.0 i) (bit_at-lt b.0 i) same in
+    grind (arith, (bit_at-lt a.0 i), (bit_at-lt b.0 i), same) in
     same_contacts a b (same_from_bits_below 16 a.0 b.0 (below_after xs contacts in_xs below)
     (below_after ys contacts in_ys below) bits)
 
@@ -118,12 +112,9 @@ last_levels_count p s [] [] last other below in_these in_those in_last in_other 
       sym (at_end (run p s) last) ∙ run_settings last p s [] ∙ ap (λ t. run p t []) e ∙ sym (run_settings other p s [])
           ∙ at_end (run p s) other,
     )
-last_levels_count p s [] (y ∷ those) last other below in_these in_those in_last in_other alike alike_last = absurd alike
-last_levels_count p s (x ∷ these) [] last other below in_these in_those in_last in_other alike alike_last = absurd alike
 last_levels_count p s (x ∷ these) (y ∷ those) last other below in_these in_those in_last in_other alike alike_last =
     let t = at_contacts s (contacts_after x s.contacts) in
-    let e : t ≡ at_contacts s (contacts_after y s.contacts) =
-    ap (λ c. at_contacts s c) (alike_contacts x y s.contacts in_these.0 in_those.0 below alike.0) in
+    let e = ap (λ c. at_contacts s c) (alike_contacts x y s.contacts in_these.0 in_those.0 below alike.0) in
     let here = Frame ∷ schedule these last in
     let there = Frame ∷ schedule those other in
     let still : (after_frame p t).contacts.0 < 2 ^ 16 =
@@ -136,3 +127,4 @@ last_levels_count p s (x ∷ these) (y ∷ those) last other below in_these in_t
           ∙ sym (states_settings y p s there),
       run_settings x p s here ∙ more.2 ∙ ap (λ u. run p u there) e ∙ sym (run_settings y p s there),
     )
+last_levels_count p s _ _ last other below in_these in_those in_last in_other alike alike_last = absurd alike

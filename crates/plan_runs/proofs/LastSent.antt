@@ -19,7 +19,7 @@ heard_before_notice plan s l is past =
     let none : plan.notice - l ≡ 0 = omega (arith, past) in
     ap (heard_left plan s) is ∙ ap (λ (n : ℕ). notice_frames plan n (notice_begin plan l s)) none
 
-unnoticed_left : (plan : Plan) (u : State) (left : Option ℕ) → u.left ≡ left → IsAhead left
+pub unnoticed_left : (plan : Plan) (u : State) (left : Option ℕ) → u.left ≡ left → IsAhead left
     → is_noticed plan.notice left ≡ false → heard_of plan (with_next_counts plan u) ≡ []
 unnoticed_left plan u None is ahead off =
     ap (λ (o : Option ℕ). heard_left plan (with_next_counts plan u) (left_after_frame o)) is
@@ -72,9 +72,8 @@ run_sent : (p : Program) (ts : List Known) → IsCode p ts → (s : State) (sent
 run_sent p ts c s sent [] h end = (end.0, append-nil sent ∙ end.1)
 run_sent p ts c s sent (Contact d closed ∷ es) h end =
     let t : State = happens p s (Contact d closed) in
-    let same : heard_of p.plan t ≡ heard_of p.plan s = heard_contacts p.plan s d closed s.left refl in
     run_sent p ts c t sent es (happens_holds p ts c s (Contact d closed) h)
-    (end.0, end.1 ∙ ap (λ xs. end.0 ++ xs) (sym same))
+    (end.0, end.1 ∙ ap (λ xs. end.0 ++ xs) (sym (heard_contacts p.plan s d closed s.left refl)))
 run_sent p ts c s sent (Frame ∷ es) h end =
     let t : State = after_frame p s in
     let bytes : List ℕ = frame_bytes p s in
@@ -92,10 +91,8 @@ heard_at_swap : (plan : Plan) (s : State) (left : Option ℕ) → s.left ≡ lef
     → length (heard_of plan s) ≡ plan.notice
 heard_at_swap plan s None is due = absurd cc
 heard_at_swap plan s (Some l) is due =
-    let none : l ≡ 0 = due_is l due in
-    let all : plan.notice - l ≡ plan.notice = omega (arith, none) in
-    ap (λ (o : Option ℕ). length (heard_left plan s o)) is
-    ∙ frames_length plan (plan.notice - l) (notice_begin plan l s) ∙ all
+    let all : plan.notice - l ≡ plan.notice = omega (arith, due_is l due) in
+    cc (is, frames_length plan (plan.notice - l) (notice_begin plan l s), all)
 
 -- ---- from a start
 

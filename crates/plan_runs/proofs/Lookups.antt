@@ -15,8 +15,7 @@ found_by : {X : Type 0} (test : X → Bool) (y : X) (ys : List X) (x : X) → (f
     → (b : Bool) → test y ≡ b
     → cond b (Some y) (find test ys) ≡ Some x → IsFound test (y ∷ ys) x
 found_by test y ys x rest true e h =
-    let same : y ≡ x = cc h in
-    subst (λ z. IsFound test (y ∷ ys) z) same (record { inside = contains_first y ys; passes = e })
+    subst (λ z. IsFound test (y ∷ ys) z) (cc h) (record { inside = contains_first y ys; passes = e })
 found_by test y ys x rest false e h =
     let later = rest h in
     record { inside = contains_later y x ys later.inside; passes = later.passes }

@@ -29,7 +29,7 @@ use Rattle.plan_runs.proofs.CurrentKnown.{SomeSaid, fibs_join, tuning, whole_had
 
 -- ---- what was heard of the notice
 
-said_append : (xs ys : List (List ℕ)) (flag : Bool) (x : Raw) → SomeSaid (xs ++ ys) flag x → SomeSaid xs flag x
+pub said_append : (xs ys : List (List ℕ)) (flag : Bool) (x : Raw) → SomeSaid (xs ++ ys) flag x → SomeSaid xs flag x
     ⊎ SomeSaid ys flag x
 said_append xs ys flag x (e, is, (f, inside, heard)) =
     elim (Contains-append_cases xs ys f inside) [
@@ -40,35 +40,32 @@ said_append xs ys flag x (e, is, (f, inside, heard)) =
 said_front : (xs ys : List (List ℕ)) (flag : Bool) (x : Raw) → SomeSaid xs flag x → SomeSaid (xs ++ ys) flag x
 said_front xs ys flag x (e, is, (f, inside, heard)) = (e, is, (f, Contains-append_left xs ys f inside, heard))
 
-said_one : (frame : List ℕ) (flag : Bool) (x : Raw) → SomeSaid (frame ∷ []) flag x → RowSaid frame flag x
+pub said_one : (frame : List ℕ) (flag : Bool) (x : Raw) → SomeSaid (frame ∷ []) flag x → RowSaid frame flag x
 said_one frame flag x (e, is, (f, (zero, lt, same), heard)) =
     (e, is, subst (λ (b : List ℕ). IsHeardInRow b (marked flag e)) (sym same) heard)
 said_one frame flag x (e, is, (f, (suc k, lt, same), heard)) = absurd (omega (arith, lt))
 
 -- nothing was heard before the first frame of the notice
-begun_left : (notice : ℕ) (left : Option ℕ) → is_first_noticed notice left ≡ true → left ≡ Some notice
+pub begun_left : (notice : ℕ) (left : Option ℕ) → is_first_noticed notice left ≡ true → left ≡ Some notice
 begun_left notice None e = absurd cc
 begun_left notice (Some l) e = ap (λ (k : ℕ). Some k) (eqb-true l notice e)
 
 noticed_first : (notice : ℕ) (left : Option ℕ) → 1 ≤ notice → is_first_noticed notice left ≡ true
     → is_noticed notice left ≡ true
-noticed_first notice left some e = ap (is_noticed notice) (begun_left notice left e)
-    ∙ noticed notice notice some (omega arith)
+noticed_first notice left some e = cc (begun_left notice left e, noticed notice notice some (omega arith))
 
-none_heard : (plan : Plan) (s : State) (before left : Option ℕ) (n m : Configuration) → s.left ≡ before
+pub none_heard : (plan : Plan) (s : State) (before left : Option ℕ) (n m : Configuration) → s.left ≡ before
     → LeftBy plan s.count before n left m → left ≡ Some plan.notice → heard_of plan s ≡ []
 none_heard plan s None left n m e g is = ap (heard_left plan s) e
 none_heard plan s (Some k) left n m e g is =
-    let both : Some k ≡ Some plan.notice = sym g.0 ∙ is in
-    let same : k ≡ plan.notice = cc both in
+    let same : k ≡ plan.notice = cc (sym g.0 ∙ is) in
     let none : plan.notice - k ≡ 0 = omega (arith, same) in
     ap (heard_left plan s) e ∙ ap (λ (n : ℕ). notice_frames plan n (notice_begin plan k s)) none
 
 before_first : (plan : Plan) (s u : State) → Links plan s u → u.left ≡ Some plan.notice → (b : Bool) → is_due s.left ≡ b
     → heard_before s (heard_of plan s) ≡ []
 before_first plan s u link is true e = ap (λ (b : Bool). cond b [] (heard_of plan s)) e
-before_first plan s u link is false e = ap (λ (b : Bool). cond b [] (heard_of plan s)) e
-    ∙ none_heard plan s s.left u.left s.next u.next refl (link.left e) is
+before_first plan s u link is false e = cc (e, none_heard plan s s.left u.left s.next u.next refl (link.left e) is)
 
 after_noticed : (p : Program) (s : State) (heard : List (List ℕ)) → is_noticed p.plan.notice (shown p s).left ≡ true
     → heard_after p s heard ≡ heard_before s heard ++ frame_bytes p s ∷ []
@@ -88,10 +85,7 @@ heard_first p ts code s h first =
 heard_later : (p : Program) (ts : List Known) → IsCode p ts → (s : State) → Holds p ts s → is_due s.left ≡ false
     → is_noticed p.plan.notice (shown p s).left ≡ true
     → heard_of p.plan (after_frame p s) ≡ heard_of p.plan s ++ frame_bytes p s ∷ []
-heard_later p ts code s h due on =
-    sym (heard_frame p ts code s h)
-    ∙ after_noticed p s (heard_of p.plan s) on
-    ∙ ap (λ (b : Bool). cond b [] (heard_of p.plan s) ++ frame_bytes p s ∷ []) due
+heard_later p ts code s h due on = cc (heard_frame p ts code s h, after_noticed p s (heard_of p.plan s) on, due)
 
 -- ---- a notice
 
@@ -103,7 +97,7 @@ pub record HearsNotice (p : Program) (s : State) (events : List Event) (l : List
   pub hears : HearsAll (fibs_of p.plan.layout (run_frames p s events)) l after
   pub knows : KnowsAt p.plan (run p s events) Nothing (SomeSaid (heard_of p.plan (run p s events)) true) after
 
-left_on : (plan : Plan) (count k : ℕ) (before left : Option ℕ) (n m : Configuration) → before ≡ Some k
+pub left_on : (plan : Plan) (count k : ℕ) (before left : Option ℕ) (n m : Configuration) → before ≡ Some k
     → LeftBy plan count before n left m → left ≡ Some k
 left_on plan count k None left n m e g = absurd cc
 left_on plan count k (Some j) left n m e g = g.0 ∙ e
@@ -118,8 +112,7 @@ notice_on laws p ts code s [] h k is below phase l knows = record { after = l; h
 notice_on laws p ts code s (Contact d closed ∷ es) h k is below phase l knows =
     let t : State = happens p s (Contact d closed) in
     let same : heard_of p.plan s ≡ heard_of p.plan t = heard_run p ts code s (Contact d closed ∷ []) h in
-    let here : KnowsAt p.plan t Nothing (OfNotice p.plan t) l =
-    subst (λ (xs : List (List ℕ)). KnowsAt p.plan s Nothing (λ x. SomeSaid xs true x) l) same knows in
+    let here = subst (λ (xs : List (List ℕ)). KnowsAt p.plan s Nothing (λ x. SomeSaid xs true x) l) same knows in
     let rest = notice_on laws p ts code t es (happens_holds p ts code s (Contact d closed) h) k is below phase l here in
     record { after = rest.after; hears = rest.hears; knows = rest.knows }
 notice_on laws p ts code s (Frame ∷ es) h k is below phase l knows =
@@ -131,24 +124,21 @@ notice_on laws p ts code s (Frame ∷ es) h k is below phase l knows =
     let link = links p ts code s h in
     let some : 1 ≤ k = some_left s.left k is parts.0 in
     let left : u.left ≡ Some k = left_on plan s.count k s.left u.left s.next u.next is (link.left parts.0) in
-    let on : is_noticed plan.notice u.left ≡ true = ap (is_noticed plan.notice) left
-    ∙ noticed plan.notice k some (omega (arith, below)) in
+    let on = ap (is_noticed plan.notice) left ∙ noticed plan.notice k some (omega (arith, below)) in
     let N : Raw → Type 0 = OfNotice plan s in
     let M : Raw → Type 0 = Still plan u.left N in
     let heard = frame_heard laws plan u a Nothing M l (enters p ts code s h Nothing N l parts.0 knows) in
     let D : Raw → Type 0 = Or Nothing (RowSaid (shown_bytes plan u) false) in
     let O : Raw → Type 0 = Or M (RowSaid (shown_bytes plan u) true) in
-    let next : KnowsAt plan t D O heard.after = knows_after plan u D O heard.after a heard.knows in
-    let more : heard_of plan t ≡ heard_of plan s ++ frame_bytes p s ∷ [] = heard_later p ts code s h parts.0 on in
     let had : (x : Raw) → OfNotice plan t x → O x =
     λ x said. elim (said_append (heard_of plan s) (frame_bytes p s ∷ []) true x
-    (subst (λ (xs : List (List ℕ)). SomeSaid xs true x) more said)) [
+    (subst (λ (xs : List (List ℕ)). SomeSaid xs true x) (heard_later p ts code s h parts.0 on) said)) [
       | inl old ↦ inl (parts.1, old)
       | inr now ↦ inr (said_one (frame_bytes p s) true x now)
     ] in
     let here : KnowsAt plan t Nothing (OfNotice plan t) heard.after =
     knows_weaker plan t.left t.current t.next t.count D Nothing O (OfNotice plan t) heard.after
-    (λ x none. absurd none) had next in
+    (λ x none. absurd none) had (knows_after plan u D O heard.after a heard.knows) in
     let rest = notice_on laws p ts code t es (frame_holds p ts code s h) (k - 1) (ap left_after_frame left)
     (omega (arith, below)) phase.1 heard.after here in
     record {
@@ -173,13 +163,12 @@ notice_from laws p ts code s (Frame ∷ es) h is l tunes =
     let heard = frame_heard laws plan u a Nothing Nothing l (enters_tuning p ts code s h l tunes) in
     let D : Raw → Type 0 = Or Nothing (RowSaid (shown_bytes plan u) false) in
     let O : Raw → Type 0 = Or Nothing (RowSaid (shown_bytes plan u) true) in
-    let next : KnowsAt plan t D O heard.after = knows_after plan u D O heard.after a heard.knows in
     let one : heard_of plan t ≡ frame_bytes p s ∷ [] = heard_first p ts code s h is.0 in
     let had : (x : Raw) → OfNotice plan t x → O x = λ x said.
     inr (said_one (frame_bytes p s) true x (subst (λ (xs : List (List ℕ)). SomeSaid xs true x) one said)) in
     let here : KnowsAt plan t Nothing (OfNotice plan t) heard.after =
     knows_weaker plan t.left t.current t.next t.count D Nothing O (OfNotice plan t) heard.after
-    (λ x none. absurd none) had next in
+    (λ x none. absurd none) had (knows_after plan u D O heard.after a heard.knows) in
     let left : t.left ≡ Some (plan.notice - 1) = ap left_after_frame (begun_left plan.notice u.left is.0) in
     let rest = notice_on laws p ts code t es (frame_holds p ts code s h) (plan.notice - 1) left
     (omega (arith, code.program.planned.notice_from)) is.1 heard.after here in
@@ -201,12 +190,9 @@ notice_whole : Laws → (p : Program) (ts : List Known) → IsCode p ts → (s :
 notice_whole laws p ts code s h due e inside =
     let runs = swaps_run laws.pages p ts code s (Frame ∷ []) h in
     let told : IsAnnounced s.current s.next s.count (heard_of p.plan s) = runs.0.announced due in
-    let first : SomeSaid told.first true (raw_entry e) =
-    whole_had s.next true told.first told.whole_in_first e inside in
-    let both : SomeSaid (told.first ++ told.second) true (raw_entry e) =
-    said_front told.first told.second true (raw_entry e) first in
-    let all : SomeSaid ((told.first ++ told.second) ++ told.third) true (raw_entry e) =
-    said_front (told.first ++ told.second) told.third true (raw_entry e) both in
+    let first = whole_had s.next true told.first told.whole_in_first e inside in
+    let both = said_front told.first told.second true (raw_entry e) first in
+    let all = said_front (told.first ++ told.second) told.third true (raw_entry e) both in
     subst (λ (xs : List (List ℕ)). SomeSaid xs true (raw_entry e)) (sym told.cut) all
 
 -- ---- from the swap on
@@ -235,8 +221,7 @@ frame_take laws p ts code s es h c same C N j l entered later =
     let a = airs p ts code s h in
     let here : List (List ℕ) = fibs_in plan u in
     let more : List (List ℕ) = fibs_of plan.layout (run_frames p (after_frame p s) es) in
-    let cut : fibs_of plan.layout (frame_bytes p s ∷ run_frames p (after_frame p s) es) ≡ here ++ more =
-    fibs_more plan.layout (frame_bytes p s) (run_frames p (after_frame p s) es) in
+    let cut = fibs_more plan.layout (frame_bytes p s) (run_frames p (after_frame p s) es) in
     elim (split_le (suc j) (length here)) [
       | inl within ↦
           let some = some_heard laws plan u a C N j l entered in
@@ -251,11 +236,9 @@ frame_take laws p ts code s es h c same C N j l entered later =
           let D : Raw → Type 0 = Or C (RowSaid (frame_bytes p s) false) in
           let O : Raw → Type 0 = Or N (RowSaid (frame_bytes p s) true) in
           let heard = frame_heard laws plan u a C N l entered in
-          let next : KnowsAt plan (after_frame p s) D O heard.after =
-          knows_after plan u D O heard.after a heard.knows in
           let d : ℕ = suc j - length here in
           let count : suc j ≡ length here + d = omega (arith, past) in
-          let rest = later d heard.after next in
+          let rest = later d heard.after (knows_after plan u D O heard.after a heard.knows) in
           record {
             after = rest.after;
             hears = as_fibs (take (suc j) (fibs_of plan.layout (frame_bytes p s ∷ run_frames p (after_frame p s) es)))
@@ -270,8 +253,7 @@ after_on : Laws → (p : Program) (ts : List Known) → IsCode p ts → (s : Sta
     → MakesNoSwap p s es → (c : Configuration) → s.current ≡ c → (C N : Raw → Type 0) (k : ℕ) (l : Listening)
     → KnowsAt p.plan s C N l → HearsAfter p s c k es C l
 after_on laws p ts code s [] h none c same C N k l knows =
-    let here : IsPartial (whole_of s.current) C l.current =
-    current_part p.plan s.left s.current s.next s.count C N l knows in
+    let here = current_part p.plan s.left s.current s.next s.count C N l knows in
     record {
       after = l;
       hears = as_fibs (take k []) [] l l (take_none k [] refl) refl;
@@ -282,18 +264,15 @@ after_on laws p ts code s (Contact d closed ∷ es) h none c same C N k l knows 
     (happens_holds p ts code s (Contact d closed) h) none c same C N k l knows in
     record { after = rest.after; hears = rest.hears; current = rest.current }
 after_on laws p ts code s (Frame ∷ es) h none c same C N zero l knows =
-    let here : IsPartial (whole_of s.current) C l.current =
-    current_part p.plan s.left s.current s.next s.count C N l knows in
     record {
       after = l;
       hears = refl;
       current = subst (λ (x : Configuration). IsPartial (whole_of x) C l.current) same
-          here;
+          (current_part p.plan s.left s.current s.next s.count C N l knows);
     }
 after_on laws p ts code s (Frame ∷ es) h none c same C N (suc j) l knows =
-    let u : State = shown p s in
     let link = links p ts code s h in
-    let M : Raw → Type 0 = Still p.plan u.left N in
+    let M : Raw → Type 0 = Still p.plan (shown p s).left N in
     frame_take laws p ts code s es h c (link.current none.0 ∙ same) C M j l (enters p ts code s h C N l none.0 knows)
     (λ d m here. after_on laws p ts code (after_frame p s) es (frame_holds p ts code s h) none.1 c
     (link.current none.0 ∙ same) (Or C (RowSaid (frame_bytes p s) false)) (Or M (RowSaid (frame_bytes p s) true)) d
@@ -344,9 +323,7 @@ knows_the_new one_list laws p s h waiting notice after fibs heard tuned is until
     let w = waits_run laws p ts code s waiting here in
     let v = notice_from laws p ts code t notice (run_holds p ts code s waiting here) is w.after
     (tuning p s waiting w tuned) in
-    let knows : KnowsAt p.plan s2 Nothing (SomeSaid (heard_of p.plan s2) true) v.after =
-    subst (λ (x : State). KnowsAt p.plan x Nothing (SomeSaid (heard_of p.plan x) true) v.after) (sym joins)
-    v.knows in
+    let knows : KnowsAt p.plan s2 Nothing (SomeSaid (heard_of p.plan s2) true) v.after = rw joins v.knows in
     let due : is_due s2.left ≡ true = ap (λ (x : State). is_due x.left) joins ∙ due_after p t notice is in
     let last = followed laws p ts code s2 (run_holds p ts code s (waiting ++ notice) here) due after until fibs some
     v.after knows in
@@ -357,7 +334,6 @@ knows_the_new one_list laws p s h waiting notice after fibs heard tuned is until
     untuned v.after (fibs_join p s waiting notice)
     (hears_join (fibs_of p.plan.layout (run_frames p s waiting)) (fibs_of p.plan.layout (run_frames p t notice)) untuned
     w.after v.after w.hears v.hears) in
-    let mine : HearsAll (before ++ rest) untuned last.heard =
-    hears_join before rest untuned v.after last.heard first last.hears in
+    let mine = hears_join before rest untuned v.after last.heard first last.hears in
     let same : last.heard ≡ heard = hears_same one_list (before ++ rest) untuned last.heard heard mine all in
     subst (λ (l : Listening). Shows l.current s2.next) same last.shows

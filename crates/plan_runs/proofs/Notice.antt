@@ -22,33 +22,26 @@ frames_from f a (suc k) = f a ∷ frames_from f (suc a) k
 pub frames_more : (f : ℕ → List ℕ) (a k : ℕ) → frames_from f a (suc k) ≡ frames_from f a k ++ f (a + k) ∷ []
 unfolding frames_from
 frames_more f a zero =
-    let same : a + 0 ≡ a = omega arith in
-    ap (λ (n : ℕ). f n ∷ []) (sym same)
+    ap (λ (n : ℕ). f n ∷ []) (sym (omega arith))
 frames_more f a (suc k) =
-    let same : suc a + k ≡ a + suc k = omega arith in
-    ap (λ xs. f a ∷ xs) (frames_more f (suc a) k ∙ ap (λ (n : ℕ). frames_from f (suc a) k ++ f n ∷ []) same)
+    ap (λ xs. f a ∷ xs) (frames_more f (suc a) k ∙ ap (λ (n : ℕ). frames_from f (suc a) k ++ f n ∷ []) (omega arith))
 
 pub frames_cut : (f : ℕ → List ℕ) (a j k : ℕ) → frames_from f a (j + k) ≡ frames_from f a j ++ frames_from f (a + j) k
 unfolding frames_from
 frames_cut f a zero k =
-    let none : 0 + k ≡ k = omega arith in
-    let same : a ≡ a + 0 = omega arith in
-    ap (frames_from f a) none ∙ ap (λ (n : ℕ). frames_from f n k) same
+    ap (frames_from f a) (omega arith) ∙ ap (λ (n : ℕ). frames_from f n k) (omega arith)
 frames_cut f a (suc j) k =
     let up : suc j + k ≡ suc (j + k) = omega arith in
     let same : suc a + j ≡ a + suc j = omega arith in
-    ap (frames_from f a) up ∙ ap (λ xs. f a ∷ xs) (frames_cut f (suc a) j k
-    ∙ ap (λ (n : ℕ). frames_from f (suc a) j ++ frames_from f n k) same)
+    cc (up, frames_cut f (suc a) j k, same)
 
 pub frames_get : (f : ℕ → List ℕ) (a k i : ℕ) → i < k → slice_get (frames_from f a k) i ≡ Some (f (a + i))
 unfolding frames_from
 frames_get f a zero i below = absurd (omega (arith, below))
 frames_get f a (suc k) zero below =
-    let same : a ≡ a + 0 = omega arith in
-    ap (λ (n : ℕ). Some (f n)) same
+    ap (λ (n : ℕ). Some (f n)) (omega arith)
 frames_get f a (suc k) (suc i) below =
-    let same : suc a + i ≡ a + suc i = omega arith in
-    frames_get f (suc a) k i (omega (arith, below)) ∙ ap (λ (n : ℕ). Some (f n)) same
+    frames_get f (suc a) k i (omega (arith, below)) ∙ ap (λ (n : ℕ). Some (f n)) (omega arith)
 
 -- a frame in such a list
 pub record IsFrameOf (f : ℕ → List ℕ) (a k : ℕ) (frame : List ℕ) : Type 0 where
@@ -81,8 +74,7 @@ contains_frame f a zero i from below = absurd (omega (arith, from, below))
 contains_frame f a (suc k) i from below =
     elim (split_le i a) [
       | inl here ↦
-          let same : a ≡ i = omega (arith, from, here) in
-          (0, omega arith, ap f same)
+          (0, omega arith, ap f (omega (arith, from, here)))
       | inr later ↦ later_frame (f a) (frames_from f (suc a) k) (f i)
           (contains_frame f (suc a) k i (omega (arith, later)) (omega (arith, below)))
     ]
@@ -136,8 +128,7 @@ shown_as plan s base i left count page_index =
 rounds_noticed : (plan : Plan) (s : State) (l : ℕ) → s.left ≡ Some l → 1 ≤ l → l ≤ plan.notice
     → sent_rounds plan s ≡ both_rounds plan s.current s.next
 rounds_noticed plan s l is some within =
-    let yes : is_noticed plan.notice s.left ≡ true = ap (is_noticed plan.notice) is
-    ∙ noticed plan.notice l some within in
+    let yes = ap (is_noticed plan.notice) is ∙ noticed plan.notice l some within in
     ap (λ (b : Bool). rounds plan.layout (page_set s.current (cond b (Some s.next) None))) yes
 
 count_up : (base a : ℕ) → ((base + a) % 5000 + 1) % 5000 ≡ (base + suc a) % 5000
@@ -152,17 +143,14 @@ notice_is plan (suc k) a base s left count page_index within =
     let t : State = with_next_counts plan s in
     let f : ℕ → List ℕ = notice_at plan s.current s.next s.eid base in
     let some : 1 ≤ plan.notice - a = omega (arith, within) in
-    let inside : plan.notice - a ≤ plan.notice = omega arith in
     let fewer : plan.notice - a - 1 ≡ plan.notice - suc a = omega arith in
     let left_next : t.left ≡ Some (plan.notice - suc a) = ap left_after_frame left ∙ ap (λ (x : ℕ). Some x) fewer in
     let count_next : t.count ≡ (base + suc a) % 5000 = ap (λ (x : ℕ). (x + 1) % 5000) count ∙ count_up base a in
     let pages : ℕ = both_rounds plan s.current s.next in
     let turn_next : t.page_index ≡ page_of pages (suc a) =
-    ap (λ (x : ℕ). page_after x s.page_index) (rounds_noticed plan s (plan.notice - a) left some inside)
-    ∙ ap (page_after pages) page_index ∙ sym (page_of_next pages a) in
+    cc (rounds_noticed plan s (plan.notice - a) left some (omega arith), page_index, page_of_next pages a) in
     let rest = notice_is plan k (suc a) base t left_next count_next turn_next (omega (arith, within)) in
-    ap (λ (x : List ℕ). x ∷ notice_frames plan k t) (shown_as plan s base a left count page_index)
-    ∙ ap (λ xs. f a ∷ xs) rest
+    cc (shown_as plan s base a left count page_index, rest)
 
 -- the CIF count at the beginning of the notice whose swap falls this many frames later
 abbrev pub base_of : Plan → ℕ → ℕ → ℕ
@@ -173,9 +161,8 @@ pub heard_is : (plan : Plan) (s : State) (l : ℕ) → s.left ≡ Some l
 heard_is plan s l is =
     let base : ℕ = base_of plan s.count l in
     let whole : plan.notice ≡ plan.notice - 0 = omega arith in
-    let same : base ≡ (base + 0) % 5000 = omega arith in
     ap (heard_left plan s) is
-    ∙ notice_is plan (plan.notice - l) 0 base (notice_begin plan l s) (ap (λ (x : ℕ). Some x) whole) same
+    ∙ notice_is plan (plan.notice - l) 0 base (notice_begin plan l s) (ap (λ (x : ℕ). Some x) whole) (omega arith)
     (sym (page_of_first (both_rounds plan s.current s.next))) (omega arith)
 
 heard_none : (plan : Plan) (s : State) → s.left ≡ None → heard_of plan s ≡ []
@@ -229,7 +216,7 @@ due_nothing s heard e = ap (λ (b : Bool). cond b [] heard) e
 not_due_same : (s : State) (heard : List (List ℕ)) → is_due s.left ≡ false → heard_before s heard ≡ heard
 not_due_same s heard e = ap (λ (b : Bool). cond b [] heard) e
 
-none_some : {X : Type 0} (l : ℕ) (o : Option ℕ) → o ≡ None → o ≡ Some l → X
+pub none_some : {X : Type 0} (l : ℕ) (o : Option ℕ) → o ≡ None → o ≡ Some l → X
 none_some l o e f = absurd cc
 
 -- by the frames left in the state that the bytes are made from
@@ -243,8 +230,7 @@ early_heard : (plan : Plan) (s u : State) (before : Option ℕ) (l : ℕ) → s.
 unfolding frames_from
 early_heard plan s u None l e g is past = heard_none plan s e
 early_heard plan s u (Some k) l e g is past =
-    let same : Some l ≡ Some k = sym is ∙ g.0 in
-    let equal : l ≡ k = cc same in
+    let equal : l ≡ k = cc (sym is ∙ g.0) in
     let none : plan.notice - k ≡ 0 = omega (arith, past, equal) in
     heard_is plan s k e ∙ ap (frames_from (notice_at plan s.current s.next s.eid (base_of plan s.count k)) 0) none
 
@@ -253,25 +239,17 @@ late_heard : (plan : Plan) (s u : State) (before : Option ℕ) (l : ℕ) → s.l
     → u.current ≡ s.current → u.count ≡ s.count → u.eid ≡ s.eid
     → heard_of plan s ≡ frames_from (notice_at plan u.current u.next u.eid (base_of plan u.count l)) 0 (plan.notice - l)
 late_heard plan s u None l e g is below c k i =
-    let new : IsNewly plan s.count (Some l) = subst (λ (o : Option ℕ). IsNewly plan s.count o) is g in
-    absurd (omega (arith, new.0, below))
+    absurd (omega (arith, (subst (λ (o : Option ℕ). IsNewly plan s.count o) is g).0, below))
 late_heard plan s u (Some k) l e g is below c d i =
-    let same : Some k ≡ Some l = sym g.0 ∙ is in
-    let equal : k ≡ l = cc same in
+    let equal : k ≡ l = cc (sym g.0 ∙ is) in
     let form : Configuration → Configuration → ℕ → ℕ → ℕ → List (List ℕ) =
     λ x y z w v. frames_from (notice_at plan x y z (base_of plan w v)) 0 (plan.notice - v) in
-    heard_is plan s k e
-    ∙ ap (λ (v : ℕ). form s.current s.next s.eid s.count v) equal
-    ∙ ap (λ (x : Configuration). form x s.next s.eid s.count l) (sym c)
-    ∙ ap (λ (x : Configuration). form u.current x s.eid s.count l) (sym g.1)
-    ∙ ap (λ (x : ℕ). form u.current u.next x s.count l) (sym i)
-    ∙ ap (λ (x : ℕ). form u.current u.next u.eid x l) (sym d)
+    cc (heard_is plan s k e, equal, c, g.1, i, d)
 
 new_late : (plan : Plan) (count : ℕ) (left : Option ℕ) (l : ℕ) → IsNewly plan count left → left ≡ Some l
     → plan.notice ≤ l
 new_late plan count left l new is =
-    let at : IsNewly plan count (Some l) = subst (λ (o : Option ℕ). IsNewly plan count o) is new in
-    at.0
+    (subst (λ (o : Option ℕ). IsNewly plan count o) is new).0
 
 before_none : (plan : Plan) (s u : State) → Links plan s u → u.left ≡ None → (b : Bool) → is_due s.left ≡ b
     → heard_before s (heard_of plan s) ≡ []
@@ -331,15 +309,11 @@ heard_next plan s u bytes (Some l) short is h a shows =
     let ahead : IsAhead (Some l) = subst IsAhead is a.ahead in
     let left : t.left ≡ Some (l - 1) = ap left_after_frame is in
     let f : ℕ → List ℕ = notice_at plan u.current u.next u.eid (base_of plan u.count l) in
-    let page_index : IsTurn plan l u.current u.next u.page_index =
-    subst (λ (o : Option ℕ). TurnShown plan o u.current u.next u.page_index) is a.page_index in
+    let page_index = subst (λ (o : Option ℕ). TurnShown plan o u.current u.next u.page_index) is a.page_index in
     let base : base_of plan t.count (l - 1) ≡ base_of plan u.count l = same_base plan.notice u.count l ahead short in
-    let after : heard_of plan t ≡ frames_from f 0 (plan.notice - (l - 1)) =
-    heard_is plan t (l - 1) left
-    ∙ ap (λ (x : ℕ). frames_from (notice_at plan u.current u.next u.eid x) 0 (plan.notice - (l - 1))) base in
+    let after : heard_of plan t ≡ frames_from f 0 (plan.notice - (l - 1)) = cc (heard_is plan t (l - 1) left, base) in
     elim (split_le l plan.notice) [
       | inl within ↦
-          let yes = noticed plan.notice l ahead within in
           let up : plan.notice - (l - 1) ≡ suc (plan.notice - l) = omega (arith, within, ahead) in
           let back : plan.notice - (plan.notice - l) ≡ l = omega (arith, within) in
           let this : bytes ≡ f (0 + (plan.notice - l)) =
@@ -348,15 +322,14 @@ heard_next plan s u bytes (Some l) short is h a shows =
           (this_count plan.notice u.count l a.count within short) (page_index.within within)
           ∙ ap f (omega arith) in
           ap (λ (b : Bool). cond b (heard_before s (heard_of plan s) ++ bytes ∷ []) (heard_before s (heard_of plan s)))
-          yes
+          (noticed plan.notice l ahead within)
           ∙ ap (λ xs. xs ++ bytes ∷ []) (before_noticed plan s u l h is within)
           ∙ ap (λ (x : List ℕ). frames_from f 0 (plan.notice - l) ++ x ∷ []) this
           ∙ sym (after ∙ ap (frames_from f 0) up ∙ frames_more f 0 (plan.notice - l))
       | inr past ↦
-          let not_so = not_noticed plan.notice l past in
           let none : plan.notice - (l - 1) ≡ 0 = omega (arith, past) in
           ap (λ (b : Bool). cond b (heard_before s (heard_of plan s) ++ bytes ∷ []) (heard_before s (heard_of plan s)))
-          not_so
+          (not_noticed plan.notice l past)
           ∙ before_early plan s u l h is (omega (arith, past)) (is_due s.left) refl
           ∙ sym (after ∙ ap (frames_from f 0) none)
     ]

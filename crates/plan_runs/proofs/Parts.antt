@@ -35,7 +35,7 @@ each_cond : (P : Raw → Type 0) (x : Raw) (ys : List Raw) (b : Bool) → P x �
 each_cond P x ys true h hs = (h, hs)
 each_cond P x ys false h hs = hs
 
-each_partly : (P : Raw → Type 0) (known : ℕ → Bool) (xs : List Raw) → AllByRecursion P xs
+pub each_partly : (P : Raw → Type 0) (known : ℕ → Bool) (xs : List Raw) → AllByRecursion P xs
     → AllByRecursion P (partly known xs)
 each_partly P known [] h = tt
 each_partly P known (x ∷ xs) h =
@@ -46,7 +46,7 @@ ascends_cond : (x : Raw) (ys : List Raw) (b : Bool) → AllByRecursion (λ y. id
 ascends_cond x ys true h hs = (h, hs)
 ascends_cond x ys false h hs = hs
 
-ascends_partly : (known : ℕ → Bool) (xs : List Raw) → IsAscending identifier_of xs
+pub ascends_partly : (known : ℕ → Bool) (xs : List Raw) → IsAscending identifier_of xs
     → IsAscending identifier_of (partly known xs)
 ascends_partly known [] up = tt
 ascends_partly known (x ∷ xs) up =
@@ -73,10 +73,7 @@ same_above : (known : ℕ → Bool) (id : ℕ) (xs : List Raw) → AllByRecursio
     → partly (with_known id known) xs ≡ partly known xs
 same_above known id [] h = refl
 same_above known id (x ∷ xs) h =
-    let apart : identifier_of x ≢ id = (let less = h.0 in λ e. omega (arith, less, e)) in
-    ap (λ b. cond b (x ∷ partly (with_known id known) xs) (partly (with_known id known) xs))
-    (same_at known id (identifier_of x) apart)
-    ∙ ap (λ ys. cond (known (identifier_of x)) (x ∷ ys) ys) (same_above known id xs h.1)
+    cc (same_at known id (identifier_of x) (let less = h.0 in λ e. omega (arith, less, e)), same_above known id xs h.1)
 
 known_now : (known : ℕ → Bool) (id : ℕ) → with_known id known id ≡ true
 known_now known id = or_right (known id) (id == id) (eq-eqb id id refl)
@@ -102,23 +99,18 @@ added : (known : ℕ → Bool) (full : List Raw) (raw : Raw) → IsAscending ide
     → known (identifier_of raw) ≡ false
     → with_entry identifier_of raw (partly known full) ≡ partly (with_known (identifier_of raw) known) full
 added known [] raw up h new = absurd h
-added known (x ∷ xs) raw up (inl same) new =
-    subst (λ (y : Raw). with_entry identifier_of raw (partly known (y ∷ xs))
-    ≡ partly (with_known (identifier_of raw) known) (y ∷ xs)) (sym same)
-    (added_here known raw xs (subst (λ (y : Raw). IsAscending identifier_of (y ∷ xs)) same up) new)
+added known (x ∷ xs) raw up (inl same) new = rw same (added_here known raw xs (rw (← same) up) new)
 added known (x ∷ xs) raw up (inr more) new =
     let id : ℕ = identifier_of raw in
     let less : identifier_of x < id = each_in (λ y. identifier_of x < identifier_of y) xs raw up.0 more in
-    let apart : identifier_of x ≢ id = λ e. omega (arith, less, e) in
     added_by raw x (partly known xs) (partly (with_known id known) xs) (known (identifier_of x)) less
     (added known xs raw up.1 more new)
     ∙ sym (ap (λ b. cond b (x ∷ partly (with_known id known) xs) (partly (with_known id known) xs))
-    (same_at known id (identifier_of x) apart))
+    (same_at known id (identifier_of x) (λ e. omega (arith, less, e))))
 
 unknown_by : (raw x : Raw) (ps : List Raw) (b : Bool) → (b ≡ true → identifier_of x ≢ identifier_of raw)
     → is_known raw ps ≡ false → is_known raw (cond b (x ∷ ps) ps) ≡ false
-unknown_by raw x ps true apart e =
-    ap (λ b. b || is_known raw ps) (ne_eqb (identifier_of x) (identifier_of raw) (apart refl)) ∙ e
+unknown_by raw x ps true apart e = cc (ne_eqb (identifier_of x) (identifier_of raw) (apart refl), e)
 unknown_by raw x ps false apart e = e
 
 unknown : (known : ℕ → Bool) (full : List Raw) (raw : Raw) → known (identifier_of raw) ≡ false
@@ -147,8 +139,7 @@ fewer known [] raw h new = absurd h
 fewer known (x ∷ xs) raw (inl same) new =
     let here : known (identifier_of x) ≡ false = ap (λ (y : Raw). known (identifier_of y)) same ∙ new in
     let e : partly known (x ∷ xs) ≡ partly known xs = ap (λ b. cond b (x ∷ partly known xs) (partly known xs)) here in
-    let less = short known xs in
-    subst (λ (ys : List Raw). length ys < suc (length xs)) (sym e) (omega (arith, less))
+    subst (λ (ys : List Raw). length ys < suc (length xs)) (sym e) (omega (arith, short known xs))
 fewer known (x ∷ xs) raw (inr more) new =
     fewer_by x (partly known xs) (length xs) (known (identifier_of x)) (fewer known xs raw more new)
 
@@ -158,15 +149,13 @@ in_cond : (x raw : Raw) (ps : List Raw) (b : Bool) → In raw ps → In raw (con
 in_cond x raw ps true h = inr h
 in_cond x raw ps false h = h
 
-in_partly : (known : ℕ → Bool) (full : List Raw) (raw : Raw) → In raw full → known (identifier_of raw) ≡ true
+pub in_partly : (known : ℕ → Bool) (full : List Raw) (raw : Raw) → In raw full → known (identifier_of raw) ≡ true
     → In raw (partly known full)
 in_partly known [] raw h old = absurd h
 in_partly known (x ∷ xs) raw (inl same) old =
     let here : known (identifier_of x) ≡ true = ap (λ (y : Raw). known (identifier_of y)) same ∙ old in
-    let e : partly known (x ∷ xs) ≡ x ∷ partly known xs =
-    ap (λ b. cond b (x ∷ partly known xs) (partly known xs)) here in
     let now : In raw (x ∷ partly known xs) = inl same in
-    subst (λ (ys : List Raw). In raw ys) (sym e) now
+    subst (λ (ys : List Raw). In raw ys) (sym (ap (λ b. cond b (x ∷ partly known xs) (partly known xs)) here)) now
 in_partly known (x ∷ xs) raw (inr more) old =
     in_cond x raw (partly known xs) (known (identifier_of x)) (in_partly known xs raw more old)
 
@@ -200,12 +189,11 @@ take_by : (full : List Raw) (C : Raw → Type 0) (raw : Raw) (known : ℕ → Bo
     → IsTaken full C raw (partly known full)
 take_by full C raw known up few inside has true e =
     let there = place_of (partly known full) raw (in_partly known full raw inside e) in
-    let same = kept_where_found raw (partly known full) there.0 (ascends_partly known full up) there.1 in
     record {
       room = room_for_known raw (partly known full) (known_where_found raw (partly known full) there.0 there.1);
       part_is = record {
         known = known;
-        is = sym same;
+        is = sym (kept_where_found raw (partly known full) there.0 (ascends_partly known full up) there.1);
         has = λ x in_full c. elim c [
           | inl old ↦ has x in_full old
           | inr now ↦ ap (λ (y : Raw). known (identifier_of y)) (sym now) ∙ e
@@ -213,9 +201,8 @@ take_by full C raw known up few inside has true e =
       };
     }
 take_by full C raw known up few inside has false e =
-    let less = fewer known full raw inside e in
     record {
-      room = room_for_new raw (partly known full) (omega (arith, less, few));
+      room = room_for_new raw (partly known full) (omega (arith, fewer known full raw inside e, few));
       part_is = record {
         known = with_known (identifier_of raw) known;
         is = kept-new raw (partly known full) (unknown known full raw e) ∙ added known full raw up inside e;
@@ -230,8 +217,7 @@ take_by full C raw known up few inside has false e =
 pub part_takes : (full : List Raw) (C : Raw → Type 0) (raw : Raw) (part : List Raw) → IsAscending identifier_of full
     → length full ≤ 64 → In raw full → IsPart full C part → IsTaken full C raw part
 part_takes full C raw part up few inside h =
-    subst (λ (ps : List Raw). IsTaken full C raw ps) (sym h.is)
-    (take_by full C raw h.known up few inside h.has (h.known (identifier_of raw)) refl)
+    rw h.is (take_by full C raw h.known up few inside h.has (h.known (identifier_of raw)) refl)
 
 pub part_weaker : (full : List Raw) (C D : Raw → Type 0) (part : List Raw) → ((x : Raw) → In x full → D x → C x)
     → IsPart full C part → IsPart full D part
@@ -247,9 +233,7 @@ part_empty full = record { known = λ k. false; is = none_known full; has = λ x
 all_known : (known : ℕ → Bool) (xs : List Raw) → ((x : Raw) → In x xs → known (identifier_of x) ≡ true)
     → partly known xs ≡ xs
 all_known known [] h = refl
-all_known known (x ∷ xs) h =
-    ap (λ b. cond b (x ∷ partly known xs) (partly known xs)) (h x (inl refl))
-    ∙ ap (λ ys. x ∷ ys) (all_known known xs (λ y more. h y (inr more)))
+all_known known (x ∷ xs) h = cc (h x (inl refl), all_known known xs (λ y more. h y (inr more)))
 
 pub part_whole : (full : List Raw) (C : Raw → Type 0) (part : List Raw) → IsPart full C part
     → ((x : Raw) → In x full → C x) → full ≡ part

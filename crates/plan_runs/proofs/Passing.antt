@@ -57,8 +57,7 @@ swap_pauses (Perhaps hi) t (Some l) c n due (inr h) = none_some l _ h.none refl
 joins_idle : (pending : Swap) (t : Known) (n : Configuration) → pending ≡ Idle → n ≡ t.current → n ≡ t.next
     → ComesBy 0 pending t.current t.next None n n
 joins_idle Idle t n e a b = inl (record { none = refl; current = a; next = b })
-joins_idle (Within lo hi) t n e a b = absurd cc
-joins_idle (Perhaps hi) t n e a b = absurd cc
+joins_idle _ t n e a b = absurd cc
 
 pub swap_joins : (t : Known) (left : Option ℕ) (n : Configuration) → JoinsBy t left n
     → ComesBy 0 t.pending t.current t.next None n n
@@ -70,8 +69,7 @@ pub now : (pending : Swap) (t : Known) (left : Option ℕ) (c n : Configuration)
     → ComesBy 0 pending t.current t.next left c n → AgreesBy pending t.current t.next left c n
 now Idle t left c n a (inl h) = h
 now Idle t left c n a (inr h) =
-    let later : IsAhead (Some h.frames) = subst IsAhead h.is a in
-    absurd (omega (arith, later, h.most))
+    absurd (omega (arith, subst IsAhead h.is a, h.most))
 now (Within lo hi) t left c n a h =
     record {
       frames = h.frames;
@@ -159,8 +157,7 @@ pub pauses_later : (pending : Swap) (t : Known) (left : Option ℕ) (c n : Confi
 pauses_later Idle t left c n a (inl h) =
     inl (record { none = after_none left h.none; current = h.current; next = h.next })
 pauses_later Idle t left c n a (inr h) =
-    let later : IsAhead (Some h.frames) = subst IsAhead h.is a in
-    absurd (omega (arith, later, h.most))
+    absurd (omega (arith, subst IsAhead h.is a, h.most))
 pauses_later (Within lo hi) t left c n a h = h
 pauses_later (Perhaps hi) t left c n a (inl h) =
     inl (record {
@@ -204,7 +201,6 @@ wait_within n lo hi t left c x some certain h true e =
     }
 wait_within n lo hi t left c x some certain h false e =
     let above : lo ≤ n = ltb-false n lo e in
-    let past : hi ≤ n = elim certain [ inl early ↦ absurd (omega arith) | inr late ↦ late ] in
     inr (record {
       frames = h.frames - 1;
       is = after_some left h.frames h.is;
@@ -218,7 +214,6 @@ wait_perhaps : (n hi : ℕ) (t : Known) (left : Option ℕ) (c x : Configuration
     → (let u : Known = cond test (record t { pending = Perhaps (hi - n) }) (known_after_swap t) in
     ComesBy (n - 1) u.pending u.current u.next (left_after_frame left) c x)
 wait_perhaps n hi t left c x some (inl h) true e =
-    let below : n < hi = ltb-true n hi e in
     inl (record {
       frames = h.frames - 1;
       is = after_some left h.frames h.is;
@@ -246,8 +241,7 @@ pub wait_by : (n : ℕ) (pending : Swap) (t : Known) (left : Option ℕ) (c x : 
     → IsCertain n pending → AgreesBy pending t.current t.next left c x
     → (let u = after_wait n pending t in ComesBy (n - 1) u.pending u.current u.next (left_after_frame left) c x)
 wait_by n Idle t left c x is some certain h =
-    subst (λ (p : Swap). ComesBy (n - 1) p t.current t.next (left_after_frame left) c x) (sym is)
-    (inl (record { none = after_none left h.none; current = h.current; next = h.next }))
+    rw is (inl (record { none = after_none left h.none; current = h.current; next = h.next }))
 wait_by n (Within lo hi) t left c x is some certain h = wait_within n lo hi t left c x some certain h (nat_lt n lo) refl
 wait_by n (Perhaps hi) t left c x is some certain h = wait_perhaps n hi t left c x some h (nat_lt n hi) refl
 
@@ -258,7 +252,6 @@ pause_within : (hi : ℕ) (t : Known) (left : Option ℕ) (c x : Configuration) 
     → (let u : Known = cond test (record t { pending = Perhaps (hi - 1) }) (known_after_swap t) in
     PausesBy u.pending u.current u.next (left_after_frame left) c x)
 pause_within hi t left c x low h true e =
-    let below : 1 < hi = ltb-true 1 hi e in
     inl (record {
       frames = h.frames - 1;
       is = after_some left h.frames h.is;
@@ -289,8 +282,7 @@ pub pause_by : (pending : Swap) (t : Known) (left : Option ℕ) (c x : Configura
     → AgreesBy pending t.current t.next left c x
     → (let u = after_pause pending t in PausesBy u.pending u.current u.next (left_after_frame left) c x)
 pause_by Idle t left c x is h =
-    subst (λ (p : Swap). PausesBy p t.current t.next (left_after_frame left) c x) (sym is)
-    (inl (record { none = after_none left h.none; current = h.current; next = h.next }))
+    rw is (inl (record { none = after_none left h.none; current = h.current; next = h.next }))
 pause_by (Within lo hi) t left c x is h = pause_within hi t left c x lo h (nat_lt 1 hi) refl
 pause_by (Perhaps hi) t left c x is (inl h) = pause_within hi t left c x 1 h (nat_lt 1 hi) refl
 pause_by (Perhaps hi) t left c x is (inr h) = pause_idle hi t left c x h (nat_lt 1 hi)
@@ -319,9 +311,7 @@ pending_as d e lower greater p q under over h =
 pub fits_by : (a b : Swap) (t d : Known) (left : Option ℕ) (c n : Configuration) → FitsSwap a b t d
     → AgreesBy a t.current t.next left c n → AgreesBy b d.current d.next left c n
 fits_by Idle Idle t d left c n f h = idle_as d.current d.next f.0 f.1 h
-fits_by Idle (Within low high) t d left c n f h = absurd f
 fits_by Idle (Perhaps high) t d left c n f h = inr (idle_as d.next d.next f.0 f.1 h)
-fits_by (Within lo hi) Idle t d left c n f h = absurd f
 fits_by (Within lo hi) (Within low high) t d left c n f h = pending_as d.current d.next low high f.0.0 f.0.1 f.1 f.2 h
 fits_by (Within lo hi) (Perhaps high) t d left c n f h =
     inl (record {
@@ -333,8 +323,7 @@ fits_by (Within lo hi) (Perhaps high) t d left c n f h =
       current = h.current ∙ f.0.0;
       next = h.next ∙ f.0.1;
     })
-fits_by (Perhaps hi) Idle t d left c n f h = absurd f
-fits_by (Perhaps hi) (Within low high) t d left c n f h = absurd f
 fits_by (Perhaps hi) (Perhaps high) t d left c n f (inl h) =
     inl (pending_as d.current d.next 1 high f.0.0 f.0.1 (omega arith) f.1 h)
 fits_by (Perhaps hi) (Perhaps high) t d left c n f (inr h) = inr (idle_as d.next d.next f.0.1 f.0.1 h)
+fits_by _ _ t d left c n f h = absurd f

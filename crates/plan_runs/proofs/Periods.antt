@@ -33,8 +33,7 @@ unfolding pages_on
 pages_up pages zero page_index below = omega arith
 pages_up pages (suc d) page_index below =
     let one : page_index + 1 + d ≡ page_index + suc d = omega arith in
-    ap (pages_on pages d) (after_up pages page_index (omega (arith, below)))
-    ∙ pages_up pages d (page_index + 1) (omega (arith, below)) ∙ one
+    cc (after_up pages page_index (omega (arith, below)), pages_up pages d (page_index + 1) (omega (arith, below)), one)
 
 pages_joined : (pages d e page_index : ℕ) → pages_on pages (d + e) page_index
     ≡ pages_on pages e (pages_on pages d page_index)
@@ -64,17 +63,14 @@ reaches : (pages page_index page : ℕ) → page_index < pages → page < pages 
 reaches pages page_index page t p =
     elim (split_le page_index page) [
       | inl up ↦
-          let sum : page_index + (page - page_index) ≡ page = omega (arith, up) in
           record {
             frames = page - page_index;
             within = omega (arith, p);
-            there = pages_up pages (page - page_index) page_index (omega (arith, up, p)) ∙ sum;
+            there = pages_up pages (page - page_index) page_index (omega (arith, up, p)) ∙ (omega (arith, up));
           }
       | inr down ↦
           let last : ℕ = pages - 1 - page_index in
           let top : page_index + last ≡ pages - 1 = omega (arith, t) in
-          let end : pages - 1 + 1 ≡ pages = omega (arith, t) in
-          let zero_page : 0 + page ≡ page = omega arith in
           record {
             frames = last + suc page;
             within = omega (arith, t, down);
@@ -82,9 +78,9 @@ reaches pages page_index page t p =
                 pages_joined pages last (suc page) page_index
                 ∙ ap (pages_on pages (suc page)) (pages_up pages last page_index (omega (arith, t)) ∙ top)
                 ∙ pages_one pages page (pages - 1)
-                ∙ ap (pages_on pages page) (page_wraps pages (pages - 1) end)
+                ∙ ap (pages_on pages page) (page_wraps pages (pages - 1) (omega (arith, t)))
                 ∙ pages_up pages page 0 (omega (arith, p))
-                ∙ zero_page;
+                ∙ (omega arith);
           }
     ]
 
@@ -108,8 +104,7 @@ sent_new : (plan : Plan) (count : ℕ) (left : Option ℕ) (c n : Configuration)
     → page_set c (cond (is_noticed plan.notice left) (Some n) None) ≡ ms
 sent_new plan count None c n ms new other e = e
 sent_new plan count (Some l) c n ms new other e =
-    let apart = eqb-false l plan.notice other in
-    let off = not_noticed plan.notice l (omega (arith, new.0, apart)) in
+    let off = not_noticed plan.notice l (omega (arith, new.0, eqb-false l plan.notice other)) in
     ap (λ (b : Bool). page_set c (cond b (Some n) None)) off ∙ e
 
 sent_on : (plan : Plan) (l : ℕ) (c n : Configuration) (ms : List Marked) → 1 ≤ l
@@ -132,20 +127,16 @@ sent_same : (plan : Plan) (count : ℕ) (before left : Option ℕ) (c n m : Conf
     → page_set c (cond (is_noticed plan.notice left) (Some m) None) ≡ ms
 sent_same plan count None left c n m ms a g other h = sent_new plan count left c m ms g other h
 sent_same plan count (Some l) left c n m ms a g other h =
-    let other_l : is_first_noticed plan.notice (Some l) ≡ false =
-    subst (λ (o : Option ℕ). is_first_noticed plan.notice o ≡ false) g.0 other in
+    let other_l = subst (λ (o : Option ℕ). is_first_noticed plan.notice o ≡ false) g.0 other in
     let there = sent_on plan l c n ms a other_l h in
-    ap (λ (o : Option ℕ). page_set c (cond (is_noticed plan.notice o) (Some m) None)) g.0
-    ∙ ap (λ (x : Configuration). page_set c (cond (is_noticed plan.notice (Some l)) (Some x) None)) g.1
-    ∙ there
+    cc (g.0, g.1, there)
 
 -- ---- hearing a frame
 
 heard_page : PageLaws → (plan : Plan) (u : State) → Airs plan u → (ms : List Marked) → sent_entries plan u ≡ ms
     → (m : Marked) → Contains (page_entries plan.layout u.page_index ms) m → IsHeardInRow (shown_bytes plan u) m
 heard_page laws plan u a ms e m inside =
-    let there : Contains (page_entries plan.layout u.page_index (sent_entries plan u)) m =
-    subst (λ (es : List Marked). Contains (page_entries plan.layout u.page_index es) m) (sym e) inside in
+    let there = subst (λ (es : List Marked). Contains (page_entries plan.layout u.page_index es) m) (sym e) inside in
     (laws.heard plan.layout (ensemble_sent plan u) u.page_index (sent_entries plan u) (pageable laws plan u a) m).1
     there
 
@@ -223,21 +214,18 @@ comes laws p ts c s (Frame ∷ es) h phase ms page_index zero page g there below
     let u : State = shown p s in
     let sent = sends p ts c s h phase.0 ms page_index g in
     let here : page ≡ u.page_index = sym there ∙ pages_none (rounds p.plan.layout ms) page_index ∙ sym sent.turn_is in
-    let now : Contains (page_entries p.plan.layout u.page_index ms) m =
-    subst (λ (x : ℕ). Contains (page_entries p.plan.layout x ms) m) here inside in
+    let now = subst (λ (x : ℕ). Contains (page_entries p.plan.layout x ms) m) here inside in
     heard_first (frame_bytes p s) (run_frames p (after_frame p s) es) m
     (heard_page laws p.plan u (airs p ts c s h) ms sent.entries m now)
 comes laws p ts c s (Frame ∷ es) h phase ms page_index (suc d) page g there below m inside =
     let u : State = shown p s in
     let pages : ℕ = rounds p.plan.layout ms in
     let sent = sends p ts c s h phase.0 ms page_index g in
-    let next = after_goes p.plan u (airs p ts c s h) ms sent.entries in
     let step : pages_on pages d (page_after pages u.page_index) ≡ page =
-    ap (λ (x : ℕ). pages_on pages d (page_after pages x)) sent.turn_is ∙ sym (pages_one pages d page_index)
-    ∙ there in
+    cc (sent.turn_is, pages_one pages d page_index, there) in
     heard_later (frame_bytes p s) (run_frames p (after_frame p s) es) m
     (comes laws p ts c (after_frame p s) es (frame_holds p ts c s h) phase.1 ms (page_after pages u.page_index) d page
-    next step (omega (arith, below)) m inside)
+    (after_goes p.plan u (airs p ts c s h) ms sent.entries) step (omega (arith, below)) m inside)
 
 -- ---- a period
 
@@ -251,7 +239,7 @@ rounds_by plan (Some l) c n true e a h = h.within_period
 pub sent_period : (plan : Plan) (u : State) → Airs plan u → sent_rounds plan u ≤ plan.period
 sent_period plan u a = rounds_by plan u.left u.current u.next (is_noticed plan.notice u.left) refl a.on_air a.committed
 
-current_inside : (c n : Configuration) (b : Bool) (m : Marked) → Contains (facts_of c false) m
+pub current_inside : (c n : Configuration) (b : Bool) (m : Marked) → Contains (facts_of c false) m
     → Contains (page_set c (cond b (Some n) None)) m
 current_inside c n false m h = h
 current_inside c n true m h = Contains-append_left (facts_of c false) (facts_of n true) m h
@@ -267,20 +255,16 @@ way_heard : PageLaws → (p : Program) (ts : List Known) → IsCode p ts → (s 
     → pages_on (rounds p.plan.layout ms) d (shown p s).page_index ≡ page → d < length (run_frames p s (Frame ∷ es))
     → (m : Marked) → Contains (page_entries p.plan.layout page ms) m → IsHeardInSome (run_frames p s (Frame ∷ es)) m
 way_heard laws p ts c s es h phase u is a ms e page zero there below m inside =
-    let here : page ≡ (shown p s).page_index = sym there
-    ∙ pages_none (rounds p.plan.layout ms) (shown p s).page_index in
-    let now : Contains (page_entries p.plan.layout (shown p s).page_index ms) m =
-    subst (λ (x : ℕ). Contains (page_entries p.plan.layout x ms) m) here inside in
+    let here = sym there ∙ pages_none (rounds p.plan.layout ms) (shown p s).page_index in
+    let now = subst (λ (x : ℕ). Contains (page_entries p.plan.layout x ms) m) here inside in
     heard_first (frame_bytes p s) (run_frames p (after_frame p s) es) m
     (heard_page laws p.plan (shown p s) a ms e m now)
 way_heard laws p ts c s es h phase u is a ms e page (suc d) there below m inside =
     let pages : ℕ = rounds p.plan.layout ms in
     let next = after_goes p.plan (shown p s) a ms e in
-    let step : pages_on pages d (page_after pages (shown p s).page_index) ≡ page =
-    sym (pages_one pages d (shown p s).page_index) ∙ there in
     heard_later (frame_bytes p s) (run_frames p (after_frame p s) es) m
     (comes laws p ts c (after_frame p s) es (frame_holds p ts c s h) phase ms (page_after pages (shown p s).page_index)
-    d page next step (omega (arith, below)) m inside)
+    d page next (sym (pages_one pages d (shown p s).page_index) ∙ there) (omega (arith, below)) m inside)
 
 whole : PageLaws → (p : Program) (ts : List Known) → IsCode p ts → (s : State) (es : List Event) → Holds p ts s
     → IsOnePhase p s es → length (run_frames p s es) ≡ p.plan.period → 1 ≤ p.plan.period
@@ -289,26 +273,22 @@ whole laws p ts c s [] h phase long some m inside = absurd (omega (arith, long, 
 whole laws p ts c s (Contact k closed ∷ es) h phase long some m inside =
     let t : State = happens p s (Contact k closed) in
     let same : (with_due_swap t).current ≡ (with_due_swap s).current = contact_current s t (is_due s.left) refl refl in
-    whole laws p ts c t es (happens_holds p ts c s (Contact k closed) h) phase long some m
-    (subst (λ (x : Configuration). Contains (facts_of x false) m) (sym same) inside)
+    whole laws p ts c t es (happens_holds p ts c s (Contact k closed) h) phase long some m (rw same inside)
 whole laws p ts c s (Frame ∷ es) h phase long some m inside =
     let u : State = shown p s in
     let v : State = after_burst p s in
     let a = airs p ts c s h in
     let goes = frame_goes p ts c.program c.typing s h.between in
     let carried = frame_carries p c.program s goes.allowed.steps goes.allowed.executes in
-    let current : u.current ≡ (with_due_swap s).current =
-    current_kept v (is_first_noticed p.plan.notice v.left) ∙ carried.current in
+    let current = current_kept v (is_first_noticed p.plan.notice v.left) ∙ carried.current in
     let ms : List Marked = sent_entries p.plan u in
     let pages : ℕ = rounds p.plan.layout ms in
-    let mine : Contains (facts_of u.current false) m =
-    subst (λ (x : Configuration). Contains (facts_of x false) m) (sym current) inside in
+    let mine = subst (λ (x : Configuration). Contains (facts_of x false) m) (sym current) inside in
     let among : Contains ms m = current_inside u.current u.next (is_noticed p.plan.notice u.left) m mine in
     let page = laws.each p.plan.layout ms m among in
     let way = reaches pages u.page_index page.0 (turn_is_page p.plan u a) page.1 in
-    let short : pages ≤ p.plan.period = sent_period p.plan u a in
     way_heard laws p ts c s es h phase u refl a ms refl page.0 way.frames way.there
-    (omega (arith, way.within, short, long)) m page.2
+    (omega (arith, way.within, sent_period p.plan u a, long)) m page.2
 
 pub periods_are_whole : PageLaws → PeriodsAreWhole
 periods_are_whole laws p s h before events phase long =

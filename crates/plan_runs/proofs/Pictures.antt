@@ -62,21 +62,18 @@ others : (m n : ℕ) (C : Raw → Type 0) (raw : Raw) (full : List Raw) → raw.
     → (x : Raw) → In x full → Also C raw x → C x
 others m n C raw full is apart all x inside (inl old) = old
 others m n C raw full is apart all x inside (inr same) =
-    let there : x.ext ≡ n = each_in (λ (r : Raw). r.ext ≡ n) full x all inside in
-    absurd (apart (sym is ∙ ap (λ (r : Raw). r.ext) same ∙ there))
+    absurd (apart (sym is ∙ ap (λ (r : Raw). r.ext) same ∙ (each_in (λ (r : Raw). r.ext ≡ n) full x all inside)))
 
 pub grows : (full : Pictured) (C : Raw → Type 0) (raw : Raw) (p : Pictured) → IsSet full → IsOf raw full
     → IsPartial full C p → IsGrown full C raw p
 grows full C raw p set (inl (ext, inside)) h =
-    let a : Option Pictured = Some (with_subs p (kept raw p.subs)) in
     let b : Option Pictured = cond (has_room raw p.services) (Some (with_services p (kept raw p.services))) None in
     let c : Option Pictured = cond (has_room raw p.packets) (Some (with_packets p (kept raw p.packets))) None in
-    let taken = part_takes full.subs C raw p.subs set.subs_ascend set.subs_few inside h.subs in
     record {
       after = with_subs p (kept raw p.subs);
-      is = ap (λ (n : ℕ). by_ext n a b c) ext;
+      is = ap (λ (n : ℕ). by_ext n (Some (with_subs p (kept raw p.subs))) b c) ext;
       partial = record {
-        subs = taken.part_is;
+        subs = (part_takes full.subs C raw p.subs set.subs_ascend set.subs_few inside h.subs).part_is;
         services = part_weaker full.services C (Also C raw) p.services
             (others 1 2 C raw full.services ext (λ e. omega (arith, e)) set.services) h.services;
         packets = part_weaker full.packets C (Also C raw) p.packets
@@ -234,12 +231,9 @@ ascends_said key f P (x ∷ xs) same all up = (
 
 pub whole_is_set : (c : Configuration) → IsConfiguration c → IsSet (whole_of c)
 whole_is_set c h =
-    let subs : length (map (λ s. raw_entry (sub_entry s)) c.subs) ≡ length c.subs =
-    length-map c.subs (λ s. raw_entry (sub_entry s)) in
-    let services : length (map (λ s. raw_entry (service_entry s)) c.services) ≡ length c.services =
-    length-map c.services (λ s. raw_entry (service_entry s)) in
-    let packets : length (map (λ s. raw_entry (packet_entry s)) c.packets) ≡ length c.packets =
-    length-map c.packets (λ s. raw_entry (packet_entry s)) in
+    let subs = length-map c.subs (λ s. raw_entry (sub_entry s)) in
+    let services = length-map c.services (λ s. raw_entry (service_entry s)) in
+    let packets = length-map c.packets (λ s. raw_entry (packet_entry s)) in
     record {
       subs = each_said (λ s. raw_entry (sub_entry s)) 1 c.subs (λ x. refl);
       services = each_said (λ s. raw_entry (service_entry s)) 2 c.services (λ x. refl);

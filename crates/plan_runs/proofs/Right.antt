@@ -43,9 +43,7 @@ page_laws = record {
 
 not_both : (a b : Bool) → (cond (not a) 1 0) + (cond (not b) 2 0) ≡ 0 → (a ≡ true) × (b ≡ true)
 not_both true true e = (refl, refl)
-not_both true false e = absurd (omega (arith, e))
-not_both false true e = absurd (omega (arith, e))
-not_both false false e = absurd (omega (arith, e))
+not_both _ _ e = absurd (omega (arith, e))
 
 unchanged : (c n : Configuration) → bits_of (change_of c n) ≡ 0 → n ≡ c
 unchanged c n e =
@@ -55,17 +53,13 @@ unchanged c n e =
     let subs : c.subs ≡ n.subs = list_same is_same_sub sub_same c.subs n.subs both.0 in
     let services : c.services ≡ n.services = list_same is_same_service service_same c.services n.services parts.0 in
     let packets : c.packets ≡ n.packets = list_same is_same_packet packet_same c.packets n.packets parts.1 in
-    let same : c ≡ n = λ i. record { subs = subs i; services = services i; packets = packets i } in
-    sym same
+    sym (λ i. record { subs = subs i; services = services i; packets = packets i })
 
 bits_below : (a b : Bool) → (cond a 1 0) + (cond b 2 0) < 4
 bits_below true true = omega arith
 bits_below true false = omega arith
 bits_below false true = omega arith
 bits_below false false = omega arith
-
-change_below : (c n : Configuration) → bits_of (change_of c n) < 4
-change_below c n = bits_below (change_of c n).subs (change_of c n).services
 
 change_some : (c n : Configuration) → n ≢ c → 0 < bits_of (change_of c n)
 change_some c n apart = by (bits_of (change_of c n)) refl
@@ -112,7 +106,7 @@ ensemble_by : (plan : Plan) (s : State) → Airs plan s → (b : Bool) → is_no
     (record { eid = s.eid; change = 0; al = false; count = s.count; occurrence = None }))
 ensemble_by plan s h true e =
     flagged_within s.eid s.count (bits_of (change_of s.current s.next)) (low_of_swap s.count s.left) h.eid h.count
-    (change_below s.current s.next)
+    (bits_below (change_of s.current s.next).subs (change_of s.current s.next).services)
     (change_some s.current s.next (committed_changes plan s.left s.current s.next e h.committed))
     (low_below s.count s.left)
 ensemble_by plan s h false e = plain_within s.eid s.count h.eid h.count
@@ -213,9 +207,6 @@ pub flag_le : (b : Bool) → bit_of b ≤ 1
 flag_le true = omega arith
 flag_le false = omega arith
 
-byte_ext : (h : Head) → h.ext ≤ 3 → head_byte h % 32 ≡ h.ext
-byte_ext h low = omega (arith, low, flag_le h.next, flag_le h.oe, flag_le h.long)
-
 not_ours : (oe : Bool) (second : ℕ) (bytes : List ℕ) (es : List (List ℕ)) → 1 ≤ second % 32
     → IsNoHeader (cond oe (Other bytes) (Open second es))
 not_ours true second bytes es some h = h
@@ -223,8 +214,7 @@ not_ours false second bytes es some h = omega (arith, some, h)
 
 no_header : (w : Written) → IsOrganized w → IsNoHeader (fig_of w)
 no_header w h =
-    let ext = byte_ext w.head h.1 in
-    let some : 1 ≤ head_byte w.head % 32 = omega (arith, ext, h.0) in
+    let some : 1 ≤ head_byte w.head % 32 = omega (arith, h.0) in
     not_ours w.head.oe (head_byte w.head) (fig_bytes w.head w.entries) (map entry_bytes w.entries) some
 
 no_headers : (fs : List Written) → AllByRecursion IsOrganized fs → AllByRecursion IsNoHeader (map fig_of fs)
@@ -245,8 +235,7 @@ fib_is [] bytes h n below = absurd (omega (arith, below))
 fib_is (figs ∷ rest) bytes h zero below = record { figs = figs; there = refl; valid = h.0 }
 fib_is (figs ∷ rest) bytes h (suc n) below =
     let later = fib_is rest (drop 32 bytes) h.1 n (omega (arith, below)) in
-    let places : drop (32 * n) (drop 32 bytes) ≡ drop (32 * suc n) bytes =
-    drop-drop (32 * n) 32 bytes ∙ ap (λ k. drop k bytes) (omega arith) in
+    let places = drop-drop (32 * n) 32 bytes ∙ ap (λ k. drop k bytes) (omega arith) in
     record {
       figs = later.figs;
       there = later.there;
@@ -277,8 +266,7 @@ mapped_organized : (layout : FrameLayout) (ms : List Marked) → AreSendable ms
     → AllByRecursion IsOrganized figs
 mapped_organized layout ms h [] n figs e = reserved_organized (reserved_fibs layout) n figs e
 mapped_organized layout ms h (m ∷ ns) zero figs e =
-    let same : figs_of (entries_in_fib m ms (packing layout ms)) ≡ figs = cc e in
-    subst (λ (f : List Written). AllByRecursion IsOrganized f) same
+    subst (λ (f : List Written). AllByRecursion IsOrganized f) (cc e)
     (figs_organized (entries_in_fib m ms (packing layout ms))
     (sendable_where (λ x. x == m) ms (packing layout ms) h))
 mapped_organized layout ms h (m ∷ ns) (suc n) figs e = mapped_organized layout ms h ns n figs e
@@ -295,8 +283,7 @@ valid_at : PageLaws → (plan : Plan) (s : State) → Airs plan s → (n : ℕ) 
     → IsFibAt (page_figs plan.layout (ensemble_sent plan s) s.page_index (sent_entries plan s)) (shown_bytes plan s) n
 valid_at laws plan s h n below =
     let figs : List (List Written) = page_figs plan.layout (ensemble_sent plan s) s.page_index (sent_entries plan s) in
-    let long : length figs ≡ frame_fibs plan.layout =
-    page_length plan.layout (ensemble_sent plan s) s.page_index (sent_entries plan s) in
+    let long = page_length plan.layout (ensemble_sent plan s) s.page_index (sent_entries plan s) in
     let are = (laws.valid plan.layout (ensemble_sent plan s) s.page_index (sent_entries plan s)
     (pageable laws plan s h)).0 in
     fib_is figs (shown_bytes plan s) are n (omega (arith, below, long))
@@ -318,9 +305,7 @@ first_valid : PageLaws → (plan : Plan) (s : State) → Airs plan s → (o : Op
     → ensemble_sent plan s ≡ o → IsValid (fib_at (shown_bytes plan s) 0) (map fig_of (FirstFigs plan s o))
 first_valid laws plan s h o e =
     let at = valid_at laws plan s h 0 (some_fibs (layout_mode plan.layout)) in
-    let there : Some (FirstFigs plan s (ensemble_sent plan s)) ≡ Some at.figs = at.there in
-    let same : FirstFigs plan s (ensemble_sent plan s) ≡ at.figs = cc there in
-    let now : FirstFigs plan s o ≡ at.figs = sym (ap (FirstFigs plan s) e) ∙ same in
+    let now : FirstFigs plan s o ≡ at.figs = sym (ap (FirstFigs plan s) e) ∙ (cc at.there) in
     subst (λ (f : List Written). IsValid (fib_at (shown_bytes plan s) 0) (map fig_of f)) (sym now) at.valid
 
 others_organized : PageLaws → (plan : Plan) (s : State) → Airs plan s
@@ -406,14 +391,13 @@ headed : PageLaws → (plan : Plan) (s : State) → Airs plan s → s.count % co
     → IsHeadedBy plan s (fib_at (shown_bytes plan s) 0)
 headed laws plan s h whole =
     let e : EnsembleInformation = ensemble_of plan s in
-    let valid = first_valid laws plan s h (Some e) (is_sent plan s whole) in
     let rest : List Written = figs_of (entries_in_fib (first_fib plan.layout s.page_index) (sent_entries plan s)
     (packing plan.layout (sent_entries plan s))) in
     record {
       header = fig_of (record { head = head_of (marked false (EnsembleOf e)); entries = EnsembleOf e ∷ [] });
       others = map fig_of rest;
       information = e;
-      first = valid.fib;
+      first = (first_valid laws plan s h (Some e) (is_sent plan s whole)).fib;
       says = says_it e (ensemble_within plan s h);
       right = ensemble_right plan s;
       alone = no_headers rest (others_organized laws plan s h);

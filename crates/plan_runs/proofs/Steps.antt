@@ -23,24 +23,17 @@ ResumesBy p ts pc Running left c n counters =
     Expects p ts pc counters (λ t. ComesBy 0 t.pending t.current t.next left c n)
 ResumesBy p ts pc (Waits k) left c n counters =
     Expects p ts pc counters (λ t. ComesBy k t.pending t.current t.next left c n)
-ResumesBy p ts pc (WaitsDay d) left c n counters =
-    Expects p ts pc counters (λ t. PausesBy t.pending t.current t.next left c n)
-ResumesBy p ts pc (WaitsContact d closed) left c n counters =
-    Expects p ts pc counters (λ t. PausesBy t.pending t.current t.next left c n)
-ResumesBy p ts pc (WaitsAny closed opened until frames) left c n counters =
-    Expects p ts pc counters (λ t. PausesBy t.pending t.current t.next left c n)
 ResumesBy p ts pc WaitsSwap left c n counters = Expects p ts pc counters (λ t. JoinsBy t left n)
 ResumesBy p ts pc Ended left c n counters = Unit {0}
+ResumesBy p ts pc _ left c n counters =
+    Expects p ts pc counters (λ t. PausesBy t.pending t.current t.next left c n)
 
 -- the machine is suspended, and a wait for a number of frames has one to come
 abbrev pub IsSuspended : Hold → Type 0
 IsSuspended Running = ⊥
 IsSuspended (Waits k) = 1 ≤ k
-IsSuspended (WaitsDay d) = Unit {0}
-IsSuspended (WaitsContact d closed) = Unit {0}
 IsSuspended (WaitsAny closed opened until left) = IfSome left (λ k. 1 ≤ k)
-IsSuspended WaitsSwap = Unit {0}
-IsSuspended Ended = Unit {0}
+IsSuspended _ = Unit {0}
 
 pub not_running : (hold : Hold) → IsSuspended hold → is_running hold ≡ false
 not_running Running h = absurd h
@@ -89,15 +82,12 @@ is_there p ts ty pc b s t None e arrives affords agrees set =
 is_there p ts ty pc b s t (Some label) e arrives affords agrees set =
     let one = found (λ (l : Label). eqb l.pc pc) p.labels label e in
     let place = ty.labels label one.inside in
-    let here : label.pc ≡ pc = eqb-true label.pc pc one.passes in
-    let same : arrives.declared ≡ place.known =
-    declared_once p label arrives.declared place.known arrives.declares place.declares in
+    let same = declared_once p label arrives.declared place.known arrives.declares place.declares in
     let fits = arrives.fits in
-    let cost : label.cost ≡ place.known.allowance = place.declares.cost in
     record {
       known = place.known;
-      there = subst (λ (k : ℕ). slice_get ts k ≡ Some place.known) here place.there;
-      affords = omega (arith, cost, arrives.affords, affords);
+      there = subst (λ (k : ℕ). slice_get ts k ≡ Some place.known) (eqb-true label.pc pc one.passes) place.there;
+      affords = omega (arith, arrives.affords, affords);
       agrees = subst (λ (d : Known). AgreesBy d.pending d.current d.next s.left s.current s.next) same
           (fits_by t.pending arrives.declared.pending t arrives.declared s.left s.current s.next fits.swap agrees);
       set = subst (λ (d : Known). AreSet d.counters s.counters) same (λ r low on. set r low (fits.counters r on));
@@ -109,8 +99,7 @@ pub arrive : (p : Program) (ts : List Known) (ty : IsTyping p ts) (b : ℕ) (s :
     → IsKept p.plan s.left s.current s.next s.counters → RunsAt p ts b s
 arrive p ts ty b s t runs arrives affords agrees set kept =
     let x = is_there p ts ty s.pc b s t (label_at p s.pc) refl arrives affords agrees set in
-    let inside : s.pc < length p.lines = omega (arith, get_below ts s.pc x.known x.there, ty.each) in
-    let line = get_some p.lines s.pc inside in
+    let line = get_some p.lines s.pc (omega (arith, get_below ts s.pc x.known x.there, ty.each)) in
     record {
       runs = runs;
       instr = line.0.instr;

@@ -21,8 +21,7 @@ on_step_by : (plan : Plan) (count : ℕ) (left : Option ℕ) → is_due left ≡
     → count % count_step (layout_mode plan.layout) ≡ 0
 on_step_by plan count None due h = absurd cc
 on_step_by plan count (Some l) due h =
-    let none : l ≡ 0 = due_is l due in
-    let same : count ≡ count + l = omega (arith, none) in
+    let same : count ≡ count + l = omega (arith, due_is l due) in
     ap (λ (x : ℕ). x % count_step (layout_mode plan.layout)) same ∙ h
 
 pub swaps_are_on_steps : SwapsAreOnSteps
@@ -49,8 +48,7 @@ midway p s end zero k h below = absurd (omega (arith, below))
 midway p s end (suc n) zero h below = record { allowed = h.1; more = n; executes = h.2 }
 midway p s end (suc n) (suc k) h below =
     let same : burst (suc k) p s ≡ burst k p (step p s) = ap (λ (b : Bool). cond b (burst k p (step p s)) s) h.0 in
-    let rest : IsMidway p end (burst k p (step p s)) = midway p (step p s) end n k h.2 (omega (arith, below)) in
-    subst (λ (t : State). IsMidway p end t) (sym same) rest
+    subst (λ (t : State). IsMidway p end t) (sym same) (midway p (step p s) end n k h.2 (omega (arith, below)))
 
 -- a commit executed in a frame: its preconditions, and the frames left after this frame's instructions
 pub record IsCommitted (p : Program) (s : State) (i : Instr) (left : ℕ → ℕ) : Type 0 where
@@ -80,12 +78,11 @@ committed p ts c s h i left commits (k, below, instr) =
     let carried : Carries p.plan (commit (left at.count) at) end =
     subst (λ (t : State). Carries p.plan t end) stepped (burst_carries p c.program (step p at) m.more end m.executes) in
     let first : Bool = is_first_noticed p.plan.notice end.left in
-    let shows : end.count ≡ s.count = sym (count_turned end first) ∙ shown_count p s in
     record {
       at = at;
       allowed = subst (λ (j : Instr). IsAllowed p.plan j at) same m.allowed.allowed;
       remains = left_turned end first ∙ carried.left.0;
-      count = sym carried.count ∙ shows;
+      count = sym carried.count ∙ (sym (count_turned end first) ∙ shown_count p s);
     }
 
 -- ---- the frames from a commit to its swap
@@ -103,17 +100,13 @@ pub record IsAwaited (Q : ℕ → ℕ → Type 0) (number count left : ℕ) : Ty
 awaited_later : (Q : ℕ → ℕ → Type 0) (number count left : ℕ) → 1 ≤ left → IsAwaited Q number count left
     → IsAwaited Q (number + 1) ((count + 1) % 5000) (left - 1)
 awaited_later Q number count left some h =
-    let there : number + left ≡ number + 1 + (left - 1) = omega (arith, some) in
-    let then : (count + left) % 5000 ≡ ((count + 1) % 5000 + (left - 1)) % 5000 = omega (arith, some) in
     record {
-      here = subst (λ (x : ℕ). Q (number + 1 + (left - 1)) x) then
-          (subst (λ (x : ℕ). Q x ((count + left) % 5000)) there h.here);
+      here = subst (λ (x : ℕ). Q (number + 1 + (left - 1)) x) (omega (arith, some))
+          (subst (λ (x : ℕ). Q x ((count + left) % 5000)) (omega (arith, some)) h.here);
       none_before = λ i below q.
-          let place : number + 1 + i ≡ number + (i + 1) = omega arith in
-          let when : ((count + 1) % 5000 + i) % 5000 ≡ (count + (i + 1)) % 5000 = omega arith in
           h.none_before (i + 1) (omega (arith, below))
-          (subst (λ (x : ℕ). Q (number + (i + 1)) x) when
-          (subst (λ (x : ℕ). Q x (((count + 1) % 5000 + i) % 5000)) place q));
+          (subst (λ (x : ℕ). Q (number + (i + 1)) x) (omega arith)
+          (subst (λ (x : ℕ). Q x (((count + 1) % 5000 + i) % 5000)) (omega arith) q));
     }
 
 pub zero_or_more : (n : ℕ) → (n ≡ 0) ⊎ (1 ≤ n)
@@ -128,30 +121,23 @@ first_due p ts c Q number left s (Contact d closed ∷ es) h is w =
     first_due p ts c Q number left (happens p s (Contact d closed)) es (happens_holds p ts c s (Contact d closed) h) is
     w
 first_due p ts c Q number left s (Frame ∷ es) h is w =
-    let low : s.count < 5000 = h.tracked.count in
     elim (zero_or_more left) [
       | inl none ↦
           let due : is_due s.left ≡ true = ap is_due is ∙ ap (λ (x : ℕ). is_due (Some x)) none in
           let place : number + left ≡ number = omega (arith, none) in
-          let when : (s.count + left) % 5000 ≡ s.count = omega (arith, none, low) in
+          let when : (s.count + left) % 5000 ≡ s.count = omega (arith, none) in
           inl (due, subst (λ (x : ℕ). Q number x) when (subst (λ (x : ℕ). Q x ((s.count + left) % 5000)) place w.here))
       | inr some ↦
           let waits : is_due s.left ≡ false = ap is_due is ∙ not_due_from (Some left) some in
           let link = links p ts c s h in
-          let u : State = shown p s in
-          let remains : (after_frame p s).left ≡ Some (left - 1) =
-          ap left_after_frame (shown_left p.plan s u left s.left is (link.left waits)) in
-          let place : number ≡ number + 0 = omega arith in
-          let when : s.count ≡ (s.count + 0) % 5000 = omega (arith, low) in
-          let counted : (s.count + 1) % 5000 ≡ (after_frame p s).count =
-          ap (λ (x : ℕ). (x + 1) % 5000) (sym link.count) in
+          let remains = ap left_after_frame (shown_left p.plan s (shown p s) left s.left is (link.left waits)) in
+          let when : s.count ≡ (s.count + 0) % 5000 = omega arith in
           let later : IsAwaited Q (number + 1) (after_frame p s).count (left - 1) =
-          subst (λ (x : ℕ). IsAwaited Q (number + 1) x (left - 1)) counted
-          (awaited_later Q number s.count left some w) in
+          rw (← ap (λ (x : ℕ). (x + 1) % 5000) (sym link.count)) (awaited_later Q number s.count left some w) in
           inr (
             waits,
             (λ q. w.none_before 0 (omega (arith, some))
-                (subst (λ (x : ℕ). Q (number + 0) x) when (subst (λ (x : ℕ). Q x s.count) place q))),
+                (subst (λ (x : ℕ). Q (number + 0) x) when (subst (λ (x : ℕ). Q x s.count) (omega arith) q))),
             first_due p ts c Q (number + 1) (left - 1) (after_frame p s) es (frame_holds p ts c s h) remains later,
           )
     ]
@@ -163,10 +149,8 @@ first_after : (p : Program) (ts : List Known) → IsCode p ts
     → IsAwaited Q 0 s.count left → IsFirstWhere (λ t. is_due t.left) (λ later t. Q later t.count) 1 p (after_frame p s)
     events
 first_after p ts c Q left s events h some is w =
-    let counted : (s.count + 1) % 5000 ≡ (after_frame p s).count =
-    ap (λ (x : ℕ). (x + 1) % 5000) (sym (shown_count p s)) in
-    let later : IsAwaited Q 1 (after_frame p s).count (left - 1) =
-    subst (λ (x : ℕ). IsAwaited Q 1 x (left - 1)) counted (awaited_later Q 0 s.count left some w) in
+    let counted = ap (λ (x : ℕ). (x + 1) % 5000) (sym (shown_count p s)) in
+    let later = subst (λ (x : ℕ). IsAwaited Q 1 x (left - 1)) counted (awaited_later Q 0 s.count left some w) in
     first_due p ts c Q 1 (left - 1) (after_frame p s) events (frame_holds p ts c s h) (ap left_after_frame is) later
 
 -- ---- the commits
@@ -197,8 +181,7 @@ comes_in_time least p ts c s k events h carries =
     let m = committed p ts c s h (CommitIn k) (λ count. left_in (count_step mode) count k) (λ t. refl) carries in
     let r : ℕ = left_in (count_step mode) m.at.count k in
     let first = least mode m.at.count k in
-    let noticed : p.plan.notice ≤ k = m.allowed.1 in
-    let some : 1 ≤ r = omega (arith, first.reached, noticed, c.program.planned.notice_from) in
+    let some : 1 ≤ r = omega (arith, first.reached, c.program.planned.notice_from) in
     let Q : ℕ → ℕ → Type 0 = λ later count. (k ≤ later) × (count % count_step mode ≡ 0) in
     let awaited : IsAwaited Q 0 m.at.count r =
     record {

@@ -123,11 +123,10 @@ turn_below plan (Some l) c n page_index a h =
     elim (split_le l plan.notice) [
       | inl within ↦
           let e = sent_both plan c n (is_noticed plan.notice (Some l)) (noticed plan.notice l a within) in
-          let is = h.within within in
           let below = page_of_below (rounds plan.layout (page_set c (Some n))) (plan.notice - l)
           (some_rounds plan.layout (page_set c (Some n))) in
           subst (λ (x : ℕ). page_index < x) (sym e)
-          (subst (λ (x : ℕ). x < rounds plan.layout (page_set c (Some n))) (sym is) below)
+          (subst (λ (x : ℕ). x < rounds plan.layout (page_set c (Some n))) (sym (h.within within)) below)
       | inr past ↦
           let e = sent_alone plan c n (is_noticed plan.notice (Some l)) (not_noticed plan.notice l past) in
           subst (λ (x : ℕ). page_index < x) (sym e) (h.before past)
@@ -154,8 +153,7 @@ swaps_on_later plan count (Some l) a h = swaps_later (layout_mode plan.layout) c
 page_step : (pages l notice : ℕ) → 1 ≤ l → l ≤ notice → page_after pages (page_of pages (notice - l))
     ≡ page_of pages (notice - (l - 1))
 page_step pages l notice some within =
-    let up : notice - (l - 1) ≡ suc (notice - l) = omega (arith, some, within) in
-    sym (ap (page_of pages) up ∙ page_of_next pages (notice - l))
+    sym (ap (page_of pages) (omega (arith, some, within)) ∙ page_of_next pages (notice - l))
 
 turn_later : (plan : Plan) (left : Option ℕ) (c n : Configuration) (page_index : ℕ) → IsAhead left
     → TurnShown plan left c n page_index
@@ -175,8 +173,7 @@ turn_later plan (Some l) c n page_index a h =
           ∙ page_step both l plan.notice a inside;
       before = λ later.
           let past : plan.notice < l = omega (arith, later, a) in
-          let e : sent ≡ alone = sent_alone plan c n (is_noticed plan.notice (Some l))
-          (not_noticed plan.notice l past) in
+          let e = sent_alone plan c n (is_noticed plan.notice (Some l)) (not_noticed plan.notice l past) in
           subst (λ (x : ℕ). page_after x page_index < alone) (sym e)
           (page_after_below alone page_index (some_rounds plan.layout (page_set c None)));
     }
@@ -219,8 +216,7 @@ turn_carried plan count None left c n m page_index g h = newly_turn plan count l
 turn_carried plan count (Some l) left c n m page_index g h =
     let there : TurnAfter plan (Some l) c n page_index =
     record { within = h.within; before = λ past. h.before (omega (arith, past)) } in
-    subst (λ (o : Option ℕ). TurnAfter plan o c m page_index) (sym g.0)
-    (subst (λ (x : Configuration). TurnAfter plan (Some l) c x page_index) (sym g.1) there)
+    rw g.0 (rw g.1 there)
 
 swaps_carried : (plan : Plan) (count : ℕ) (before left : Option ℕ) (n m : Configuration)
     → LeftBy plan count before n left m → SwapsOn plan count before → SwapsOn plan count left
@@ -278,12 +274,11 @@ first_turn : (plan : Plan) (left : Option ℕ) (c n : Configuration) (page_index
     → is_first_noticed plan.notice left ≡ true → TurnShown plan left c n 0
 first_turn plan None c n page_index e = absurd cc
 first_turn plan (Some l) c n page_index e =
-    let is : l ≡ plan.notice = eqb-true l plan.notice e in
-    let none : plan.notice - l ≡ 0 = omega (arith, is) in
+    let none : plan.notice - l ≡ 0 = omega (arith, eqb-true l plan.notice e) in
     record {
       within = λ inside. sym (ap (page_of (rounds plan.layout (page_set c (Some n)))) none
           ∙ page_of_first (rounds plan.layout (page_set c (Some n))));
-      before = λ past. absurd (omega (arith, past, is));
+      before = λ past. absurd (omega (arith, past, eqb-true l plan.notice e));
     }
 
 other_turn : (plan : Plan) (left : Option ℕ) (c n : Configuration) (page_index : ℕ)
@@ -291,8 +286,7 @@ other_turn : (plan : Plan) (left : Option ℕ) (c n : Configuration) (page_index
     → TurnShown plan left c n page_index
 other_turn plan None c n page_index e h = h
 other_turn plan (Some l) c n page_index e h =
-    let apart = eqb-false l plan.notice e in
-    record { within = λ inside. h.within (omega (arith, inside, apart)); before = h.before }
+    record { within = λ inside. h.within (omega (arith, inside, eqb-false l plan.notice e)); before = h.before }
 
 airs_with : (p : Program) (ts : List Known) (s u : State) (page_index : ℕ) → Tracked p.plan s → Suspends p ts u
     → Carried p.plan s u → TurnShown p.plan u.left u.current u.next page_index

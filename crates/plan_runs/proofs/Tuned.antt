@@ -7,6 +7,7 @@ use Rattle.plan_runs.proofs.Words.{suc, sym, take, true, untuned, where_heard, z
 use Rattle.plan_runs.proofs.Parts.{In, Also}
 use Rattle.plan_runs.proofs.Pictures.{whole_of, IsSet, IsOf, IsPartial, grows, weaker, entries_of, entry_is_of}
 use Rattle.plan_runs.proofs.Hearing.{hear_marked, headed}
+use Rattle.plan_runs.proofs.Passing.{some_is}
 
 -- in a notice the next picture is part of the next configuration; otherwise it is empty
 abbrev pub NextBy : Bool → Configuration → (Raw → Type 0) → Pictured → Type 0
@@ -68,18 +69,14 @@ part_next false n N p e h = absurd cc
 
 -- ---- one entry
 
-some_ext : (raw : Raw) (full : Pictured) → IsOf raw full → (raw.ext == 0) ≡ false
+pub some_ext : (raw : Raw) (full : Pictured) → IsOf raw full → (raw.ext == 0) ≡ false
 some_ext raw full (inl h) = ap (λ (k : ℕ). k == 0) h.0
 some_ext raw full (inr (inl h)) = ap (λ (k : ℕ). k == 0) h.0
 some_ext raw full (inr (inr h)) = ap (λ (k : ℕ). k == 0) h.0
 
 heard_into : (flag : Bool) (raw : Raw) (l : Listening) (q : Pictured) → (raw.ext == 0) ≡ false → l.tuned ≡ true
     → pictured raw (picture_of flag l) ≡ Some q → hear_entry flag raw l ≡ into flag l (Some q)
-heard_into flag raw l q ext is_tuned e =
-    ap (λ (b : Bool). cond b (Some (at_ensemble (ensemble_in raw) l))
-    (cond l.tuned (into flag l (pictured raw (picture_of flag l))) (Some l))) ext
-    ∙ ap (λ (b : Bool). cond b (into flag l (pictured raw (picture_of flag l))) (Some l)) is_tuned
-    ∙ ap (into flag l) e
+heard_into flag raw l q ext is_tuned e = cc (ext, is_tuned, e)
 
 heard_past : (flag : Bool) (raw : Raw) → (raw.ext == 0) ≡ false → hear_entry flag raw untuned ≡ Some untuned
 heard_past flag raw ext =
@@ -182,7 +179,7 @@ hears_entries noticed c n C N awaited (m ∷ ms) l set_c set_n sent h =
           (regroup C (IsSaying false m) (SaidIn false ms)) (regroup N (IsSaying true m) (SaidIn true ms)) rest.knows;
     }
 
-sent_ext : (noticed : Bool) (c n : Configuration) (m : Marked) → IsSentOf noticed c n m
+pub sent_ext : (noticed : Bool) (c n : Configuration) (m : Marked) → IsSentOf noticed c n m
     → ((raw_entry m.entry).ext == 0) ≡ false
 sent_ext noticed c n m (inl h) = some_ext (raw_entry m.entry) (whole_of c) (entry_is_of c m.entry h.1)
 sent_ext noticed c n m (inr h) = some_ext (raw_entry m.entry) (whole_of n) (entry_is_of n m.entry h.2)
@@ -191,8 +188,7 @@ pub passes_entries : (noticed : Bool) (c n : Configuration) (ms : List Marked)
     → AllByRecursion (IsSentOf noticed c n) ms → hear_marked ms untuned ≡ Some untuned
 passes_entries noticed c n [] sent = refl
 passes_entries noticed c n (m ∷ ms) sent =
-    ap (λ (o : Option Listening). where_heard o (hear_marked ms))
-    (heard_past m.next (raw_entry m.entry) (sent_ext noticed c n m sent.0)) ∙ passes_entries noticed c n ms sent.1
+    cc (heard_past m.next (raw_entry m.entry) (sent_ext noticed c n m sent.0), passes_entries noticed c n ms sent.1)
 
 -- ---- FIBs without FIG 0/0
 
@@ -204,9 +200,8 @@ pub record Says (fib : List ℕ) (o : Option EnsembleInformation) (ms : List Mar
 
 abbrev pub AllSay : List (List ℕ) → List (List Marked) → Type 0
 AllSay [] [] = Unit {0}
-AllSay [] (ms ∷ mss) = ⊥
-AllSay (f ∷ fs) [] = ⊥
 AllSay (f ∷ fs) (ms ∷ mss) = Says f None ms × AllSay fs mss
+AllSay _ _ = ⊥
 
 abbrev pub AreSentOf : Bool → Configuration → Configuration → List (List Marked) → Type 0
 AreSentOf noticed c n mss = AllByRecursion (AllByRecursion (IsSentOf noticed c n)) mss
@@ -227,8 +222,6 @@ hears_fibs noticed c n C N awaited [] [] l set_c set_n say sent h = record {
   knows = tuned_weaker noticed c n C (Or C (SaidInSome false [])) N (Or N (SaidInSome true [])) awaited l
       (λ x. only_left C (SaidInSome false []) x (λ e. e)) (λ x. only_left N (SaidInSome true []) x (λ e. e)) h;
 }
-hears_fibs noticed c n C N awaited [] (ms ∷ mss) l set_c set_n say sent h = absurd say
-hears_fibs noticed c n C N awaited (f ∷ fs) [] l set_c set_n say sent h = absurd say
 hears_fibs noticed c n C N awaited (f ∷ fs) (ms ∷ mss) l set_c set_n say sent h =
     let one = hears_entries noticed c n C N awaited ms l set_c set_n sent.0 h in
     let rest = hears_fibs noticed c n (Or C (SaidIn false ms)) (Or N (SaidIn true ms)) awaited fs mss one.after set_c
@@ -242,41 +235,35 @@ hears_fibs noticed c n C N awaited (f ∷ fs) (ms ∷ mss) l set_c set_n say sen
           (regroup C (SaidIn false ms) (SaidInSome false mss)) (regroup N (SaidIn true ms) (SaidInSome true mss))
           rest.knows;
     }
+hears_fibs noticed c n C N awaited _ _ l set_c set_n say sent h = absurd say
 
 pub passes_fibs : (noticed : Bool) (c n : Configuration) (fibs : List (List ℕ)) (mss : List (List Marked))
     → AllSay fibs mss → AreSentOf noticed c n mss → HearsAll fibs untuned untuned
 passes_fibs noticed c n [] [] say sent = refl
-passes_fibs noticed c n [] (ms ∷ mss) say sent = absurd say
-passes_fibs noticed c n (f ∷ fs) [] say sent = absurd say
 passes_fibs noticed c n (f ∷ fs) (ms ∷ mss) say sent = (
   untuned,
   (say.0.figs, say.0.is_fib, say.0.hears untuned ∙ passes_entries noticed c n ms sent.0),
   passes_fibs noticed c n fs mss say.1 sent.1,
 )
+passes_fibs noticed c n _ _ say sent = absurd say
 
 pub some_say : (k : ℕ) (fibs : List (List ℕ)) (mss : List (List Marked)) → AllSay fibs mss
     → AllSay (take k fibs) (take k mss)
-some_say zero fibs mss h = tt
-some_say (suc k) [] [] h = tt
 some_say (suc k) [] (ms ∷ mss) h = absurd h
 some_say (suc k) (f ∷ fs) [] h = absurd h
 some_say (suc k) (f ∷ fs) (ms ∷ mss) h = (h.0, some_say k fs mss h.1)
+some_say _ _ _ h = tt
 
 pub some_sent : (noticed : Bool) (c n : Configuration) (k : ℕ) (mss : List (List Marked)) → AreSentOf noticed c n mss
     → AreSentOf noticed c n (take k mss)
-some_sent noticed c n zero mss h = tt
-some_sent noticed c n (suc k) [] h = tt
 some_sent noticed c n (suc k) (ms ∷ mss) h = (h.0, some_sent noticed c n k mss h.1)
+some_sent noticed c n _ _ h = tt
 
 -- ---- what is heard is unique
-
-some_same : (a b : Listening) → Some a ≡ Some b → a ≡ b
-some_same a b e = cc e
 
 pub hears_same : OneList → (fibs : List (List ℕ)) (l a b : Listening) → HearsAll fibs l a → HearsAll fibs l b → a ≡ b
 hears_same law [] l a b h g = h ∙ sym g
 hears_same law (f ∷ fs) l a b (x, here, rest) (y, there, more) =
     let figs : here.0 ≡ there.0 = law f here.0 there.0 here.1 there.1 in
-    let both : Some x ≡ Some y = sym here.2 ∙ ap (λ fs. hear_figs fs l) figs ∙ there.2 in
-    let same : x ≡ y = some_same x y both in
+    let same : x ≡ y = some_is x y (sym here.2 ∙ ap (λ fs. hear_figs fs l) figs ∙ there.2) in
     hears_same law fs y a b (subst (λ (z : Listening). HearsAll fs z a) same rest) more

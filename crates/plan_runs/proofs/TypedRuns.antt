@@ -13,31 +13,23 @@ use Rattle.plan_runs.proofs.Between.{Between, frame_goes, frame_between}
 
 unset : (counters : Counters) (levels : List ℕ) → counters.0 ≡ 0 → AreSet counters levels
 unset counters levels none r low on =
-    let off : eqb (bit_at counters.0 r) 1 ≡ false = ap (λ (n : ℕ). eqb (bit_at n r) 1) none
-    ∙ ap (λ (n : ℕ). eqb n 1) (bit_at-zero r) in
-    let clash : true ≡ false = sym on ∙ off in
+    let off = ap (λ (n : ℕ). eqb (bit_at n r) 1) none ∙ ap (λ (n : ℕ). eqb n 1) (bit_at-zero r) in
     absurd cc
 
 fits_itself : (q : Swap) (t : Known) → q ≡ Idle → FitsSwap q q t t
 fits_itself Idle t e = (refl, refl)
-fits_itself (Within lo hi) t e = absurd cc
-fits_itself (Perhaps hi) t e = absurd cc
+fits_itself _ t e = absurd cc
 
 comes_idle : (q : Swap) (a b : Configuration) (left : Option ℕ) (c n : Configuration) → q ≡ Idle → IsIdleAs a b left c n
     → ComesBy 0 q a b left c n
 comes_idle Idle a b left c n e h = inl h
-comes_idle (Within lo hi) a b left c n e h = absurd cc
-comes_idle (Perhaps hi) a b left c n e h = absurd cc
+comes_idle _ a b left c n e h = absurd cc
 
 resumes_at : (p : Program) (ts : List Known) (s : State) (pc : ℕ) (hold : Hold) (left : Option ℕ) (counters : List ℕ)
     → pc ≡ s.pc → hold ≡ s.hold → left ≡ s.left → counters ≡ s.counters
     → ResumesBy p ts pc hold left s.current s.next counters
     → ResumesBy p ts s.pc s.hold s.left s.current s.next s.counters
-resumes_at p ts s pc hold left counters a b c d h =
-    subst (λ (x : ℕ). ResumesBy p ts x s.hold s.left s.current s.next s.counters) a
-    (subst (λ (x : Hold). ResumesBy p ts pc x s.left s.current s.next s.counters) b
-    (subst (λ (x : Option ℕ). ResumesBy p ts pc hold x s.current s.next s.counters) c
-    (subst (λ (x : List ℕ). ResumesBy p ts pc hold left s.current s.next x) d h)))
+resumes_at p ts s pc hold left counters a b c d h = rw (← a) (rw (← b) (rw (← c) (rw (← d) h)))
 
 pub started_between : (p : Program) (ts : List Known) (start : Start) (s : State) → IsTyping p ts → IsStart p start s
     → Between p ts s
@@ -46,32 +38,28 @@ started_between p ts start s ty st =
     let label : Label = o.label in
     let known : Known = o.known in
     let one : label ≡ st.label = same_some label st.label (label_at p 0) o.first st.first in
-    let at : slice_get p.configurations label.cur ≡ Some s.current =
-    subst (λ (l : Label). slice_get p.configurations l.cur ≡ Some s.current) (sym one) st.current in
-    let current : known.current ≡ s.current =
-    same_some known.current s.current (slice_get p.configurations label.cur) o.declares.current at in
+    let at = subst (λ (l : Label). slice_get p.configurations l.cur ≡ Some s.current) (sym one) st.current in
+    let current = same_some known.current s.current (slice_get p.configurations label.cur) o.declares.current at in
     let next : s.next ≡ known.next = st.next ∙ sym current ∙ o.opening.initial.same in
     let place = ty.labels label (found (λ (l : Label). eqb l.pc 0) p.labels label o.first).inside in
-    let cost : label.cost ≡ known.allowance = o.declares.cost in
     let comes_to : CanEnter p label known =
     record {
       declared = known;
       declares = o.declares;
       fits = record { swap = fits_itself known.pending known o.opening.initial.idle; counters = λ r on. on };
-      affords = omega (arith, cost);
+      affords = omega arith;
     } in
     let expects : Expects p ts 0 (replicate 8 0) (λ t. ComesBy 0 t.pending t.current t.next None s.current s.next) =
     record {
       known = known;
       arrives = subst (λ (x : Option Label). Arrives p ts 0 x known) (sym o.first) comes_to;
-      affords = omega (arith, cost, place.within);
+      affords = omega (arith, place.within);
       set = unset known.counters (replicate 8 0) o.opening.initial.unset;
       comes = comes_idle known.pending known.current known.next None s.current s.next o.opening.initial.idle
           (record { none = refl; current = sym current; next = next });
     } in
     let on_air : IsOnAir p.plan s.current =
-    subst (λ (c : Configuration). IsOnAir p.plan c) current
-    (record { sound = o.opening.sound; within_period = o.opening.within_period }) in
+    rw (← current) (record { sound = o.opening.sound; within_period = o.opening.within_period }) in
     record {
       resumes = resumes_at p ts s 0 Running None (replicate 8 0) (sym st.pc) (sym st.hold) (sym st.left)
           (sym st.counters) expects;
@@ -105,8 +93,7 @@ run_allowed p ts pr ty s (Frame ∷ es) h =
 pub reached_between : (p : Program) (ts : List Known) → IsProgram p → IsTyping p ts → (s : State) → IsReached p s
     → Between p ts s
 reached_between p ts pr ty s r =
-    subst (λ (t : State). Between p ts t) r.leads
-    (run_between p ts pr ty r.first r.events (started_between p ts r.start r.first ty r.started))
+    rw (← r.leads) (run_between p ts pr ty r.first r.events (started_between p ts r.start r.first ty r.started))
 
 pub typed_code_runs : TypedCodeRuns
 typed_code_runs p s events h =

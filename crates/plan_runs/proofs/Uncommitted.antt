@@ -60,11 +60,8 @@ begun s (inr due) = ap (λ (b : Bool). (cond b (with_swap s) s).left) due
 pub swaps_are_committed : SwapsAreCommitted
 swaps_are_committed p s idle other =
     let t : State = with_due_swap s in
-    let before : (ready s).left ≡ None = either_left (is_here t t.hold) (record t { hold = Running }) t refl
-    ∙ begun s idle in
+    let before = either_left (is_here t t.hold) (record t { hold = Running }) t refl ∙ begun s idle in
     let end : State = after_burst p s in
-    let after : end.left ≡ None = burst_left p.plan.budget p (ready s) (λ k i below at. other i (k, below, at))
-    ∙ before in
     let shows = either_left (is_first_noticed p.plan.notice end.left) (record end { page_index = 0 }) end refl
-    ∙ after in
+    ∙ (burst_left p.plan.budget p (ready s) (λ k i below at. other i (k, below, at)) ∙ before) in
     ap left_after_frame shows

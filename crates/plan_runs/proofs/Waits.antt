@@ -44,9 +44,7 @@ ends_is s false e = without_swap s s.hold e
 steps_by : (budget : ℕ) (p : Program) (s : State) (runs : Bool) → is_running s.hold ≡ runs → 1 ≤ budget
     → nat_le 1 (burst_steps budget p s) ≡ runs
 steps_by zero p s runs e some = absurd (omega (arith, some))
-steps_by (suc most) p s true e some =
-    ap (λ (b : Bool). nat_le 1 (cond b (1 + burst_steps most p (step p s)) 0)) e
-    ∙ le-leb 1 (1 + burst_steps most p (step p s)) (omega arith)
+steps_by (suc most) p s true e some = cc (e, le-leb 1 (1 + burst_steps most p (step p s)) (omega arith))
 steps_by (suc most) p s false e some = ap (λ (b : Bool). nat_le 1 (cond b (1 + burst_steps most p (step p s)) 0)) e
 
 ready_runs : (s : State) (here : Bool) → is_here s s.hold ≡ here
@@ -87,13 +85,9 @@ still_held p s away =
     let t : State = with_due_swap s in
     let not_here : is_here t t.hold ≡ false = ends_is s (is_due s.left) refl ∙ away in
     let same : ready s ≡ t = ap (λ (b : Bool). cond b (let r : State = record t { hold = Running } in r) t) not_here in
-    let rests : is_running (ready s).hold ≡ false = ap (λ (x : State). is_running x.hold) same
-    ∙ still_stops t t.hold not_here in
+    let rests = ap (λ (x : State). is_running x.hold) same ∙ still_stops t t.hold not_here in
     let held : (shown p s).hold ≡ s.hold =
-    hold_shown p s
-    ∙ ap (λ (x : State). x.hold) (burst_stays p.plan.budget p (ready s) rests)
-    ∙ ap (λ (x : State). x.hold) same
-    ∙ hold_begun s (is_due s.left) refl away in
+    cc (hold_shown p s, burst_stays p.plan.budget p (ready s) rests, same, hold_begun s (is_due s.left) refl away) in
     ap hold_after_frame held
 
 -- ---- frame by frame
@@ -111,8 +105,7 @@ fewer_later n None = refl
 fewer_later n (Some k) = let same : k - n - 1 ≡ k - (n + 1) = omega arith in ap (λ (m : ℕ). Some m) same
 
 fewer_first : (frames : Option ℕ) → left_after_frame frames ≡ fewer 1 frames
-fewer_first None = refl
-fewer_first (Some k) = refl
+fewer_first _ = refl
 
 left_later : (n : ℕ) (frames : Option ℕ) → AreLeft n frames → is_due (fewer n frames) ≡ false → AreLeft (n + 1) frames
 left_later n None left away = tt
@@ -130,9 +123,6 @@ over_frames n frames is = ap (λ (o : Option ℕ). is_due (fewer n o)) is ∙ eq
 day_is : (day : ℕ) (until : Option ℕ) → is_day day until ≡ true → until ≡ Some day
 day_is day None here = absurd cc
 day_is day (Some t) here = let same = eqb-true day t here in ap (λ (m : ℕ). Some m) (sym same)
-
-is_the_day : (day : ℕ) (until : Option ℕ) → until ≡ Some day → is_day day until ≡ true
-is_the_day day until is = ap (is_day day) is ∙ eq-eqb day day refl
 
 alternative : (s : State) (closed opened : Contacts) (until frames : Option ℕ) (n : ℕ) → AreLeft n frames
     → is_any_here s closed opened until (fewer n frames) ≡ true
@@ -160,7 +150,7 @@ by_alternative s closed opened until frames n came =
         | inl level ↦ or_left (any_open opened s.contacts) _
             (is_open_one opened s.contacts level.0 level.1 level.2 level.3)
         | inr times ↦ or_right (any_open opened s.contacts) _ (elim times [
-          | inl day ↦ or_left (is_day s.day until) _ (is_the_day s.day until day)
+          | inl day ↦ or_left (is_day s.day until) _ (ap (is_day s.day) day ∙ eq-eqb s.day s.day refl)
           | inr over ↦ or_right (is_day s.day until) _ (over_frames n frames over)
         ])
       ])
@@ -178,23 +168,19 @@ IsHeld WaitsSwap n h = h ≡ WaitsSwap
 IsHeld Ended n h = h ≡ Ended
 
 same_flag : (a b : Bool) → is_same_flag a b ≡ true → a ≡ b
-same_flag true true e = refl
 same_flag true false e = absurd cc
 same_flag false true e = absurd cc
-same_flag false false e = refl
+same_flag _ _ e = refl
 
 flag_same : (a b : Bool) → a ≡ b → is_same_flag a b ≡ true
-flag_same true true e = refl
 flag_same true false e = absurd cc
 flag_same false true e = absurd cc
-flag_same false false e = refl
+flag_same _ _ e = refl
 
 has_come : (hold : Hold) (n : ℕ) (s : State) (h : Hold) → IsHeld hold n h → ends_by s h ≡ true → HasCome hold n s
 has_come Running n s h held e = held
 has_come (Waits frames) n s h held e =
-    let over : (frames - n == 0) ≡ true = sym (ap (ends_by s) held.0) ∙ e in
-    let none : frames - n ≡ 0 = eqb-true (frames - n) 0 over in
-    omega (arith, none, held.1)
+    omega (arith, eqb-true (frames - n) 0 (sym (ap (ends_by s) held.0) ∙ e), held.1)
 has_come (WaitsDay t) n s h held e = eqb-true s.day t (sym (ap (ends_by s) held) ∙ e)
 has_come (WaitsContact c closed) n s h held e =
     same_flag (is_closed s.contacts c) closed (sym (ap (ends_by s) held) ∙ e)
@@ -204,30 +190,25 @@ has_come WaitsSwap n s h held e = sym (ap (ends_by s) held) ∙ e
 has_come Ended n s h held e = let clash : false ≡ true = sym (ap (ends_by s) held) ∙ e in absurd cc
 
 not_yet : (hold : Hold) (n : ℕ) (s : State) (h : Hold) → IsHeld hold n h → ends_by s h ≡ false → HasCome hold n s → ⊥
-not_yet Running n s h held e came = came
 not_yet (Waits frames) n s h held e came =
-    let over : (frames - n == 0) ≡ false = sym (ap (ends_by s) held.0) ∙ e in
-    let none : frames - n ≡ 0 = omega (arith, came) in
-    eqb-false (frames - n) 0 over none
+    eqb-false (frames - n) 0 (sym (ap (ends_by s) held.0) ∙ e) (omega (arith, came))
 not_yet (WaitsDay t) n s h held e came = eqb-false s.day t (sym (ap (ends_by s) held) ∙ e) came
 not_yet (WaitsContact c closed) n s h held e came =
     let clash : true ≡ false = sym (flag_same (is_closed s.contacts c) closed came) ∙ sym (ap (ends_by s) held) ∙ e in
     absurd cc
 not_yet (WaitsAny closed opened until frames) n s h held e came =
-    let clash : true ≡ false = sym (by_alternative s closed opened until frames n came) ∙ sym (ap (ends_by s) held.0)
-    ∙ e in
+    let clash = sym (by_alternative s closed opened until frames n came) ∙ sym (ap (ends_by s) held.0) ∙ e in
     absurd cc
 not_yet WaitsSwap n s h held e came = let clash : true ≡ false = sym came ∙ sym (ap (ends_by s) held) ∙ e in absurd cc
-not_yet Ended n s h held e came = came
+not_yet _ n s h held e came = came
 
 held_later : (hold : Hold) (n : ℕ) (s : State) (h : Hold) → IsHeld hold n h → ends_by s h ≡ false
     → IsHeld hold (n + 1) (hold_after_frame h)
 held_later Running n s h held e = held
 held_later (Waits frames) n s h held e =
     let over : (frames - n == 0) ≡ false = sym (ap (ends_by s) held.0) ∙ e in
-    let apart = eqb-false (frames - n) 0 over in
     let fewer : frames - n - 1 ≡ frames - (n + 1) = omega arith in
-    (ap hold_after_frame held.0 ∙ ap (λ (k : ℕ). Waits k) fewer, omega (arith, apart, held.1))
+    (ap hold_after_frame held.0 ∙ ap (λ (k : ℕ). Waits k) fewer, omega (arith, eqb-false (frames - n) 0 over, held.1))
 held_later (WaitsAny closed opened until frames) n s h held e =
     let away = not_due s closed opened until (fewer n frames) (sym (ap (ends_by s) held.0) ∙ e) in (
       ap hold_after_frame held.0 ∙ ap (λ (left : Option ℕ). WaitsAny closed opened until left) (fewer_later n frames),
@@ -267,9 +248,8 @@ pub waits_are_kept : WaitsAreKept
 waits_are_kept p s events h =
     let c = code_of p s h in
     let goes = frame_goes p h.typed.0 c.program c.typing s (played_holds p s h).between in
-    let stops : IsSuspended (shown p s).hold = subst IsSuspended (sym (hold_shown p s)) goes.suspends.stops in
     waits_from p (shown p s).hold 1 (after_frame p s) events h.program.planned.budget_from
-    (held_first (shown p s).hold stops)
+    (held_first (shown p s).hold (subst IsSuspended (sym (hold_shown p s)) goes.suspends.stops))
 
 -- ---- instructions that suspend
 
