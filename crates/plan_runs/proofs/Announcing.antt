@@ -6,9 +6,9 @@ use Rattle.plan_runs.proofs.Words.{IsEnsembleHeardInRow, IsFlagged, IsHeaded, Is
 use Rattle.plan_runs.proofs.Words.{Marked, Mode, None, Option, Plan, Program, Runs, Some, State, SwapsAreAnnounced}
 use Rattle.plan_runs.proofs.Words.{after_frame, ap, append_assoc, arith, bits_of, change_of, cond, count_step}
 use Rattle.plan_runs.proofs.Words.{ensemble_of, ensemble_sent, facts_of, false, happens, heard_after, heard_along}
-use Rattle.plan_runs.proofs.Words.{heard_left, heard_of, is_due, is_noticed, layout_mode, low_of_swap, lt-ltb, ltb}
-use Rattle.plan_runs.proofs.Words.{ltb-true, page_after, page_entries, page_set, refl, run, sent_entries, shown_bytes}
-use Rattle.plan_runs.proofs.Words.{slice_get, subst, suc, sym, true, with_contact, zero, ℕ}
+use Rattle.plan_runs.proofs.Words.{heard_of, is_due, is_noticed, layout_mode, low_of_swap, lt-ltb, ltb, ltb-true}
+use Rattle.plan_runs.proofs.Words.{page_after, page_entries, page_set, refl, run, sent_entries, shown_bytes, subst, suc}
+use Rattle.plan_runs.proofs.Words.{sym, true, with_contact, zero, ℕ}
 use Rattle.plan_runs.proofs.Knowledge.{IsOnAir, IsCommitted, CommittedBy}
 use Rattle.plan_runs.proofs.Passing.{due_is}
 use Rattle.plan_runs.proofs.Tracked.{Airs, SwapsOn, page_of, page_of_first, page_of_next, noticed, some_rounds}

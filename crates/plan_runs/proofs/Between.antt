@@ -2,12 +2,11 @@
 use Rattle.plan_runs.proofs.Words.{◌+◌, ◌-◌, ◌||◌, ◌≡◌, ◌≤◌, AllByRecursion, Bool, Configuration, Contacts, Ended}
 use Rattle.plan_runs.proofs.Words.{Executes, FrameIsAllowed, Hold, IfSome, Instr, IsInstr, IsLine, IsProgram, IsTyping}
 use Rattle.plan_runs.proofs.Words.{Known, Line, List, None, Option, Program, Running, Some, State, Waits, WaitsAny}
-use Rattle.plan_runs.proofs.Words.{WaitsContact, WaitsDay, WaitsSwap, after_burst, after_frame, any_closed, any_open}
-use Rattle.plan_runs.proofs.Words.{ap, arith, cond, each_at, effect, effect_of, eqb-false, eqb-true, false}
-use Rattle.plan_runs.proofs.Words.{hold_after_frame, hold_after_swap, inl, inr, instr_at, is_any_here, is_day, is_due}
-use Rattle.plan_runs.proofs.Words.{is_first_noticed, is_here, is_running, left_after_frame, option_map, ready, refl}
-use Rattle.plan_runs.proofs.Words.{slice_get, step, subst, suc, sym, true, with_due_swap, with_hold_ended}
-use Rattle.plan_runs.proofs.Words.{with_next_counts, with_swap, zero, ℕ}
+use Rattle.plan_runs.proofs.Words.{WaitsSwap, after_burst, after_frame, any_closed, any_open, ap, arith, cond, each_at}
+use Rattle.plan_runs.proofs.Words.{effect, effect_of, eqb-false, eqb-true, false, hold_after_frame, hold_after_swap}
+use Rattle.plan_runs.proofs.Words.{inl, inr, instr_at, is_any_here, is_day, is_due, is_first_noticed, is_here}
+use Rattle.plan_runs.proofs.Words.{is_running, left_after_frame, option_map, ready, refl, slice_get, step, subst, suc}
+use Rattle.plan_runs.proofs.Words.{sym, true, with_due_swap, with_hold_ended, with_next_counts, with_swap, zero, ℕ}
 use Rattle.plan_runs.proofs.Knowledge.{ComesBy, IsAhead, IsOnAir, CommittedBy, IsKept}
 use Rattle.plan_runs.proofs.Passing.{swap_comes, swap_pauses, swap_joins, now, pauses_come, comes_later, pauses_later}
 use Rattle.plan_runs.proofs.Passing.{joins_later, ahead_from}

@@ -1,6 +1,6 @@
 -- What no instruction changes in any code: the current configuration, the CIF count, the frame of the day and the
 -- contacts; and the counts and the contacts along a run.
-use Rattle.plan_runs.proofs.Words.{[], ◌%◌, ◌+◌, ◌<◌, ◌∙◌, ◌∷◌, ◌≡◌, ◌≢◌, Bool, Configuration, Contact, Contacts}
+use Rattle.plan_runs.proofs.Words.{[], ◌%◌, ◌+◌, ◌<◌, ◌∙◌, ◌∷◌, ◌≡◌, Bool, Configuration, Contact, Contacts}
 use Rattle.plan_runs.proofs.Words.{ContactsAreAsSet, Event, Frame, FramesAreCounted, Instr, List, None, Option, Plan}
 use Rattle.plan_runs.proofs.Words.{Program, Settle, Some, State, after_burst, after_frame, ap, arith, burst, cond}
 use Rattle.plan_runs.proofs.Words.{contacts_change_alone, effect, effect_of, eqb, eqb-false, eqb-true, false, happens}

@@ -1,12 +1,12 @@
 -- The entries that the FIBs of a frame carry.
 use Rattle.plan_runs.proofs.Words.{[], ◌*◌, ◌++◌, ◌+◌, ◌==◌, ◌∙◌, ◌∷◌, ◌≡◌, ◌⊎◌, AllByRecursion, AreFibs, Bool}
-use Rattle.plan_runs.proofs.Words.{Configuration, Contains, EnsembleInformation, EnsembleIsHeard, FrameLayout, I}
-use Rattle.plan_runs.proofs.Words.{IsHeardInRow, List, Marked, None, Option, PageIsFibs, Plan, Raw, ReserveOne}
-use Rattle.plan_runs.proofs.Words.{ReserveTwo, Some, State, Whole, ap, arith, cond, drop, drop-drop, ensemble_figs}
-use Rattle.plan_runs.proofs.Words.{ensemble_sent, entries_where, facts_of, false, fib_at, fib_entries, fibs_from}
-use Rattle.plan_runs.proofs.Words.{fig_of, figs_of, first_fib, flat_map, frame_fibs, inl, inr, is_noticed, later_fibs}
-use Rattle.plan_runs.proofs.Words.{length, map, packing, page_entries, page_set, raw_entry, refl, replicate}
-use Rattle.plan_runs.proofs.Words.{reserved_fibs, sent_entries, shown_bytes, subst, suc, sym, true, zero, ℕ}
+use Rattle.plan_runs.proofs.Words.{Configuration, EnsembleInformation, EnsembleIsHeard, FrameLayout, I, IsHeardInRow}
+use Rattle.plan_runs.proofs.Words.{List, Marked, None, Option, PageIsFibs, Plan, Raw, ReserveOne, ReserveTwo, Some}
+use Rattle.plan_runs.proofs.Words.{State, Whole, ap, arith, cond, drop, drop-drop, ensemble_figs, ensemble_sent}
+use Rattle.plan_runs.proofs.Words.{entries_where, facts_of, false, fib_at, fib_entries, fibs_from, fig_of, figs_of}
+use Rattle.plan_runs.proofs.Words.{first_fib, flat_map, frame_fibs, inl, inr, is_noticed, later_fibs, length, map}
+use Rattle.plan_runs.proofs.Words.{packing, page_entries, page_set, raw_entry, refl, replicate, reserved_fibs}
+use Rattle.plan_runs.proofs.Words.{sent_entries, shown_bytes, subst, suc, sym, true, zero, ℕ}
 use Rattle.plan_runs.proofs.Tracked.{Airs}
 use Rattle.plan_runs.proofs.Right.{PageLaws, pageable, sent_within}
 use Rattle.plan_runs.proofs.Parts.{In}

@@ -1,12 +1,11 @@
 -- A listener knows the current configuration after a period of one phase.
 use Rattle.plan_runs.proofs.Words.{[], ◌%◌, ◌++◌, ◌∙◌, ◌∷◌, ◌≡◌, ◌≤◌, ◌⊎◌, BeginsNoPhase, Bool, Configuration, Contact}
-use Rattle.plan_runs.proofs.Words.{Entry, Event, Frame, HearsAll, IsHeardInRow, IsHeardInSome, IsHeardWhole}
-use Rattle.plan_runs.proofs.Words.{IsNeverFull, IsOnePhase, IsPlayed, IsTunedBy, Known, KnowsTheCurrent, List}
-use Rattle.plan_runs.proofs.Words.{Listening, OneList, Plan, Program, Raw, Shows, State, after_frame, ap, arith}
-use Rattle.plan_runs.proofs.Words.{count_step, facts_of, false, fibs_from, fibs_of, frame_bytes, frame_fibs, happens}
-use Rattle.plan_runs.proofs.Words.{inl, inr, is_due, is_first_noticed, layout_mode, length, marked, or_parts, raw_entry}
-use Rattle.plan_runs.proofs.Words.{refl, run, run_frames, shown, shown_bytes, subst, suc, sym, true, untuned}
-use Rattle.plan_runs.proofs.Words.{with_due_swap, zero, ℕ}
+use Rattle.plan_runs.proofs.Words.{Entry, Event, Frame, HearsAll, IsHeardInSome, IsHeardWhole, IsNeverFull, IsOnePhase}
+use Rattle.plan_runs.proofs.Words.{IsPlayed, IsTunedBy, Known, KnowsTheCurrent, List, Listening, OneList, Plan, Program}
+use Rattle.plan_runs.proofs.Words.{Raw, Shows, State, after_frame, ap, arith, count_step, facts_of, false, fibs_from}
+use Rattle.plan_runs.proofs.Words.{fibs_of, frame_bytes, frame_fibs, happens, inl, inr, is_due, is_first_noticed}
+use Rattle.plan_runs.proofs.Words.{layout_mode, length, marked, or_parts, raw_entry, refl, run, run_frames, shown}
+use Rattle.plan_runs.proofs.Words.{shown_bytes, subst, suc, true, untuned, with_due_swap, zero, ℕ}
 use Rattle.std.proofs.lemmas.Grind.{flat_map-append}
 use Rattle.plan_runs.proofs.Facts.{Holds, IsCode, airs, frame_holds, happens_holds, run_holds, code_of, played_holds}
 use Rattle.plan_runs.proofs.Notice.{links}

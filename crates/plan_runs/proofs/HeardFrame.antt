@@ -1,10 +1,10 @@
 -- A listener hearing one frame of a typed code.
-use Rattle.plan_runs.proofs.Words.{◌%◌, ◌+◌, ◌∙◌, ◌∷◌, ◌≡◌, ◌≢◌, ◌⊎◌, Bool, Configuration, EnsembleInformation, Entry}
-use Rattle.plan_runs.proofs.Words.{HearsAll, HearsFib, IsHeardInRow, Known, List, Listening, None, Option, Plan}
-use Rattle.plan_runs.proofs.Words.{Program, Raw, Some, State, after_burst, ap, arith, cond, count_step, ensemble_of}
-use Rattle.plan_runs.proofs.Words.{ensemble_sent, false, fibs_from, frame_fibs, inl, inr, is_due, is_first_noticed}
-use Rattle.plan_runs.proofs.Words.{is_noticed, layout_mode, marked, raw_entry, refl, shown, shown_bytes, subst, suc}
-use Rattle.plan_runs.proofs.Words.{sym, take, true, untuned, with_due_swap, with_swap, zero, ℕ}
+use Rattle.plan_runs.proofs.Words.{◌%◌, ◌+◌, ◌∙◌, ◌∷◌, ◌≡◌, ◌≢◌, ◌⊎◌, Bool, EnsembleInformation, Entry, HearsAll}
+use Rattle.plan_runs.proofs.Words.{HearsFib, IsHeardInRow, Known, List, Listening, None, Option, Plan, Program, Raw}
+use Rattle.plan_runs.proofs.Words.{Some, State, after_burst, ap, arith, cond, count_step, ensemble_of, ensemble_sent}
+use Rattle.plan_runs.proofs.Words.{false, fibs_from, frame_fibs, inl, inr, is_due, is_first_noticed, is_noticed}
+use Rattle.plan_runs.proofs.Words.{layout_mode, marked, raw_entry, refl, shown, shown_bytes, subst, suc, sym, take}
+use Rattle.plan_runs.proofs.Words.{true, untuned, with_due_swap, with_swap, zero, ℕ}
 use Rattle.plan_runs.proofs.Passing.{ahead_from}
 use Rattle.plan_runs.proofs.Tracked.{Airs, SwapsOn}
 use Rattle.plan_runs.proofs.Between.{frame_goes}
@@ -16,8 +16,8 @@ use Rattle.plan_runs.proofs.Hearing.{hear_marked, headed}
 use Rattle.plan_runs.proofs.Tuned.{SaidIn, SaidInSome, Or, tuned_weaker, hears_entries, hears_fibs, passes_entries}
 use Rattle.plan_runs.proofs.Tuned.{passes_fibs, some_say, some_sent}
 use Rattle.plan_runs.proofs.Contents.{Laws, FrameSays, frame_says}
-use Rattle.plan_runs.proofs.Knowing.{KnowsBy, KnowsPending, Ready, InFrame, Still, ready_by, headed_ready}
-use Rattle.plan_runs.proofs.Knowing.{unheaded_ready, headed_swap, headed_untuned}
+use Rattle.plan_runs.proofs.Knowing.{KnowsBy, Ready, InFrame, Still, ready_by, headed_ready, unheaded_ready}
+use Rattle.plan_runs.proofs.Knowing.{headed_swap, headed_untuned}
 use Rattle.plan_runs.proofs.Right.{is_sent, not_sent}
 use Rattle.plan_runs.proofs.Announcing.{due_left}
 use Rattle.plan_runs.proofs.Periods.{current_kept}

@@ -1,11 +1,10 @@
 -- A listener hearing the FIGs of some entries hears the entries one after another.
 use Rattle.plan_runs.proofs.Words.{[], ◌%◌, ◌++◌, ◌/◌, ◌==◌, ◌∙◌, ◌∷◌, ◌≡◌, Bool, EnsembleInformation, EnsembleIsHeard}
-use Rattle.plan_runs.proofs.Words.{EnsembleOf, Entry, Head, IfSome, IsEnsembleInformation, List, Listening, Marked}
-use Rattle.plan_runs.proofs.Words.{None, Option, Raw, Some, Written, ap, arith, at_ensemble, bit_of, cond}
-use Rattle.plan_runs.proofs.Words.{ensemble_figs, entry_bytes, ext_of, false, fig_of, figs_of, head_byte, head_of}
-use Rattle.plan_runs.proofs.Words.{hear_entries, hear_entry, hear_fig, hear_figs, is_long, is_long_entry, is_next, map}
-use Rattle.plan_runs.proofs.Words.{marked, raw_entry, raw_of, refl, same_head, subst, true, where_heard}
-use Rattle.plan_runs.proofs.Words.{with_entry_first, ℕ}
+use Rattle.plan_runs.proofs.Words.{EnsembleOf, Entry, IfSome, IsEnsembleInformation, List, Listening, Marked, None}
+use Rattle.plan_runs.proofs.Words.{Option, Raw, Some, Written, ap, arith, at_ensemble, bit_of, cond, ensemble_figs}
+use Rattle.plan_runs.proofs.Words.{entry_bytes, ext_of, false, fig_of, figs_of, head_byte, head_of, hear_entries}
+use Rattle.plan_runs.proofs.Words.{hear_entry, hear_fig, hear_figs, is_long, is_long_entry, is_next, map, marked}
+use Rattle.plan_runs.proofs.Words.{raw_entry, raw_of, refl, same_head, true, where_heard, with_entry_first, ℕ}
 use Rattle.fib_carousel.proofs.Sharing.{same_head_is}
 use Rattle.plan_runs.proofs.Right.{ext_low, flag_le}
 

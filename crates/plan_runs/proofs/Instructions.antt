@@ -1,10 +1,10 @@
 -- Each kind of instruction of a typed code is allowed, and leaves what is known wherever the machine continues.
 use Rattle.plan_runs.proofs.Words.{◌+◌, ◌-◌, ◌<◌, ◌∙◌, ◌≡◌, ◌≢◌, ◌≤◌, Arrives, Bool, CanCommit, CommitAt, CommitIn}
-use Rattle.plan_runs.proofs.Words.{Configuration, Counters, Edits, End, Hold, I, Idle, IfSome, Instr, IsAllowed}
-use Rattle.plan_runs.proofs.Words.{IsFrames, IsInstr, IsProgram, IsReady, IsSafe, IsSound, IsSurelyPending, IsTyping}
-use Rattle.plan_runs.proofs.Words.{Join, Jump, Known, Label, List, Loop, Mode, None, Option, Perhaps, Program, Reaches}
-use Rattle.plan_runs.proofs.Words.{Set, Settle, Some, State, Swap, Test, TestTime, Until, Wait, WaitAny, WaitContact}
-use Rattle.plan_runs.proofs.Words.{Waits, WaitsAny, WaitsContact, WaitsDay, WaitsSwap, Within, advance, after_pause}
+use Rattle.plan_runs.proofs.Words.{Configuration, Counters, Edits, End, Hold, Idle, IfSome, Instr, IsAllowed, IsFrames}
+use Rattle.plan_runs.proofs.Words.{IsInstr, IsProgram, IsReady, IsSafe, IsSound, IsSurelyPending, IsTyping, Join, Jump}
+use Rattle.plan_runs.proofs.Words.{Known, Label, List, Loop, Mode, None, Option, Perhaps, Program, Reaches, Set, Settle}
+use Rattle.plan_runs.proofs.Words.{Some, State, Swap, Test, TestTime, Until, Wait, WaitAny, WaitContact, Waits}
+use Rattle.plan_runs.proofs.Words.{WaitsAny, WaitsContact, WaitsDay, WaitsSwap, Within, advance, after_pause}
 use Rattle.plan_runs.proofs.Words.{after_settle, after_wait, ap, arith, changed, commit, cond, continues, count_step}
 use Rattle.plan_runs.proofs.Words.{counter_of, counters_change_alone, edit_fault, effect, eqb, eqb-false, eqb-true}
 use Rattle.plan_runs.proofs.Words.{false, get_or-set_other, get_or-set_same, hold_after_frame, inl, inr, is_closed}

@@ -263,7 +263,7 @@ not_made_by plan u airs short (Some low) (Some k) is ahead w =
           let change = some_change e (low_of_swap u.count u.left) (ensemble_within plan u airs) info.occurrence in
           let now : low ≡ (u.count + k) % 5000 % 250 = w.inside within in
           ap (λ (b : Bool). b || (e.count % 250 == low)) change
-          ∙ ap (λ (n : ℕ). n % 250 == low) ((ensemble_right plan u).count)
+          ∙ ap (λ (n : ℕ). n % 250 == low) (ensemble_right plan u).count
           ∙ ne_eqb (u.count % 250) low (swap_not_now u.count low k airs.count ahead (omega (arith, within, short)) now)
       | inr past ↦
           let none : Some low ≡ None = w.outside past in
@@ -288,7 +288,8 @@ unheaded_ready plan u C N l apart h =
 
 -- ---- the swap
 
-pub long_notice : (m : Mode) (notice count : ℕ) → 12 ≤ notice → notice - 0 ≤ (count + (count_step m - 1)) % count_step m → ⊥
+pub long_notice : (m : Mode) (notice count : ℕ) → 12 ≤ notice
+    → notice - 0 ≤ (count + (count_step m - 1)) % count_step m → ⊥
 long_notice I notice count long h = omega (arith, long, h)
 long_notice _ notice count long h = omega (arith, long, h)
 

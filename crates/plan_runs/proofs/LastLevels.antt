@@ -1,5 +1,5 @@
 -- Only the last level of each contact counts in contact settings.
-use Rattle.plan_runs.proofs.Words.{[], ◌++◌, ◌-◌, ◌<◌, ◌^◌, ◌∙◌, ◌∷◌, ◌≡◌, ◌≢◌, AgreeOnContacts, AllByRecursion, Bool}
+use Rattle.plan_runs.proofs.Words.{[], ◌++◌, ◌-◌, ◌<◌, ◌^◌, ◌∙◌, ◌∷◌, ◌≡◌, AgreeOnContacts, AllByRecursion, Bool}
 use Rattle.plan_runs.proofs.Words.{Contacts, Event, Frame, IsSetting, LastLevelsCount, List, None, Option, Program}
 use Rattle.plan_runs.proofs.Words.{Setting, Some, State, after_frame, ap, arith, bit_at, bit_at-lt, cond}
 use Rattle.plan_runs.proofs.Words.{contacts_change_alone, eqb, eqb-false, eqb-true, false, frame_bytes, is_closed}

@@ -3,12 +3,12 @@ use Rattle.plan_runs.proofs.Words.{[], ◌%◌, ◌++◌, ◌+◌, ◌-◌, ◌<
 use Rattle.plan_runs.proofs.Words.{Known, List, None, Option, Plan, Program, Running, Some, State, after_burst}
 use Rattle.plan_runs.proofs.Words.{after_frame, ap, arith, cond, false, frame_bytes, heard_after, heard_before}
 use Rattle.plan_runs.proofs.Words.{heard_left, heard_of, inl, inr, is_due, is_first_noticed, is_noticed}
-use Rattle.plan_runs.proofs.Words.{left_after_frame, notice_begin, notice_frames, page_after, page_set, refl, rounds}
-use Rattle.plan_runs.proofs.Words.{sent_rounds, shown, shown_bytes, slice_get, subst, suc, sym, true, with_next_counts}
-use Rattle.plan_runs.proofs.Words.{with_swap, zero, ℕ}
+use Rattle.plan_runs.proofs.Words.{left_after_frame, notice_begin, notice_frames, page_set, refl, rounds, sent_rounds}
+use Rattle.plan_runs.proofs.Words.{shown, shown_bytes, slice_get, subst, suc, sym, true, with_next_counts, with_swap}
+use Rattle.plan_runs.proofs.Words.{zero, ℕ}
 use Rattle.plan_runs.proofs.Knowledge.{IsAhead}
-use Rattle.plan_runs.proofs.Tracked.{Airs, IsTurn, TurnShown, page_of, page_of_first, page_of_next, noticed}
-use Rattle.plan_runs.proofs.Tracked.{not_noticed, split_le}
+use Rattle.plan_runs.proofs.Tracked.{Airs, TurnShown, page_of, page_of_first, page_of_next, noticed, not_noticed}
+use Rattle.plan_runs.proofs.Tracked.{split_le}
 use Rattle.plan_runs.proofs.Between.{frame_goes}
 use Rattle.plan_runs.proofs.Carries.{IsNewly, LeftBy, Carries, frame_carries}
 use Rattle.plan_runs.proofs.Facts.{Holds, IsCode, airs}

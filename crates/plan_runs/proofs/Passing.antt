@@ -2,7 +2,7 @@
 use Rattle.plan_runs.proofs.Words.{◌+◌, ◌-◌, ◌<◌, ◌∙◌, ◌≡◌, ◌≤◌, ◌⊎◌, Bool, Configuration, FitsSwap, Idle, IsCertain}
 use Rattle.plan_runs.proofs.Words.{Known, None, Option, Perhaps, Some, Swap, Within, after_pause, after_wait, ap, arith}
 use Rattle.plan_runs.proofs.Words.{cond, eqb-false, eqb-true, false, inl, inr, is_due, known_after_swap}
-use Rattle.plan_runs.proofs.Words.{left_after_frame, ltb-false, ltb-true, nat_lt, refl, subst, sym, true, ℕ}
+use Rattle.plan_runs.proofs.Words.{left_after_frame, ltb-false, ltb-true, nat_lt, refl, subst, true, ℕ}
 use Rattle.plan_runs.proofs.Knowledge.{IsIdleAs, IsPendingAs, AgreesBy, ComesBy, PausesBy, JoinsBy, IsAhead}
 
 -- ---- how many frames are left

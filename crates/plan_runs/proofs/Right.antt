@@ -2,21 +2,21 @@
 use Rattle.plan_runs.proofs.Words.{[], ◌%◌, ◌*◌, ◌++◌, ◌+◌, ◌/◌, ◌<◌, ◌==◌, ◌∙◌, ◌∷◌, ◌≡◌, ◌≢◌, ◌≤◌, ◌⊎◌}
 use Rattle.plan_runs.proofs.Words.{AllByRecursion, AreFibs, AreSendable, Bool, Configuration, Contains}
 use Rattle.plan_runs.proofs.Words.{Contains-append_cases, EachInAPage, EnsembleInformation, EnsembleIsCarried}
-use Rattle.plan_runs.proofs.Words.{EnsembleOf, Entry, FrameLayout, Head, I, IfSome, IsConfiguration}
-use Rattle.plan_runs.proofs.Words.{IsEnsembleInformation, IsEnsembleOf, IsFlaggedBy, IsHeadedBy, IsHeardInRow, IsInFig}
-use Rattle.plan_runs.proofs.Words.{IsNoHeader, IsPageable, IsRight, IsUnheaded, IsValid, List, Marked, Mode}
-use Rattle.plan_runs.proofs.Words.{None, Open, Option, Other, PageSetsArePageable, PagesAreHeard, PagesAreValid, Plan}
-use Rattle.plan_runs.proofs.Words.{ReserveOne, ReserveTwo, Some, State, Whole, Written, and_parts, announced_next, ap}
-use Rattle.plan_runs.proofs.Words.{arith, bit_of, bits_of, change_of, cond, count_step, drop, drop-drop, each_in_a_page}
-use Rattle.plan_runs.proofs.Words.{ensemble_figs, ensemble_is_heard, ensemble_of, ensemble_sent, entries_in_fib}
-use Rattle.plan_runs.proofs.Words.{entries_where, entry_bytes, eq-eqb, eqb-true, ext_of, facts_of, false, fib_at}
-use Rattle.plan_runs.proofs.Words.{fib_count, fig_bytes, fig_of, figs_of, first_fib, frame_fibs, has_same_services}
-use Rattle.plan_runs.proofs.Words.{has_same_subs, head_byte, head_of, inl, inr, is_noticed, is_same_list}
-use Rattle.plan_runs.proofs.Words.{is_same_packet, is_same_service, is_same_sub, later_fibs, layout_mode, length}
-use Rattle.plan_runs.proofs.Words.{low_of_swap, map, marked, not, packing, page_entries, page_figs, page_set}
-use Rattle.plan_runs.proofs.Words.{page_sets_are_pageable, pages_are_heard, pages_are_valid, refl, replicate}
-use Rattle.plan_runs.proofs.Words.{reserved_fibs, reserved_figs, same_head, sendable_where, sent_entries, shown_bytes}
-use Rattle.plan_runs.proofs.Words.{slice_get, subst, suc, sym, take, true, used_fibs, with_entry_first, zero, ℕ}
+use Rattle.plan_runs.proofs.Words.{EnsembleOf, Entry, FrameLayout, I, IfSome, IsConfiguration, IsEnsembleInformation}
+use Rattle.plan_runs.proofs.Words.{IsEnsembleOf, IsFlaggedBy, IsHeadedBy, IsHeardInRow, IsInFig, IsNoHeader, IsPageable}
+use Rattle.plan_runs.proofs.Words.{IsRight, IsUnheaded, IsValid, List, Marked, Mode, None, Open, Option, Other}
+use Rattle.plan_runs.proofs.Words.{PageSetsArePageable, PagesAreHeard, PagesAreValid, Plan, ReserveOne, ReserveTwo}
+use Rattle.plan_runs.proofs.Words.{Some, State, Whole, Written, and_parts, announced_next, ap, arith, bit_of, bits_of}
+use Rattle.plan_runs.proofs.Words.{change_of, cond, count_step, drop, drop-drop, each_in_a_page, ensemble_figs}
+use Rattle.plan_runs.proofs.Words.{ensemble_is_heard, ensemble_of, ensemble_sent, entries_in_fib, entries_where}
+use Rattle.plan_runs.proofs.Words.{entry_bytes, eq-eqb, eqb-true, ext_of, facts_of, false, fib_at, fib_count, fig_bytes}
+use Rattle.plan_runs.proofs.Words.{fig_of, figs_of, first_fib, frame_fibs, has_same_services, has_same_subs, head_byte}
+use Rattle.plan_runs.proofs.Words.{head_of, inl, inr, is_noticed, is_same_list, is_same_packet, is_same_service}
+use Rattle.plan_runs.proofs.Words.{is_same_sub, later_fibs, layout_mode, length, low_of_swap, map, marked, not, packing}
+use Rattle.plan_runs.proofs.Words.{page_entries, page_figs, page_set, page_sets_are_pageable, pages_are_heard}
+use Rattle.plan_runs.proofs.Words.{pages_are_valid, refl, replicate, reserved_fibs, reserved_figs, same_head}
+use Rattle.plan_runs.proofs.Words.{sendable_where, sent_entries, shown_bytes, slice_get, subst, suc, sym, take, true}
+use Rattle.plan_runs.proofs.Words.{used_fibs, with_entry_first, zero, ℕ}
 use Rattle.mux_config.proofs.Same.{list_same, sub_same, service_same, packet_same}
 use Rattle.plan_runs.proofs.Knowledge.{CommittedBy}
 use Rattle.plan_runs.proofs.Tracked.{Airs}

@@ -1,9 +1,8 @@
 -- One instruction of a typed code is allowed, and leaves what is known wherever the machine continues.
-use Rattle.plan_runs.proofs.Words.{◌<◌, ◌∙◌, ◌≡◌, ◌≤◌, ◌⊎◌, Arrives, Configuration, Ended, Hold, IfSome}
-use Rattle.plan_runs.proofs.Words.{Instr, IsTyping, Known, Label, List, None, Option, Program, Running, Some, State}
-use Rattle.plan_runs.proofs.Words.{Waits, WaitsAny, WaitsContact, WaitsDay, WaitsSwap, ap, arith, eqb, eqb-true}
-use Rattle.plan_runs.proofs.Words.{false, hold_after_frame, instr_at, is_running, label_at, left_after_frame, length}
-use Rattle.plan_runs.proofs.Words.{option_map, refl, slice_get, subst, sym, true, ℕ}
+use Rattle.plan_runs.proofs.Words.{◌∙◌, ◌≡◌, ◌≤◌, ◌⊎◌, Arrives, Configuration, Ended, Hold, IfSome, Instr, IsTyping}
+use Rattle.plan_runs.proofs.Words.{Known, Label, List, None, Option, Program, Running, Some, State, Waits, WaitsAny}
+use Rattle.plan_runs.proofs.Words.{WaitsSwap, ap, arith, eqb, eqb-true, false, hold_after_frame, instr_at, is_running}
+use Rattle.plan_runs.proofs.Words.{label_at, left_after_frame, option_map, refl, slice_get, subst, sym, true, ℕ}
 use Rattle.plan_verifier.proofs.Tabled.{declared_once}
 use Rattle.plan_runs.proofs.Lookups.{found, get_some, get_below}
 use Rattle.plan_runs.proofs.Knowledge.{AgreesBy, ComesBy, PausesBy, JoinsBy, IsAhead, AreSet, IsKept}

@@ -3,7 +3,7 @@ use Rattle.plan_runs.proofs.Words.{[], ◌==◌, ◌∙◌, ◌∷◌, ◌≡◌
 use Rattle.plan_runs.proofs.Words.{EnsembleInformation, Fig, HearsAll, IsFib, List, Listening, Marked, None, OneList}
 use Rattle.plan_runs.proofs.Words.{Option, Pictured, Raw, Some, ap, at_ensemble, blank, cond, ensemble_in, false}
 use Rattle.plan_runs.proofs.Words.{hear_entry, hear_figs, inl, inr, into, picture_of, pictured, raw_entry, refl, subst}
-use Rattle.plan_runs.proofs.Words.{suc, sym, take, true, untuned, where_heard, zero, ℕ}
+use Rattle.plan_runs.proofs.Words.{suc, sym, take, true, untuned, where_heard, ℕ}
 use Rattle.plan_runs.proofs.Parts.{In, Also}
 use Rattle.plan_runs.proofs.Pictures.{whole_of, IsSet, IsOf, IsPartial, grows, weaker, entries_of, entry_is_of}
 use Rattle.plan_runs.proofs.Hearing.{hear_marked, headed}

@@ -1,9 +1,9 @@
 -- A typed code never traps.
 use Rattle.plan_runs.proofs.Words.{[], ◌∙◌, ◌∷◌, ◌≡◌, Arrives, CanEnter, Configuration, Contact, Counters, Event}
 use Rattle.plan_runs.proofs.Words.{FitsSwap, Frame, Hold, Idle, IsProgram, IsReached, IsStart, IsTyping, Known, Label}
-use Rattle.plan_runs.proofs.Words.{List, None, Option, Perhaps, Program, RunIsAllowed, Running, Some, Start, State}
-use Rattle.plan_runs.proofs.Words.{Swap, TypedCodeRuns, Within, after_frame, ap, arith, bit_at, bit_at-zero, eqb, false}
-use Rattle.plan_runs.proofs.Words.{happens, inl, label_at, length, refl, replicate, run, slice_get, subst, sym, true, ℕ}
+use Rattle.plan_runs.proofs.Words.{List, None, Option, Program, RunIsAllowed, Running, Some, Start, State, Swap}
+use Rattle.plan_runs.proofs.Words.{TypedCodeRuns, after_frame, ap, arith, bit_at, bit_at-zero, eqb, happens, inl}
+use Rattle.plan_runs.proofs.Words.{label_at, length, refl, replicate, run, slice_get, subst, sym, ℕ}
 use Rattle.plan_runs.proofs.Lookups.{found}
 use Rattle.plan_runs.proofs.Knowledge.{IsIdleAs, ComesBy, AreSet, IsOnAir, CommittedBy}
 use Rattle.plan_runs.proofs.Steps.{Expects, ResumesBy, same_some}

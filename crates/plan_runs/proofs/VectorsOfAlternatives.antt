@@ -15,10 +15,6 @@ first = first_state nothing 0
 abbrev third_closed : State
 third_closed = record first { contacts = contacts 8 }
 
--- contact 3 closed, contact 5 open, frame 42 of the day, or this many frames
-abbrev waiting : Option ℕ → Hold
-waiting left = WaitsAny (contacts 8) (contacts 32) (Some 42) left
-
 -- contact 3 closed, frame 42 of the day, or this many frames
 abbrev without_open : Option ℕ → Hold
 without_open left = WaitsAny (contacts 8) (contacts 0) (Some 42) left
@@ -27,9 +23,6 @@ without_open left = WaitsAny (contacts 8) (contacts 0) (Some 42) left
 
 third_closes : HasCome (without_open (Some 5)) 1 third_closed
 third_closes = inl (3, omega arith, refl, refl)
-
-fifth_is_open : HasCome (waiting (Some 5)) 1 first
-fifth_is_open = inr (inl (5, omega arith, refl, refl))
 
 none_closed : (set : Contacts) → HasClosed set all_open → ⊥
 none_closed set h =

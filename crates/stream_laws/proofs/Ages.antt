@@ -58,8 +58,7 @@ pub swap_now : (plan : Plan) (u : State) (past : List Moment) (items : List Item
     → (key : ℕ) → last_heard key (said items past) ≡ frames_ended past + 1
 swap_now plan u past items o key =
     let ended = said_ended o.heads past in
-    ap (last_heard key) o.are ∙ last_stays key o.members (said o.heads past)
-    (o.swapped refl key ∙ ap (λ n. n + 1) (sym ended)) ∙ ap (λ n. n + 1) ended
+    cc (o.are, last_stays key o.members (said o.heads past) (o.swapped refl key ∙ ap (λ n. n + 1) (sym ended)), ended)
 
 -- ---- ages
 
@@ -145,20 +144,15 @@ none_silent laws r period p s past b g aged long x inside =
     let plan : Plan = p.plan in
     let t : State = after_frame p s in
     let later : List Moment = said (items_at r p s) past in
-    let part : IsPartial (whole_of t.current) Nothing b.heard.current =
-    current_part plan t.left t.current t.next t.count Nothing Nothing b.heard b.knows in
-    let here : In x (all_entries b.heard.current) =
-    subst (λ (l : Listening). In x (all_entries l.current)) (after_is later b.heard b.is) inside in
+    let part = current_part plan t.left t.current t.next t.count Nothing Nothing b.heard b.knows in
+    let here = subst (λ (l : Listening). In x (all_entries l.current)) (after_is later b.heard b.is) inside in
     let it = entry_of t.current Nothing b.heard.current x part here in
     let m : Marked = marked false it.0 in
-    let mine : Contains (facts_of t.current false) m =
-    in_contains (facts_of t.current false) m (in_fact false (entries_of t.current) it.0 it.2) in
+    let mine = in_contains (facts_of t.current false) m (in_fact false (entries_of t.current) it.0 it.2) in
     let way = comes_some laws.heard.pages plan t.current g.ms g.page_index g.below m mine (g.has m mine) in
-    let since : frames_ended later + 1 + way.0 ≤ last_heard (key_of (raw_entry it.0)) later + g.bound =
-    aged.1 m way.0 way.1 in
+    let since = aged.1 m way.0 way.1 in
     let bound = g.to in
-    let keys : last_heard (key_of (raw_entry it.0)) later ≡ last_heard (key_of x) later =
-    ap (λ (y : Raw). last_heard (key_of y) later) it.1 in
+    let keys = ap (λ (y : Raw). last_heard (key_of y) later) it.1 in
     ne_eqb (last_heard (key_of x) later + period) (frames_ended later + 1)
     (λ e. omega (arith, e, keys, since, bound, long))
 
@@ -199,9 +193,7 @@ settles_after laws r period p ts c s holds past C N en bound h old =
           let row : IsHeardInRow (shown_bytes plan u) due.m =
           (laws.heard.pages.heard plan.layout (ensemble_sent plan u) u.page_index ms
           (pageable laws.heard.pages plan u a) due.m).1 now in
-          let flag : due.m.next ≡ false =
-          sym (fact_in false (entries_of u.current) due.m
-          (contains_in (facts_of u.current false) due.m due.comes.fact)).0 in
+          let flag : due.m.next ≡ false = sym (fact_in _ _ _ (contains_in _ _ due.comes.fact)).0 in
           inr (
             due.m.entry,
             due.is,
@@ -287,8 +279,7 @@ plain_step laws r period p ts c s holds past o g k due long t =
     let u : State = shown p s in
     let items : List Item = items_at r p s in
     let link = links p ts c s holds in
-    let settles : settles_at period (said items past) ≡ settles_at period past =
-    opened_settles plan u false past items o period in
+    let settles = opened_settles plan u false past items o period in
     let ended = said_ended items past in
     let C : Raw → Type 0 = Due plan period past s.current g.ms g.page_index g.bound in
     let en = enters_still p ts c s holds past C Nothing due k in
@@ -297,12 +288,9 @@ plain_step laws r period p ts c s holds past o g k due long t =
       known = frame_settled period p ts c s holds past C (Still plan u.left Nothing) false items o en
           (λ settled e inside.
           let le = leb-true _ _ settled in
-          let there : In e (entries_of s.current) =
-          subst (λ (x : Configuration). In e (entries_of x)) (link.current due) inside in
-          let fact : Contains (facts_of s.current false) (marked false e) =
-          in_contains (facts_of s.current false) (marked false e) (in_fact false (entries_of s.current) e there) in
-          let way = comes_some laws.heard.pages plan s.current g.ms g.page_index g.below (marked false e) fact
-          (g.has (marked false e) fact) in
+          let there = subst (λ (x : Configuration). In e (entries_of x)) (link.current due) inside in
+          let fact : Contains (facts_of s.current false) (marked false e) = in_contains _ _ (in_fact _ _ _ there) in
+          let way = comes_some laws.heard.pages _ _ _ _ g.below _ fact (g.has (marked _ _) fact) in
           record {
             m = marked false e;
             is = refl;

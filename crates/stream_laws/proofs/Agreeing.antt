@@ -10,7 +10,7 @@ use Rattle.stream_laws.proofs.Words.{is_ensemble, is_known, is_noticed, is_other
 use Rattle.stream_laws.proofs.Words.{listener_after, listening, lookup, lookup_among, lookup_in, member_began_early}
 use Rattle.stream_laws.proofs.Words.{member_flags, member_has_begun, member_heard, nat_lt, not, or_left, part_takes}
 use Rattle.stream_laws.proofs.Words.{partly, raw_entry, refl, said, subst, sym, true, tuned_weaker, where_heard}
-use Rattle.stream_laws.proofs.Words.{whole_is_set, whole_of, ℕ}
+use Rattle.stream_laws.proofs.Words.{whole_is_set, whole_of, ℕ, sent_ext}
 use Rattle.stream_check.specs.declared.heard_table.Lookup.TheVariants as standings
 use Rattle.stream_laws.proofs.Kept.{second_holds, member_room}
 use Rattle.stream_laws.proofs.Sending.{IsSentItem}
@@ -40,13 +40,11 @@ one_of : (full : List Raw) (x y : Raw) → IsAscending identifier_of full → In
 one_of [] x y up a b e = absurd a
 one_of (z ∷ zs) x y up (inl a) (inl b) e = sym a ∙ b
 one_of (z ∷ zs) x y up (inl a) (inr b) e =
-    let less : identifier_of z < identifier_of y =
-    each_in (λ (r : Raw). identifier_of z < identifier_of r) zs y up.0 b in
+    let less = each_in (λ (r : Raw). identifier_of z < identifier_of r) zs y up.0 b in
     let same : identifier_of z ≡ identifier_of x = ap identifier_of a in
     absurd (omega (arith, less, same, e))
 one_of (z ∷ zs) x y up (inr a) (inl b) e =
-    let less : identifier_of z < identifier_of x =
-    each_in (λ (r : Raw). identifier_of z < identifier_of r) zs x up.0 a in
+    let less = each_in (λ (r : Raw). identifier_of z < identifier_of r) zs x up.0 a in
     let same : identifier_of z ≡ identifier_of y = ap identifier_of b in
     absurd (omega (arith, less, same, e))
 one_of (z ∷ zs) x y up (inr a) (inr b) e = one_of zs x y up.1 a b e
@@ -70,8 +68,7 @@ fine_by full C raw part up few inside h None e =
 fine_by full C raw part up few inside h (Some k) e =
     let there : In k part = found_in (identifier_of raw) part k e in
     let whole : In k full = in_full h.known full k (subst (λ (ps : List Raw). In k ps) h.is there) in
-    let key : identifier_of k ≡ identifier_of raw = entry_key identifier_of (identifier_of raw) part k e in
-    let same : k ≡ raw = one_of full k raw up whole inside key in
+    let same : k ≡ raw = one_of full k raw up whole inside (entry_key identifier_of (identifier_of raw) part k e) in
     let agrees : agree k raw ≡ true = ap (λ x. agree x raw) same ∙ agree_self raw in (
       ap (λ t. is_other_one (cond t standings.Same standings.Other)) agrees,
       ap (λ t. finds_no_room (cond t standings.Same standings.Other)) agrees,
@@ -125,16 +122,6 @@ record MemberFine (step period : ℕ) (plan : Plan) (u : State) (awaited : Optio
   word : Agrees step period past i
   after : IsInside plan u awaited (Said i ∷ past)
 
-no_ensemble : (raw : Raw) (full : Pictured) → IsOf raw full → (raw.ext == 0) ≡ false
-no_ensemble raw full (inl h) = ap (λ (k : ℕ). k == 0) h.0
-no_ensemble raw full (inr (inl h)) = ap (λ (k : ℕ). k == 0) h.0
-no_ensemble raw full (inr (inr h)) = ap (λ (k : ℕ). k == 0) h.0
-
-pub sent_ext : (on : Bool) (c n : Configuration) (m : Marked) → IsSentOf on c n m
-    → ((raw_entry m.entry).ext == 0) ≡ false
-sent_ext on c n m (inl h) = no_ensemble (raw_entry m.entry) (whole_of c) (entry_is_of c m.entry h.1)
-sent_ext on c n m (inr h) = no_ensemble (raw_entry m.entry) (whole_of n) (entry_is_of n m.entry h.2)
-
 pub one_heard : (o : Option Listening) (a : Listening) → where_heard o (hear_marked []) ≡ Some a → o ≡ Some a
 one_heard None a e = e
 one_heard (Some l) a e = e
@@ -151,22 +138,17 @@ entry_fine : (step period : ℕ) (plan : Plan) (u : State) (awaited : Option ℕ
 entry_fine step period plan u awaited past i h s is_c is_n e (inl (flag, inside)) =
     let l : Listening = h.heard in
     let same : listener_after past ≡ l = after_is past l h.is in
-    let tuned : (listener_after past).tuned ≡ true = ap (λ (x : Listening). x.tuned) same ∙ h.knows.is_tuned in
     let next : i.next ≡ false = s.next ∙ flag in
-    let of : IsOf i.raw (whole_of u.current) =
-    subst (λ (x : Raw). IsOf x (whole_of u.current)) (sym s.raw) (entry_is_of u.current s.m.entry inside) in
+    let of = subst (λ (x : Raw). IsOf x (whole_of u.current)) (sym s.raw) (entry_is_of u.current s.m.entry inside) in
     let fine = fine_in u.current Nothing i.raw l.current is_c of h.knows.current in
-    let agrees : is_other_one (lookup_in i.raw (listener_after past).current) ≡ false =
-    ap (λ (x : Listening). is_other_one (lookup_in i.raw x.current)) same ∙ fine.same in
-    let room : finds_no_room (lookup_in i.raw (listener_after past).current) ≡ false =
-    ap (λ (x : Listening). finds_no_room (lookup_in i.raw x.current)) same ∙ fine.room in
+    let room = ap (λ (x : Listening). finds_no_room (lookup_in i.raw x.current)) same ∙ fine.room in
     record {
-      room = member_room step period past i e tuned ∙ ap
+      room = member_room step period past i e (ap (λ (x : Listening). x.tuned) same ∙ h.knows.is_tuned) ∙ ap
           (λ b. finds_no_room (lookup_in i.raw (cond b (listener_after past).next (listener_after past).current))) next
           ∙ room;
       head = λ ens. not_both e ens;
       member = λ other. record {
-        same = λ current. agrees;
+        same = λ current. (ap (λ (x : Listening). is_other_one (lookup_in i.raw x.current)) same ∙ fine.same);
         flagged = λ is. not_both next is;
         next = λ is. not_both next is;
       };
@@ -176,17 +158,11 @@ entry_fine step period plan u awaited past i h s is_c is_n e (inr (on, flag, ins
     let same : listener_after past ≡ l = after_is past l h.is in
     let tuned : (listener_after past).tuned ≡ true = ap (λ (x : Listening). x.tuned) same ∙ h.knows.is_tuned in
     let next : i.next ≡ true = s.next ∙ flag in
-    let of : IsOf i.raw (whole_of u.next) =
-    subst (λ (x : Raw). IsOf x (whole_of u.next)) (sym s.raw) (entry_is_of u.next s.m.entry inside) in
-    let part : IsPartial (whole_of u.next) Nothing l.next =
-    subst (λ (b : Bool). NextBy b u.next Nothing l.next) on h.knows.next in
+    let of = subst (λ (x : Raw). IsOf x (whole_of u.next)) (sym s.raw) (entry_is_of u.next s.m.entry inside) in
+    let part = subst (λ (b : Bool). NextBy b u.next Nothing l.next) on h.knows.next in
     let fine = fine_in u.next Nothing i.raw l.next is_n of part in
-    let agrees : is_other_one (lookup_in i.raw (listener_after past).next) ≡ false =
-    ap (λ (x : Listening). is_other_one (lookup_in i.raw x.next)) same ∙ fine.same in
-    let room : finds_no_room (lookup_in i.raw (listener_after past).next) ≡ false =
-    ap (λ (x : Listening). finds_no_room (lookup_in i.raw x.next)) same ∙ fine.room in
-    let flagged : (not (has_begun past) && has_ensemble past) ≡ false =
-    quiet_early (has_begun past) (has_ensemble past) (λ has. h.begun has on) in
+    let room = ap (λ (x : Listening). finds_no_room (lookup_in i.raw x.next)) same ∙ fine.room in
+    let flagged = quiet_early (has_begun past) (has_ensemble past) (λ has. h.begun has on) in
     record {
       room = member_room step period past i e tuned ∙ ap
           (λ b. finds_no_room (lookup_in i.raw (cond b (listener_after past).next (listener_after past).current))) next
@@ -195,7 +171,7 @@ entry_fine step period plan u awaited past i h s is_c is_n e (inr (on, flag, ins
       member = λ other. record {
         same = λ current. not_both current next;
         flagged = λ is. flagged;
-        next = λ is. agrees;
+        next = λ is. (ap (λ (x : Listening). is_other_one (lookup_in i.raw x.next)) same ∙ fine.same);
       };
     }
 
@@ -204,9 +180,8 @@ sent_next on c n m (inl h) e = absurd (false≢true (sym h.0 ∙ e))
 sent_next on c n m (inr h) e = h.0
 
 early_after : (t b x y : Bool) → cond (t && not b) x y ≡ true → ((t ≡ true) × (b ≡ false)) ⊎ (y ≡ true)
-early_after true true x y e = inr e
 early_after true false x y e = inl (refl, refl)
-early_after false b x y e = inr e
+early_after _ _ x y e = inr e
 
 member_fine : (step period : ℕ) (plan : Plan) (u : State) (awaited : Option ℕ) (past : List Moment) (i : Item)
     → IsInside plan u awaited past → IsSentItem (is_noticed plan.notice u.left) u.current u.next i
@@ -217,8 +192,7 @@ member_fine step period plan u awaited past i h s is_c is_n =
     let l : Listening = h.heard in
     let hears = hears_entries on u.current u.next Nothing Nothing awaited (s.m ∷ []) l (whole_is_set u.current is_c)
     (whole_is_set u.next is_n) (s.sent, tt) h.knows in
-    let heard : hear_entry s.m.next (raw_entry s.m.entry) l ≡ Some hears.after =
-    one_heard (hear_entry s.m.next (raw_entry s.m.entry) l) hears.after hears.is in
+    let heard = one_heard (hear_entry s.m.next (raw_entry s.m.entry) l) hears.after hears.is in
     record {
       word = entry_fine step period plan u awaited past i h s is_c is_n e s.sent;
       after = record {

@@ -1,15 +1,15 @@
 -- The frames of a run, one after another, agree with the past of the stream.
-use Rattle.stream_laws.proofs.Words.{[], ◌%◌, ◌&&◌, ◌+◌, ◌-◌, ◌==◌, ◌||◌, ◌∙◌, ◌∷◌, ◌≡◌, ◌≢◌, ◌≤◌, ◌⊎◌, Airs, Bool}
-use Rattle.stream_laws.proofs.Words.{Contact, Ended, EnsembleInformation, Fib, Holds, InFrame, IsCode, Item, Known}
-use Rattle.stream_laws.proofs.Words.{Laws, Links, List, Listening, Moment, Nothing, OneList, Option, Plan, Program}
-use Rattle.stream_laws.proofs.Words.{Reading, Said, Some, State, SwapsOn, after_frame, after_is, airs, ap, arith}
-use Rattle.stream_laws.proofs.Words.{began_early, begins_notice, bits_of, change_of, cond, count_step, ensemble_of}
-use Rattle.stream_laws.proofs.Words.{ensemble_sent, enters_known, enters_untuned, false, false≢true, finds_no_room}
-use Rattle.stream_laws.proofs.Words.{frame_bytes, frame_items, happens, has_begun, has_ensemble, has_flags, has_low}
-use Rattle.stream_laws.proofs.Words.{headed, inl, inr, is_due, is_ensemble, is_flagged, is_made, is_noticed, is_swap}
-use Rattle.stream_laws.proofs.Words.{known_of, knows_after, last_flags, layout_mode, left_after_frame, links}
-use Rattle.stream_laws.proofs.Words.{listener_after, listening, lookup_in, not, noticed_information, occurrence_of}
-use Rattle.stream_laws.proofs.Words.{overlap, past_end, refl, said, shown, subst, sym, true, untuned, unwrap_or, ℕ}
+use Rattle.stream_laws.proofs.Words.{[], ◌%◌, ◌&&◌, ◌-◌, ◌==◌, ◌||◌, ◌∙◌, ◌∷◌, ◌≡◌, ◌≢◌, ◌≤◌, ◌⊎◌, Airs, Bool, Contact}
+use Rattle.stream_laws.proofs.Words.{Ended, EnsembleInformation, Fib, Holds, InFrame, IsCode, Item, Known, Laws, Links}
+use Rattle.stream_laws.proofs.Words.{List, Listening, Moment, Nothing, OneList, Option, Plan, Program, Reading, Said}
+use Rattle.stream_laws.proofs.Words.{Some, State, SwapsOn, after_frame, after_is, airs, ap, arith, began_early}
+use Rattle.stream_laws.proofs.Words.{begins_notice, bits_of, change_of, cond, count_step, ensemble_of, ensemble_sent}
+use Rattle.stream_laws.proofs.Words.{enters_known, enters_untuned, false, false≢true, finds_no_room, frame_bytes}
+use Rattle.stream_laws.proofs.Words.{frame_items, happens, has_begun, has_ensemble, has_flags, has_low, headed, inl}
+use Rattle.stream_laws.proofs.Words.{inr, is_due, is_ensemble, is_flagged, is_made, is_noticed, is_swap, known_of}
+use Rattle.stream_laws.proofs.Words.{knows_after, last_flags, layout_mode, left_after_frame, links, listener_after}
+use Rattle.stream_laws.proofs.Words.{listening, lookup_in, not, noticed_information, occurrence_of, overlap, past_end}
+use Rattle.stream_laws.proofs.Words.{refl, said, shown, subst, sym, true, untuned, unwrap_or, ℕ, none_some}
 use Rattle.stream_check.specs.History.{ensemble_of_item as said_ensemble}
 use Rattle.stream_check.specs.Rules.{KnownBefore as Knowledge}
 use Rattle.stream_check.specs.Stream.{past_after_frame as after_read}
@@ -18,10 +18,10 @@ use Rattle.stream_laws.proofs.Framing.{read_frame}
 use Rattle.stream_laws.proofs.Sending.{not_sent}
 use Rattle.stream_laws.proofs.Agreeing.{IsInside, members_fine}
 use Rattle.stream_laws.proofs.Findings.{IsHeadFine, Each, Agrees}
-use Rattle.stream_laws.proofs.AgreeingRuns.{IsBetween, IsHeadOk, head_ok, head_falls, flags_on, none_by, still, on_by}
-use Rattle.stream_laws.proofs.AgreeingRuns.{left_of, zero_or_some, awaits_by}
-use Rattle.stream_laws.proofs.Tracking.{no_some}
+use Rattle.stream_laws.proofs.AgreeingRuns.{IsBetween, IsHeadOk, head_ok, head_falls, flags_on, still, on_by}
+use Rattle.stream_laws.proofs.AgreeingRuns.{left_of, awaits_by}
 use Rattle.stream_laws.proofs.Opening.{IsOpened, IsOnStep, items_at, each_opened, next_opened, first_opened}
+use Rattle.stream_laws.proofs.Words.{none_awaited, zero_or_more}
 
 -- ---- a FIG 0/0
 
@@ -94,7 +94,7 @@ head_inside plan u a past l i ens says f is = record {
         → is_noticed plan.notice u.left ≡ true
     on_awaited low some true on = on
     on_awaited low some false off =
-        no_some low f.awaited (none_by plan u.left u.count f.awaited a.ahead off f.waits) some
+        none_some low f.awaited (none_awaited plan u.left u.count f.awaited a.ahead off f.waits) some
 
 -- ---- without FIG 0/0
 
@@ -127,12 +127,10 @@ no_header plan s u past h a link swaps bare f = record {
     off e = bare (ap (λ n. n % count_step (layout_mode plan.layout)) link.count ∙ e)
 
     more : (k : ℕ) → s.left ≡ Some k → 1 ≤ k
-    more k is = elim (zero_or_some k) [
+    more k is = elim (zero_or_more k) [
       | inl none ↦ (
-          let on : (s.count + k) % count_step (layout_mode plan.layout) ≡ 0 =
-          subst (λ (o : Option ℕ). SwapsOn plan s.count o) is swaps in
-          let same : s.count + k ≡ s.count = omega (arith, none) in
-          absurd (off (sym (ap (λ n. n % count_step (layout_mode plan.layout)) same) ∙ on))
+          let on = subst (λ (o : Option ℕ). SwapsOn plan s.count o) is swaps in
+          absurd (off (sym (ap (λ n. n % count_step (layout_mode plan.layout)) (omega (arith, none))) ∙ on))
           )
       | inr some ↦ some
     ]
@@ -218,8 +216,7 @@ pub agrees_by : OneList → Laws → (r : Reading) (period : ℕ) (p : Program) 
     → Holds p ts s → (past : List Moment) → IsBefore p.plan past s
     → FrameAgrees period p s past (read_frame r p.plan.layout (frame_bytes p s))
 agrees_by one laws r period p ts c s holds past (inl (none, on)) =
-    let here : IsOnStep p.plan (shown p s) =
-    ap (λ n. n % count_step (layout_mode p.plan.layout)) (links p ts c s holds).count ∙ on in
+    let here = ap (λ n. n % count_step (layout_mode p.plan.layout)) (links p ts c s holds).count ∙ on in
     subst (λ (l : List Moment). FrameAgrees period p s l (read_frame r p.plan.layout (frame_bytes p s))) (sym none)
     (frame_agrees r period p s [] (airs p ts c s holds) false (first_opened one laws r p ts c s holds on) untuned refl
     (first_ok p.plan (shown p s)) (enters_untuned p ts c s holds on) (λ off. absurd (off here)))

@@ -1,18 +1,18 @@
 -- The entries and the announcements of a run are as the checker requires, frame by frame.
 use Rattle.stream_laws.proofs.Words.{◌%◌, ◌&&◌, ◌+◌, ◌-◌, ◌<◌, ◌==◌, ◌||◌, ◌∙◌, ◌≡◌, ◌≢◌, ◌≤◌, ◌⊎◌, Airs, Bool}
-use Rattle.stream_laws.proofs.Words.{CommittedBy, Configuration, EnsembleInformation, Holds, I, II, III, IV, IsAhead}
-use Rattle.stream_laws.proofs.Words.{IsCode, IsPartial, IsSound, Known, KnowsAt, KnowsBy, LeftBy, Links, List}
-use Rattle.stream_laws.proofs.Words.{Listening, Mode, Moment, None, Nothing, Option, Plan, Program, Some, State}
-use Rattle.stream_laws.proofs.Words.{SwapsOn, Waits, WaitsBy, airs, ap, arith, began_early, bits_of, can_fall_at}
-use Rattle.stream_laws.proofs.Words.{change_of, count_step, due_is, ensemble_of, ensemble_right, ensemble_within}
-use Rattle.stream_laws.proofs.Words.{eq-eqb, eqb-true, false, false≢true, has_begun, has_ensemble, has_flags, has_low}
-use Rattle.stream_laws.proofs.Words.{inl, inr, is_due, is_made, is_noticed, is_some, last_flags, layout_mode, links}
-use Rattle.stream_laws.proofs.Words.{listening, low_of_swap, lt-ltb, ne_eqb, not, noticed, noticed_from}
-use Rattle.stream_laws.proofs.Words.{noticed_information, occurrence_of, or_right, or_true, overlap, past_end, refl}
-use Rattle.stream_laws.proofs.Words.{shown, some_is, split_le, subst, suc, sym, true, unwrap_or, whole_of, zero, ℕ}
+use Rattle.stream_laws.proofs.Words.{CommittedBy, Configuration, EnsembleInformation, Holds, I, II, III, IV, IsCode}
+use Rattle.stream_laws.proofs.Words.{IsPartial, IsSound, Known, KnowsAt, KnowsBy, LeftBy, Links, List, Listening, Mode}
+use Rattle.stream_laws.proofs.Words.{Moment, None, Nothing, Option, Plan, Program, Some, State, SwapsOn, Waits, airs}
+use Rattle.stream_laws.proofs.Words.{ap, arith, began_early, bits_of, can_fall_at, change_of, count_step, ensemble_of}
+use Rattle.stream_laws.proofs.Words.{ensemble_right, ensemble_within, eq-eqb, eqb-true, false, false≢true, has_begun}
+use Rattle.stream_laws.proofs.Words.{has_ensemble, has_flags, has_low, inl, inr, is_due, is_made, is_noticed, is_some}
+use Rattle.stream_laws.proofs.Words.{last_flags, layout_mode, links, listening, low_of_swap, lt-ltb, ne_eqb, not}
+use Rattle.stream_laws.proofs.Words.{noticed, noticed_from, none_some, noticed_information, occurrence_of, or_right}
+use Rattle.stream_laws.proofs.Words.{or_true, overlap, past_end, refl, shown, some_is, split_le, subst, suc, sym, true}
+use Rattle.stream_laws.proofs.Words.{unwrap_or, whole_of, zero, ℕ}
 use Rattle.stream_laws.proofs.Units.{units_fine}
 use Rattle.stream_laws.proofs.Agreeing.{none_or_some}
-use Rattle.stream_laws.proofs.Tracking.{no_some}
+use Rattle.stream_laws.proofs.Words.{swap_not_now, long_notice, zero_or_more}
 
 -- ---- between two frames
 
@@ -35,29 +35,20 @@ pub record Awaits (plan : Plan) (left : Option ℕ) (n : Configuration) (count l
 
 pub awaits_by : (plan : Plan) (left : Option ℕ) (c n : Configuration) (count : ℕ) (l : Listening) (low : ℕ)
     → KnowsBy plan left c n count Nothing Nothing l → l.awaited ≡ Some low → Awaits plan left n count low l
-awaits_by plan None c n count l low h e = no_some low l.awaited h.awaits e
+awaits_by plan None c n count l low h e = none_some low l.awaited h.awaits e
 awaits_by plan (Some k) c n count l low h e = elim (split_le plan.notice k) [
-  | inl late ↦ no_some low l.awaited (h.outside late).awaits e
+  | inl late ↦ none_some low l.awaited (h.outside late).awaits e
   | inr below ↦ (
       let at = h.inside below in
-      let same : at.awaited ≡ Some low = sym at.knows.awaits ∙ e in
       record {
         k = k;
         is = refl;
         below = below;
-        low_is = subst (λ (o : Option ℕ). Waits plan k count o) same at.waits;
+        low_is = subst (λ (o : Option ℕ). Waits plan k count o) (sym at.knows.awaits ∙ e) at.waits;
         next = at.knows.next;
       }
       )
 ]
-
-long_notice : (m : Mode) (notice count : ℕ) → 12 ≤ notice → notice - 0 ≤ (count + (count_step m - 1)) % count_step m → ⊥
-long_notice I notice count long h = omega (arith, long, h)
-long_notice m notice count long h = omega (arith, long, h)
-
-pub due_left : (left : Option ℕ) → is_due left ≡ true → left ≡ Some 0
-due_left None e = absurd cc
-due_left (Some l) e = ap (λ (x : ℕ). Some x) (due_is l e)
 
 -- a swap that is due is awaited
 pub due_awaits : (plan : Plan) (left : Option ℕ) (c n : Configuration) (count : ℕ) (l : Listening) → 12 ≤ plan.notice
@@ -93,28 +84,17 @@ pub record IsStill (s u : State) (k : ℕ) : Type 0 where
 pub still : (plan : Plan) (s u : State) (k : ℕ) → Links plan s u → s.left ≡ Some k → 1 ≤ k → IsStill s u k
 still plan s u k link is some =
     let not_due : is_due s.left ≡ false = ap is_due is ∙ ne_eqb k 0 (λ none. omega (arith, some, none)) in
-    let by : LeftBy plan s.count (Some k) s.next u.left u.next =
-    subst (λ (o : Option ℕ). LeftBy plan s.count o s.next u.left u.next) is (link.left not_due) in
+    let by = subst (λ (o : Option ℕ). LeftBy plan s.count o s.next u.left u.next) is (link.left not_due) in
     record { left = by.0; current = link.current not_due; next = by.1 }
 
 pub on_by : (plan : Plan) (u : State) (k : ℕ) → u.left ≡ Some k → 1 ≤ k → k ≤ plan.notice → on_air plan u ≡ true
 on_by plan u k is some within = ap (is_noticed plan.notice) is ∙ noticed plan.notice k some within
 
-pub none_by : (plan : Plan) (left : Option ℕ) (count : ℕ) (awaited : Option ℕ) → IsAhead left
-    → is_noticed plan.notice left ≡ false → WaitsBy plan left count awaited → awaited ≡ None
-none_by plan None count awaited ahead e w = w
-none_by plan (Some k) count awaited ahead e w = elim (split_le k plan.notice) [
-  | inl within ↦ absurd (false≢true (sym e ∙ noticed plan.notice k ahead within))
-  | inr past ↦ w.outside past
-]
-
 -- a count on which a swap falls
 falls_by : (m : Mode) (x : ℕ) → x % count_step m ≡ 0 → can_fall_at (count_step m) (x % 5000 % 250) ≡ true
 falls_by I x e =
-    let below : x % 5000 % 250 < 250 = omega arith in
-    let even : x % 5000 % 250 % 2 ≡ 0 = omega (arith, e) in
-    ap (λ b. b && ((x % 5000 % 250) % 2 == 0 || false)) (lt-ltb (x % 5000 % 250) 250 below)
-    ∙ ap (λ b. b || false) (eq-eqb (x % 5000 % 250 % 2) 0 even)
+    ap (λ b. b && ((x % 5000 % 250) % 2 == 0 || false)) (lt-ltb (x % 5000 % 250) 250 (omega arith))
+    ∙ ap (λ b. b || false) (eq-eqb (x % 5000 % 250 % 2) 0 (omega (arith, e)))
 falls_by II x e =
     let below : x % 5000 % 250 < 250 = omega arith in
     ap (λ b. b && ((x % 5000 % 250) % 2 == 0 || true)) (lt-ltb (x % 5000 % 250) 250 below)
@@ -143,10 +123,8 @@ head_falls plan u a flags = by (on_air plan u) refl
     by true on =
         let info = noticed_information plan u on in
         let there = left_of plan u.left on in
-        let swaps : (u.count + there.0) % count_step (layout_mode plan.layout) ≡ 0 =
-        subst (λ (o : Option ℕ). SwapsOn plan u.count o) there.1 a.swaps in
-        let low : occurrence_of (ensemble_of plan u) ≡ (u.count + there.0) % 5000 % 250 =
-        ap (λ o. unwrap_or o 0) info.occurrence ∙ ap (low_of_swap u.count) there.1 in
+        let swaps = subst (λ (o : Option ℕ). SwapsOn plan u.count o) there.1 a.swaps in
+        let low = ap (λ o. unwrap_or o 0) info.occurrence ∙ ap (low_of_swap u.count) there.1 in
         ap (can_fall_at (count_step (layout_mode plan.layout))) low
         ∙ falls_by (layout_mode plan.layout) (u.count + there.0) swaps
     by false off =
@@ -158,17 +136,10 @@ both_not true true x y = refl
 both_not true false x y = absurd (false≢true y)
 both_not false b x y = absurd (false≢true x)
 
-pub zero_or_some : (k : ℕ) → (k ≡ 0) ⊎ (1 ≤ k)
-zero_or_some zero = inl refl
-zero_or_some (suc k) = inr (omega arith)
-
 pub due_low : (count low k : ℕ) → count < 5000 → k ≡ 0 → low ≡ (count + k) % 5000 % 250 → count % 250 ≡ low
 due_low count low k below none is = omega (arith, below, none, is)
 
 -- ---- a swap is made exactly where it is due
-
-not_now : (count low k : ℕ) → count < 5000 → 1 ≤ k → k < 250 → low ≡ (count + k) % 5000 % 250 → count % 250 ≢ low
-not_now count low k below some short is e = omega (arith, below, some, short, is, e)
 
 -- a swap is made exactly where it is due
 pub made_where_due : (p : Program) (ts : List Known) → IsCode p ts → (s : State) → Holds p ts s → (past : List Moment)
@@ -205,7 +176,7 @@ made_where_due p ts c s holds past h = by (none_or_some h.heard.awaited) (due_or
         ∙ sym (ap is_due now)
     by (inr (low, some)) (inr apart) =
         let w = awaits_by p.plan s.left s.current s.next s.count h.heard low h.knows some in
-        let more : 1 ≤ w.k = elim (zero_or_some w.k) [
+        let more : 1 ≤ w.k = elim (zero_or_more w.k) [
           | inl none ↦ absurd (false≢true (sym (sym (ap is_due w.is ∙ eq-eqb w.k 0 none) ∙ apart)))
           | inr some_left ↦ some_left
         ] in
@@ -213,7 +184,7 @@ made_where_due p ts c s holds past h = by (none_or_some h.heard.awaited) (due_or
         more (omega (arith, w.below)) in
         let flags = flags_on p.plan (shown p s) (airs p ts c s holds) on in
         let short : w.k < 250 = omega (arith, w.below, c.program.planned.notice_to) in
-        let other : s.count % 250 ≢ low = not_now s.count low w.k holds.tracked.count more short w.low_is in
+        let other : s.count % 250 ≢ low = swap_not_now s.count low w.k holds.tracked.count more short w.low_is in
         made_low low some ∙ both_false ((ensemble_of p.plan (shown p s)).change == 0) _ flags
         (ne_eqb ((ensemble_of p.plan (shown p s)).count % 250) low (λ e. other (sym (ap (λ n. n % 250) count) ∙ e)))
         ∙ sym apart
@@ -238,7 +209,7 @@ head_ok p ts c s holds past h = record {
   units = λ is. units_by (none_or_some h.heard.awaited) is;
   flagged = λ early.
       let there = h.early early in
-      elim (zero_or_some there.1) [
+      elim (zero_or_more there.1) [
         | inl none ↦ absurd (due_awaits p.plan s.left s.current s.next s.count h.heard
             (omega (arith, c.program.planned.notice_from)) (there.2 ∙ ap Some none) h.knows there.0)
         | inr some ↦ flags_on p.plan (shown p s) (airs p ts c s holds)
@@ -288,17 +259,15 @@ head_ok p ts c s holds past h = record {
         let e : EnsembleInformation = ensemble_of plan u in
         let link = links p ts c s holds in
         let w = awaits_by plan s.left s.current s.next s.count h.heard low h.knows some in
-        let more : 1 ≤ w.k = elim (zero_or_some w.k) [
+        let more : 1 ≤ w.k = elim (zero_or_more w.k) [
           | inl none ↦ absurd (false≢true (sym is ∙ made_where_due p ts c s holds past h ∙ ap is_due w.is
               ∙ eq-eqb w.k 0 none))
           | inr left ↦ left
         ] in
         let stays = still plan s u w.k link w.is more in
         let info = noticed_information plan u (on_by plan u w.k stays.left more (omega (arith, w.below))) in
-        let change : e.change ≡ last_flags past = info.change ∙ ap (λ x. bits_of (change_of x u.next)) stays.current
-        ∙ ap (λ x. bits_of (change_of s.current x)) stays.next ∙ sym (h.flags low some) in
-        let occurs : occurrence_of e ≡ low = ap (λ o. unwrap_or o 0) info.occurrence
-        ∙ ap (low_of_swap u.count) stays.left ∙ ap (λ n. (n + w.k) % 5000 % 250) link.count ∙ sym w.low_is in
+        let change : e.change ≡ last_flags past = cc (info.change, stays.current, stays.next, h.flags low some) in
+        let occurs : occurrence_of e ≡ low = cc (info.occurrence, stays.left, link.count, w.low_is) in
         ap (λ o. has_low o && (not (e.change == last_flags past) || not (occurrence_of e == unwrap_or o 0))) some
         ∙ both_not (e.change == last_flags past) (occurrence_of e == low) (eq-eqb e.change (last_flags past) change)
         (eq-eqb (occurrence_of e) low occurs)

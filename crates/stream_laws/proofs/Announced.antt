@@ -5,15 +5,15 @@ use Rattle.stream_laws.proofs.Words.{Configuration, Contains, Contains-append_le
 use Rattle.stream_laws.proofs.Words.{EnsembleInformation, Fib, HasThreeHeaders, IsConfiguration, IsEnsembleHeardInRow}
 use Rattle.stream_laws.proofs.Words.{IsFib, IsHeaded, IsHeardInRow, IsHeardWhole, IsSaid, IsSaidIn, IsSent, IsSentWhole}
 use Rattle.stream_laws.proofs.Words.{IsTheMost, IsWithin, Item, List, Marked, Moment, Open, Option, Pictured, Raw}
-use Rattle.stream_laws.proofs.Words.{Reading, Said, ShowsEach, Some, SpellingIdentifies, SwapsAreAnnounced}
-use Rattle.stream_laws.proofs.Words.{after_frames, all_entries, ap, arith, cond, contains_first, contains_later, drop}
+use Rattle.stream_laws.proofs.Words.{Reading, ShowsEach, Some, SpellingIdentifies, SwapsAreAnnounced, after_frames}
+use Rattle.stream_laws.proofs.Words.{all_entries, ap, arith, cond, contains_first, contains_later, drop}
 use Rattle.stream_laws.proofs.Words.{drop-append_seam, drop-map, each_contains, ensemble_of_item, entries_in, entry_at}
-use Rattle.stream_laws.proofs.Words.{entry_like, eq-eqb, eqb-true, ext_of, false, false≢true, fib_at, frame_items}
-use Rattle.stream_laws.proofs.Words.{frames_ended, identifier_of, is_ensemble, is_flagged, is_long, is_next, key_of}
-use Rattle.stream_laws.proofs.Words.{last_flags, last_of, length, length-append, length-map, list_any, listener_after}
-use Rattle.stream_laws.proofs.Words.{map, map-append, mapped_from, mapped_to, marked, past_after_frame, raw_entry}
-use Rattle.stream_laws.proofs.Words.{raw_of, read_frames, refl, row_of, rows, said, service_entries, slice_get}
-use Rattle.stream_laws.proofs.Words.{sub_entries, subst, suc, sym, take, take-append_seam, take-map, true, zero, ℕ}
+use Rattle.stream_laws.proofs.Words.{entry_like, eq-eqb, eqb-true, ext_of, false, false≢true, frame_items, frames_ended}
+use Rattle.stream_laws.proofs.Words.{identifier_of, is_ensemble, is_flagged, is_long, is_next, key_of, last_flags}
+use Rattle.stream_laws.proofs.Words.{last_of, length, length-append, length-map, list_any, listener_after, map}
+use Rattle.stream_laws.proofs.Words.{map-append, mapped_from, mapped_to, marked, past_after_frame, raw_entry, raw_of}
+use Rattle.stream_laws.proofs.Words.{read_frames, refl, row_of, rows, said, service_entries, slice_get, sub_entries}
+use Rattle.stream_laws.proofs.Words.{subst, suc, sym, take, take-append_seam, take-map, true, zero, ℕ}
 use Rattle.mux_types.proofs.Walking.{each_at}
 use Rattle.stream_check.specs.Cutting.{HasAll}
 use Rattle.stream_laws.proofs.Clean.{IsHanded, said_ended, all_left, all_right, after_entry, entry_clean}
@@ -38,9 +38,7 @@ pub one_found : (x y : Raw) (p : Pictured) → x.ext < 4 → y.ext < 4 → key_o
 one_found x y p few small keys one two =
     let ext : x.ext ≡ y.ext = omega (arith, few, small, keys) in
     let id : identifier_of x ≡ identifier_of y = omega (arith, few, small, keys) in
-    let same : entry_like x p ≡ entry_like y p =
-    ap (λ n. find_in n (identifier_of x) p) ext ∙ ap (λ k. find_in y.ext k p) id in
-    inner (sym one ∙ same ∙ two)
+    inner (sym one ∙ (ap (λ n. find_in n (identifier_of x) p) ext ∙ ap (λ k. find_in y.ext k p) id) ∙ two)
   where
     find_in : ℕ → ℕ → Pictured → Option Raw
     find_in n k p = entry_at identifier_of k (cond (n == 1) p.subs (cond (n == 2) p.services p.packets))
@@ -55,9 +53,7 @@ pub frames_counted : (step : ℕ) (frames : List (List Fib)) (past : List Moment
 frames_counted step [] past = omega arith
 frames_counted step (frame ∷ frames) past =
     let rest = frames_counted step frames (past_after_frame step past frame) in
-    let one : frames_ended (past_after_frame step past frame) ≡ frames_ended past + 1 =
-    ap (λ n. n + 1) (said_ended (frame_items frame) past) in
-    omega (arith, rest, one)
+    omega (arith, rest, ap (λ n. n + 1) (said_ended (frame_items frame) past))
 
 -- a swap is the first entry of its frame
 pub begins_frame : (step : ℕ) (frames : List (List Fib)) (past : List Moment) (i : Item)
@@ -75,30 +71,24 @@ map_twice f g (x ∷ xs) = ap (λ zs. f (g x) ∷ zs) (map_twice f g xs)
 last_by : {X Y : Type 0} (f : X → Y) (xs : List X) (earlier notice : List Y) (n : ℕ) → map f xs ≡ earlier ++ notice
     → length notice ≡ n → map f (last_of n xs) ≡ notice
 last_by f xs earlier notice n whole len =
-    let counts : length xs ≡ length earlier + length notice =
-    sym (length-map xs f) ∙ ap length whole ∙ length-append earlier notice in
+    let counts = sym (length-map xs f) ∙ ap length whole ∙ length-append earlier notice in
     let cut : length xs - n ≡ length earlier = omega (arith, counts, len) in
-    ap (λ k. map f (drop k xs)) cut ∙ sym (drop-map f (length earlier) xs) ∙ ap (drop (length earlier)) whole
-    ∙ drop-append_seam earlier notice
+    cc (cut, drop-map f (length earlier) xs, whole, drop-append_seam earlier notice)
 
 pub notice_is : (r : Reading) (step : ℕ) (frames : List (List (List ℕ))) (past : List Moment) (i : Item)
     → IsSaidIn step (read_frames r frames) past i → at_hand past ≡ []
     → map (items_in r) (last_of (length (rows past)) (take (frames_ended past) frames)) ≡ notice_rows past
 notice_is r step frames past i s hand =
     let before : past ≡ after_frames step [] s.before = begins_frame step (read_frames r frames) past i s hand in
-    let ended : frames_ended past ≡ length s.before = ap frames_ended before ∙ frames_counted step s.before []
-    ∙ omega arith in
+    let ended = ap frames_ended before ∙ frames_counted step s.before [] ∙ omega arith in
     let taken : map (map r.read) (take (frames_ended past) frames) ≡ s.before =
     sym (take-map (map r.read) (frames_ended past) frames) ∙ ap (λ n. take n (read_frames r frames)) ended
     ∙ ap (take (length s.before)) s.frames_are ∙ take-append_seam s.before (s.frame ∷ s.after) in
     let ends : EndsWith s.before past = subst (EndsWith s.before) (sym before) (ends_with step s.before) in
-    let many : length ends.notice ≡ length (rows past) =
-    sym (length-map ends.notice frame_items) ∙ ap length ends.are ∙ as_many past in
     let last : map (map r.read) (last_of (length (rows past)) (take (frames_ended past) frames)) ≡ ends.notice =
     last_by (map r.read) (take (frames_ended past) frames) ends.earlier ends.notice (length (rows past))
-    (taken ∙ ends.whole) many in
-    sym (map_twice frame_items (map r.read) (last_of (length (rows past)) (take (frames_ended past) frames)))
-    ∙ ap (map frame_items) last ∙ ends.are
+    (taken ∙ ends.whole) (sym (length-map ends.notice frame_items) ∙ ap length ends.are ∙ as_many past) in
+    sym (map_twice _ _ _) ∙ ap (map frame_items) last ∙ ends.are
 
 pub each_drop : {X : Type 0} (P : X → Type 0) (n : ℕ) (xs : List X) → AllByRecursion P xs → AllByRecursion P (drop n xs)
 each_drop P zero xs all = all
@@ -137,11 +127,9 @@ three_headers laws r notice all three =
     let one = flagged_at (items_in r) 2 notice three in
     let two = flagged_at (items_in r) 1 (drop (suc one.place) notice) one.rest in
     let last = flagged_at (items_in r) 0 (drop (suc two.place) (drop (suc one.place) notice)) two.rest in
-    let second : slice_get notice (suc one.place + two.place) ≡ Some two.frame =
-    get_later (suc one.place) notice two.place two.frame two.got in
+    let second = get_later (suc one.place) notice two.place two.frame two.got in
     let third : slice_get notice (suc one.place + (suc two.place + last.place)) ≡ Some last.frame =
-    get_later (suc one.place) notice (suc two.place + last.place) last.frame
-    (get_later (suc two.place) (drop (suc one.place) notice) last.place last.frame last.got) in
+    get_later _ notice _ _ (get_later (suc two.place) (drop (suc one.place) notice) last.place last.frame last.got) in
     record {
       first = one.place;
       second = suc one.place + two.place;
@@ -158,10 +146,7 @@ three_headers laws r notice all three =
 pub three_parts : (notice xs ys zs : List (List (List ℕ))) → notice ≡ (xs ++ ys) ++ zs
     → map row_of notice ≡ (map row_of xs ++ map row_of ys) ++ map row_of zs
 three_parts notice xs ys zs e =
-    let apart : map row_of ((xs ++ ys) ++ zs) ≡ map row_of (xs ++ ys) ++ map row_of zs =
-    map-append row_of (xs ++ ys) zs in
-    let more : map row_of (xs ++ ys) ≡ map row_of xs ++ map row_of ys = map-append row_of xs ys in
-    ap (map row_of) e ∙ apart ∙ ap (λ rs. rs ++ map row_of zs) more
+    ap (map row_of) e ∙ (map-append row_of (xs ++ ys) zs) ∙ ap (λ rs. rs ++ map row_of zs) (map-append row_of xs ys)
 
 pub formed_handed : IsHanded IsFormed
 formed_handed = record { by_entry = λ i past w. w.2; by_frame = λ count past w. w }
@@ -211,8 +196,7 @@ pub sent : (r : Reading) (next : Bool) (fibs : List (List ℕ)) (i : Item) → A
     → Contains (items_in r fibs) i → i.next ≡ next → IsSent next (row_of fibs) i.raw
 sent r next fibs i all h marked =
     let from = item_from r fibs i h in
-    let here : fib_at (row_of fibs) from.inside.0 ≡ from.fib =
-    at_place fibs from.inside.0 from.fib all from.inside.1 ∙ from.inside.2 in
+    let here = at_place fibs from.inside.0 from.fib all from.inside.1 ∙ from.inside.2 in
     record {
       place = from.inside.0;
       figs = from.figs;
@@ -231,8 +215,7 @@ part_sent : (r : Reading) (part : List (List (List ℕ))) (rs : List (List ℕ))
     → IsSentWhole p (map row_of part)
 part_sent r part rs p bytes k s all raw known =
     let is = there p raw k known in
-    let found = in_part (items_in r) p part rs (key_of raw) s
-    (all (key_of raw) (mapped_from key_of (all_entries p) raw is.inside)) in
+    let found = in_part (items_in r) p part rs (key_of raw) s (all (key_of raw) (mapped_from _ _ _ is.inside)) in
     let among : IsSaidAmong p (items_in r found.0) (key_of raw) = found.2 in
     let same : among.item.raw ≡ raw =
     one_found among.item.raw raw p among.small is.small among.key among.found known in (
@@ -252,9 +235,7 @@ notice_header laws r notice all flags low rows frame mark e inside heard =
     let here = mapped_to row_of notice frame inside in
     let header = header_said laws r here.0 mark e (each_contains AreFibBytes notice here.0 all here.1)
     (subst (λ (b : List ℕ). IsEnsembleHeardInRow b mark e) (sym here.2) heard) in
-    let row : AllAnnounce flags low (items_in r here.0) =
-    each_contains (AllAnnounce flags low) (map (items_in r) notice) (items_in r here.0) rows
-    (mapped_from (items_in r) notice here.0 here.1) in
+    let row : AllAnnounce flags low (items_in r here.0) = each_contains _ _ _ rows (mapped_from _ _ _ here.1) in
     let says = each_contains (λ j. is_ensemble j ≡ true → ((ensemble_of_item j).change ≡ flags)
     × ((ensemble_of_item j).occurrence ≡ Some low)) (items_in r here.0) header.item row header.inside
     header.ensemble in (
@@ -271,14 +252,11 @@ reported laws r notice past count all n are kinds =
     let p : Pictured = (listener_after past).next in
     let three = n.right.heard in
     let said : RowsAreSaid p (map (items_in r) notice) ((three.first ++ three.second) ++ three.third) =
-    subst (λ (is : List (List Item)). RowsAreSaid p is ((three.first ++ three.second) ++ three.third)) (sym are)
-    (subst (RowsAreSaid p (notice_rows past)) three.cut n.said) in
+    rw are (rw (← three.cut) n.said) in
     let ends = split_rows (items_in r) p notice (three.first ++ three.second) three.third said in
     let begins = split_rows (items_in r) p ends.left three.first three.second ends.first in
-    let whole : notice ≡ (begins.left ++ begins.right) ++ ends.right =
-    ends.whole ∙ ap (λ xs. xs ++ ends.right) begins.whole in
-    let bytes : AllByRecursion AreFibBytes ((begins.left ++ begins.right) ++ ends.right) =
-    subst (AllByRecursion AreFibBytes) whole all in
+    let whole = ends.whole ∙ ap (λ xs. xs ++ ends.right) begins.whole in
+    let bytes = subst (AllByRecursion AreFibBytes) whole all in
     let front = all_left AreFibBytes (begins.left ++ begins.right) ends.right bytes in
     record {
       first = map row_of begins.left;
@@ -287,16 +265,11 @@ reported laws r notice past count all n are kinds =
       cut = three_parts notice begins.left begins.right ends.right whole;
       whole_in_first = part_sent r begins.left three.first p (all_left AreFibBytes begins.left begins.right front) kinds
           begins.first three.whole_in_first.1;
-      whole_in_second = part_sent r begins.right three.second p (all_right AreFibBytes begins.left begins.right front)
-          kinds begins.second three.whole_in_second.1;
-      whole_in_third = part_sent r ends.right three.third p
-          (all_right AreFibBytes (begins.left ++ begins.right) ends.right bytes) kinds ends.second
-          three.whole_in_third.1;
-      headers = three_headers laws r notice all
-          (subst (λ (is : List (List Item)). 3 ≤ flagged_rows is) (sym are) n.flagged);
+      whole_in_second = part_sent r _ _ p (all_right _ _ _ front) kinds begins.second three.whole_in_second.1;
+      whole_in_third = part_sent r _ _ p (all_right _ _ _ bytes) kinds ends.second three.whole_in_third.1;
+      headers = three_headers laws r notice all (rw are n.flagged);
       flagged = λ frame mark e inside heard.
-          let says = notice_header laws r notice all (last_flags past) (count % 250)
-          (subst (AllByRecursion (AllAnnounce (last_flags past) (count % 250))) (sym are) n.announced) frame mark e
+          let says = notice_header laws r notice all (last_flags past) (count % 250) (rw are n.announced) frame mark e
           inside heard in
           (says.0 ∙ n.right.flags, says.1);
     }
@@ -304,14 +277,12 @@ reported laws r notice past count all n are kinds =
 pub changes_are_announced : FibLaws → IsTheMost → ChangesAreAnnounced
 changes_are_announced laws most r size step period frames past i bytes faultless s sw whole =
     let clean = entry_clean size step period (read_frames r frames) past i faultless s in
-    let formed : IsFormed (Said i ∷ past) =
-    after_entry IsFormed formed_handed step (read_frames r frames) past i s (all_formed r step frames) in
+    let formed = after_entry IsFormed formed_handed step (read_frames r frames) past i s (all_formed r step frames) in
     let n = swap_noticed most step period past i clean formed sw whole in
     let kinds = all_kinds step period past clean.2 formed.2 in
     let notice : List (List (List ℕ)) = last_of (length (rows past)) (take (frames_ended past) frames) in
     let all : AllByRecursion AreFibBytes notice =
-    each_drop AreFibBytes _ (take (frames_ended past) frames)
-    (each_take AreFibBytes (frames_ended past) frames bytes) in
+    each_drop _ _ _ (each_take AreFibBytes (frames_ended past) frames bytes) in
     reported laws r notice past (ensemble_of_item i).count all n (notice_is r step frames past i s n.alone) kinds.next
 
 -- ---- pictures that show configurations
@@ -362,14 +333,12 @@ pub swaps_are_announced : Laws → SwapsAreAnnounced
 swaps_are_announced laws r size step period frames past i now next bytes faultless s sw whole is_now is_next shows_now
     shows_next =
     let clean = entry_clean size step period (read_frames r frames) past i faultless s in
-    let formed : IsFormed (Said i ∷ past) =
-    after_entry IsFormed formed_handed step (read_frames r frames) past i s (all_formed r step frames) in
+    let formed = after_entry IsFormed formed_handed step (read_frames r frames) past i s (all_formed r step frames) in
     let kinds = all_kinds step period past clean.2 formed.2 in
-    let each_now = shows_kinds (listener_after past).current now kinds.current is_now shows_now in
     let each_next = shows_kinds (listener_after past).next next kinds.next is_next shows_next in
     let a = changes_are_announced laws.fibs laws.most r size step period frames past i bytes faultless s sw whole in
     let flags = flags_of_change laws.tells laws.change (listener_after past).current (listener_after past).next now next
-    is_now is_next each_now each_next in
+    is_now is_next (shows_kinds (listener_after past).current now kinds.current is_now shows_now) each_next in
     record {
       first = a.first;
       second = a.second;

@@ -6,14 +6,13 @@ use Rattle.stream_laws.proofs.Words.{Fib, FibHas32Bytes, Fig, Head, IsByte, IsCo
 use Rattle.stream_laws.proofs.Words.{IsEnsembleInformation, IsEntry, IsFib, IsFibBytes, IsFig, IsInFig, IsSaid, IsUnder}
 use Rattle.stream_laws.proofs.Words.{IsWithin, Item, List, None, OneList, Open, Other, Raw, Reading, Reads, Some, ap}
 use Rattle.stream_laws.proofs.Words.{arith, cases_lt, contains_cases, contains_first, contains_later, contains_none}
-use Rattle.stream_laws.proofs.Words.{drop, drop-append-add, drop_all, each_contains, ensemble_bytes, ensemble_in}
+use Rattle.stream_laws.proofs.Words.{drop-append-add, drop_all, each_contains, ensemble_bytes, ensemble_in}
 use Rattle.stream_laws.proofs.Words.{ensemble_of_item, entries_in, entry_bytes, eq-eqb, eqb-true, false, fib_at}
 use Rattle.stream_laws.proofs.Words.{fib_items, fibs_items, fig_items, figs_items, frame_items, get_or, inl, inr}
 use Rattle.stream_laws.proofs.Words.{is_ensemble, is_long, is_next, items_of, length, length-append, map, mapped_from}
 use Rattle.stream_laws.proofs.Words.{mapped_to, raw_of, refl, row_of, subst, suc, sym, take, take-append_seam, true}
 use Rattle.stream_laws.proofs.Words.{zero, ℕ}
-use Rattle.mux_types.specs.declared.entry.Entry.TheVariants.{Ensemble as EnsembleOf, Sub as SubOf, Short as ShortOf}
-use Rattle.mux_types.specs.declared.entry.Entry.TheVariants.{Service as ServiceOf, Packet as PacketOf}
+use Rattle.mux_types.specs.declared.entry.Entry.TheVariants.{Ensemble as EnsembleOf, Service as ServiceOf}
 use Rattle.stream_laws.proofs.Clean.{all_left, all_right}
 
 -- ---- the FIBs of a row
@@ -22,26 +21,19 @@ pub at_place : (fibs : List (List ℕ)) (place : ℕ) (d : List ℕ) → AreFibB
     → fib_at (row_of fibs) place ≡ get_or fibs place d
 at_place [] place d all lt = absurd (omega (arith, lt))
 at_place (f ∷ fs) zero d all lt =
-    let size : length f ≡ 32 = all.0.0 in
-    ap (λ n. take n (f ++ row_of fs)) (sym size) ∙ take-append_seam f (row_of fs)
+    ap (λ n. take n (f ++ row_of fs)) (sym all.0.0) ∙ take-append_seam f (row_of fs)
 at_place (f ∷ fs) (suc p) d all lt =
-    let size : length f ≡ 32 = all.0.0 in
-    let far : 32 * suc p ≡ length f + 32 * p = omega (arith, size) in
-    let less : p < length fs = omega (arith, lt) in
-    ap (take 32) (ap (λ n. drop n (f ++ row_of fs)) far ∙ drop-append-add f (row_of fs) (32 * p))
-    ∙ at_place fs p d all.1 less
+    let far : 32 * suc p ≡ length f + 32 * p = omega arith in
+    cc (far, drop-append-add f (row_of fs) (32 * p), at_place fs p d all.1 (omega (arith, lt)))
 
 row_length : (fibs : List (List ℕ)) → AreFibBytes fibs → length (row_of fibs) ≡ 32 * length fibs
 row_length [] all = refl
 row_length (f ∷ fs) all =
-    let size : length f ≡ 32 = all.0.0 in
-    let rest : length (row_of fs) ≡ 32 * length fs = row_length fs all.1 in
-    length-append f (row_of fs) ∙ omega (arith, size, rest)
+    length-append f (row_of fs) ∙ omega (arith, row_length fs all.1)
 
 past_end : (fibs : List (List ℕ)) (place : ℕ) → AreFibBytes fibs → length fibs ≤ place → fib_at (row_of fibs) place ≡ []
 past_end fibs place all le =
-    let far : length (row_of fibs) ≤ 32 * place = (let len = row_length fibs all in omega (arith, len, le)) in
-    ap (take 32) (drop_all (32 * place) (row_of fibs) far)
+    ap (take 32) (drop_all (32 * place) (row_of fibs) (let len = row_length fibs all in omega (arith, len, le)))
 
 pub in_row : FibHas32Bytes → (fibs : List (List ℕ)) (place : ℕ) (figs : List Fig) → AreFibBytes fibs
     → IsFib (fib_at (row_of fibs) place) figs → Contains fibs (fib_at (row_of fibs) place)
@@ -232,9 +224,8 @@ said_in size one r fibs place figs second es bytes all is f e =
 -- ---- a FIG, and an entry of it
 
 pub each_take : {X : Type 0} (P : X → Type 0) (n : ℕ) (xs : List X) → AllByRecursion P xs → AllByRecursion P (take n xs)
-each_take P zero xs all = tt
-each_take P (suc n) [] all = tt
 each_take P (suc n) (x ∷ xs) all = (all.0, each_take P n xs all.1)
+each_take P _ _ all = tt
 
 pub record IsFigOf (f : Fig) : Type 0 where
   pub bytes : List ℕ
@@ -282,13 +273,10 @@ pub record IsEnsembleBytes (bytes : List ℕ) : Type 0 where
 pub ensemble_among : (second : ℕ) (es : List (List ℕ)) (e : List ℕ) → IsFigOf (Open second es) → second % 32 ≡ 0
     → Contains es e → IsEnsembleBytes e
 ensemble_among second es e f ext h =
-    let header : (1 + length f.is.0) ∷ second ∷ f.is.0 ≡ f.bytes = sym f.is.1 in
-    let small : AllByRecursion IsByte ((1 + length f.is.0) ∷ second ∷ f.is.0) =
-    subst (AllByRecursion IsByte) (sym header) f.small in
+    let small = subst (AllByRecursion IsByte) (sym (sym f.is.1)) f.small in
     let one = entry_among (second % 32) (is_long second) f.is.0 es e f.is.4.0 small.1.1 h in
     let alone = f.is.4.1 ext in
-    let same : alone.0 ≡ e = elim (contains_cases alone.0 [] e
-    (subst (λ (xs : List (List ℕ)). Contains xs e) alone.1 h))
+    let same : alone.0 ≡ e = elim (contains_cases _ [] e (subst (λ (xs : List (List ℕ)). Contains xs e) alone.1 h))
     [ inl s ↦ s | inr none ↦ absurd (contains_none e none) ] in
     record {
       whole = subst (λ (n : ℕ). IsEntry n (is_long second) e) ext one.0;
@@ -324,10 +312,8 @@ plain_head = record { next = false; oe = false; long = false; ext = 0 }
 of_spelled : (bytes : List ℕ) (e : Entry) → IsUnder plain_head e → IsWithin e → entry_bytes e ≡ bytes
     → IsEnsembleSpelled bytes
 of_spelled bytes (EnsembleOf e) under within is = record { information = e; within = within; spelled = is }
-of_spelled bytes (SubOf s) under within is = absurd (omega (arith, under))
-of_spelled bytes (ShortOf s) under within is = absurd (omega (arith, under))
 of_spelled bytes (ServiceOf s) under within is = (let wrong : 0 ≡ 2 = under.0 in absurd (omega (arith, wrong)))
-of_spelled bytes (PacketOf p) under within is = absurd (omega (arith, under))
+of_spelled bytes _ under within is = absurd (omega (arith, under))
 
 -- the bytes of a FIG 0/0 are those of its content
 pub record IsInformation (bytes : List ℕ) : Type 0 where
@@ -338,8 +324,7 @@ pub information : FibLaws → (bytes : List ℕ) → IsEnsembleBytes bytes → I
 information laws bytes h =
     let found = laws.spelled plain_head bytes (omega arith) h.small h.whole (λ e. h.counted) in
     let one = of_spelled bytes found.0 found.1 found.2 found.3 in
-    let heard : ensemble_in (bare bytes) ≡ one.information =
-    ap (λ bs. ensemble_in (bare bs)) (sym one.spelled) ∙ laws.ensemble one.information one.within in
+    let heard = ap (λ bs. ensemble_in (bare bs)) (sym one.spelled) ∙ laws.ensemble one.information one.within in
     record {
       within = subst IsEnsembleInformation (sym heard) one.within;
       spelled = sym one.spelled ∙ ap ensemble_bytes (sym heard);
@@ -353,14 +338,11 @@ pub header_heard : FibLaws → (r : Reading) (fibs : List (List ℕ)) (i : Item)
 header_heard laws r fibs i all e h =
     let from = item_from r fibs i h in
     let is_fib : IsFib from.fib from.figs = read_fib r from.fib from.figs from.read in
-    let here : fib_at (row_of fibs) from.inside.0 ≡ from.fib =
-    at_place fibs from.inside.0 from.fib all from.inside.1 ∙ from.inside.2 in
-    let none : i.raw.ext ≡ 0 = eqb-true i.raw.ext 0 e in
-    let ext : from.second % 32 ≡ 0 = ap (λ (x : Raw). x.ext) from.raw_is ∙ none in
+    let here = at_place fibs from.inside.0 from.fib all from.inside.1 ∙ from.inside.2 in
+    let ext : from.second % 32 ≡ 0 = ap (λ (x : Raw). x.ext) from.raw_is ∙ (eqb-true i.raw.ext 0 e) in
     let bytes_is : from.bytes ≡ i.raw.bytes = ap (λ (x : Raw). x.bytes) from.raw_is in
-    let fine = ensemble_among from.second from.es from.bytes
-    (fig_of_fib from.fib from.figs (Open from.second from.es) is_fib
-    (each_contains IsFibBytes fibs from.fib all from.inside) from.fig_in) ext from.entry_in in
+    let fine = ensemble_among _ _ _ (fig_of_fib _ _ _ is_fib (each_contains _ _ _ all from.inside) from.fig_in) ext
+    from.entry_in in
     let says = information laws from.bytes fine in
     let same : ensemble_in (bare from.bytes) ≡ ensemble_of_item i = ap (λ bs. ensemble_in (bare bs)) bytes_is in
     let said : IsSaid from.second from.bytes (record { next = i.next; entry = EnsembleOf (ensemble_of_item i) }) =
@@ -396,14 +378,11 @@ header_in : FibLaws → (r : Reading) (fibs : List (List ℕ)) (place : ℕ) (fi
 header_in laws r fibs place figs (Other given) next e all is f h = absurd h
 header_in laws r fibs place figs (Open second es) next e all is f h =
     let said = said_in laws.size laws.one r fibs place figs second es h.0 all is f h.1 in
-    let ext : second % 32 ≡ 0 = h.2.ext in
-    let heard : ensemble_in (raw_of (second % 32) (is_long second) h.0) ≡ e =
-    ap (λ bs. ensemble_in (bare bs)) h.2.spelled ∙ laws.ensemble e h.2.within in
     record {
       item = record { first = said.0; next = is_next second; raw = raw_of (second % 32) (is_long second) h.0 };
       inside = said.1;
-      ensemble = eq-eqb (second % 32) 0 ext;
-      says = heard;
+      ensemble = eq-eqb (second % 32) 0 h.2.ext;
+      says = (ap (λ bs. ensemble_in (bare bs)) h.2.spelled ∙ laws.ensemble e h.2.within);
     }
 
 pub header_said : FibLaws → (r : Reading) (fibs : List (List ℕ)) (next : Bool) (e : EnsembleInformation)

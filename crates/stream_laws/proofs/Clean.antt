@@ -41,8 +41,7 @@ pub frame_holds : (P : What → Type 0) (step period : ℕ) (frame : List Fib) (
     → AllByRecursion P (findings_at_sent step period past noted (frame_sent frame))
     → AllByRecursion P (findings_at_items step period past (frame_items frame))
 frame_holds P step period frame past noted all =
-    subst (λ (is : List Item). AllByRecursion P (findings_at_items step period past is)) (frame_has_items frame)
-    (items_hold P step period (frame_sent frame) past noted all)
+    rw (← frame_has_items frame) (items_hold P step period (frame_sent frame) past noted all)
 
 -- ---- each entry
 
@@ -68,8 +67,7 @@ items_clean step period (i ∷ is) past room plain clean =
       | false ↦ λ e r p.
           let here = all_left IsNoFault (findings_at (known_of step period past) i)
           (findings_at_items step period (Said i ∷ past) is) p in
-          let later = all_right IsNoFault (findings_at (known_of step period past) i)
-          (findings_at_items step period (Said i ∷ past) is) p in
+          let later = all_right _ _ _ p in
           items_clean step period is (Said i ∷ past) r later (here, e, clean)
     ] refl room plain
 
@@ -98,10 +96,8 @@ frame_free size step period past noted frame frames room plain =
     let here = told_alone (frame_at step past frame) _
     (all_left (λ (found : Finding). IsNoFault found.what) (findings_in size step period past noted frame) _
     plain) in
-    let rest = all_right (λ (found : Finding). IsNoFault found.what) (findings_in size step period past noted frame) _
-    plain in
+    let rest = all_right (λ (found : Finding). IsNoFault found.what) _ _ plain in
     let sent = all_right IsNoFault (frame_findings size step (due past) frame) _ here in
-    let last = all_right IsNoFault (findings_at_sent step period past noted (frame_sent frame)) _ sent in
     elim (runs_full step period past (frame_items frame))
     as (λ t. runs_full step period past (frame_items frame) ≡ t
     → cond t true (frames_full step period (past_after_frame step past frame) frames) ≡ false
@@ -119,7 +115,7 @@ frame_free size step period past noted frame frames room plain =
         room = r;
         plain = p;
       }
-    ] refl room rest last
+    ] refl room rest (all_right IsNoFault (findings_at_sent step period past noted (frame_sent frame)) _ sent)
 
 frames_clean : (size step period : ℕ) (frames : List (List Fib)) (past : List Moment) (noted : List Contradiction)
     → frames_full step period past frames ≡ false
@@ -172,17 +168,12 @@ pub after_entry : (P : List Moment → Type 0) → IsHanded P
 after_entry P h step frames past i s p =
     let start : List Moment = after_frames step [] s.before in
     let whole : P (after_frames step start (s.frame ∷ s.after)) =
-    subst P (frames_twice step s.before (s.frame ∷ s.after) [])
-    (subst (λ (fs : List (List Fib)). P (after_frames step [] fs)) s.frames_are p) in
+    subst P (frames_twice step s.before (s.frame ∷ s.after) []) (rw (← s.frames_are) p) in
     let framed : P (said (frame_items s.frame) start) =
-    h.by_frame _ (said (frame_items s.frame) start)
-    (before_frames P h step s.after (past_after_frame step start s.frame) whole) in
-    let split : P (said (s.front ++ i ∷ s.back) start) =
-    subst (λ (is : List Item). P (said is start)) s.items_are framed in
-    let parted : P (said s.back (Said i ∷ said s.front start)) =
-    subst P (said_append s.front (i ∷ s.back) start) split in
+    h.by_frame _ (said (frame_items s.frame) start) (before_frames P h step s.after _ whole) in
+    let split = subst (λ (is : List Item). P (said is start)) s.items_are framed in
     subst (λ (l : List Moment). P (Said i ∷ l)) (sym s.past_is)
-    (before_said P h s.back (Said i ∷ said s.front start) parted)
+    (before_said P h s.back (Said i ∷ said s.front start) (subst P (said_append s.front (i ∷ s.back) start) split))
 
 pub clean_handed : (step period : ℕ) → IsHanded (IsClean step period)
 clean_handed step period = record { by_entry = λ i past c. c.2; by_frame = λ count past c. c }
@@ -190,9 +181,7 @@ clean_handed step period = record { by_entry = λ i past c. c.2; by_frame = λ c
 pub entry_clean : (size step period : ℕ) (frames : List (List Fib)) (past : List Moment) (i : Item)
     → IsFaultless size step period frames → IsSaidIn step frames past i
     → IsClean step period (Said i ∷ past)
-entry_clean size step period frames past i f s =
-    after_entry (IsClean step period) (clean_handed step period) step frames past i s
-    (all_clean size step period frames f)
+entry_clean size step period frames past i f s = after_entry _ (clean_handed _ _) _ _ _ _ s (all_clean _ _ _ _ f)
 
 -- ---- the first frames
 

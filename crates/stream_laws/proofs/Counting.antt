@@ -3,9 +3,8 @@ use Rattle.stream_laws.proofs.Words.{[], ◌%◌, ◌+◌, ◌==◌, ◌∙◌, 
 use Rattle.stream_laws.proofs.Words.{Event, Frame, Holds, IsCode, IsFrameOfCount, Known, List, None, PageLaws, Plan}
 use Rattle.stream_laws.proofs.Words.{Program, RunsAreCounted, Some, State, after_frame, airs, ap, code_of, cond}
 use Rattle.stream_laws.proofs.Words.{count_step, ensemble_of, ensemble_sent, eq-eqb, eqb-true, false, frame_bytes}
-use Rattle.stream_laws.proofs.Words.{frame_holds, happens, happens_holds, is_noticed, layout_mode, pageable}
-use Rattle.stream_laws.proofs.Words.{played_holds, refl, run_frames, sent_entries, shown, shown_count, subst, sym, true}
-use Rattle.stream_laws.proofs.Words.{ℕ}
+use Rattle.stream_laws.proofs.Words.{frame_holds, happens, happens_holds, layout_mode, pageable, played_holds, refl}
+use Rattle.stream_laws.proofs.Words.{run_frames, sent_entries, shown, shown_count, subst, sym, true, ℕ}
 use Rattle.mux_types.specs.declared.limits.TheConstants.{COUNTS}
 use Rattle.plan_runs.specs.SentHeaders.{HasHeaderOf}
 use Rattle.stream_laws.proofs.InPlace.{shown_eid}
@@ -28,10 +27,8 @@ sent_of : (plan : Plan) (u : State) (e : EnsembleInformation) → ensemble_of pl
     → u.count % count_step (layout_mode plan.layout) ≡ 0 → IsSent plan u e
 sent_of plan u e is on = record {
   on = on;
-  eid = sym (ap (λ (x : EnsembleInformation). x.eid) is)
-      ∙ either_eid (is_noticed plan.notice u.left) _ _ u.eid refl refl;
-  count = sym (ap (λ (x : EnsembleInformation). x.count) is)
-      ∙ either_count (is_noticed plan.notice u.left) _ _ u.count refl refl;
+  eid = sym (ap (λ (x : EnsembleInformation). x.eid) is) ∙ either_eid _ _ _ _ refl refl;
+  count = sym (ap (λ (x : EnsembleInformation). x.count) is) ∙ either_count _ _ _ _ refl refl;
 }
 
 is_sent : (plan : Plan) (u : State) (e : EnsembleInformation) → ensemble_sent plan u ≡ Some e → IsSent plan u e
@@ -83,12 +80,11 @@ along laws p ts c s (Contact d closed ∷ es) holds =
     along laws p ts c (happens p s (Contact d closed)) es (happens_holds p ts c s (Contact d closed) holds)
 along laws p ts c s (Frame ∷ es) holds =
     let rest = along laws p ts c (after_frame p s) es (frame_holds p ts c s holds) in
-    let eid : (after_frame p s).eid ≡ s.eid = shown_eid p s in
     let count : (after_frame p s).count ≡ (s.count + 1) % COUNTS = ap (λ n. (n + 1) % COUNTS) (shown_count p s) in (
       counted laws p ts c s holds,
       subst (λ n. AreCounted (count_step (layout_mode p.plan.layout)) s.eid n (run_frames p (after_frame p s) es)) count
           (subst (λ n. AreCounted (count_step (layout_mode p.plan.layout)) n (after_frame p s).count
-          (run_frames p (after_frame p s) es)) eid rest),
+          (run_frames p (after_frame p s) es)) (shown_eid p s) rest),
     )
 
 pub runs_are_counted : PageLaws → RunsAreCounted

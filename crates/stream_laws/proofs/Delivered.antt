@@ -1,17 +1,16 @@
 -- What is reported in the bytes of a run, and in any piece of them.
 use Rattle.stream_laws.proofs.Words.{[], ◌%◌, ◌*◌, ◌++◌, ◌+◌, ◌-◌, ◌/◌, ◌∙◌, ◌∷◌, ◌≡◌, ◌≢◌, ◌≤◌, ◌⊎◌, All}
 use Rattle.stream_laws.proofs.Words.{AllByRecursion, Bool, Contact, EnsembleIsHeard, Event, Fib, Finding, Frame}
-use Rattle.stream_laws.proofs.Words.{FramesAreRight, HeadlineHolds, IsFaultless, IsFramed, IsNoFault, IsPieceOf}
-use Rattle.stream_laws.proofs.Words.{IsRight, List, OneList, Plan, Program, Reading, RunsAreCleared, RunsAreFaultless}
-use Rattle.stream_laws.proofs.Words.{RunsAreFramed, RunsAreHeardOut, State, after_frame, all_append, ap, append-nil}
-use Rattle.stream_laws.proofs.Words.{append_assoc, append_cancel_left, append_cancel_right, arith, concat}
-use Rattle.stream_laws.proofs.Words.{concat-append, cond, count_step, damaged_in, drop, drop-append-le}
-use Rattle.stream_laws.proofs.Words.{drop-append_seam, drop-nil, drop_all, eqb_tells, false, false≢true, fib_at}
-use Rattle.stream_laws.proofs.Words.{fibs_from, fibs_of, flat_map, frame_bytes, frame_fibs, frames_of, front_framing}
-use Rattle.stream_laws.proofs.Words.{happens, inl, inr, is_damaged, layout_mode, length, length-append, length-drop}
-use Rattle.stream_laws.proofs.Words.{length-map, length-take-le, map, map-append, none_more, read_frames, refl, run}
-use Rattle.stream_laws.proofs.Words.{run_frames, same_skipped, shown, shown_count, subst, suc, sym, take-append-drop}
-use Rattle.stream_laws.proofs.Words.{zero, ℕ}
+use Rattle.stream_laws.proofs.Words.{FramesAreRight, HeadlineHolds, IsFaultless, IsFramed, IsPieceOf, IsRight, List}
+use Rattle.stream_laws.proofs.Words.{OneList, Plan, Program, Reading, RunsAreCleared, RunsAreFaultless, RunsAreFramed}
+use Rattle.stream_laws.proofs.Words.{RunsAreHeardOut, State, after_frame, all_append, ap, append-nil, append_assoc}
+use Rattle.stream_laws.proofs.Words.{append_cancel_left, append_cancel_right, arith, concat, concat-append, cond}
+use Rattle.stream_laws.proofs.Words.{count_step, damaged_in, drop, drop-append-le, drop-append_seam, drop-nil, drop_all}
+use Rattle.stream_laws.proofs.Words.{eqb_tells, false, false≢true, fib_at, fibs_from, fibs_of, flat_map, frame_bytes}
+use Rattle.stream_laws.proofs.Words.{frame_fibs, frames_of, front_framing, happens, inl, inr, is_damaged, layout_mode}
+use Rattle.stream_laws.proofs.Words.{length, length-append, length-drop, length-map, length-take-le, map, map-append}
+use Rattle.stream_laws.proofs.Words.{none_more, read_frames, refl, run, run_frames, same_skipped, shown, shown_count}
+use Rattle.stream_laws.proofs.Words.{subst, suc, sym, take-append-drop, zero, ℕ}
 use Rattle.fib_codec.proofs.Uniqueness.{same_front}
 use Rattle.plan_runs.specs.TypedRuns.{IsPlayed}
 use Rattle.stream_laws.proofs.Clean.{all_right, faultless_before}
@@ -55,8 +54,7 @@ fibs_are : (p : Program) (s : State) (events : List Event) → FramesAreRight p 
 fibs_are p s [] all = record { whole = tt; bytes_are = refl }
 fibs_are p s (Contact c closed ∷ es) all = fibs_are p (happens p s (Contact c closed)) es all
 fibs_are p s (Frame ∷ es) all =
-    let size : length (frame_bytes p s) ≡ 32 * frame_fibs p.plan.layout = all.0.length_of_fibs in
-    let here = cut_from (frame_fibs p.plan.layout) 0 (frame_bytes p s) (omega (arith, size)) in
+    let here = cut_from (frame_fibs p.plan.layout) 0 (frame_bytes p s) (omega arith) in
     let rest = fibs_are p (after_frame p s) es all.1 in
     record {
       whole = all_append (λ fib. length fib ≡ 32) (fibs_from (frame_fibs p.plan.layout) 0 (frame_bytes p s))
@@ -79,8 +77,7 @@ front_of [] (f ∷ fs) after whole sizes e =
     let size : length f ≡ 32 = sizes.0 in
     absurd (omega (arith, len, size))
 front_of (x ∷ xs) (f ∷ fs) after whole sizes e =
-    let both = same_front x f (concat xs) (concat fs ++ after) (whole.0 ∙ sym sizes.0)
-    (e ∙ append_assoc f (concat fs) after) in
+    let both = same_front _ _ _ _ (whole.0 ∙ sym sizes.0) (e ∙ append_assoc f (concat fs) after) in
     let rest = front_of xs fs after whole.1 sizes.1 both.1 in
     (rest.0, ap (λ z. z ∷ xs) both.0 ∙ ap (λ l. f ∷ l) rest.1)
 
@@ -95,15 +92,12 @@ among zero xs fibs [] after whole sizes len e =
     (let front = front_of xs fibs after whole sizes e in record { before = []; after = front.0; whole = front.1 })
 among zero xs fibs (b ∷ bs) after whole sizes len e = absurd (omega (arith, len))
 among (suc q) [] fibs before after whole sizes len e =
-    let none : 0 ≡ length before + length (concat fibs ++ after) =
-    ap length e ∙ length-append before (concat fibs ++ after) in
+    let none = ap length e ∙ length-append before (concat fibs ++ after) in
     absurd (omega (arith, none, len))
 among (suc q) (x ∷ xs) fibs before after whole sizes len e =
     let size : length x ≡ 32 = whole.0 in
-    let left : concat xs ≡ drop 32 (x ++ concat xs) = sym (drop-append_seam x (concat xs))
-    ∙ ap (λ n. drop n (x ++ concat xs)) size in
-    let right : drop 32 (before ++ (concat fibs ++ after)) ≡ drop 32 before ++ (concat fibs ++ after) =
-    drop-append-le 32 before (concat fibs ++ after) (omega (arith, len)) in
+    let left = sym (drop-append_seam x (concat xs)) ∙ ap (λ n. drop n (x ++ concat xs)) size in
+    let right = drop-append-le 32 before (concat fibs ++ after) (omega (arith, len)) in
     let less : length (drop 32 before) ≡ length before - 32 = length-drop 32 before in
     let rest = among q xs fibs (drop 32 before) after whole.1 sizes (omega (arith, less, len))
     (left ∙ ap (drop 32) e ∙ right) in
@@ -119,8 +113,7 @@ pub piece_of_run : (p : Program) (s : State) (events : List Event) (fibs : List 
     → IsPieceOf (concat (run_frames p s events)) fibs → IsPieceOfRun p s events fibs
 piece_of_run p s events fibs right piece =
     let cut = fibs_are p s events right in
-    let starts : length piece.before % 32 ≡ 0 = piece.starts in
-    let len : length piece.before ≡ 32 * (length piece.before / 32) = omega (arith, starts) in
+    let len : length piece.before ≡ 32 * (length piece.before / 32) = omega arith in
     let one = among (length piece.before / 32) (fibs_of p.plan.layout (run_frames p s events)) fibs piece.before
     piece.after cut.whole piece.sizes len (cut.bytes_are ∙ piece.whole) in
     record { before = one.before; after = one.after; whole = one.whole }
@@ -167,8 +160,7 @@ after_quiet r p s fibs rest quiet h = record {
   skipped = fibs ++ h.skipped;
   waiting = h.waiting;
   later = h.later;
-  quiet = subst (AllByRecursion IsQuiet) (sym (map-append r.read fibs h.skipped))
-      (all_append IsQuiet (map r.read fibs) (map r.read h.skipped) quiet h.quiet);
+  quiet = subst (AllByRecursion IsQuiet) (sym (map-append r.read fibs h.skipped)) (all_append _ _ _ quiet h.quiet);
   whole = ap (λ l. fibs ++ l) h.whole
       ∙ sym (append_assoc fibs h.skipped (fibs_of p.plan.layout (run_frames p (run p s h.waiting) h.later)));
   right = h.right;
@@ -186,8 +178,7 @@ seam [] ys us vs e = inr (record { middle = us; first = refl; second = e })
 seam (x ∷ xs) ys [] vs e = inl (record { middle = x ∷ xs; first = refl; second = sym e })
 seam (x ∷ xs) ys (u ∷ us) vs e =
     let heads : x ≡ u = cc in
-    let tails : xs ++ ys ≡ us ++ vs = cc in
-    elim (seam xs ys us vs tails) [
+    elim (seam xs ys us vs cc) [
       | inl w ↦ inl (record {
         middle = w.middle;
         first = ap (λ z. z ∷ xs) heads ∙ ap (λ l. u ∷ l) w.first;
@@ -244,16 +235,13 @@ from_any one r p s (Contact c closed ∷ es) (b ∷ bs) rest all e =
 from_any one r p s (Frame ∷ es) (b ∷ bs) rest all e =
     let frame : List ℕ = frame_bytes p s in
     let more : List (List ℕ) = fibs_of p.plan.layout (run_frames p (after_frame p s) es) in
-    let cut : fib_at frame 0 ∷ (later_fibs p.plan.layout frame ++ more) ≡ b ∷ (bs ++ rest) =
-    ap (λ l. l ++ more) (sym (first_of_fibs p.plan.layout frame)) ∙ e in
+    let cut = ap (λ l. l ++ more) (sym (first_of_fibs p.plan.layout frame)) ∙ e in
     elim (seam (later_fibs p.plan.layout frame) more bs rest (tail_is cut)) [
       | inl w ↦
           let quiet : AllByRecursion IsQuiet (map r.read (bs ++ w.middle)) =
-          subst (λ l. AllByRecursion IsQuiet (map r.read l)) w.first
-          (later_quiet one r p.plan (shown p s) frame all.0) in
+          rw (← w.first) (later_quiet one r p.plan (shown p s) frame all.0) in
           let last : AllByRecursion IsQuiet (map r.read w.middle) =
-          all_right IsQuiet (map r.read bs) (map r.read w.middle)
-          (subst (AllByRecursion IsQuiet) (map-append r.read bs w.middle) quiet) in
+          all_right IsQuiet (map r.read bs) (map r.read w.middle) (rw (← map-append r.read bs w.middle) quiet) in
           subst (IsEnd r p s) (sym w.second)
           (after_quiet r p s w.middle more last
           (after_event r p s Frame more (from_first one r p (after_frame p s) es all.1)))
@@ -329,9 +317,7 @@ runs_are_cleared one heard headline plain r p s period events fibs played long g
     let end = end_framed one heard plain r p s period (fibs ++ piece.after) played long
     (from_any one r p s events piece.before (fibs ++ piece.after) right piece.whole) in
     let framed : IsFramed (frame_fibs p.plan.layout) (map r.read fibs ++ map r.read piece.after) end.skipped end.frames
-    [] =
-    subst (λ l. IsFramed (frame_fibs p.plan.layout) l end.skipped end.frames []) (map-append r.read fibs piece.after)
-    end.framed in
+    [] = rw (← map-append r.read fibs piece.after) end.framed in
     let front : (skipped : List Fib) (frames : List (List Fib)) (rest : List Fib)
     → IsFramed (frame_fibs p.plan.layout) (map r.read fibs) skipped frames rest
     → IsFaultless (frame_fibs p.plan.layout) (count_step (layout_mode p.plan.layout)) period frames =
@@ -344,8 +330,7 @@ runs_are_cleared one heard headline plain r p s period events fibs played long g
     record {
       room = λ start reported e. false≢true (sym (front e.skipped e.frames e.rest e.framed).room ∙ e.full);
       events = λ start reported c f. (front f.skipped f.frames (map r.read c.held) f.framed).plain;
-      plain = λ found c f. subst (AllByRecursion (λ one. IsNoFault one.what)) (sym (all_of found _ f.findings))
-          (front f.skipped f.frames (map r.read c.held) f.framed).plain;
+      plain = λ found c f. rw (all_of found _ f.findings) (front f.skipped f.frames (map r.read c.held) f.framed).plain;
     }
 
 -- ---- a stream is cut in one way
@@ -358,15 +343,12 @@ record AreCutAlike (skipped later : List Fib) (f g : List (List Fib)) (r s : Lis
 one_framing : (size : ℕ) (stream skipped later : List Fib) (f g : List (List Fib)) (r s : List Fib)
     → IsFramed size stream skipped f r → IsFramed size stream later g s → AreCutAlike skipped later f g r s
 one_framing size stream skipped later f g r s a b =
-    let more = front_framing size stream [] skipped later f g r s a
-    (subst (λ l. IsFramed size l later g s) (sym (append-nil stream)) b) in
-    let less = front_framing size stream [] later skipped g f s r b
-    (subst (λ l. IsFramed size l skipped f r) (sym (append-nil stream)) a) in
+    let more = front_framing size stream [] skipped later f g r s a (rw (append-nil stream) b) in
+    let less = front_framing size stream [] later skipped g f s r b (rw (append-nil stream) a) in
     let frames : f ≡ g = none_more f g more.0 less.0 more.1 less.1 in
     let whole : skipped ++ (flat_map (λ x. x) f ++ r) ≡ later ++ (flat_map (λ x. x) g ++ s) = sym a.whole ∙ b.whole in
     let same : flat_map (λ x. x) f ++ r ≡ flat_map (λ x. x) g ++ s =
-    (same_skipped skipped later (flat_map (λ x. x) f ++ r) (flat_map (λ x. x) g ++ s) a.before b.before a.begun
-    b.begun whole).rest in
+    (same_skipped _ _ _ _ a.before b.before a.begun b.begun whole).rest in
     record {
       skips = append_cancel_right skipped later (flat_map (λ x. x) g ++ s) (ap (λ l. skipped ++ l) (sym same) ∙ whole);
       frames = frames;
@@ -392,8 +374,7 @@ first_whole one heard r plan u frame right = elim (eqb_tells (u.count % count_st
 frame_whole : OneList → EnsembleIsHeard → (r : Reading) (plan : Plan) (u : State) (frame : List ℕ)
     → IsRight plan u frame → damaged_in (read_frame r plan.layout frame) ≡ 0
 frame_whole one heard r plan u frame right =
-    let first : one_if (is_damaged (r.read (fib_at frame 0))) ≡ 0 =
-    ap one_if (first_whole one heard r plan u frame right) in
+    let first = ap one_if (first_whole one heard r plan u frame right) in
     let later = none_damaged (map r.read (later_fibs plan.layout frame)) (later_quiet one r plan u frame right) in
     ap (λ fs. damaged_in (map r.read fs)) (first_of_fibs plan.layout frame) ∙ omega (arith, first, later)
 
@@ -418,16 +399,13 @@ pub runs_are_heard_out : OneList → EnsembleIsHeard → HeadlineHolds → RunsA
 runs_are_heard_out one heard headline framed r p s period waiting events fibs start reported c played off on sizes bytes
     f =
     let right : FramesAreRight p s (waiting ++ events) = (headline p s (waiting ++ events) played).right in
-    let are : fibs ≡ fibs_of p.plan.layout (run_frames p s (waiting ++ events)) =
-    all_of_run p s (waiting ++ events) fibs right sizes bytes in
+    let are = all_of_run p s (waiting ++ events) fibs right sizes bytes in
     let mine : IsFramed (frame_fibs p.plan.layout)
     (map r.read (fibs_of p.plan.layout (run_frames p s (waiting ++ events)))) f.skipped f.frames
     (map r.read c.held) =
     subst (λ l. IsFramed (frame_fibs p.plan.layout) (map r.read l) f.skipped f.frames (map r.read c.held)) are
     f.framed in
-    let alike = one_framing (frame_fibs p.plan.layout)
-    (map r.read (fibs_of p.plan.layout (run_frames p s (waiting ++ events)))) f.skipped _ f.frames _
-    (map r.read c.held) [] mine (framed r p s waiting events played off on) in
+    let alike = one_framing _ _ _ _ _ _ _ _ mine (framed r p s waiting events played off on) in
     record {
       skips = ap length alike.skips ∙ length-map (fibs_of p.plan.layout (run_frames p s waiting)) r.read;
       frames_are = alike.frames;

@@ -2,9 +2,9 @@
 use Rattle.stream_laws.proofs.Words.{[], ◌%◌, ◌&&◌, ◌++◌, ◌==◌, ◌∙◌, ◌∷◌, ◌≡◌, AllByRecursion, Bool, Contradiction}
 use Rattle.stream_laws.proofs.Words.{EnsembleInformation, Fault, Fib, Finding, FrameAt, In, IsFreeUnlessShort, Item}
 use Rattle.stream_laws.proofs.Words.{KnownBefore, List, Moment, None, Option, Raw, Said, Some, What, all_append}
-use Rattle.stream_laws.proofs.Words.{all_entries, announcement, announces_another, announces_first, ap, as_list}
-use Rattle.stream_laws.proofs.Words.{awaited_low, can_fall_at, changes, cond, count_due, current_findings, damaged_in}
-use Rattle.stream_laws.proofs.Words.{due, ensemble_findings, ensemble_of_item, false, false≢true, filter, findings_at}
+use Rattle.stream_laws.proofs.Words.{all_entries, announcement, announces_another, announces_first, ap, awaited_low}
+use Rattle.stream_laws.proofs.Words.{can_fall_at, changes, cond, count_due, current_findings, damaged_in, due}
+use Rattle.stream_laws.proofs.Words.{ensemble_findings, ensemble_of_item, false, false≢true, filter, findings_at}
 use Rattle.stream_laws.proofs.Words.{findings_at_items, findings_at_sent, findings_in, first_line, frame_at}
 use Rattle.stream_laws.proofs.Words.{frame_findings, frame_items, frame_sent, has_flags, has_no_room, has_other_count}
 use Rattle.stream_laws.proofs.Words.{in_frame, inl, inr, is_absent, is_ensemble, is_of_other_ensemble, is_of_period}
@@ -69,20 +69,14 @@ pub place_each : (P : What → Type 0) (k : KnownBefore) (first : Bool) (e : Ens
     → (has_other_count k first e ≡ true → P (whats.Fault (faults.Count (unwrap_or k.due 0))))
     → (not (is_placed k first e) ≡ true → P (whats.Fault faults.OutOfPlace))
     → AllByRecursion P (place_faults k first e)
-place_each P k first e eid count placed =
-    when_then P (is_of_other_ensemble k first e) (faults.OtherEnsemble e.eid) _ eid
-    (when_then P (has_other_count k first e) (faults.Count (unwrap_or k.due 0)) _ count
-    (when_each P (not (is_placed k first e)) faults.OutOfPlace placed))
+place_each P k first e eid count placed = when_then _ _ _ _ eid (when_then _ _ _ _ count (when_each _ _ _ placed))
 
 pub notice_each : (P : What → Type 0) (k : KnownBefore)
     → ((not k.is_cut_off && nat_lt k.times 3) ≡ true → P (whats.Fault (faults.AnnouncedTimes k.times)))
     → ((not k.is_cut_off && nat_lt k.heard 3) ≡ true → P (whats.Fault (faults.NextHeard k.heard)))
     → ((not k.is_cut_off && not (k.flags == changes k)) ≡ true → P (whats.Fault (faults.Flags k.flags (changes k))))
     → AllByRecursion P (notice_faults k)
-notice_each P k times heard flags =
-    when_then P (not k.is_cut_off && nat_lt k.times 3) (faults.AnnouncedTimes k.times) _ times
-    (when_then P (not k.is_cut_off && nat_lt k.heard 3) (faults.NextHeard k.heard) _ heard
-    (when_each P (not k.is_cut_off && not (k.flags == changes k)) (faults.Flags k.flags (changes k)) flags))
+notice_each P k times heard flags = when_then _ _ _ _ times (when_then _ _ _ _ heard (when_each _ _ _ flags))
 
 -- ---- the frame as a whole
 
@@ -94,8 +88,7 @@ pub record IsFrameFine (size step : ℕ) (last : Option ℕ) (frame : List Fib) 
 frame_free : (L : Type 0) (size step : ℕ) (last : Option ℕ) (frame : List Fib) → IsFrameFine size step last frame
     → AreFree L (frame_findings size step last frame)
 frame_free L size step last frame h =
-    frame_each (IsFreeUnlessShort L) size step last frame (λ eid. tt) (not_both h.full) (not_both h.whole)
-    (not_both h.opens)
+    frame_each _ _ _ _ _ (λ eid. tt) (not_both h.full) (not_both h.whole) (not_both h.opens)
 
 -- ---- a FIG 0/0
 
@@ -121,14 +114,11 @@ pub record IsNoticeFine (k : KnownBefore) : Type 0 where
 
 unit_free : (L : Type 0) (k : KnownBefore) → (overlap k.listener.next.subs ≡ None)
     × (past_end k.listener.next.subs ≡ None) → AreFree L (unit_faults k)
-unit_free L k none =
-    subst (λ (o : Option Fault). AreFree L (as_list o ++ as_list (past_end k.listener.next.subs))) (sym none.0)
-    (subst (λ (o : Option Fault). AreFree L (as_list o)) (sym none.1) tt)
+unit_free L k none = rw none.0 (rw none.1 tt)
 
 pub quiet_early : (f b : Bool) → (b ≡ true → f ≡ true) → (not f && b) ≡ false
-quiet_early true b h = refl
 quiet_early false true h = absurd (false≢true (h refl))
-quiet_early false false h = refl
+quiet_early _ _ h = refl
 
 head_free : (L : Type 0) (k : KnownBefore) (first : Bool) (e : EnsembleInformation) → IsPlaceFine k first e
     → IsHeadFine k e → (makes_swap k e ≡ true → IsNoticeFine k)
@@ -236,9 +226,7 @@ items_free L step period (i ∷ is) past place word notice known =
 pub items_room : (step period : ℕ) (items : List Item) (past : List Moment) → Each (Agrees step period) past items
     → runs_full step period past items ≡ false
 items_room step period [] past word = refl
-items_room step period (i ∷ is) past word =
-    ap (λ b. cond b true (runs_full step period (Said i ∷ past) is)) word.0.room
-    ∙ items_room step period is (Said i ∷ past) word.1
+items_room step period (i ∷ is) past word = cc (word.0.room, items_room step period is (Said i ∷ past) word.1)
 
 -- ---- the end of a frame
 
@@ -251,8 +239,7 @@ silent_free : (L : Type 0) (test : Raw → Bool) (rs : List Raw) → (L → (x :
     → AreFree L (map silence (filter test rs))
 silent_free L test [] h = tt
 silent_free L test (r ∷ rs) h =
-    silent_then L r (filter test rs) (test r) (λ l. h l r (inl refl))
-    (silent_free L test rs (λ l x more. h l x (inr more)))
+    silent_then _ _ _ _ (λ l. h l r (inl refl)) (silent_free L test rs (λ l x more. h l x (inr more)))
 
 -- ---- a frame
 

@@ -1,18 +1,16 @@
 -- The notice of a run: how often it is announced, what is heard of it, and its flags at the swap.
 use Rattle.stream_laws.proofs.Words.{[], ◌%◌, ◌&&◌, ◌++◌, ◌+◌, ◌-◌, ◌/◌, ◌<◌, ◌==◌, ◌∙◌, ◌∷◌, ◌≡◌, ◌≢◌, ◌≤◌, ◌⊎◌, Airs}
-use Rattle.stream_laws.proofs.Words.{Bool, ChangeIsUnique, Configuration, Contact, Contains-append_cases}
-use Rattle.stream_laws.proofs.Words.{EnsembleInformation, Holds, I, IsAhead, IsCode, IsHeardInRow, IsNewly, Item, Known}
-use Rattle.stream_laws.proofs.Words.{KnowsAt, KnowsBy, KnowsPending, Laws, LeftBy, List, Listening, Mode, Moment, None}
-use Rattle.stream_laws.proofs.Words.{Nothing, OneList, Option, Or, Plan, Program, Raw, Reading, RowSaid, ShowsEach}
-use Rattle.stream_laws.proofs.Words.{Some, SomeSaid, SpellingIdentifies, State, Still, SwapsOn, after_frame, after_is}
-use Rattle.stream_laws.proofs.Words.{airs, ap, arith, at_most, bits_of, change_between, change_of, cond, count_step}
-use Rattle.stream_laws.proofs.Words.{each_whole, eq-eqb, eqb-true, false, false≢true, frame_bytes, happens}
-use Rattle.stream_laws.proofs.Words.{heard_contacts, heard_frame, heard_left, heard_of, inl, inr, is_cut_off, is_due}
-use Rattle.stream_laws.proofs.Words.{is_first_noticed, is_made, is_noticed, last_flags, layout_mode, le-ltb}
-use Rattle.stream_laws.proofs.Words.{left_after_frame, links, listener_after, marked, nat_lt, none_said, not}
-use Rattle.stream_laws.proofs.Words.{notice_begin, notice_frames, noticed, refl, said, shown, some_is, split_le, subst}
-use Rattle.stream_laws.proofs.Words.{suc, sym, times_announced, true, with_next_counts, zero, ℕ}
-use Rattle.stream_laws.proofs.AgreeingRuns.{on_air, IsBetween, due_left}
+use Rattle.stream_laws.proofs.Words.{Bool, ChangeIsUnique, Contact, EnsembleInformation, Holds, I, IsAhead, IsCode}
+use Rattle.stream_laws.proofs.Words.{IsNewly, Item, Known, KnowsAt, KnowsBy, KnowsPending, Laws, LeftBy, List}
+use Rattle.stream_laws.proofs.Words.{Listening, Mode, Moment, None, Nothing, OneList, Option, Or, Plan, Program, Raw}
+use Rattle.stream_laws.proofs.Words.{Reading, RowSaid, ShowsEach, Some, SomeSaid, SpellingIdentifies, State, Still}
+use Rattle.stream_laws.proofs.Words.{SwapsOn, after_frame, after_is, airs, ap, arith, at_most, bits_of, change_between}
+use Rattle.stream_laws.proofs.Words.{change_of, cond, count_step, each_whole, eq-eqb, eqb-true, false, false≢true}
+use Rattle.stream_laws.proofs.Words.{frame_bytes, happens, heard_contacts, heard_frame, heard_of, inl, inr, is_cut_off}
+use Rattle.stream_laws.proofs.Words.{is_due, is_first_noticed, is_made, is_noticed, last_flags, layout_mode, le-ltb}
+use Rattle.stream_laws.proofs.Words.{left_after_frame, links, listener_after, nat_lt, none_said, not, noticed, refl}
+use Rattle.stream_laws.proofs.Words.{said, shown, some_is, split_le, subst, sym, times_announced, true, ℕ, due_left}
+use Rattle.stream_laws.proofs.AgreeingRuns.{on_air, IsBetween}
 use Rattle.stream_laws.proofs.AgreeingFrames.{SinceFirst}
 use Rattle.stream_laws.proofs.Opening.{IsOpened, opened_cut, past_after, items_at, first_opened, next_opened, cut_still}
 use Rattle.stream_laws.proofs.Opening.{said_times, Knows, knows_later, enters_first, enters_due, enters_still}
@@ -20,6 +18,7 @@ use Rattle.stream_laws.proofs.Opening.{none_made}
 use Rattle.stream_laws.proofs.Shown.{flags_of_change}
 use Rattle.stream_laws.proofs.Agreeing.{none_or_some}
 use Rattle.stream_laws.proofs.NoticeFrames.{current_whole, next_whole}
+use Rattle.stream_laws.proofs.Words.{unnoticed_left, said_of_two, said_one, begun_left, none_heard}
 
 -- ---- the number of announcements
 
@@ -70,10 +69,9 @@ counted_at : (plan : Plan) (s u : State) (past : List Moment) (left : Option ℕ
     / count_step (layout_mode plan.layout)
 counted_at plan s u past None k is by h cut at to = newly_whole plan s.count u.left k (times_announced past) by at to
 counted_at plan s u past (Some j) k is by h cut at to =
-    let same : j ≡ k = some_is j k (sym by.0 ∙ at) in
     elim (split_le plan.notice k) [
       | inl from ↦ whole_notice (layout_mode plan.layout) plan.notice (times_announced past) k from to
-      | inr below ↦ h cut k (is ∙ ap Some same) below
+      | inr below ↦ h cut k (is ∙ ap Some (some_is j k (sym by.0 ∙ at))) below
     ]
 
 -- after a frame
@@ -86,8 +84,7 @@ after_left (Some j) k e ahead = (j, refl, ahead, some_is k (j - 1) (sym e))
 soon_not : (cut : Bool) (n : ℕ) → (cut ≡ false → 3 ≤ n) → (not cut && nat_lt (at_most 3 n) 3) ≡ false
 soon_not true n h = refl
 soon_not false n h =
-    let three = h refl in
-    ap (λ t. nat_lt (cond t n 3) 3) (le-ltb n 3 three)
+    ap (λ t. nat_lt (cond t n 3) 3) (le-ltb n 3 (h refl))
 
 enough : (p : Program) (ts : List Known) → IsCode p ts → (past : List Moment) (left : Option ℕ)
     → IsCounted p.plan past left → is_cut_off past ≡ false → is_due left ≡ true → 3 ≤ times_announced past
@@ -95,14 +92,12 @@ enough p ts c past None counts whole due = absurd (false≢true due)
 enough p ts c past (Some j) counts whole due =
     let none_left : j ≡ 0 = eqb-true j 0 due in
     let long : 12 ≤ p.plan.notice = omega (arith, c.program.planned.notice_from) in
-    long_enough (layout_mode p.plan.layout) p.plan.notice (times_announced past) j long none_left
-    (counts whole j refl (omega (arith, none_left, long)))
+    long_enough _ _ _ _ long none_left (counts whole j refl (omega (arith, none_left, long)))
 
 pub not_too_soon : (p : Program) (ts : List Known) → IsCode p ts → (s : State) (past : List Moment)
     → IsCounted p.plan past s.left → is_due s.left ≡ true
     → (not (is_cut_off past) && nat_lt (at_most 3 (times_announced past)) 3) ≡ false
-not_too_soon p ts c s past counts due =
-    soon_not (is_cut_off past) (times_announced past) (λ whole. enough p ts c past s.left counts whole due)
+not_too_soon p ts c s past counts due = soon_not _ _ (λ whole. enough p ts c past s.left counts whole due)
 
 -- ---- one frame later
 
@@ -125,16 +120,14 @@ counted_by plan u a made past items o old whole k is below =
     let air : on_air plan u ≡ true = ap (is_noticed plan.notice) there.1 ∙ noticed plan.notice there.0 there.2 to in
     let before : plan.notice / step ≤ t + there.0 / step = old there.0 there.1 to air whole in
     let swaps : (u.count + there.0) % step ≡ 0 = subst (λ (x : Option ℕ). SwapsOn plan u.count x) there.1 a.swaps in
-    let times : times_announced (said items past) ≡ times_announced (said o.heads past) =
-    ap times_announced o.are ∙ said_times o.members (said o.heads past) o.none in
+    let times = ap times_announced o.are ∙ said_times o.members (said o.heads past) o.none in
     let now : plan.notice / step ≤ times_announced (said o.heads past) + (there.0 - 1) / step = elim (o.times air) [
       | inl sent ↦ subst (λ (n : ℕ). plan.notice / step ≤ n + (there.0 - 1) / step) (sym sent.1)
           (with_one (layout_mode plan.layout) plan.notice t there.0 there.2 before)
       | inr bare ↦ subst (λ (n : ℕ). plan.notice / step ≤ n + (there.0 - 1) / step) (sym bare.1)
           (with_none (layout_mode plan.layout) plan.notice t there.0 u.count there.2 swaps bare.0 before)
     ] in
-    subst (λ (n : ℕ). plan.notice / step ≤ n + k / step) (sym times)
-    (subst (λ (n : ℕ). plan.notice / step ≤ times_announced (said o.heads past) + n / step) (sym there.3) now)
+    rw times (rw there.3 now)
 
 pub counted_after : OneList → Laws → (r : Reading) (p : Program) (ts : List Known) (c : IsCode p ts) (s : State)
     (holds : Holds p ts s) (past : List Moment) → IsCounting p.plan past s
@@ -159,32 +152,6 @@ counted_after one laws r p ts c s holds past (inr (b, counts)) = by (is_due s.le
         counts (sym (cut_still p.plan s (shown p s) past (items_at r p s) b o) ∙ whole) is to)
 
 -- ---- what was heard of the notice, one frame later
-
-said_of_two : (xs ys : List (List ℕ)) (flag : Bool) (x : Raw) → SomeSaid (xs ++ ys) flag x → SomeSaid xs flag x
-    ⊎ SomeSaid ys flag x
-said_of_two xs ys flag x (e, is, (f, inside, heard)) =
-    elim (Contains-append_cases xs ys f inside) [
-      | inl here ↦ inl (e, is, (f, here, heard))
-      | inr there ↦ inr (e, is, (f, there, heard))
-    ]
-
-said_one : (frame : List ℕ) (flag : Bool) (x : Raw) → SomeSaid (frame ∷ []) flag x → RowSaid frame flag x
-said_one frame flag x (e, is, (f, (zero, lt, same), heard)) =
-    (e, is, subst (λ (b : List ℕ). IsHeardInRow b (marked flag e)) (sym same) heard)
-said_one frame flag x (e, is, (f, (suc k, lt, same), heard)) = absurd (omega (arith, lt))
-
-pub begun_left : (notice : ℕ) (left : Option ℕ) → is_first_noticed notice left ≡ true → left ≡ Some notice
-begun_left notice None e = absurd cc
-begun_left notice (Some l) e = ap (λ (k : ℕ). Some k) (eqb-true l notice e)
-
-none_heard : (plan : Plan) (s : State) (before left : Option ℕ) (n m : Configuration) → s.left ≡ before
-    → LeftBy plan s.count before n left m → left ≡ Some plan.notice → heard_of plan s ≡ []
-none_heard plan s None left n m e g is = ap (heard_left plan s) e
-none_heard plan s (Some k) left n m e g is =
-    let both : Some k ≡ Some plan.notice = sym g.0 ∙ is in
-    let same : k ≡ plan.notice = cc both in
-    let none : plan.notice - k ≡ 0 = omega (arith, same) in
-    ap (heard_left plan s) e ∙ ap (λ (n : ℕ). notice_frames plan n (notice_begin plan k s)) none
 
 abbrev pub more_heard : Bool → Bool → List (List ℕ) → List ℕ → List (List ℕ)
 more_heard on due heard frame = cond on (cond due [] heard ++ frame ∷ []) (cond due [] heard)
@@ -217,19 +184,6 @@ goes_on p ts c s holds due flag x h true e =
     let none = none_heard p.plan s s.left (shown p s).left s.next (shown p s).next refl (link.left due)
     (begun_left p.plan.notice (shown p s).left e) in
     absurd (none_said flag x (subst (λ (xs : List (List ℕ)). SomeSaid xs flag x) none h))
-
--- outside of a notice, nothing was heard of one
-pub quiet_heard : (plan : Plan) (u : State) (left : Option ℕ) → u.left ≡ left → IsAhead left
-    → is_noticed plan.notice left ≡ false → heard_of plan (with_next_counts plan u) ≡ []
-quiet_heard plan u None is ahead off = ap (λ o. heard_left plan (with_next_counts plan u) (left_after_frame o)) is
-quiet_heard plan u (Some k) is ahead off = elim (split_le k plan.notice) [
-  | inl within ↦ absurd (false≢true (sym off ∙ noticed plan.notice k ahead within))
-  | inr past ↦ (
-      let none : plan.notice - (k - 1) ≡ 0 = omega (arith, past) in
-      ap (λ o. heard_left plan (with_next_counts plan u) (left_after_frame o)) is
-      ∙ ap (λ n. notice_frames plan n (notice_begin plan (k - 1) (with_next_counts plan u))) none
-      )
-]
 
 -- ---- what the checker knows between two frames
 
@@ -268,7 +222,7 @@ first_follows one laws r p ts c s holds whole =
     had false off flag x (cut, said) =
         absurd (none_said flag x
         (subst (λ (xs : List (List ℕ)). SomeSaid xs flag x)
-        (quiet_heard p.plan (shown p s) (shown p s).left refl (airs p ts c s holds).ahead off) said))
+        (unnoticed_left p.plan (shown p s) (shown p s).left refl (airs p ts c s holds).ahead off) said))
 
 next_follows : OneList → Laws → (r : Reading) (p : Program) (ts : List Known) → IsCode p ts → (s : State) → Holds p ts s
     → (past : List Moment) → IsBetween p.plan past s → Follows p.plan past s → (b : Bool) → is_due s.left ≡ b
@@ -316,9 +270,7 @@ next_follows one laws r p ts c s holds past between g false due =
 
 pub follows : OneList → Laws → (r : Reading) (p : Program) (ts : List Known) → IsCode p ts → (s : State) → Holds p ts s
     → (past : List Moment) → IsFollowing p.plan past s → Follows p.plan (past_after r p s past) (after_frame p s)
-follows one laws r p ts c s holds past (inl (none, on)) =
-    subst (λ (l : List Moment). Follows p.plan (past_after r p s l) (after_frame p s)) (sym none)
-    (first_follows one laws r p ts c s holds on)
+follows one laws r p ts c s holds past (inl (none, on)) = rw none (first_follows one laws r p ts c s holds on)
 follows one laws r p ts c s holds past (inr (between, g)) =
     next_follows one laws r p ts c s holds past between g (is_due s.left) refl
 
@@ -371,9 +323,8 @@ follows_contact p past s d closed g =
 -- ---- the flags
 
 not_either : (cut x : Bool) → (cut ≡ false → x ≡ true) → (not cut && not x) ≡ false
-not_either true x h = refl
-not_either false true h = refl
 not_either false false h = absurd (false≢true (h refl))
+not_either _ _ h = refl
 
 -- at a swap, unless the beginning of its notice was not heard
 pub flags_change : SwapLaws → (p : Program) (ts : List Known) → IsCode p ts → (s : State) → Holds p ts s

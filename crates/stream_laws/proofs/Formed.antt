@@ -46,8 +46,7 @@ pub open_small : (second : ℕ) → is_open second ≡ true → second % 32 < 4
 open_small second h = ltb-true (second % 32) 4 (second_holds (second / 64 % 2 == 0) (nat_lt (second % 32) 4) h)
 
 fig_later : (bytes : List ℕ) (f : Fig) → IsFig bytes f → AllByRecursion IsLater (fig_items false f)
-fig_later bytes (Open second es) h =
-    not_first (is_next second) (is_long second) (second % 32) es (open_small second h.3)
+fig_later bytes (Open second es) h = not_first _ _ _ _ (open_small _ h.3)
 fig_later bytes (Other given) h = tt
 
 fig_ordered : (bytes : List ℕ) (f : Fig) → IsFig bytes f → AreOrdered (fig_items true f)
@@ -67,13 +66,11 @@ fig_ordered bytes (Other given) h = tt
 
 figs_later : (bytes : List ℕ) (fs : List Fig) → AreFigs bytes fs → AllByRecursion IsLater (figs_items false fs)
 figs_later bytes [] h = tt
-figs_later bytes (f ∷ fs) h = all_append IsLater (fig_items false f) (figs_items false fs) (fig_later h.0 f h.3)
-    (figs_later h.1 fs h.4)
+figs_later bytes (f ∷ fs) h = all_append _ _ _ (fig_later h.0 f h.3) (figs_later h.1 fs h.4)
 
 figs_ordered : (bytes : List ℕ) (fs : List Fig) → AreFigs bytes fs → AreOrdered (figs_items true fs)
 figs_ordered bytes [] h = tt
-figs_ordered bytes (f ∷ fs) h =
-    ordered_more (fig_items true f) (figs_items false fs) (fig_ordered h.0 f h.3) (figs_later h.1 fs h.4)
+figs_ordered bytes (f ∷ fs) h = ordered_more _ _ (fig_ordered _ _ h.3) (figs_later h.1 fs h.4)
 
 -- ---- of a frame
 
@@ -85,16 +82,12 @@ IsRead (Some figs) = (bytes : List ℕ) × AreFigs bytes figs
 fibs_later : (fibs : List Fib) → AllByRecursion IsRead fibs → AllByRecursion IsLater (fibs_items false fibs)
 fibs_later [] all = tt
 fibs_later (None ∷ fibs) all = fibs_later fibs all.1
-fibs_later (Some figs ∷ fibs) all =
-    all_append IsLater (figs_items false figs) (fibs_items false fibs) (figs_later all.0.0 figs all.0.1)
-    (fibs_later fibs all.1)
+fibs_later (Some figs ∷ fibs) all = all_append _ _ _ (figs_later all.0.0 figs all.0.1) (fibs_later fibs all.1)
 
 pub frame_ordered : (frame : List Fib) → AllByRecursion IsRead frame → AreOrdered (frame_items frame)
 frame_ordered [] all = tt
 frame_ordered (None ∷ fibs) all = later_ordered (fibs_items false fibs) (fibs_later fibs all.1)
-frame_ordered (Some figs ∷ fibs) all =
-    ordered_more (figs_items true figs) (fibs_items false fibs) (figs_ordered all.0.0 figs all.0.1)
-    (fibs_later fibs all.1)
+frame_ordered (Some figs ∷ fibs) all = ordered_more _ _ (figs_ordered _ _ all.0.1) (fibs_later _ all.1)
 
 -- ---- of all frames
 

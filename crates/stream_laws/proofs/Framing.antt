@@ -5,7 +5,7 @@ use Rattle.stream_laws.proofs.Words.{Frame, FrameLayout, FramesAreOfBytes, Frame
 use Rattle.stream_laws.proofs.Words.{HoldsFirst, I, IsFig, IsHeadedBy, IsInFig, IsNoHeader, IsOneFrame, IsRight}
 use Rattle.stream_laws.proofs.Words.{IsUnheaded, Item, List, Mode, None, OneList, Open, Other, Plan, Program, Reading}
 use Rattle.stream_laws.proofs.Words.{RunsAreFramed, RunsJoin, Some, State, after_frame, all_append, ap, append-nil}
-use Rattle.stream_laws.proofs.Words.{append_assoc, arith, begins_with_ensemble, cond, contains_cases, contains_none}
+use Rattle.stream_laws.proofs.Words.{append_assoc, arith, begins_with_ensemble, contains_cases, contains_none}
 use Rattle.stream_laws.proofs.Words.{count_step, ensemble_in, entries_in, eq-eqb, false, fib_at, fib_count, fib_items}
 use Rattle.stream_laws.proofs.Words.{fibs_from, fibs_items, fibs_of, fig_items, figs_items, first_in, first_in_figs}
 use Rattle.stream_laws.proofs.Words.{first_or, first_raw, flat_map, frame_bytes, frame_fibs, frames_of, happens}
@@ -30,8 +30,7 @@ pair f xs [] zs e = record { left = []; right = xs; whole = refl; first = refl; 
 pair f [] (y ∷ ys) zs e = absurd cc
 pair f (x ∷ xs) (y ∷ ys) zs e =
     let heads : f x ≡ y = cc in
-    let tails : map f xs ≡ ys ++ zs = cc in
-    let rest = pair f xs ys zs tails in
+    let rest = pair f xs ys zs cc in
     record {
       left = x ∷ rest.left;
       right = rest.right;
@@ -51,8 +50,7 @@ row : (r : Reading) (fibs : List (List ℕ)) (frames : List (List Fib)) (rest : 
     → map r.read fibs ≡ flat_map (λ f. f) frames ++ rest → IsRow r fibs frames rest
 row r fibs [] rest e = record { bytes = []; after = fibs; whole = refl; reads = refl; leaves = e }
 row r fibs (frame ∷ frames) rest e =
-    let one = pair r.read fibs frame (flat_map (λ f. f) frames ++ rest)
-    (e ∙ append_assoc frame (flat_map (λ f. f) frames) rest) in
+    let one = pair _ _ _ _ (e ∙ append_assoc frame (flat_map (λ f. f) frames) rest) in
     let more = row r one.right frames rest one.second in
     record {
       bytes = one.left ∷ more.bytes;
@@ -81,9 +79,7 @@ frames_are_of_bytes r size fibs skipped frames rest f =
 
 no_ext : (ext : ℕ) (long : Bool) (es : List (List ℕ)) → ext ≢ 0 → first_raw (map (raw_of ext long) es) ≡ None
 no_ext ext long [] other = refl
-no_ext ext long (e ∷ es) other =
-    ap (λ t. cond t (Some (ensemble_in (raw_of ext long e))) (first_raw (map (raw_of ext long) es)))
-    (ne_eqb ext 0 other) ∙ no_ext ext long es other
+no_ext ext long (e ∷ es) other = cc (ne_eqb ext 0 other, no_ext ext long es other)
 
 fig_unheaded : (f : Fig) → IsNoHeader f → first_raw (entries_in f) ≡ None
 fig_unheaded (Open second es) free = no_ext (second % 32) (is_long second) es free
@@ -119,13 +115,11 @@ none_both (x ∷ xs) ys a b = (a.0, none_both xs ys a.1 b)
 
 pub figs_none : (first : Bool) (figs : List Fig) → AllByRecursion IsNoHeader figs → HasNone (figs_items first figs)
 figs_none first [] all = tt
-figs_none first (f ∷ fs) all =
-    none_both (fig_items first f) (figs_items false fs) (fig_none first f all.0) (figs_none false fs all.1)
+figs_none first (f ∷ fs) all = none_both _ _ (fig_none _ _ all.0) (figs_none false fs all.1)
 
 pub fibs_none : (first : Bool) (fibs : List Fib) → AllByRecursion IsQuiet fibs → HasNone (fibs_items first fibs)
 fibs_none first [] all = tt
-fibs_none first (f ∷ fs) all =
-    none_both (fib_items first f) (fibs_items false fs) (all.0.none first) (fibs_none false fs all.1)
+fibs_none first (f ∷ fs) all = none_both _ _ (all.0.none first) (fibs_none false fs all.1)
 
 pub quiet_fib : OneList → (r : Reading) (bytes : List ℕ) → IsUnheaded bytes → IsQuiet (r.read bytes)
 quiet_fib one r bytes h =
@@ -169,11 +163,7 @@ one_header heard front (Open second es) e is h =
     }
 
 heading_raw : (header : Fig) (e : EnsembleInformation) → IsOneHeader header e → first_raw (entries_in header) ≡ Some e
-heading_raw header e h =
-    ap (λ f. first_raw (entries_in f)) h.is
-    ∙ ap (λ t. cond t (Some (ensemble_in (raw_of (h.second % 32) (is_long h.second) h.bytes))) None)
-    (eq-eqb (h.second % 32) 0 h.ext)
-    ∙ ap Some h.says
+heading_raw header e h = cc (h.is, eq-eqb (h.second % 32) 0 h.ext, h.says)
 
 pub header_of : EnsembleIsHeard → (plan : Plan) (u : State) (bytes : List ℕ) (h : IsHeadedBy plan u bytes)
     → IsOneHeader h.header h.information
@@ -225,9 +215,8 @@ quiet_from one r frame (suc count) n all = (
 pub later_quiet : OneList → (r : Reading) (plan : Plan) (u : State) (frame : List ℕ) → IsRight plan u frame
     → AllByRecursion IsQuiet (map r.read (later_fibs plan.layout frame))
 later_quiet one r plan u frame h =
-    let few = few_fibs (layout_mode plan.layout) in
     quiet_from one r frame (frame_fibs plan.layout - 1) 1
-    (λ k low high. h.others_unheaded k low (omega (arith, high, few)))
+    (λ k low high. h.others_unheaded k low (omega (arith, high)))
 
 no_later : (fibs : List Fib) → AllByRecursion IsQuiet fibs
     → AllByRecursion (λ later. begins_with_ensemble later ≡ false) fibs
@@ -251,8 +240,7 @@ one_frame one r plan u frame h =
 
 pub frame_size : (r : Reading) (layout : FrameLayout) (frame : List ℕ)
     → length (read_frame r layout frame) ≡ frame_fibs layout
-frame_size r layout frame = length-map (fibs_from (frame_fibs layout) 0 frame) r.read
-    ∙ fibs_length (frame_fibs layout) 0 frame
+frame_size r layout frame = length-map (fibs_from (frame_fibs layout) 0 frame) r.read ∙ fibs_length _ _ _
 
 -- a frame at a count that is not a multiple of the step
 pub all_quiet : OneList → (r : Reading) (plan : Plan) (u : State) (frame : List ℕ) → IsRight plan u frame
@@ -313,8 +301,7 @@ heads : OneList → EnsembleIsHeard → (r : Reading) (plan : Plan) (u : State) 
     → u.count % count_step (layout_mode plan.layout) ≡ 0 → HoldsFirst (read_frame r plan.layout frame)
 heads one heard r plan u frame h on =
     let first = heading_fib one heard r plan u (fib_at frame 0) (h.headed on) in
-    subst (λ (fs : List (List ℕ)). HoldsFirst (map r.read fs)) (sym (first_of_fibs plan.layout frame))
-    (ap is_there first.holds)
+    rw (first_of_fibs plan.layout frame) (ap is_there first.holds)
 
 pub begins : OneList → EnsembleIsHeard → (r : Reading) (p : Program) (s : State) (events : List Event)
     → FramesAreRight p s events → s.count % count_step (layout_mode p.plan.layout) ≡ 0
@@ -322,15 +309,12 @@ pub begins : OneList → EnsembleIsHeard → (r : Reading) (p : Program) (s : St
 begins one heard r p s [] all on = tt
 begins one heard r p s (Contact c closed ∷ es) all on = begins one heard r p (happens p s (Contact c closed)) es all on
 begins one heard r p s (Frame ∷ es) all on =
-    let on_now : (shown p s).count % count_step (layout_mode p.plan.layout) ≡ 0 =
-    ap (λ n. n % count_step (layout_mode p.plan.layout)) (shown_count p s) ∙ on in
+    let on_now = ap (λ n. n % count_step (layout_mode p.plan.layout)) (shown_count p s) ∙ on in
     let size = frame_size r p.plan.layout (frame_bytes p s) in
     let few = few_fibs (layout_mode p.plan.layout) in
-    let rest : List Fib = flat_map (λ f. f)
-    (read_frames r (frames_of p.plan.layout (run_frames p (after_frame p s) es))) in
+    let rest = flat_map (λ f. f) (read_frames r (frames_of p.plan.layout (run_frames p (after_frame p s) es))) in
     subst HoldsFirst (sym (append_assoc (read_frame r p.plan.layout (frame_bytes p s)) rest []))
-    (holds_more (read_frame r p.plan.layout (frame_bytes p s)) (rest ++ []) (omega (arith, size, few))
-    (heads one heard r p.plan (shown p s) (frame_bytes p s) all.0 on_now))
+    (holds_more _ _ (omega (arith, size, few)) (heads one heard r _ _ _ all.0 on_now))
 
 pub flat_read : (r : Reading) (layout : FrameLayout) (frames : List (List ℕ))
     → map r.read (fibs_of layout frames) ≡ flat_map (λ f. f) (read_frames r (frames_of layout frames))

@@ -9,20 +9,17 @@ use Rattle.stream_laws.proofs.Words.{false, false≢true, fib_items, fibs_items,
 use Rattle.stream_laws.proofs.Words.{first_in_figs, first_of_frame, first_or, first_raw, flat_map, frame_items}
 use Rattle.stream_laws.proofs.Words.{frames_ended, heard_as, inl, inr, is_cut_off, is_ensemble, is_flagged, is_made}
 use Rattle.stream_laws.proofs.Words.{is_next, is_swap, items_of, known_of, last_flags, last_of, last_swap, length}
-use Rattle.stream_laws.proofs.Words.{listener_after, map, no_swap, not, not-false, not-true, notice_faults}
-use Rattle.stream_laws.proofs.Words.{past_after_frame, read_frames, refl, rows, said, said_append, subst, sym, take}
-use Rattle.stream_laws.proofs.Words.{true, unit_faults, ℕ}
+use Rattle.stream_laws.proofs.Words.{listener_after, no_swap, not, not-false, not-true, notice_faults, past_after_frame}
+use Rattle.stream_laws.proofs.Words.{read_frames, refl, rows, said, said_append, sym, take, true, unit_faults, ℕ}
 use Rattle.stream_check.specs.declared.finding.Fault.TheVariants as faults
 use Rattle.stream_laws.proofs.Clean.{IsClean, entry_clean, after_entry, frames_twice}
 use Rattle.stream_laws.proofs.Kept.{first_holds, second_holds, first_fine, with_member, after_member, after_heard}
 use Rattle.stream_laws.proofs.Kept.{ensemble_made, plain_ensemble}
-use Rattle.stream_laws.proofs.Rows.{notice_rows}
-use Rattle.stream_laws.proofs.Tracking.{IsFormed, AllAnnounce, alone_first, all_tracked}
+use Rattle.stream_laws.proofs.Tracking.{IsFormed, alone_first, all_tracked}
 use Rattle.stream_laws.proofs.Formed.{all_formed}
 use Rattle.stream_laws.proofs.Bytes.{FibLaws, each_take}
 use Rattle.stream_laws.proofs.Swapping.{awaited_is}
-use Rattle.stream_laws.proofs.Announced.{items_in, notice_is, each_drop, formed_handed, changes_are_announced}
-use Rattle.stream_laws.proofs.Announced.{notice_header}
+use Rattle.stream_laws.proofs.Announced.{notice_is, each_drop, formed_handed, changes_are_announced, notice_header}
 
 -- ---- the first FIG 0/0 of all that was sent
 
@@ -85,8 +82,7 @@ fibs_oldest first (f ∷ fs) past =
 
 first_more : (xs ys : List Fib) → first_of_frame (xs ++ ys) ≡ first_or (first_of_frame xs) (first_of_frame ys)
 first_more [] ys = refl
-first_more (x ∷ xs) ys = ap (first_or (first_in x)) (first_more xs ys)
-    ∙ sym (or_twice (first_in x) (first_of_frame xs) (first_of_frame ys))
+first_more (x ∷ xs) ys = cc (first_more xs ys, or_twice (first_in x) (first_of_frame xs) (first_of_frame ys))
 
 frames_oldest : (step : ℕ) (frames : List (List Fib)) (past : List Moment)
     → oldest (after_frames step past frames) ≡ first_or (oldest past)
@@ -119,8 +115,7 @@ first_of_stream e step frames past i s h =
     ap (λ is. oldest (said is start)) s.items_are ∙ ap oldest (said_append s.front (i ∷ s.back) start)
     ∙ said_first e (i ∷ s.back) (said s.front start) (ap oldest (sym s.past_is) ∙ h) in
     let whole : oldest (after_frames step [] (s.before ++ s.frame ∷ s.after)) ≡ Some e =
-    ap oldest (frames_twice step s.before (s.frame ∷ s.after) [])
-    ∙ frames_first e step s.after (past_after_frame step start s.frame) items in
+    ap oldest (frames_twice step s.before _ []) ∙ frames_first e step s.after _ items in
     sym (frames_oldest step frames []) ∙ ap (λ fs. oldest (after_frames step [] fs)) s.frames_are ∙ whole
 
 -- ---- when the beginning of a notice was not heard
@@ -156,8 +151,7 @@ had_none step period (Said i ∷ past) c t = by (is_ensemble i) refl (had_none s
         ∙ tuned_ensemble (is_swap past i) (is_flagged i) (ensemble_of_item i) (listener_after past)))
     by false e before =
         let same : (listener_after past).tuned ≡ false =
-        sym (tuned_member (listener_after past).tuned i.next i.raw (listener_after past))
-        ∙ sym (ap (λ (l : Listening). l.tuned) (after_member step period past i c e)) ∙ t in
+        sym (tuned_member _ _ i.raw _) ∙ sym (ap (λ (l : Listening). l.tuned) (after_member step _ past i c e)) ∙ t in
         let h = before same in
         record {
           first = ap (λ t. first_or (oldest past) (cond t (Some (ensemble_of_item i)) None)) e
@@ -187,14 +181,11 @@ was_missed step period (Said i ∷ past) c cut =
     by true sw d first h before = absurd (false≢true h)
     by false sw true first h before =
         let e = first_holds (is_ensemble i) (not (listener_after past).tuned) first in
-        let none = had_none step period past c.2
-        (not-true (listener_after past).tuned
-        (second_holds (is_ensemble i) (not (listener_after past).tuned) first)) in
+        let none = had_none step _ past c.2 (not-true (listener_after past).tuned (second_holds _ _ first)) in
         record {
           information = ensemble_of_item i;
           first = ap (λ o. first_or o (said_by i)) none.first ∙ ap (λ t. cond t (Some (ensemble_of_item i)) None) e;
-          flagged = not-true ((ensemble_of_item i).change == 0)
-              (second_holds (is_ensemble i) (not ((ensemble_of_item i).change == 0)) h);
+          flagged = not-true ((ensemble_of_item i).change == 0) (second_holds _ _ h);
           swap = same_swap past i sw ∙ none.swap;
         }
     by false sw false first h before =
@@ -235,9 +226,8 @@ awaited_at step period past i c sw =
     let k : KnownBefore = known_of step period past in
     let e : is_ensemble i ≡ true = first_holds (is_ensemble i) _ sw in
     let made : is_made (listener_after past).awaited (ensemble_of_item i) ≡ true = sym (ensemble_made past i e) ∙ sw in
-    let all = (plain_ensemble step period past i c e).swap made in
     let low = first_fine (not ((ensemble_of_item i).count % 250 == awaited_low k)) (faults.AnnouncedFor (awaited_low k))
-    (notice_faults k ++ unit_faults k) all.1 in
+    (notice_faults k ++ unit_faults k) ((plain_ensemble step period past i c e).swap made).1 in
     awaited_is (listener_after past).awaited (ensemble_of_item i) ((ensemble_of_item i).count % 250) made
     (eqb-true ((ensemble_of_item i).count % 250) (awaited_low k)
     (not-false ((ensemble_of_item i).count % 250 == awaited_low k) low.0))
@@ -245,19 +235,14 @@ awaited_at step period past i c sw =
 pub counts_are_held : FibLaws → CountsAreHeld
 counts_are_held laws r size step period frames past i bytes faultless s sw frame next e inside heard =
     let clean = entry_clean size step period (read_frames r frames) past i faultless s in
-    let formed : IsFormed (Said i ∷ past) =
-    after_entry IsFormed formed_handed step (read_frames r frames) past i s (all_formed r step frames) in
+    let formed = after_entry IsFormed formed_handed step (read_frames r frames) past i s (all_formed r step frames) in
     let is_one : is_ensemble i ≡ true = first_holds (is_ensemble i) _ sw in
     let low : ℕ = (ensemble_of_item i).count % 250 in
     let a = (all_tracked step period past clean.2 formed.2).announcing low (awaited_at step period past i clean sw) in
     let notice : List (List (List ℕ)) = last_of (length (rows past)) (take (frames_ended past) frames) in
     let all : AllByRecursion AreFibBytes notice =
-    each_drop AreFibBytes _ (take (frames_ended past) frames)
-    (each_take AreFibBytes (frames_ended past) frames bytes) in
-    let are : map (items_in r) notice ≡ notice_rows past =
-    notice_is r step frames past i s (alone_first step period past i clean formed is_one) in
-    let says = notice_header laws r notice all (last_flags past) low
-    (subst (AllByRecursion (AllAnnounce (last_flags past) low)) (sym are) a.rows) frame next e inside heard in
+    each_drop _ _ _ (each_take AreFibBytes (frames_ended past) frames bytes) in
+    let are = notice_is r step frames past i s (alone_first step period past i clean formed is_one) in
+    let says = notice_header laws r notice all (last_flags past) low (rw are a.rows) frame next e inside heard in
     let flags = says.0 in
-    let some = a.flags in
-    (omega (arith, flags, some), flags, says.1)
+    (omega (arith, flags), flags, says.1)

@@ -1,16 +1,16 @@
 -- The frames of a run and the FIG 0/0 in them are as the checker requires.
 use Rattle.stream_laws.proofs.Words.{[], ◌%◌, ◌&&◌, ◌+◌, ◌==◌, ◌∙◌, ◌∷◌, ◌≡◌, ◌≢◌, ◌⊎◌, AllByRecursion, Bool}
 use Rattle.stream_laws.proofs.Words.{EnsembleInformation, EnsembleIsHeard, Fib, IsHeadedBy, IsRight, Item, KnownBefore}
-use Rattle.stream_laws.proofs.Words.{List, Moment, None, OneList, Open, Option, Plan, Program, Reading, Said, Some}
-use Rattle.stream_laws.proofs.Words.{State, after_burst, after_frame, all_append, and_right, ap, arith}
-use Rattle.stream_laws.proofs.Words.{begins_with_ensemble, burst, cond, count_due, count_of_frame, count_step}
-use Rattle.stream_laws.proofs.Words.{damaged_in, due, effect, effect_of, eid_of, ensemble_of_item, eq-eqb, eqb_tells}
-use Rattle.stream_laws.proofs.Words.{false, false≢true, fib_at, fibs_items, first_opening, frame_bytes, frame_fibs}
-use Rattle.stream_laws.proofs.Words.{frame_items, inl, inr, instr_at, is_due, is_ensemble, is_first_noticed, is_here}
-use Rattle.stream_laws.proofs.Words.{is_in_place, is_long, is_next, is_other, is_placed, is_running, is_there, known_of}
-use Rattle.stream_laws.proofs.Words.{lacks_opening, last_eid, layout_mode, le-ltb, length, map, member_eid, ne_eqb, not}
-use Rattle.stream_laws.proofs.Words.{placed_count, raw_of, ready, refl, said, settle, shown, shown_count, step, subst}
-use Rattle.stream_laws.proofs.Words.{suc, sym, true, with_due_swap, with_swap, zero, ℕ}
+use Rattle.stream_laws.proofs.Words.{List, Moment, None, OneList, Option, Plan, Program, Reading, Said, Some, State}
+use Rattle.stream_laws.proofs.Words.{after_burst, after_frame, all_append, and_right, ap, arith, begins_with_ensemble}
+use Rattle.stream_laws.proofs.Words.{burst, cond, count_due, count_of_frame, count_step, damaged_in, due, effect}
+use Rattle.stream_laws.proofs.Words.{effect_of, eid_of, ensemble_of_item, eq-eqb, eqb_tells, false, false≢true, fib_at}
+use Rattle.stream_laws.proofs.Words.{first_opening, frame_bytes, frame_fibs, frame_items, inl, inr, instr_at, is_due}
+use Rattle.stream_laws.proofs.Words.{is_ensemble, is_first_noticed, is_here, is_in_place, is_long, is_next, is_other}
+use Rattle.stream_laws.proofs.Words.{is_placed, is_running, is_there, known_of, lacks_opening, last_eid, layout_mode}
+use Rattle.stream_laws.proofs.Words.{le-ltb, length, map, member_eid, ne_eqb, not, placed_count, raw_of, ready, refl}
+use Rattle.stream_laws.proofs.Words.{said, settle, shown, shown_count, step, suc, sym, true, with_due_swap, with_swap}
+use Rattle.stream_laws.proofs.Words.{zero, ℕ}
 use Rattle.plan_code.specs.declared.instr.Instr.{Instr}
 use Rattle.plan_code.specs.declared.instr.Instr.TheVariants.{Settle}
 use Rattle.stream_check.specs.Stream.{past_after_frame as after_read}
@@ -47,8 +47,7 @@ pub shown_eid : (p : Program) (s : State) → (shown p s).eid ≡ s.eid
 shown_eid p s =
     let t = after_burst p s in
     let swap : (with_due_swap s).eid ≡ s.eid = either_eid (is_due s.left) (with_swap s) s s.eid refl refl in
-    let start : (ready s).eid ≡ s.eid =
-    either_eid (is_here (with_due_swap s) (with_due_swap s).hold) _ (with_due_swap s) s.eid swap swap in
+    let start = either_eid (is_here (with_due_swap s) (with_due_swap s).hold) _ (with_due_swap s) s.eid swap swap in
     let same : t.eid ≡ s.eid = burst_eid p.plan.budget p (ready s) ∙ start in
     either_eid (is_first_noticed p.plan.notice t.left) _ t s.eid same same
 
@@ -79,12 +78,8 @@ headed_frame one heard r plan u frame right h =
     let quiet = later_quiet one r plan u frame right in
     let heads = heading_fib one heard r plan u first h in
     let fig = header_of heard plan u first h in
-    let read : r.read first ≡ Some (Open fig.second (fig.bytes ∷ []) ∷ h.others) =
-    is_read one r first (h.header ∷ h.others) h.first ∙ ap (λ f. Some (f ∷ h.others)) fig.is in
-    let begin : read_frame r plan.layout frame ≡ r.read first ∷ later =
-    ap (map r.read) (first_of_fibs plan.layout frame) in
-    let fibs : read_frame r plan.layout frame ≡ Some (Open fig.second (fig.bytes ∷ []) ∷ h.others) ∷ later =
-    begin ∙ ap (λ f. f ∷ later) read in
+    let read = is_read one r first (h.header ∷ h.others) h.first ∙ ap (λ f. Some (f ∷ h.others)) fig.is in
+    let begin = ap (map r.read) (first_of_fibs plan.layout frame) in
     record {
       head = record {
         first = true;
@@ -92,12 +87,11 @@ headed_frame one heard r plan u frame right h =
         raw = raw_of (fig.second % 32) (is_long fig.second) fig.bytes;
       };
       rest = _;
-      are = ap frame_items fibs;
+      are = ap frame_items (begin ∙ ap (λ f. f ∷ later) read);
       first = refl;
       ensemble = eq-eqb (fig.second % 32) 0 fig.ext;
       says = fig.says;
-      none = all_append (λ i. is_ensemble i ≡ false) _ (fibs_items false later) (figs_none false h.others h.alone)
-          (fibs_none false later quiet);
+      none = all_append (λ i. is_ensemble i ≡ false) _ _ (figs_none _ _ h.alone) (fibs_none _ _ quiet);
       whole = ap damaged_in begin ∙ ap (λ b. cond b 1 0 + damaged_in later) heads.whole
           ∙ ap (λ n. 0 + n) (none_damaged later quiet);
       lacks = ap lacks_opening begin ∙ ap (λ b. not b && not (begins_with_ensemble (r.read first))) heads.whole
@@ -122,7 +116,6 @@ placed : (step period : ℕ) (past : List Moment) (s : State) (first : Bool) (e 
     → IsPlaceFine (known_of step period past) first e
 placed step period past s first e known one count eid on =
     let k : KnownBefore = known_of step period past in
-    let on_step : (e.count % step == 0) ≡ true = eq-eqb (e.count % step) 0 (ap (λ n. n % step) count ∙ on) in
     let last : (due past ≡ None) ⊎ (due past ≡ Some s.count) =
     elim known [ inl none ↦ inl none.0 | inr some ↦ inr some.0 ] in
     let ensemble : (last_eid step past ≡ None) ⊎ (last_eid step past ≡ Some s.eid) =
@@ -130,7 +123,7 @@ placed step period past s first e known one count eid on =
     record {
       eid = and_right (is_placed k first e) _ (not_other e.eid s.eid (last_eid step past) ensemble eid);
       count = and_right (is_placed k first e) _ (not_other e.count s.count (due past) last count);
-      placed = ap (λ b. b && (e.count % step == 0)) one ∙ on_step;
+      placed = ap (λ b. b && (e.count % step == 0)) one ∙ (eq-eqb (e.count % step) 0 (ap (λ n. n % step) count ∙ on));
     }
 
 -- the frame as a whole
@@ -162,8 +155,7 @@ pub record IsRightFrame (size step period : ℕ) (past : List Moment) (frame : L
 
 head_eid : (step : ℕ) (i : Item) (s : State) (o : Option ℕ) → is_ensemble i ≡ true → (ensemble_of_item i).eid ≡ s.eid
     → (o ≡ None) ⊎ (o ≡ Some s.eid) → eid_of step i o ≡ Some s.eid
-head_eid step i s o e same (inl none) = ap (eid_of step i) none
-    ∙ ap (λ t. cond t (Some (ensemble_of_item i).eid) None) e ∙ ap Some same
+head_eid step i s o e same (inl none) = cc (none, e, same)
 head_eid step i s o e same (inr some) = ap (eid_of step i) some ∙ either (is_in_place step i)
   where
     either : (b : Bool) → cond b (Some (ensemble_of_item i).eid) (Some s.eid) ≡ Some s.eid
@@ -174,18 +166,15 @@ with_header : (size step period : ℕ) (past : List Moment) (s : State) (frame :
     → length frame ≡ size → IsHeaded frame e → IsDue step past s
     → e.count ≡ s.count → e.eid ≡ s.eid → s.count % step ≡ 0 → IsRightFrame size step period past frame s.count s.eid
 with_header size step period past s frame e len h known count eid on =
-    let head_count : (ensemble_of_item h.head).count ≡ s.count =
-    ap (λ (x : EnsembleInformation). x.count) h.says ∙ count in
+    let head_count = ap (λ (x : EnsembleInformation). x.count) h.says ∙ count in
     let head_same : (ensemble_of_item h.head).eid ≡ s.eid = ap (λ (x : EnsembleInformation). x.eid) h.says ∙ eid in
     let place = placed step period past s h.head.first (ensemble_of_item h.head) known h.first head_count head_same
     on in
     let ensemble : (last_eid step past ≡ None) ⊎ (last_eid step past ≡ Some s.eid) =
     elim known [ inl none ↦ inl none.1 | inr some ↦ inr some.1 ] in
     record {
-      whole = whole_frame size step (due past) frame len h.whole
-          (and_right (count_due (due past) frame % step == 0) (lacks_opening frame) h.lacks);
-      place = subst (λ (is : List Item). Each (IsWellPlaced step period) past is) (sym h.are)
-          ((λ ens. place), none_placed step period h.rest (Said h.head ∷ past) h.none);
+      whole = whole_frame _ _ _ _ len h.whole (and_right _ _ h.lacks);
+      place = rw h.are ((λ ens. place), none_placed step period h.rest (Said h.head ∷ past) h.none);
       counted = ap (placed_count step (count_due (due past) frame)) h.opens
           ∙ ap (λ t. cond t e.count (count_due (due past) frame))
           (eq-eqb (e.count % step) 0 (ap (λ n. n % step) count ∙ on)) ∙ count;
@@ -203,11 +192,9 @@ without_header : (size step period : ℕ) (past : List Moment) (s : State) (fram
 without_header size step period past s frame len quiet known off =
     let none = fibs_none true frame quiet in
     let count : count_due (due past) frame ≡ s.count = ap (λ o. count_due o frame) known.0 in
-    let off_step : (count_due (due past) frame % step == 0) ≡ false =
-    ap (λ n. n % step == 0) count ∙ ne_eqb (s.count % step) 0 off in
     record {
       whole = whole_frame size step (due past) frame len (none_damaged frame quiet)
-          (ap (λ b. b && lacks_opening frame) off_step);
+          (ap (λ b. b && lacks_opening frame) (ap (λ n. n % step == 0) count ∙ ne_eqb (s.count % step) 0 off));
       place = none_placed step period (frame_items frame) past none;
       counted = ap (placed_count step (count_due (due past) frame)) (quiet_opening frame quiet) ∙ count;
       same = said_eid step (frame_items frame) past none ∙ known.1;
@@ -230,8 +217,7 @@ frame_right one heard r p s period past right known =
     let count = shown_count p s in
     elim (eqb_tells (s.count % step) 0) [
       | inl on ↦
-          let on_now : (shown p s).count % step ≡ 0 = ap (λ n. n % step) count ∙ on.1 in
-          let h = right.headed on_now in
+          let h = right.headed (ap (λ n. n % step) count ∙ on.1) in
           let before : IsDue step past s = elim known [ inl none ↦ inl (none.0, none.1) | inr some ↦ inr some ] in
           with_header (frame_fibs p.plan.layout) step period past s (read_frame r p.plan.layout (frame_bytes p s))
           h.information size

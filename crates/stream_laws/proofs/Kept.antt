@@ -5,16 +5,16 @@ use Rattle.stream_laws.proofs.Words.{KnownBefore, List, Listening, Moment, None,
 use Rattle.stream_laws.proofs.Words.{What, after_is, agree, agree_same, announcement, announces_another, ap, append-nil}
 use Rattle.stream_laws.proofs.Words.{arith, at_ensemble, begins_notice, cond, current_findings, ensemble_findings}
 use Rattle.stream_laws.proofs.Words.{ensemble_heard, ensemble_no_member, ensemble_of_item, entry_like, eqb-true, false}
-use Rattle.stream_laws.proofs.Words.{false≢true, findings_at, finds_no_room, flag_count, frames_ended, get_or}
-use Rattle.stream_laws.proofs.Words.{has_begun, has_ensemble, has_flags, has_low, has_no_room, has_other_count}
-use Rattle.stream_laws.proofs.Words.{heard_as, heard_is, into, is_absent, is_ensemble, is_flagged, is_made, is_member}
-use Rattle.stream_laws.proofs.Words.{is_of_other_ensemble, is_other, is_other_one, is_placed, is_settled, is_swap}
-use Rattle.stream_laws.proofs.Words.{key_of, known_of, last_flags, le-leb, length, list_for, listener_after, listening}
-use Rattle.stream_laws.proofs.Words.{lookup_among, lookup_in, makes_swap, member_entry, member_findings, member_heard}
-use Rattle.stream_laws.proofs.Words.{name_of, nat_lt, next_findings, next_key, not, not-false, not-true, occurrence_of}
-use Rattle.stream_laws.proofs.Words.{or_false, or_parts, or_true, picture_of, pictured, place_faults, refl, row_at_hand}
-use Rattle.stream_laws.proofs.Words.{rows, settles_at, subst, suc, swap_findings, swap_or_another, sym, times_announced}
-use Rattle.stream_laws.proofs.Words.{true, untuned, unwrap_or, when, zero, ℕ}
+use Rattle.stream_laws.proofs.Words.{false≢true, findings_at, finds_no_room, frames_ended, get_or, has_begun}
+use Rattle.stream_laws.proofs.Words.{has_ensemble, has_flags, has_low, has_no_room, has_other_count, heard_as, heard_is}
+use Rattle.stream_laws.proofs.Words.{into, is_absent, is_ensemble, is_flagged, is_made, is_member, is_of_other_ensemble}
+use Rattle.stream_laws.proofs.Words.{is_other, is_other_one, is_placed, is_settled, is_swap, known_of, last_flags}
+use Rattle.stream_laws.proofs.Words.{le-leb, length, list_for, listener_after, listening, lookup_among, lookup_in}
+use Rattle.stream_laws.proofs.Words.{makes_swap, member_entry, member_findings, member_heard, name_of, nat_lt}
+use Rattle.stream_laws.proofs.Words.{next_findings, not, not-false, not-true, occurrence_of, or_false, or_parts}
+use Rattle.stream_laws.proofs.Words.{or_true, picture_of, pictured, place_faults, refl, row_at_hand, rows, settles_at}
+use Rattle.stream_laws.proofs.Words.{subst, suc, swap_findings, swap_or_another, sym, times_announced, true, untuned}
+use Rattle.stream_laws.proofs.Words.{unwrap_or, when, zero, ℕ}
 use Rattle.stream_check.specs.declared.finding.Fault.TheVariants as faults
 use Rattle.stream_check.specs.declared.heard_table.Lookup.TheVariants as standings
 use Rattle.stream_laws.proofs.Clean.{IsClean, entry_clean, all_left, all_right}
@@ -88,21 +88,13 @@ pub member_found : (step period : ℕ) (past : List Moment) (i : Item) → is_en
     → (listener_after past).tuned ≡ true
     → findings_at (known_of step period past) i ≡ cond i.next (next_findings (known_of step period past) i.raw)
     (current_findings (known_of step period past) i.raw)
-member_found step period past i e t =
-    ap (λ b. cond b (ensemble_findings (known_of step period past) i.first (ensemble_of_item i))
-    (member_findings (known_of step period past) i.next i.raw)) e
-    ∙ ap (λ b. cond b (cond i.next (next_findings (known_of step period past) i.raw)
-    (current_findings (known_of step period past) i.raw)) []) t
+member_found step period past i e t = cc (e, t)
 
 pub member_room : (step period : ℕ) (past : List Moment) (i : Item) → is_ensemble i ≡ false
     → (listener_after past).tuned ≡ true
     → has_no_room (known_of step period past) i ≡ finds_no_room
     (lookup_in i.raw (cond i.next (listener_after past).next (listener_after past).current))
-member_room step period past i e t =
-    ap (λ b. cond b false ((listener_after past).tuned
-    && finds_no_room (lookup_in i.raw (cond i.next (listener_after past).next (listener_after past).current)))) e
-    ∙ ap (λ b. b && finds_no_room
-    (lookup_in i.raw (cond i.next (listener_after past).next (listener_after past).current))) t
+member_room step period past i e t = cc (e, t)
 
 -- with C/N 0
 pub current_kept : (step period : ℕ) (past : List Moment) (i : Item) → is_ensemble i ≡ false
@@ -117,9 +109,7 @@ current_kept step period past i e t n c =
     let both = first_fine (is_other_one (lookup_in i.raw now)) (faults.Changed (name_of i.raw)) _ plain in
     let known = no_fault (is_absent (lookup_in i.raw now) && is_settled (known_of step period past))
     (faults.Appeared (name_of i.raw)) both.1 in
-    let room : finds_no_room (lookup_in i.raw now) ≡ false =
-    sym (member_room step period past i e t
-    ∙ ap (λ b. finds_no_room (lookup_in i.raw (cond b (listener_after past).next now))) n) ∙ c.1 in
+    let room : finds_no_room (lookup_in i.raw now) ≡ false = cc (member_room step period past i e t, n, c.1) in
     record {
       agrees = λ k is. agrees i.raw now k both.0 is;
       there = λ settled.
@@ -187,10 +177,8 @@ heard_by step period past i l false e h room =
     ∙ elim l.tuned as (λ t. l.tuned ≡ t → cond t (into i.next l (pictured i.raw (picture_of i.next l))) (Some l)
     ≡ Some (cond t (with_member i.next i.raw l) l)) [
       | true ↦ λ t.
-          let tuned : (listener_after past).tuned ≡ true = ap (λ (x : Listening). x.tuned) same ∙ t in
           let free : finds_no_room (lookup_in i.raw (cond i.next l.next l.current)) ≡ false =
-          sym (ap (λ (x : Listening). finds_no_room (lookup_in i.raw (cond i.next x.next x.current))) same)
-          ∙ sym (member_room step period past i e tuned) ∙ room in
+          cc (same, member_room step period past i e (ap (λ (x : Listening). x.tuned) same ∙ t), room) in
           taken i.next i.raw l free
       | false ↦ λ t. refl
     ] refl
@@ -212,19 +200,13 @@ after_said step period past i c =
 
 pub after_ensemble : (step period : ℕ) (past : List Moment) (i : Item) → IsClean step period (Said i ∷ past)
     → is_ensemble i ≡ true → listener_after (Said i ∷ past) ≡ at_ensemble (ensemble_of_item i) (listener_after past)
-after_ensemble step period past i c e =
-    after_said step period past i c
-    ∙ ap (λ t. cond t (at_ensemble (ensemble_of_item i) (listener_after past))
-    (cond (listener_after past).tuned (with_member i.next i.raw (listener_after past)) (listener_after past))) e
+after_ensemble step period past i c e = cc (after_said step period past i c, e)
 
 pub after_member : (step period : ℕ) (past : List Moment) (i : Item) → IsClean step period (Said i ∷ past)
     → is_ensemble i ≡ false
     → listener_after (Said i ∷ past) ≡ cond (listener_after past).tuned (with_member i.next i.raw (listener_after past))
     (listener_after past)
-after_member step period past i c e =
-    after_said step period past i c
-    ∙ ap (λ t. cond t (at_ensemble (ensemble_of_item i) (listener_after past))
-    (cond (listener_after past).tuned (with_member i.next i.raw (listener_after past)) (listener_after past))) e
+after_member step period past i c e = cc (after_said step period past i c, e)
 
 awaited_with : (next : Bool) (raw : Raw) (l : Listening) → (with_member next raw l).awaited ≡ l.awaited
 awaited_with true raw l = refl
@@ -237,8 +219,7 @@ awaited_by false next raw l = refl
 pub awaited_member : (step period : ℕ) (past : List Moment) (i : Item) → IsClean step period (Said i ∷ past)
     → is_ensemble i ≡ false → (listener_after (Said i ∷ past)).awaited ≡ (listener_after past).awaited
 awaited_member step period past i c e =
-    ap (λ (l : Listening). l.awaited) (after_member step period past i c e)
-    ∙ awaited_by (listener_after past).tuned i.next i.raw (listener_after past)
+    cc (after_member step period past i c e, awaited_by (listener_after past).tuned i.next i.raw (listener_after past))
 
 -- ---- a FIG 0/0
 
@@ -251,15 +232,11 @@ ensemble_flags i e = ap (λ t. t && not ((ensemble_of_item i).change == 0)) e
 
 begins_is : (past : List Moment) (i : Item) (f : Bool) → is_ensemble i ≡ true → is_flagged i ≡ f
     → begins_notice past i ≡ f
-begins_is past i f e fl = ap (λ t. t || (is_member past i && i.next)) fl
-    ∙ ap (λ t. f || (t && i.next)) (ensemble_no_member past i e) ∙ or_false f
+begins_is past i f e fl = cc (fl, ensemble_no_member past i e, or_false f)
 
 pub begun_is : (past : List Moment) (i : Item) (b f : Bool) → is_ensemble i ≡ true → is_swap past i ≡ b
     → is_flagged i ≡ f → has_begun (Said i ∷ past) ≡ cond b f (has_begun past || f)
-begun_is past i b f e sw fl =
-    ap (λ t. cond t (is_flagged i) (has_begun past || begins_notice past i)) sw
-    ∙ ap (λ t. cond b t (has_begun past || begins_notice past i)) fl
-    ∙ ap (λ t. cond b f (has_begun past || t)) (begins_is past i f e fl)
+begun_is past i b f e sw fl = cc (sw, fl, begins_is past i f e fl)
 
 pub begun_flagged : (past : List Moment) (i : Item) (b : Bool) → is_ensemble i ≡ true → is_swap past i ≡ b
     → is_flagged i ≡ true → has_begun (Said i ∷ past) ≡ true
@@ -271,9 +248,7 @@ begun_flagged past i b e sw fl = begun_is past i b true e sw fl ∙ by b
 
 pub times_are : (past : List Moment) (i : Item) (b f : Bool) → is_swap past i ≡ b → is_flagged i ≡ f
     → times_announced (Said i ∷ past) ≡ cond b (cond f 1 0) (times_announced past + cond f 1 0)
-times_are past i b f sw fl =
-    ap (λ t. cond t (flag_count i) (times_announced past + flag_count i)) sw
-    ∙ ap (λ t. cond b (cond t 1 0) (times_announced past + cond t 1 0)) fl
+times_are past i b f sw fl = cc (sw, fl)
 
 pub flags_are : (past : List Moment) (i : Item) (f : Bool) → is_flagged i ≡ f
     → last_flags (Said i ∷ past) ≡ cond f (ensemble_of_item i).change (last_flags past)
@@ -285,10 +260,7 @@ rows_are past i b sw = ap (λ t. cond t [] (rows past)) sw
 
 pub row_is : (past : List Moment) (i : Item) (b : Bool) → is_ensemble i ≡ true → is_swap past i ≡ b
     → row_at_hand (Said i ∷ past) ≡ cond b [] (row_at_hand past)
-row_is past i b e sw =
-    ap (λ t. cond t [] (row_at_hand past ++ next_key past i)) sw
-    ∙ ap (λ t. cond b [] (row_at_hand past ++ cond (t && i.next) (key_of i.raw ∷ []) [])) (ensemble_no_member past i e)
-    ∙ ap (λ r. cond b [] r) (append-nil (row_at_hand past))
+row_is past i b e sw = rw (sw, ensemble_no_member past i e, append-nil (row_at_hand past))
 
 pub after_heard : (step period : ℕ) (past : List Moment) (i : Item) (b f : Bool) → IsClean step period (Said i ∷ past)
     → is_ensemble i ≡ true → is_swap past i ≡ b → is_flagged i ≡ f
@@ -319,12 +291,10 @@ plain_rules k first e all =
     let place = all_left IsNoFault (place_faults k first e) _ all in
     let rest = all_right IsNoFault (place_faults k first e) _ all in
     let swap = all_left IsNoFault (swap_or_another k e) _ rest in
-    let later = all_right IsNoFault (swap_or_another k e) _ rest in
-    let last = all_right IsNoFault (announcement k e) _ later in
+    let last = all_right IsNoFault (announcement k e) _ (all_right IsNoFault (swap_or_another k e) _ rest) in
     let one = first_fine (is_of_other_ensemble k first e) (faults.OtherEnsemble e.eid) _ place in
     let two = first_fine (has_other_count k first e) (faults.Count (unwrap_or k.due 0)) _ one.1 in
-    let placed : is_placed k first e ≡ true =
-    not-false (is_placed k first e) (no_fault (not (is_placed k first e)) faults.OutOfPlace two.1) in
+    let placed = not-false (is_placed k first e) (no_fault (not (is_placed k first e)) faults.OutOfPlace two.1) in
     record {
       first_one = first_holds first (e.count % k.step == 0) placed;
       on_step = eqb-true (e.count % k.step) 0 (second_holds first (e.count % k.step == 0) placed);
@@ -335,8 +305,7 @@ plain_rules k first e all =
           (cond b (swap_findings k e)
           (when (announces_another k e) (faults.AnnouncedAgain e.change (occurrence_of e))))) not_so swap in
           no_fault (announces_another k e) (faults.AnnouncedAgain e.change (occurrence_of e)) only;
-      flagged = λ is. flags_where (has_flags e) k.began_early
-          (no_fault (not (has_flags e) && k.began_early) faults.NextUnannounced last) is;
+      flagged = λ is. flags_where _ _ (no_fault (not (has_flags e) && k.began_early) faults.NextUnannounced last) is;
       swap = λ so. subst (λ (b : Bool). AllByRecursion IsNoFault
           (cond b (swap_findings k e)
           (when (announces_another k e) (faults.AnnouncedAgain e.change (occurrence_of e))))) so swap;
@@ -367,15 +336,13 @@ pub not_another : (aw : Option ℕ) (low change flags occurrence : ℕ) → aw �
     × (occurrence ≡ low)
 not_another None low change flags occurrence e h = absurd cc
 not_another (Some a) low change flags occurrence e h =
-    let same : a ≡ low = cc in
     let both = or_parts (not (change == flags)) (not (occurrence == a)) h in (
       eqb-true change flags (not-false (change == flags) both.0),
-      eqb-true occurrence a (not-false (occurrence == a) both.1) ∙ same,
+      eqb-true occurrence a (not-false (occurrence == a) both.1) ∙ cc,
     )
 
 -- no swap is awaited where a FIG 0/0 without flags makes none
 pub nothing_awaited : (aw : Option ℕ) (e : EnsembleInformation) → is_made aw e ≡ false → has_flags e ≡ false → aw ≡ None
 nothing_awaited None e made none = refl
 nothing_awaited (Some low) e made none =
-    let zero_flags : (e.change == 0) ≡ true = not-false (e.change == 0) none in
-    absurd (false≢true (sym made ∙ ap (λ t. t || (e.count % 250 == low)) zero_flags))
+    absurd (false≢true (sym made ∙ ap (λ t. t || (e.count % 250 == low)) (not-false (e.change == 0) none)))

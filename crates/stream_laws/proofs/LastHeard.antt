@@ -32,24 +32,19 @@ pub last_grows : (key : ℕ) (items : List Item) (past : List Moment)
     → last_heard key past ≤ last_heard key (said items past)
 last_grows key [] past = omega arith
 last_grows key (i ∷ is) past =
-    let rest = last_grows key is (Said i ∷ past) in
-    let most = last_at_most key past in
     let one : last_heard key past ≤ last_heard key (Said i ∷ past) =
     elim (is_swap past i || (is_member past i && (not i.next && (key_of i.raw == key))))
     as (λ b. last_heard key past ≤ cond b (frames_ended past + 1) (last_heard key past)) [
-      | true ↦ most
+      | true ↦ (last_at_most key past)
       | false ↦ omega arith
     ] in
-    omega (arith, rest, one)
+    omega (arith, last_grows key is (Said i ∷ past), one)
 
 -- once heard in the current frame, it stays so
 pub last_stays : (key : ℕ) (items : List Item) (past : List Moment) → last_heard key past ≡ frames_ended past + 1
     → last_heard key (said items past) ≡ frames_ended past + 1
 last_stays key items past now =
-    let grows = last_grows key items past in
-    let most = last_at_most key (said items past) in
-    let ended = said_ended items past in
-    omega (arith, now, grows, most, ended)
+    omega (arith, now, last_grows key items past, last_at_most key (said items past), said_ended items past)
 
 -- ---- a tuned listener stays tuned
 
@@ -79,20 +74,18 @@ at_tuned e l =
 
 into_tuned : (next : Bool) (l : Listening) (o : Option Pictured) (m : Listening) → l.tuned ≡ true
     → into next l o ≡ Some m → m.tuned ≡ true
-into_tuned true l None m t e = absurd cc
-into_tuned false l None m t e = absurd cc
 into_tuned true l (Some p) m t e =
     let a : Listening = record { tuned = l.tuned; current = l.current; next = p; awaited = l.awaited } in
     sym (ap (λ (x : Listening). x.tuned) (some_is a m e)) ∙ t
 into_tuned false l (Some p) m t e =
     let a : Listening = record { tuned = l.tuned; current = p; next = l.next; awaited = l.awaited } in
     sym (ap (λ (x : Listening). x.tuned) (some_is a m e)) ∙ t
+into_tuned _ l None m t e = absurd cc
 
 stays_by : (b t : Bool) (next : Bool) (raw : Raw) (l m : Listening) → l.tuned ≡ true
     → cond b (Some (at_ensemble (ensemble_in raw) l)) (cond t (into next l (pictured raw (picture_of next l))) (Some l))
     ≡ Some m → m.tuned ≡ true
-stays_by true t next raw l m is e =
-    sym (ap (λ (x : Listening). x.tuned) (some_is (at_ensemble (ensemble_in raw) l) m e)) ∙ at_tuned (ensemble_in raw) l
+stays_by true t next raw l m is e = cc (some_is (at_ensemble (ensemble_in raw) l) m e, at_tuned (ensemble_in raw) l)
 stays_by false true next raw l m is e = into_tuned next l (pictured raw (picture_of next l)) m is e
 stays_by false false next raw l m is e = sym (ap (λ (x : Listening). x.tuned) (some_is l m e)) ∙ is
 
@@ -108,15 +101,11 @@ pub last_member : (key : ℕ) (items : List Item) (past : List Moment) (l after 
 last_member key [] past l after is t all i inside e n k = absurd (contains_none i inside)
 last_member key (j ∷ js) past l after is t all i inside e n k = elim (contains_cases j js i inside) [
   | inl same ↦ (
-      let ens : is_ensemble j ≡ false = ap is_ensemble same ∙ e in
       let tuned : (listener_after past).tuned ≡ true = ap (λ (x : Listening). x.tuned) (after_is past l is) ∙ t in
       let next : j.next ≡ false = ap (λ (x : Item). x.next) same ∙ n in
       let keys : (key_of j.raw == key) ≡ true = eq-eqb (key_of j.raw) key (ap (λ (x : Item). key_of x.raw) same ∙ k) in
       let now : last_heard key (Said j ∷ past) ≡ frames_ended past + 1 =
-      member_last key past j ens
-      ∙ ap (λ b. cond (b && (not j.next && (key_of j.raw == key))) (frames_ended past + 1) (last_heard key past)) tuned
-      ∙ ap (λ b. cond (not b && (key_of j.raw == key)) (frames_ended past + 1) (last_heard key past)) next
-      ∙ ap (λ b. cond b (frames_ended past + 1) (last_heard key past)) keys in
+      cc (member_last key past j (ap is_ensemble same ∙ e), tuned, next, keys) in
       last_stays key js (Said j ∷ past) now
       )
   | inr more ↦ (
@@ -153,10 +142,8 @@ place_below : FibHas32Bytes → (layout : FrameLayout) (frame : List ℕ) (place
 place_below size layout frame place figs long is = elim (cases_lt place (frame_fibs layout)) [
   | inl lt ↦ lt
   | inr ge ↦ (
-      let far : length frame ≤ 32 * place = omega (arith, long, ge) in
-      let none : fib_at frame place ≡ [] = ap (take 32) (drop_all (32 * place) frame far) in
-      let clash : 0 ≡ 32 = ap length (sym none) ∙ size (fib_at frame place) figs is in
-      absurd (omega (arith, clash))
+      let none : fib_at frame place ≡ [] = ap (take 32) (drop_all (32 * place) frame (omega (arith, long, ge))) in
+      absurd (omega (arith, ap length (sym none) ∙ size (fib_at frame place) figs is))
       )
 ]
 
@@ -175,11 +162,9 @@ raw_said : (second : ℕ) (bytes : List ℕ) (m : Marked) → IsSaid second byte
     → raw_of (second % 32) (is_long second) bytes ≡ raw_entry m.entry
 raw_said second bytes m h =
     let long : (ext_of m.entry == 2 && is_long second) ≡ is_long_entry m.entry =
-    long_same (ext_of m.entry) (is_long second) (is_long_entry m.entry) (ext_of m.entry == 2) refl h.long
-    ∙ long_alone m.entry in
+    long_same _ _ _ _ refl h.long ∙ long_alone _ in
     let with_long : Bool → Raw = λ b. record { ext = ext_of m.entry; long = b; bytes = entry_bytes m.entry } in
-    ap (λ n. raw_of n (is_long second) bytes) h.ext ∙ ap (raw_of (ext_of m.entry) (is_long second)) h.spelled
-    ∙ ap with_long long
+    cc (h.ext, h.spelled, long)
 
 fig_said : OneList → (r : Reading) (layout : FrameLayout) (frame : List ℕ) (place : ℕ) (figs : List Fig) (fig : Fig)
     (m : Marked) → place < frame_fibs layout → IsFib (fib_at frame place) figs → Contains figs fig → IsInFig fig m
@@ -187,8 +172,7 @@ fig_said : OneList → (r : Reading) (layout : FrameLayout) (frame : List ℕ) (
 fig_said one r layout frame place figs (Other given) m below is f h = absurd h
 fig_said one r layout frame place figs (Open second es) m below is f h =
     let there = fibs_said r true (fibs_from (frame_fibs layout) 0 frame) (fib_at frame place) figs second es h.0
-    (from_contains (frame_fibs layout) 0 place frame (omega arith) (omega (arith, below)))
-    (is_read one r (fib_at frame place) figs is) f h.1 in
+    (from_contains _ 0 place frame (omega arith) (omega (arith, below))) (is_read one r _ figs is) f h.1 in
     record {
       item = record { first = there.0; next = is_next second; raw = raw_of (second % 32) (is_long second) h.0 };
       inside = there.1;

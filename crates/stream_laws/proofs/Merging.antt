@@ -1,10 +1,10 @@
 -- Merged FIBs are heard and checked as the plan's.
-use Rattle.stream_laws.proofs.Words.{[], ◌++◌, ◌↔◌, ◌∙◌, ◌∷◌, ◌≡◌, AllByRecursion, AreFibBytes, Fib, Fig, Finding}
-use Rattle.stream_laws.proofs.Words.{FramesAreOfBytes, HearsAll, HearsFib, IsFaultless, IsFibBytes, IsFramed, IsNoFault}
-use Rattle.stream_laws.proofs.Words.{IsSaidIn, List, ListenersAreRight, Listening, None, OneList, Other, Reading, Reads}
+use Rattle.stream_laws.proofs.Words.{[], ◌++◌, ◌↔◌, ◌∙◌, ◌∷◌, ◌≡◌, AllByRecursion, AreFibBytes, Fib, Fig}
+use Rattle.stream_laws.proofs.Words.{FramesAreOfBytes, HearsAll, HearsFib, IsFibBytes, IsFramed, List}
+use Rattle.stream_laws.proofs.Words.{ListenersAreRight, Listening, None, OneList, Other, Reading, Reads}
 use Rattle.stream_laws.proofs.Words.{RunsAreFaultless, RunsAreFramed, Some, SwapsAreAnnounced, ap, arith, count_step}
-use Rattle.stream_laws.proofs.Words.{fibs_of, findings_of, flat_map, frame_fibs, frames_of, hear_figs, layout_mode, map}
-use Rattle.stream_laws.proofs.Words.{read_frames, refl, run, run_frames, subst, sym, untuned, ℕ}
+use Rattle.stream_laws.proofs.Words.{fibs_of, flat_map, frame_fibs, frames_of, hear_figs, layout_mode, map, read_frames}
+use Rattle.stream_laws.proofs.Words.{refl, run, run_frames, subst, sym, untuned, ℕ}
 use Rattle.fig_merge.specs.Taking.{Merging, IsMerging, nothing_taken, after_take}
 use Rattle.fig_merge.specs.Filling.{merged, carried_by, after_fill}
 use Rattle.fig_merge.specs.Steps.{Step, Take, Fill}
@@ -15,6 +15,7 @@ use Rattle.fig_merge.proofs.Carried.{merging_step}
 use Rattle.stream_laws.specs.Merging.{filled_in, IsMergedOf, HaveSameEntries, MergedHaveTheEntries, MergedAreHeardAlike}
 use Rattle.stream_laws.specs.Merging.{MergedListenersAreRight, MergedRunsAreFaultless, MergedSwapsAreAnnounced}
 use Rattle.stream_laws.proofs.Bytes.{is_read}
+use Rattle.stream_laws.proofs.Clean.{all_left, all_right}
 
 -- ---- one FIB
 
@@ -53,8 +54,7 @@ fib_alike one read heard r bytes m old new valid =
           }),
       λ there.
           let h = heard_read one r bytes old new there in
-          let is : r.read sent ≡ Some (h.figs ++ map Other carried) =
-          read r bytes m valid ∙ ap (λ (f : Fib). with_carried f carried) h.is in
+          let is = read r bytes m valid ∙ ap (λ (f : Fib). with_carried f carried) h.is in
           read_heard r sent old new (record {
             figs = h.figs ++ map Other carried;
             is = is;
@@ -111,11 +111,8 @@ calls_alike one read heard r (Fill fib ∷ calls) m old new valid =
 
 pub merged_are_heard_alike : OneList → FilledIsRead → FilledIsHeardAlike → MergedAreHeardAlike
 merged_are_heard_alike one read heard r fibs sent old new w =
-    let base = calls_alike one read heard r w.calls nothing_taken old new
-    (record { few = omega arith; passed_over = tt }) in
-    subst (λ (xs : List (List ℕ)). HearsAll xs old new ↔ HearsAll fibs old new) w.sends
-    (subst (λ (xs : List (List ℕ)). HearsAll (sent_in r w.calls nothing_taken) old new ↔ HearsAll xs old new) w.fills
-    base)
+    let base = calls_alike one read heard r w.calls _ old new (record { few = omega arith; passed_over = tt }) in
+    rw (← w.sends) (rw (← w.fills) base)
 
 pub merged_listeners : MergedAreHeardAlike → ListenersAreRight → MergedListenersAreRight
 merged_listeners alike right r p s played =
@@ -140,10 +137,7 @@ fibs_read r (Fill fib ∷ calls) = ap (λ (fs : List Fib). r.read fib ∷ fs) (f
 
 are_filled : AllAreFilled → (r : Reading) (fibs sent : List (List ℕ)) → IsMergedOf r fibs sent
     → AreFilled agreeing untuned (map r.read fibs) (map r.read sent)
-are_filled all r fibs sent w =
-    subst (λ (xs : List (List ℕ)). AreFilled agreeing untuned (map r.read fibs) (map r.read xs)) w.sends
-    (subst (λ (xs : List Fib). AreFilled agreeing untuned xs (map r.read (sent_in r w.calls nothing_taken)))
-    (fibs_read r w.calls ∙ ap (map r.read) w.fills) (all r w.calls))
+are_filled all r fibs sent w = rw (← w.sends) (rw (← fibs_read r w.calls ∙ ap (map r.read) w.fills) (all r w.calls))
 
 pub merged_faultless : AllAreFilled → FilledIsFramedAlike → FilledIsCheckedAlike → FilledIsFullAlike → RunsAreFramed
     → FramesAreOfBytes → RunsAreFaultless → MergedRunsAreFaultless
@@ -155,8 +149,7 @@ merged_faultless all framed checked full runs cuts faultless r p s period waitin
     let frames = read_frames r (frames_of p.plan.layout (run_frames p (run p s waiting) events)) in
     let a = framed agreeing size (map r.read fibs) (map r.read sent) skipped frames [] (are_filled all r fibs sent w)
     (runs r p s waiting events played untold on_step) in
-    let same : findings_of size step period [] a.frames_sent ≡ findings_of size step period [] frames =
-    checked size step period frames a.frames_sent a.frames_alike in
+    let same = checked size step period frames a.frames_sent a.frames_alike in
     let cut : IsFramed size (map r.read sent) a.skipped_sent a.frames_sent [] =
     subst (λ (rest : List Fib). IsFramed size (map r.read sent) a.skipped_sent a.frames_sent rest) a.rest_alike
     a.framed in
@@ -170,27 +163,18 @@ merged_faultless all framed checked full runs cuts faultless r p s period waitin
           let none = faultless r p s period waiting events played on_step long in
           record {
             room = full agreeing untuned step period frames a.frames_sent a.frames_alike ∙ none.room;
-            plain = subst (λ (found : List Finding). AllByRecursion (λ f. IsNoFault f.what) found) (sym same)
-                none.plain;
+            plain = rw same none.plain;
           };
     }
 
 -- ---- swaps
 
-later_all : (P : List ℕ → Type 0) (xs ys : List (List ℕ)) → AllByRecursion P (xs ++ ys) → AllByRecursion P ys
-later_all P [] ys h = h
-later_all P (x ∷ xs) ys h = later_all P xs ys h.1
-
-first_all : (P : List ℕ → Type 0) (xs ys : List (List ℕ)) → AllByRecursion P (xs ++ ys) → AllByRecursion P xs
-first_all P [] ys h = tt
-first_all P (x ∷ xs) ys h = (h.0, first_all P xs ys h.1)
-
 frames_all : (P : List ℕ → Type 0) (frames : List (List (List ℕ))) → AllByRecursion P (flat_map (λ frame. frame) frames)
     → AllByRecursion (AllByRecursion P) frames
 frames_all P [] h = tt
 frames_all P (f ∷ fs) h = (
-  first_all P f (flat_map (λ frame. frame) fs) h,
-  frames_all P fs (later_all P f (flat_map (λ frame. frame) fs) h),
+  all_left P f (flat_map (λ frame. frame) fs) h,
+  frames_all P fs (all_right P f (flat_map (λ frame. frame) fs) h),
 )
 
 pub merged_announced : SwapsAreAnnounced → MergedSwapsAreAnnounced
@@ -199,11 +183,8 @@ merged_announced swaps r p s period events sent checked long bytes past i now ne
     let size = frame_fibs p.plan.layout in
     let step = count_step (layout_mode p.plan.layout) in
     let cut = checked.cut in
-    let framed = later_all IsFibBytes cut.before (flat_map (λ frame. frame) cut.bytes ++ cut.after)
+    let framed = all_right IsFibBytes cut.before (flat_map (λ frame. frame) cut.bytes ++ cut.after)
     (subst (λ (xs : List (List ℕ)). AllByRecursion IsFibBytes xs) cut.whole bytes) in
-    let all : AllByRecursion AreFibBytes cut.bytes =
-    frames_all IsFibBytes cut.bytes (first_all IsFibBytes (flat_map (λ frame. frame) cut.bytes) cut.after framed) in
-    swaps r size step period cut.bytes past i now next all
-    (subst (λ (fs : List (List Fib)). IsFaultless size step period fs) (sym cut.reads) (checked.faultless long))
-    (subst (λ (fs : List (List Fib)). IsSaidIn step fs past i) (sym cut.reads) said)
+    let all : AllByRecursion AreFibBytes cut.bytes = frames_all _ _ (all_left _ _ _ framed) in
+    swaps r size step period cut.bytes past i now next all (rw cut.reads (checked.faultless long)) (rw cut.reads said)
     swap whole is_now is_next shows_now shows_next

@@ -91,8 +91,7 @@ named_then : (n : ℕ) (xs ys : List What) → IsQuietly xs → named n (xs ++ y
 named_then n xs ys all = named_both n xs ys ∙ ap (λ l. l ++ named n ys) (quiet_named n xs all)
 
 named_first : (n : ℕ) (xs ys : List What) → IsQuietly ys → named n (xs ++ ys) ≡ named n xs
-named_first n xs ys all = named_both n xs ys ∙ ap (λ l. named n xs ++ l) (quiet_named n ys all)
-    ∙ append-nil (named n xs)
+named_first n xs ys all = cc (named_both n xs ys, quiet_named n ys all, append-nil (named n xs))
 
 at_swap : (n : ℕ) (k : Knowledge) (e : EnsembleInformation) (b : Bool)
     → named n (cond b (swap_findings k e)
@@ -177,8 +176,7 @@ frame_named : (size step period : ℕ) (past : List Moment) (noted : List Contra
     ≡ named (frames_ended past) (findings_at_items step period past (frame_items frame))
 frame_named size step period past noted frame =
     let items : List What = findings_at_sent step period past noted (frame_sent frame) in
-    let last : List What = last_findings (runs_full step period past (frame_items frame)) period
-    (said (frame_items frame) past) in
+    let last = last_findings (runs_full step period past (frame_items frame)) period (said (frame_items frame) past) in
     let whole : List What = frame_findings size step (due past) frame in
     in_frame_named (frame_at step past frame) (whole ++ (items ++ last))
     ∙ named_then (frames_ended past) whole (items ++ last)
@@ -200,8 +198,7 @@ with_head n step period past h items ens none =
     let room : has_no_room k h ≡ false =
     ap (λ t. cond t false (k.listener.tuned && finds_no_room
     (lookup_in h.raw (cond h.next k.listener.next k.listener.current)))) ens in
-    let found : findings_at k h ≡ ensemble_findings k h.first (said_ensemble h) =
-    ap (λ t. cond t (ensemble_findings k h.first (said_ensemble h)) (member_findings k h.next h.raw)) ens in
+    let found = ap (λ t. cond t (ensemble_findings k h.first (said_ensemble h)) (member_findings k h.next h.raw)) ens in
     ap (λ t. named n (cond t [] (findings_at k h ++ findings_at_items step period (Said h ∷ past) items))) room
     ∙ named_first n (findings_at k h) _ (items_quiet step period items (Said h ∷ past) none)
     ∙ ap (named n) found ∙ at_head n k h.first (said_ensemble h)
@@ -246,14 +243,12 @@ along one laws r period p ts c s (Frame ∷ es) holds past noted h =
     ≡ cond (is_due s.left) (frames_ended past ∷ []) [] =
     frame_named size step period past noted frame ∙ opened_named (frames_ended past) step period p.plan (shown p s)
     (is_due s.left) past (frame_items frame) (next_opened one laws r p ts c s holds past h (is_due s.left) refl) in
-    let number : frames_ended (after_read step past frame) ≡ frames_ended past + 1 =
-    ap (λ n. n + 1) (said_ended (frame_items frame) past) in
     frames_both (findings_in size step period past noted frame) _
     ∙ ap (λ b. swap_frames (findings_in size step period past noted frame) ++ swap_frames (cond b [] later))
     (items_room step period (frame_items frame) past now.word)
     ∙ ap (λ l. l ++ swap_frames later) here
     ∙ ap (λ l. cond (is_due s.left) (frames_ended past ∷ []) [] ++ l)
-    (rest ∙ ap (λ n. due_frames p n (after_frame p s) es) number)
+    (rest ∙ ap (λ n. due_frames p n (after_frame p s) es) (ap (λ n. n + 1) (said_ended (frame_items frame) past)))
     ∙ joined (is_due s.left)
   where
     joined : (b : Bool) → cond b (frames_ended past ∷ []) []
@@ -284,12 +279,11 @@ from_first one laws r period p ts c s (Frame ∷ es) holds on =
     let here : swap_frames (findings_in size step period [] [] frame) ≡ [] =
     frame_named size step period [] [] frame ∙ opened_named 0 step period p.plan (shown p s) false []
     (frame_items frame) (first_opened one laws r p ts c s holds on) in
-    let number : frames_ended (after_read step [] frame) ≡ 1 = ap (λ n. n + 1) (said_ended (frame_items frame) []) in
     frames_both (findings_in size step period [] [] frame) _
     ∙ ap (λ b. swap_frames (findings_in size step period [] [] frame) ++ swap_frames (cond b [] later))
     (items_room step period (frame_items frame) [] now.word)
     ∙ ap (λ l. l ++ swap_frames later) here
-    ∙ rest ∙ ap (λ n. due_frames p n (after_frame p s) es) number
+    ∙ rest ∙ ap (λ n. due_frames p n (after_frame p s) es) (ap (λ n. n + 1) (said_ended (frame_items frame) []))
 
 pub swaps_are_named : OneList → Laws → SwapsAreNamed
 swaps_are_named one laws r p s period waiting events played on =

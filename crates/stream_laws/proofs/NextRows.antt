@@ -1,30 +1,30 @@
 -- What the checker hears of the next configuration in the frames of a run: a row for each frame, three times in all.
 use Rattle.stream_laws.proofs.Words.{[], ◌%◌, ◌&&◌, ◌++◌, ◌||◌, ◌∙◌, ◌∷◌, ◌≡◌, ◌≢◌, ◌≤◌, Airs, AllByRecursion, Bool}
 use Rattle.stream_laws.proofs.Words.{Configuration, Contact, Contains, Contains-append_left, Contains-append_right}
-use Rattle.stream_laws.proofs.Words.{Ended, EnsembleInformation, Frame, HasHeader, Holds, IsAnnounced, IsCode}
-use Rattle.stream_laws.proofs.Words.{IsHeardInRow, IsPartial, IsTheMost, Item, Known, KnowsBy, KnowsPending, List}
-use Rattle.stream_laws.proofs.Words.{Listening, Marked, Moment, None, Nothing, Option, Plan, Program, Reading, Said}
-use Rattle.stream_laws.proofs.Words.{Some, State, after_frame, after_is, airs, all_entries, and_false, ap, arith}
-use Rattle.stream_laws.proofs.Words.{begins_notice, cond, contains_cases, contains_first, contains_in, contains_none}
-use Rattle.stream_laws.proofs.Words.{count_step, ensemble_sent, entries_of, fact_in, facts_of, false, false≢true}
-use Rattle.stream_laws.proofs.Words.{frame_bytes, frame_items, happens, has_begun, headed, hear_entry, heard_contacts}
-use Rattle.stream_laws.proofs.Words.{heard_of, in_contains, in_fact, inl, inr, is_cut_off, is_due, is_flagged, is_swap}
-use Rattle.stream_laws.proofs.Words.{key_of, layout_mode, le-ltb, listener_after, listening, map, mapped_to, marked}
+use Rattle.stream_laws.proofs.Words.{Ended, EnsembleInformation, Frame, HasHeader, Holds, IsCode, IsHeardInRow}
+use Rattle.stream_laws.proofs.Words.{IsPartial, IsTheMost, Item, Known, KnowsBy, KnowsPending, List, Listening, Marked}
+use Rattle.stream_laws.proofs.Words.{Moment, None, Nothing, Option, Plan, Program, Reading, Said, Some, State}
+use Rattle.stream_laws.proofs.Words.{after_frame, after_is, airs, all_entries, and_false, ap, arith, begins_notice}
+use Rattle.stream_laws.proofs.Words.{cond, contains_cases, contains_first, contains_in, contains_none, count_step}
+use Rattle.stream_laws.proofs.Words.{ensemble_sent, entries_of, fact_in, facts_of, false, false≢true, frame_bytes}
+use Rattle.stream_laws.proofs.Words.{frame_items, happens, has_begun, headed, hear_entry, heard_contacts, heard_of}
+use Rattle.stream_laws.proofs.Words.{in_contains, in_fact, inl, inr, is_cut_off, is_due, is_flagged, is_swap, key_of}
+use Rattle.stream_laws.proofs.Words.{layout_mode, le-ltb, listener_after, listening, map, mapped_to, marked}
 use Rattle.stream_laws.proofs.Words.{member_has_begun, member_heard, member_row, member_rows, nat_lt, not, or_false}
 use Rattle.stream_laws.proofs.Words.{or_parts, or_true, pageable, raw_entry, refl, row_at_hand, rows, said}
 use Rattle.stream_laws.proofs.Words.{sent_entries, shown, shown_bytes, subst, swaps_run, sym, three_or_more}
-use Rattle.stream_laws.proofs.Words.{times_heard, true, wanted, whole_of, zero_or_not, ℕ}
+use Rattle.stream_laws.proofs.Words.{times_heard, true, wanted, whole_of, zero_or_not, ℕ, due_left, unnoticed_left}
 use Rattle.stream_laws.proofs.Rows.{HasNone}
 use Rattle.stream_laws.proofs.LastHeard.{some_before, stays_tuned}
 use Rattle.stream_laws.proofs.Framing.{read_frame}
 use Rattle.stream_laws.proofs.Sending.{IsSentItem, not_sent}
-use Rattle.stream_laws.proofs.AgreeingRuns.{on_air, IsBetween, due_left}
+use Rattle.stream_laws.proofs.AgreeingRuns.{on_air, IsBetween}
 use Rattle.stream_laws.proofs.AgreeingFrames.{agrees_by, before_of}
 use Rattle.stream_laws.proofs.NoticeFrames.{SaysNothing, HasNext, IsRowed, IsNoticing, IsReading, none_rowed}
 use Rattle.stream_laws.proofs.NoticeFrames.{rowed_more, rowed_silent, AreKeysOf, announced_thrice}
 use Rattle.stream_laws.proofs.Opening.{FrameLaws, IsOpened, entry_at_frame, items_at, past_after, next_opened}
 use Rattle.stream_laws.proofs.Opening.{first_opened, cut_still}
-use Rattle.stream_laws.proofs.Following.{more_heard, heard_then, quiet_heard, cut_first}
+use Rattle.stream_laws.proofs.Following.{more_heard, heard_then, cut_first}
 use Rattle.stream_laws.proofs.Ages.{entry_of}
 
 -- ---- a notice that has not begun
@@ -95,9 +95,7 @@ next_member key (j ∷ js) past l after is t all none i inside n k = elim (conta
       let here : Contains (row_at_hand past ++ key_of j.raw ∷ []) (key_of j.raw) =
       Contains-append_right (row_at_hand past) (key_of j.raw ∷ []) (key_of j.raw)
       (contains_first (key_of j.raw) []) in
-      let now : Contains (row_at_hand (Said j ∷ past)) key =
-      subst (λ (x : ℕ). Contains (row_at_hand (Said j ∷ past)) x) keys
-      (subst (λ (r : List ℕ). Contains r (key_of j.raw)) (sym row) here) in
+      let now : Contains (row_at_hand (Said j ∷ past)) key = rw (← keys) (rw row here) in
       let begun : has_begun (Said j ∷ past) ≡ true =
       member_has_begun past j none.0
       ∙ ap (λ b. has_begun past || (b && j.next)) tuned
@@ -132,10 +130,7 @@ pub still_quiet : (plan : Plan) (u : State) (due : Bool) (past : List Moment) (i
     → IsOpened plan u due past items → on_air plan u ≡ false
     → has_begun (said items past) ≡ cond due false (has_begun past)
 still_quiet plan u due past items o off =
-    ap has_begun o.are
-    ∙ none_begins o.members (said o.heads past) o.none
-    (all_current u.current u.next (on_air plan u) o.members off o.sent)
-    ∙ o.unflagged off
+    ap has_begun o.are ∙ none_begins _ _ o.none (all_current _ _ _ _ off o.sent) ∙ o.unflagged off
 
 pub rows_after : (plan : Plan) (u : State) (due : Bool) (past : List Moment) (items : List Item)
     → IsOpened plan u due past items → rows (said items past) ≡ cond due [] (rows past)
@@ -212,15 +207,13 @@ after_opened laws r p s a due past count heard o after all more fresh old false 
     let plan : Plan = p.plan in
     let u : State = shown p s in
     let items : List Item = frame_items (read_frame r plan.layout (frame_bytes p s)) in
-    let none : heard_of plan (after_frame p s) ≡ [] = quiet_heard plan u u.left refl a.ahead off in
+    let none : heard_of plan (after_frame p s) ≡ [] = unnoticed_left plan u u.left refl a.ahead off in
     let before : cond due [] heard ≡ [] = sym (more ∙ ap (λ b. more_heard b due heard (frame_bytes p s)) off) ∙ none in
     let quiet : has_begun (said items past) ≡ false = still_quiet plan u due past items o off ∙ by due before in
-    let no_rows : rows (Ended count ∷ said items past) ≡ [] =
-    ap (λ t. cond t (rows (said items past) ++ row_at_hand (said items past) ∷ []) []) quiet in
+    let no_rows = ap (λ t. cond t (rows (said items past) ++ row_at_hand (said items past) ∷ []) []) quiet in
     record {
       fresh = λ e. quiet;
-      rowed = λ cut. subst (λ (hs : List (List ℕ)). IsRowed hs (rows (Ended count ∷ said items past))) (sym none)
-          (subst (IsRowed []) (sym no_rows) none_rowed);
+      rowed = λ cut. rw none (rw no_rows none_rowed);
     }
   where
     by : (d : Bool) → cond d [] heard ≡ [] → cond d false (has_begun past) ≡ false
@@ -230,13 +223,11 @@ after_opened laws r p s a due past count heard o after all more fresh old true o
     let plan : Plan = p.plan in
     let u : State = shown p s in
     let items : List Item = frame_items (read_frame r plan.layout (frame_bytes p s)) in
-    let now : heard_of plan (after_frame p s) ≡ cond due [] heard ++ frame_bytes p s ∷ [] =
-    more ∙ ap (λ b. more_heard b due heard (frame_bytes p s)) on in
+    let now = more ∙ ap (λ b. more_heard b due heard (frame_bytes p s)) on in
     record {
       fresh = λ e. absurd (some_frames (cond due [] heard) (frame_bytes p s) (sym now ∙ e));
       rowed = λ cut.
-          let before : IsRowed (cond due [] heard) (rows (said items past)) =
-          subst (IsRowed (cond due [] heard)) (sym (rows_after plan u due past items o)) (old on cut) in
+          let before = subst (IsRowed (cond due [] heard)) (sym (rows_after plan u due past items o)) (old on cut) in
           subst (λ (hs : List (List ℕ)). IsRowed hs (rows (Ended count ∷ said items past))) (sym now)
           (grow before (has_begun (said items past)) refl);
     }
@@ -305,8 +296,7 @@ noticing laws r period p ts c s holds past reading =
 pub noticing_contact : (p : Program) (past : List Moment) (s : State) (d : ℕ) (closed : Bool) → IsNoticing p.plan past s
     → IsNoticing p.plan past (happens p s (Contact d closed))
 noticing_contact p past s d closed g =
-    let heard : heard_of p.plan (happens p s (Contact d closed)) ≡ heard_of p.plan s =
-    heard_contacts p.plan s d closed s.left refl in
+    let heard = heard_contacts p.plan s d closed s.left refl in
     record {
       fresh = λ e. g.fresh (sym heard ∙ e);
       rowed = λ cut. subst (λ (hs : List (List ℕ)). IsRowed hs (rows past)) (sym heard) (g.rowed cut);
@@ -330,11 +320,9 @@ wanted_keys : (p : Program) (ts : List Known) → IsCode p ts → (s : State) �
     → IsBetween p.plan past s → is_due s.left ≡ true → AreKeysOf s.next (wanted past)
 wanted_keys p ts c s past b due x inside =
     let same : listener_after past ≡ b.heard = after_is past b.heard b.is in
-    let there : Contains (map key_of (all_entries b.heard.next)) x =
-    subst (λ (l : Listening). Contains (map key_of (all_entries l.next)) x) same inside in
+    let there = subst (λ (l : Listening). Contains (map key_of (all_entries l.next)) x) same inside in
     let raw = mapped_to key_of (all_entries b.heard.next) x there in
-    let it = entry_of s.next Nothing b.heard.next raw.0 (next_part p ts c s past b due)
-    (contains_in (all_entries b.heard.next) raw.0 raw.1) in
+    let it = entry_of _ _ _ _ (next_part p ts c s past b due) (contains_in _ _ raw.1) in
     let m : Marked = marked true it.0 in
     (m, in_contains (facts_of s.next true) m (in_fact true (entries_of s.next) it.0 it.2), refl, ap key_of it.1 ∙ raw.2)
 
@@ -348,10 +336,8 @@ pub repeated : IsTheMost → FrameLaws → (p : Program) (ts : List Known) → I
     → (past : List Moment) → IsBetween p.plan past s → IsNoticing p.plan past s → is_due s.left ≡ true
     → (not (is_cut_off past) && nat_lt (times_heard past) 3) ≡ false
 repeated most laws p ts c s holds past b g due =
-    let announced : IsAnnounced s.current s.next s.count (heard_of p.plan s) =
-    (swaps_run laws.heard.pages p ts c s (Frame ∷ []) holds).0.announced due in
-    let keys = wanted_keys p ts c s past b due in
+    let announced = (swaps_run laws.heard.pages p ts c s (Frame ∷ []) holds).0.announced due in
     not_few (is_cut_off past) (times_heard past) (λ whole.
     (three_or_more (wanted past) (times_heard past) (rows past) (most (wanted past) (rows past))).1
     (announced_thrice s.current s.next s.count (heard_of p.plan s) (rows past) (wanted past) announced (g.rowed whole)
-    keys (facts_marked s.next)))
+    (wanted_keys p ts c s past b due) (facts_marked s.next)))

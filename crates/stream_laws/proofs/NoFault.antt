@@ -1,6 +1,6 @@
 -- No fault is found in the frames of a run, since what the checker has noted is what the run did.
 use Rattle.stream_laws.proofs.Words.{[], ◌%◌, ◌++◌, ◌∙◌, ◌∷◌, ◌≡◌, ◌⊎◌, AllByRecursion, Bool, Contact, Contradiction}
-use Rattle.stream_laws.proofs.Words.{EnsembleInformation, Event, Fault, Fib, Finding, Frame, FrameIsRight}
+use Rattle.stream_laws.proofs.Words.{EnsembleInformation, Event, Fault, Fib, Finding, Frame, FrameIsRight, runs_full}
 use Rattle.stream_laws.proofs.Words.{FramesAreRight, HeadlineHolds, Holds, HoldsOfRuns, IsCode, IsFreeOf}
 use Rattle.stream_laws.proofs.Words.{IsFreeUnlessShort, IsLongFor, IsNoFault, IsTheMost, Item, Known, List, Moment}
 use Rattle.stream_laws.proofs.Words.{None, Plan, Program, Reading, RunIsFreeOf, RunsAgree, RunsAreFaultless}
@@ -8,8 +8,8 @@ use Rattle.stream_laws.proofs.Words.{RunsAreFree, Some, State, What, after_frame
 use Rattle.stream_laws.proofs.Words.{due, ensemble_of, false, false≢true, findings_from, findings_in, frame_bytes}
 use Rattle.stream_laws.proofs.Words.{frame_fibs, frame_holds, frame_items, frames_full, happens, happens_holds, inl}
 use Rattle.stream_laws.proofs.Words.{inr, is_due, is_of_period, is_of_word, known_of, last_eid, makes_swap, noted_in}
-use Rattle.stream_laws.proofs.Words.{played_holds, refl, run, run_holds, run_read, runs_full, said, shown, step_of}
-use Rattle.stream_laws.proofs.Words.{subst, sym, true, ℕ}
+use Rattle.stream_laws.proofs.Words.{played_holds, refl, run, run_holds, run_read, said, shown, step_of, subst, sym}
+use Rattle.stream_laws.proofs.Words.{true, ℕ}
 use Rattle.stream_check.specs.declared.finding.EntryName.{EntryName}
 use Rattle.stream_check.specs.History.{ensemble_of_item as said_ensemble}
 use Rattle.stream_check.specs.Stream.{past_after_frame as after_read}

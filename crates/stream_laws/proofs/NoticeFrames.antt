@@ -1,55 +1,22 @@
 -- The frames of a notice: each entry is heard in them, and the rows of identifiers heard are cut into three parts.
-use Rattle.stream_laws.proofs.Words.{[], ◌%◌, ◌++◌, ◌+◌, ◌-◌, ◌<◌, ◌∙◌, ◌∷◌, ◌≡◌, ◌≤◌, ◌⊎◌, AllByRecursion, Bool}
-use Rattle.stream_laws.proofs.Words.{CommittedBy, Configuration, Contains, Contains-append_cases, Contains-append_left}
+use Rattle.stream_laws.proofs.Words.{[], ◌%◌, ◌++◌, ◌+◌, ◌-◌, ◌<◌, ◌∙◌, ◌∷◌, ◌≡◌, ◌≤◌, ◌⊎◌, AllByRecursion, CommittedBy}
+use Rattle.stream_laws.proofs.Words.{Configuration, Contains, Contains-append_cases, Contains-append_left}
 use Rattle.stream_laws.proofs.Words.{Contains-append_right, HasHeader, HasThreeHeaders, Holds, IsAnnounced, IsCode}
 use Rattle.stream_laws.proofs.Words.{IsCutInThree, IsDue, IsHeardInRow, IsHeardInSome, IsHeardWhole, Known, List}
-use Rattle.stream_laws.proofs.Words.{Marked, Moment, None, Option, PageLaws, Plan, Program, Some, SomeSaid, State}
-use Rattle.stream_laws.proofs.Words.{SwapsOn, ap, append_assoc, arith, base_of, both_rounds, concat, cond}
-use Rattle.stream_laws.proofs.Words.{contains_cases, contains_first, contains_frame, contains_none, count_step}
-use Rattle.stream_laws.proofs.Words.{each_contains, ensemble_sent, entries_of, facts_of, false, frames_from, has_begun}
-use Rattle.stream_laws.proofs.Words.{heard_of, in_contains, in_fact, inl, inr, is_cut_off, is_due, key_of, layout_mode}
-use Rattle.stream_laws.proofs.Words.{length, length-append, lt-ltb, marked, notice_airs, notice_at, notice_at_is}
-use Rattle.stream_laws.proofs.Words.{noticed, noticed_state, page_after, page_entries, page_of, page_of_first}
-use Rattle.stream_laws.proofs.Words.{page_of_next, page_set, pageable, raw_entry, refl, rows, sent_entries, shown_bytes}
-use Rattle.stream_laws.proofs.Words.{slice_get, subst, suc, sym, true, zero, ℕ}
+use Rattle.stream_laws.proofs.Words.{Marked, Moment, Option, PageLaws, Plan, Program, Some, SomeSaid, State, SwapsOn}
+use Rattle.stream_laws.proofs.Words.{ap, append_assoc, arith, base_of, both_rounds, concat, contains_cases}
+use Rattle.stream_laws.proofs.Words.{contains_first, contains_frame, contains_none, count_step, each_contains}
+use Rattle.stream_laws.proofs.Words.{entries_of, facts_of, false, frames_from, has_begun, heard_of, in_contains}
+use Rattle.stream_laws.proofs.Words.{in_fact, inl, inr, is_cut_off, is_due, key_of, layout_mode, length, length-append}
+use Rattle.stream_laws.proofs.Words.{marked, notice_at, page_entries, page_of, page_set, raw_entry, refl, rows}
+use Rattle.stream_laws.proofs.Words.{slice_get, subst, suc, sym, true, zero, ℕ, page_up, notice_hears, due_left}
 use Rattle.plan_runs.proofs.Notice.{heard_is}
 use Rattle.stream_check.specs.Cutting.{HasAll, IsPart}
 use Rattle.plan_runs.proofs.Lookups.{get_below}
 use Rattle.plan_runs.proofs.Pictures.{HasAll as KnowsAll}
 use Rattle.stream_laws.proofs.AgreeingFrames.{SinceFirst}
-use Rattle.stream_laws.proofs.AgreeingRuns.{due_left}
 
 -- ---- each entry is heard in the frames
-
--- pages are in turn in ascending order
-page_up : (pages k : ℕ) → k < pages → page_of pages k ≡ k
-page_up pages zero below = page_of_first pages
-page_up pages (suc k) below =
-    let before = page_up pages k (omega (arith, below)) in
-    let test : k + 1 < pages = omega (arith, below) in
-    let one : k + 1 ≡ suc k = omega arith in
-    page_of_next pages k ∙ ap (page_after pages) before
-    ∙ ap (λ (b : Bool). cond b (k + 1) 0) (lt-ltb (k + 1) pages test) ∙ one
-
--- an entry of the page in turn is heard
-notice_hears : PageLaws → (plan : Plan) (c n : Configuration) (eid count i : ℕ) → IsDue plan c n eid count
-    → i < plan.notice → (m : Marked)
-    → Contains (page_entries plan.layout (page_of (both_rounds plan c n) i) (page_set c (Some n))) m
-    → IsHeardInRow (notice_at plan c n eid (base_of plan count 0) i) m
-notice_hears laws plan c n eid count i d below m inside =
-    let base : ℕ = base_of plan count 0 in
-    let st : State = noticed_state plan c n eid base i in
-    let a = notice_airs plan c n eid count i d below in
-    let yes = noticed plan.notice (plan.notice - i) (omega (arith, below)) (omega arith) in
-    let entries : sent_entries plan st ≡ page_set c (Some n) =
-    ap (λ (b : Bool). page_set c (cond b (Some n) None)) yes in
-    let there : Contains (page_entries plan.layout st.page_index (sent_entries plan st)) m =
-    subst (λ (es : List Marked). Contains (page_entries plan.layout (page_of (both_rounds plan c n) i) es) m)
-    (sym entries) inside in
-    let heard : IsHeardInRow (shown_bytes plan st) m =
-    (laws.heard plan.layout (ensemble_sent plan st) st.page_index (sent_entries plan st) (pageable laws plan st a)
-    m).1 there in
-    subst (λ (b : List ℕ). IsHeardInRow b m) (sym (notice_at_is plan c n eid base i)) heard
 
 notice_has : PageLaws → (p : Program) (ts : List Known) → IsCode p ts → (s : State) → Holds p ts s
     → is_due s.left ≡ true → (m : Marked) → Contains (page_set s.current (Some s.next)) m
@@ -57,9 +24,7 @@ notice_has : PageLaws → (p : Program) (ts : List Known) → IsCode p ts → (s
 notice_has laws p ts c s h due m inside =
     let plan : Plan = p.plan in
     let is = due_left s.left due in
-    let whole : (s.count + 0) % count_step (layout_mode plan.layout) ≡ 0 =
-    subst (λ (o : Option ℕ). SwapsOn plan s.count o) is h.tracked.swaps in
-    let none : s.count + 0 ≡ s.count = omega arith in
+    let whole = subst (λ (o : Option ℕ). SwapsOn plan s.count o) is h.tracked.swaps in
     let all : plan.notice - 0 ≡ plan.notice = omega arith in
     let d : IsDue plan s.current s.next s.eid s.count =
     record {
@@ -71,22 +36,17 @@ notice_has laws p ts c s h due m inside =
       next = h.tracked.next;
       on_air = h.between.kept.on_air;
       committed = subst (λ (o : Option ℕ). CommittedBy plan o s.current s.next) is h.between.kept.committed;
-      on_step = subst (λ (x : ℕ). x % count_step (layout_mode plan.layout) ≡ 0) none whole;
+      on_step = subst (λ (x : ℕ). x % count_step (layout_mode plan.layout) ≡ 0) (omega arith) whole;
     } in
     let f : ℕ → List ℕ = notice_at plan s.current s.next s.eid (base_of plan s.count 0) in
     let pages : ℕ = both_rounds plan s.current s.next in
     let there = laws.each plan.layout (page_set s.current (Some s.next)) m inside in
     let j : ℕ = there.0 in
     let here : Contains (page_entries plan.layout (page_of pages j) (page_set s.current (Some s.next))) m =
-    subst (λ (x : ℕ). Contains (page_entries plan.layout x (page_set s.current (Some s.next))) m)
-    (sym (page_up pages j there.1)) there.2 in
+    rw (page_up pages j there.1) there.2 in
     let below : j < plan.notice = omega (arith, there.1, d.committed.three_times) in
-    let heard : heard_of plan s ≡ frames_from f 0 plan.notice = heard_is plan s 0 is ∙ ap (frames_from f 0) all in
-    subst (λ (xs : List (List ℕ)). IsHeardInSome xs m) (sym heard) (
-      f j,
-      contains_frame f 0 plan.notice j (omega arith) (omega (arith, below)),
-      notice_hears laws plan s.current s.next s.eid s.count j d below m here,
-    )
+    subst (λ (xs : List (List ℕ)). IsHeardInSome xs m) (sym (heard_is plan s 0 is ∙ ap (frames_from f 0) all))
+    (f j, contains_frame _ _ _ _ (omega arith) (omega (arith, below)), notice_hears laws _ _ _ _ _ _ d below _ here)
 
 -- where a swap is due, both configurations were heard in full
 pub current_whole : PageLaws → (p : Program) (ts : List Known) → IsCode p ts → (s : State) → Holds p ts s
@@ -125,9 +85,8 @@ HasNext frame row = (m : Marked) → m.next ≡ true → IsHeardInRow frame m �
 -- a row for each frame
 abbrev pub AreRows : List (List ℕ) → List (List ℕ) → Type 0
 AreRows [] [] = Unit {0}
-AreRows [] (r ∷ rs) = ⊥
-AreRows (f ∷ fs) [] = ⊥
 AreRows (f ∷ fs) (r ∷ rs) = HasNext f r × AreRows fs rs
+AreRows _ _ = ⊥
 
 -- the rows are those of the frames heard, except for the first ones, where nothing belongs to the notice
 pub record IsRowed (heard rows : List (List ℕ)) : Type 0 where
@@ -156,9 +115,8 @@ none_rowed = record { missing = []; later = []; whole = refl; silent = tt; are =
 
 rows_more : (fs rs : List (List ℕ)) (f r : List ℕ) → AreRows fs rs → HasNext f r → AreRows (fs ++ f ∷ []) (rs ++ r ∷ [])
 rows_more [] [] f r all one = (one, tt)
-rows_more [] (r1 ∷ rs) f r all one = absurd all
-rows_more (f1 ∷ fs) [] f r all one = absurd all
 rows_more (f1 ∷ fs) (r1 ∷ rs) f r all one = (all.0, rows_more fs rs f r all.1 one)
+rows_more _ _ f r all one = absurd all
 
 -- one more frame, and its row
 pub rowed_more : (heard rows : List (List ℕ)) (frame row : List ℕ) → IsRowed heard rows → HasNext frame row
@@ -285,17 +243,14 @@ three_parts n wanted x some keys marks missing first second third rows later cut
       | inl (extra, is) ↦ (
           let it = keys x some in
           let heard = one it.0 it.1 in
-          let early : Contains missing heard.0 =
-          subst (λ (fs : List (List ℕ)). Contains fs heard.0) (sym is)
-          (Contains-append_left first extra heard.0 heard.1) in
+          let early : Contains missing heard.0 = rw is (Contains-append_left first extra heard.0 heard.1) in
           absurd ((each_contains SaysNothing missing heard.0 silent early).none it.0 it.2 heard.2)
           )
       | inr (more, is, last) ↦ (
           let front = rows_cut more (second ++ third) rows (subst (λ (fs : List (List ℕ)). AreRows fs rows) last are) in
           let back = rows_cut second third front.right front.second in
-          let whole : IsHeardWhole n true more = λ m inside.
-          heard_later missing more m silent (marks m inside)
-          (subst (λ (fs : List (List ℕ)). IsHeardInSome fs m) is (one m inside)) in
+          let whole : IsHeardWhole n true more =
+          λ m inside. heard_later missing more m silent (marks m inside) (rw (← is) (one m inside)) in
           record {
             first = front.left;
             second = back.left;
@@ -316,16 +271,14 @@ header_late : (missing later : List (List ℕ)) (place : ℕ) (frame : List ℕ)
     → slice_get (missing ++ later) place ≡ Some frame → HasHeader frame → length missing ≤ place
 header_late [] later place frame silent got header = omega arith
 header_late (f ∷ fs) later zero frame silent got header =
-    let same : f ≡ frame = cc got in
-    absurd (silent.0.bare (subst HasHeader (sym same) header))
+    absurd (silent.0.bare (subst HasHeader (sym (cc got)) header))
 header_late (f ∷ fs) later (suc place) frame silent got header = let rest =
     header_late fs later place frame silent.1 got header in omega (arith, rest)
 
 as_many : (fs rs : List (List ℕ)) → AreRows fs rs → length fs ≡ length rs
 as_many [] [] all = refl
-as_many [] (r ∷ rs) all = absurd all
-as_many (f ∷ fs) [] all = absurd all
 as_many (f ∷ fs) (r ∷ rs) all = let rest = as_many fs rs all.1 in omega (arith, rest)
+as_many _ _ all = absurd all
 
 three_rows : (missing later rows : List (List ℕ)) → AllByRecursion SaysNothing missing → AreRows later rows
     → HasThreeHeaders (missing ++ later) → 3 ≤ length rows
@@ -342,9 +295,6 @@ none_wanted : (row : List ℕ) (rows : List (List ℕ)) → IsPart [] (row ∷ r
 none_wanted row rows = ((λ e. absurd cc), λ x inside. absurd (contains_none x inside))
 
 cut_rows : (rows : List (List ℕ)) → 3 ≤ length rows → IsCutInThree [] rows
-cut_rows [] long = absurd (omega (arith, long))
-cut_rows (a ∷ []) long = absurd (omega (arith, long))
-cut_rows (a ∷ b ∷ []) long = absurd (omega (arith, long))
 cut_rows (a ∷ b ∷ c ∷ rows) long = record {
   first = a ∷ [];
   second = b ∷ [];
@@ -354,6 +304,7 @@ cut_rows (a ∷ b ∷ c ∷ rows) long = record {
   whole_in_second = none_wanted b [];
   whole_in_third = none_wanted c rows;
 }
+cut_rows _ long = absurd (omega (arith, long))
 
 -- ---- the rows of frames that announce a swap have three parts, each with the next configuration
 

@@ -1,18 +1,17 @@
 -- A frame of a run: its FIG 0/0, the entries after it, and what is known after them.
-use Rattle.stream_laws.proofs.Words.{[], ◌%◌, ◌&&◌, ◌++◌, ◌+◌, ◌==◌, ◌||◌, ◌∙◌, ◌∷◌, ◌≡◌, ◌≤◌, ◌⊎◌, Airs}
-use Rattle.stream_laws.proofs.Words.{AllByRecursion, Bool, Configuration, Contains, EnsembleInformation, FibHas32Bytes}
-use Rattle.stream_laws.proofs.Words.{Holds, InFrame, IsCode, IsHeardInRow, Item, Known, KnowsAt, KnowsBy, Laws, List}
-use Rattle.stream_laws.proofs.Words.{Listening, Marked, Moment, None, Nothing, OneList, Option, Or, Plan, Program, Raw}
-use Rattle.stream_laws.proofs.Words.{Reading, RowSaid, Said, Some, State, Still, SwapsOn, after_frame, after_is, airs}
-use Rattle.stream_laws.proofs.Words.{ap, arith, at_ensemble, cond, contains_cases, count_step, ensemble_heard}
-use Rattle.stream_laws.proofs.Words.{ensemble_of, ensemble_right, ensemble_sent, enters, enters_swap, enters_untuned}
-use Rattle.stream_laws.proofs.Words.{eq-eqb, ext_of, false, false≢true, frame_bytes, frame_heard, frame_items}
-use Rattle.stream_laws.proofs.Words.{frames_ended, has_begun, has_flags, headed, inl, inr, is_cut_off, is_due}
-use Rattle.stream_laws.proofs.Words.{is_ensemble, is_flagged, is_made, is_member, is_swap, key_of, knows_after}
-use Rattle.stream_laws.proofs.Words.{knows_weaker, last_heard, layout_mode, links, listener_after, listening}
-use Rattle.stream_laws.proofs.Words.{member_cut_off, member_settles, member_times, ne_eqb, not, or_false, pageable}
-use Rattle.stream_laws.proofs.Words.{refl, rows, said, sent_entries, settles_at, shown, shown_bytes, split_le, subst}
-use Rattle.stream_laws.proofs.Words.{sym, times_announced, true, untuned, zero_or_not, ℕ}
+use Rattle.stream_laws.proofs.Words.{[], ◌%◌, ◌&&◌, ◌++◌, ◌+◌, ◌==◌, ◌||◌, ◌∙◌, ◌∷◌, ◌≡◌, ◌⊎◌, Airs, AllByRecursion}
+use Rattle.stream_laws.proofs.Words.{Bool, Configuration, Contains, EnsembleInformation, FibHas32Bytes, Holds, InFrame}
+use Rattle.stream_laws.proofs.Words.{IsCode, IsHeardInRow, Item, Known, KnowsAt, KnowsBy, Laws, List, Listening, Marked}
+use Rattle.stream_laws.proofs.Words.{Moment, None, Nothing, OneList, Option, Or, Plan, Program, Raw, Reading, RowSaid}
+use Rattle.stream_laws.proofs.Words.{Said, Some, State, Still, SwapsOn, after_frame, after_is, airs, ap, arith}
+use Rattle.stream_laws.proofs.Words.{at_ensemble, cond, contains_cases, count_step, ensemble_heard, ensemble_of}
+use Rattle.stream_laws.proofs.Words.{ensemble_right, ensemble_sent, enters, enters_swap, enters_untuned, eq-eqb, ext_of}
+use Rattle.stream_laws.proofs.Words.{false, false≢true, frame_bytes, frame_heard, frame_items, frames_ended, has_begun}
+use Rattle.stream_laws.proofs.Words.{has_flags, headed, inl, inr, is_cut_off, is_due, is_ensemble, is_flagged, is_made}
+use Rattle.stream_laws.proofs.Words.{is_member, is_swap, key_of, knows_after, knows_weaker, last_heard, layout_mode}
+use Rattle.stream_laws.proofs.Words.{links, listener_after, listening, member_cut_off, member_settles, member_times}
+use Rattle.stream_laws.proofs.Words.{ne_eqb, not, or_false, pageable, refl, rows, said, sent_entries, settles_at, shown}
+use Rattle.stream_laws.proofs.Words.{shown_bytes, split_le, subst, sym, times_announced, true, untuned, zero_or_not, ℕ}
 use Rattle.plan_runs.proofs.HeardFrame.{fibs_in}
 use Rattle.stream_check.specs.History.{ensemble_of_item as said_ensemble}
 use Rattle.stream_check.specs.Stream.{past_after_frame as after_read}
@@ -20,10 +19,10 @@ use Rattle.stream_laws.proofs.Kept.{ensemble_made, ensemble_flags, begun_is, row
 use Rattle.stream_laws.proofs.Rows.{HasNone}
 use Rattle.stream_laws.proofs.Framing.{read_frame}
 use Rattle.stream_laws.proofs.Sending.{IsSentItem, IsHeadOf, frame_said, fibs_heard, is_sent, not_sent}
-use Rattle.stream_laws.proofs.AgreeingRuns.{IsBetween, on_air, flags_on, made_where_due, due_left}
+use Rattle.stream_laws.proofs.AgreeingRuns.{IsBetween, on_air, flags_on, made_where_due}
 use Rattle.stream_laws.proofs.LastHeard.{at_tuned, row_said, IsSaidOf}
-use Rattle.stream_laws.proofs.Agreeing.{sent_ext}
 use Rattle.stream_laws.proofs.Findings.{Each}
+use Rattle.stream_laws.proofs.Words.{due_left, sent_ext}
 
 -- the laws of FIBs and pages that are used
 pub record FrameLaws : Type 0 where
@@ -51,8 +50,7 @@ pub made_due : (p : Program) (ts : List Known) → IsCode p ts → (s : State) �
     → is_made (listener_after past).awaited e ≡ true → is_due s.left ≡ true
 made_due p ts c s holds past h e says made =
     let same : listener_after past ≡ h.heard = after_is past h.heard h.is in
-    sym (made_where_due p ts c s holds past h) ∙ sym (ap (is_made h.heard.awaited) says)
-    ∙ sym (ap (λ (x : Listening). is_made x.awaited e) same) ∙ made
+    cc (made_where_due p ts c s holds past h, says, same, made)
 
 -- where none is awaited, none is made
 pub none_made : {X : Type 0} (e : EnsembleInformation) (o : Option ℕ) → o ≡ None → is_made o e ≡ true → X
@@ -141,8 +139,7 @@ headed_opens : (plan : Plan) (u : State) → Airs plan u
     → AllByRecursion (IsSentItem (on_air plan u) u.current u.next) members → IsOnStep plan u
     → is_made (listener_after past).awaited (ensemble_of plan u) ≡ made → IsOpened plan u made past (i ∷ members)
 headed_opens plan u a made past i members ens says sent on is =
-    let swap : is_swap past i ≡ made = ensemble_made past i ens ∙ ap (is_made (listener_after past).awaited) says
-    ∙ is in
+    let swap = ensemble_made past i ens ∙ ap (is_made (listener_after past).awaited) says ∙ is in
     let flags : is_flagged i ≡ on_air plan u = flags_air plan u a i ens says in
     record {
       heads = i ∷ [];
@@ -206,10 +203,8 @@ bare_opens plan u past members off sent tuned = record {
 pub due_on : (p : Program) (ts : List Known) → IsCode p ts → (s : State) → Holds p ts s → is_due s.left ≡ true
     → IsOnStep p.plan (shown p s)
 due_on p ts c s holds due =
-    let step : (s.count + 0) % count_step (layout_mode p.plan.layout) ≡ 0 =
-    subst (λ (o : Option ℕ). SwapsOn p.plan s.count o) (due_left s.left due) holds.tracked.swaps in
-    let none : (shown p s).count ≡ s.count + 0 = (links p ts c s holds).count
-    ∙ (let same : s.count ≡ s.count + 0 = omega arith in same) in
+    let step = subst (λ (o : Option ℕ). SwapsOn p.plan s.count o) (due_left s.left due) holds.tracked.swaps in
+    let none = (links p ts c s holds).count ∙ (let same : s.count ≡ s.count + 0 = omega arith in same) in
     ap (λ n. n % count_step (layout_mode p.plan.layout)) none ∙ step
 
 tuned_by : (plan : Plan) (left : Option ℕ) (c n : Configuration) (count : ℕ) (l : Listening)
@@ -236,13 +231,11 @@ next_opened one laws r p ts c s holds past b d due =
       | inl on ↦
           let head = subst (λ (o : Option EnsembleInformation). IsHeadOf o fs.heads) (is_sent plan u on) fs.header in
           let made : is_made (listener_after past).awaited (ensemble_of plan u) ≡ d =
-          ap (λ (x : Listening). is_made x.awaited (ensemble_of plan u)) (after_is past b.heard b.is)
-          ∙ made_where_due p ts c s holds past b ∙ due in
+          cc (after_is past b.heard b.is, made_where_due p ts c s holds past b, due) in
           subst (IsOpened plan u d past) (sym (fs.are ∙ ap (λ hs. hs ++ fs.members) head.1))
           (headed_opens plan u a d past head.0 fs.members head.2 head.3 fs.sent on made)
       | inr off ↦
-          let bare : fs.heads ≡ [] =
-          subst (λ (o : Option EnsembleInformation). IsHeadOf o fs.heads) (not_sent plan u off) fs.header in
+          let bare = subst (λ (o : Option EnsembleInformation). IsHeadOf o fs.heads) (not_sent plan u off) fs.header in
           subst (IsOpened plan u d past) (sym (fs.are ∙ ap (λ hs. hs ++ fs.members) bare))
           (subst (λ (t : Bool). IsOpened plan u t past fs.members) (not_so off d due)
           (bare_opens plan u past fs.members off fs.sent (between_tuned plan past s b)))
@@ -260,8 +253,7 @@ first_opened one laws r p ts c s holds whole =
     let plan : Plan = p.plan in
     let u : State = shown p s in
     let a = airs p ts c s holds in
-    let on : IsOnStep plan u = ap (λ n. n % count_step (layout_mode plan.layout)) (links p ts c s holds).count
-    ∙ whole in
+    let on = ap (λ n. n % count_step (layout_mode plan.layout)) (links p ts c s holds).count ∙ whole in
     let fs = frame_said one laws r plan u a in
     let head = subst (λ (o : Option EnsembleInformation). IsHeadOf o fs.heads) (is_sent plan u on) fs.header in
     subst (IsOpened plan u false []) (sym (fs.are ∙ ap (λ hs. hs ++ fs.members) head.1))
@@ -279,14 +271,12 @@ pub opened_settles : (plan : Plan) (u : State) (made : Bool) (past : List Moment
     → IsOpened plan u made past items → (period : ℕ)
     → settles_at period (said items past) ≡ cond made (cond (is_cut_off past) (frames_ended past + period) 0)
     (settles_at period past)
-opened_settles plan u made past items o period = ap (settles_at period) o.are
-    ∙ said_settles period o.members (said o.heads past) o.none ∙ o.settles period
+opened_settles plan u made past items o period = ap (settles_at _) o.are ∙ said_settles _ _ _ o.none ∙ o.settles period
 
 -- a frame without a swap does not change whether the beginning of the notice was heard
 pub cut_still : (plan : Plan) (s u : State) (past : List Moment) (items : List Item) → IsBetween plan past s
     → IsOpened plan u false past items → is_cut_off (said items past) ≡ is_cut_off past
-cut_still plan s u past items b o = opened_cut plan u false past items o
-    ∙ ap (λ t. cond (not t) (on_air plan u) (is_cut_off past)) (between_tuned plan past s b)
+cut_still plan s u past items b o = cc (opened_cut plan u false past items o, between_tuned plan past s b)
 
 -- what holds of FIG 0/0 and of each other entry holds of each entry of the frame
 pub each_opened : (P : List Moment → Item → Type 0) (plan : Plan) (u : State) (made : Bool) (past : List Moment)
@@ -346,8 +336,7 @@ knows_later one laws r p ts c s holds past C N D M en f g =
     record {
       heard = h.after;
       is = fibs_heard one r true (fibs_in plan u) past en.heard h.after h.hears en.is;
-      knows = knows_weaker plan t.left t.current t.next t.count X D Y M h.after f g
-          (knows_after plan u X Y h.after a h.knows);
+      knows = knows_weaker _ _ _ _ _ _ _ _ _ _ f g (knows_after _ _ _ _ _ a h.knows);
     }
 
 -- ---- an entry that is heard in the bytes of the frame is among its entries
@@ -359,5 +348,4 @@ entry_at_frame laws r plan u a m row =
     let able = pageable laws.heard.pages plan u a in
     let long = (laws.heard.pages.valid plan.layout (ensemble_sent plan u) u.page_index (sent_entries plan u) able).1 in
     let it = row_said laws.one laws.size r plan.layout (shown_bytes plan u) m long row in
-    let some : 1 ≤ ext_of m.entry = row.1.organization in
-    (it, ap (λ (x : Raw). x.ext == 0) it.raw ∙ ne_eqb (ext_of m.entry) 0 (λ e. omega (arith, some, e)))
+    (it, ap (λ (x : Raw). x.ext == 0) it.raw ∙ ne_eqb (ext_of m.entry) 0 (λ e. omega (arith, e)))

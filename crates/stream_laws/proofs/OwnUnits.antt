@@ -1,15 +1,15 @@
 -- Without a fault, no capacity unit is one of two sub-channels after a swap, and the units stay so.
-use Rattle.stream_laws.proofs.Words.{[], ◌%◌, ◌&&◌, ◌++◌, ◌+◌, ◌<◌, ◌==◌, ◌∙◌, ◌∷◌, ◌≡◌, ◌≤◌, AllByRecursion, Bool}
-use Rattle.stream_laws.proofs.Words.{Ended, Fault, HaveOwnUnits, IsAscending, IsNoFault, IsUnitOf, Item, KnownBefore}
-use Rattle.stream_laws.proofs.Words.{List, Listening, Moment, None, Option, Pictured, Raw, Said, Some, SwapsKeepUnits}
+use Rattle.stream_laws.proofs.Words.{[], ◌&&◌, ◌++◌, ◌+◌, ◌<◌, ◌==◌, ◌∙◌, ◌∷◌, ◌≡◌, ◌≤◌, AllByRecursion, Bool, Ended}
+use Rattle.stream_laws.proofs.Words.{Fault, HaveOwnUnits, IsAscending, IsNoFault, IsUnitOf, Item, KnownBefore, List}
+use Rattle.stream_laws.proofs.Words.{Listening, Moment, None, Option, Pictured, Raw, Said, Some, SwapsKeepUnits}
 use Rattle.stream_laws.proofs.Words.{UnitsStayOwn, and_from, ap, arith, as_list, ascends_changed, ascends_with}
-use Rattle.stream_laws.proofs.Words.{awaited_low, cases_lt, cond, each_contains, end_unit, ends_past, ensemble_of_item}
-use Rattle.stream_laws.proofs.Words.{entry_at, entry_like, false, false≢true, first_unit, frames_ended, heard_as}
-use Rattle.stream_laws.proofs.Words.{identifier_of, inl, inr, is_cut_off, is_ensemble, is_flagged, is_known}
-use Rattle.stream_laws.proofs.Words.{is_long_form, is_made, is_swap, kept, kept_where_found, known_of, listener_after}
-use Rattle.stream_laws.proofs.Words.{lt-ltb, member_settles, nat_lt, not, not-true, notice_faults, overlap, overlap_or}
-use Rattle.stream_laws.proofs.Words.{partner, past_end, present, refl, settles_at, share_unit, slice_get, subst, suc}
-use Rattle.stream_laws.proofs.Words.{sym, true, when, with_entry, with_entry_changed, zero, ℕ}
+use Rattle.stream_laws.proofs.Words.{cases_lt, cond, each_contains, end_unit, ends_past, ensemble_of_item, entry_at}
+use Rattle.stream_laws.proofs.Words.{entry_like, false, false≢true, first_unit, frames_ended, heard_as, identifier_of}
+use Rattle.stream_laws.proofs.Words.{inl, inr, is_cut_off, is_ensemble, is_flagged, is_known, is_long_form, is_made}
+use Rattle.stream_laws.proofs.Words.{is_swap, kept, kept_where_found, known_of, listener_after, lt-ltb, member_settles}
+use Rattle.stream_laws.proofs.Words.{nat_lt, not, not-true, notice_faults, overlap, overlap_or, partner, past_end}
+use Rattle.stream_laws.proofs.Words.{present, refl, settles_at, share_unit, slice_get, subst, suc, sym, true}
+use Rattle.stream_laws.proofs.Words.{with_entry, with_entry_changed, zero, ℕ}
 use Rattle.stream_check.specs.declared.finding.Fault.TheVariants as faults
 use Rattle.stream_laws.proofs.Clean.{all_left, all_right, IsClean, entry_clean}
 use Rattle.stream_laws.proofs.Kept.{first_holds, after_heard, ensemble_made, plain_ensemble, current_kept, second_holds}
@@ -25,15 +25,11 @@ none_found (Some fault) all = absurd all.0
 
 shared : (a b : Raw) (unit : ℕ) → IsUnitOf a unit → IsUnitOf b unit → share_unit a b ≡ true
 shared a b unit x y =
-    let fa = x.from in
-    let ta = x.to in
-    let fb = y.from in
-    let tb = y.to in
     and_from (is_long_form a && is_long_form b) _ (and_from (is_long_form a) (is_long_form b) x.long_form y.long_form)
-    (and_from (nat_lt (first_unit a) (end_unit a)) _ (lt-ltb (first_unit a) (end_unit a) (omega (arith, fa, ta)))
-    (and_from (nat_lt (first_unit b) (end_unit b)) _ (lt-ltb (first_unit b) (end_unit b) (omega (arith, fb, tb)))
-    (and_from (nat_lt (first_unit a) (end_unit b)) _ (lt-ltb (first_unit a) (end_unit b) (omega (arith, fa, tb)))
-    (lt-ltb (first_unit b) (end_unit a) (omega (arith, fb, ta))))))
+    (and_from (nat_lt (first_unit a) (end_unit a)) _ (lt-ltb (first_unit a) (end_unit a) (omega arith))
+    (and_from (nat_lt (first_unit b) (end_unit b)) _ (lt-ltb (first_unit b) (end_unit b) (omega arith))
+    (and_from (nat_lt (first_unit a) (end_unit b)) _ (lt-ltb (first_unit a) (end_unit b) (omega arith))
+    (lt-ltb (first_unit b) (end_unit a) (omega arith)))))
 
 abbrev SharesNone : Raw → Raw → Type 0
 SharesNone a b = share_unit a b ≡ false
@@ -63,16 +59,13 @@ apart : (rs : List Raw) → overlap rs ≡ None → (m n : ℕ) (a b : Raw) (uni
 apart [] e m n a b unit first second x y = absurd cc
 apart (r ∷ rs) e zero zero a b unit first second x y = refl
 apart (r ∷ rs) e zero (suc n) a b unit first second x y =
-    let same : r ≡ a = cc in
     let both = parted (partner r rs) r (overlap rs) e in
-    absurd (not_at r rs n b unit (no_partner r rs both.0) second (subst (λ s. IsUnitOf s unit) (sym same) x) y)
+    absurd (not_at r rs n b unit (no_partner r rs both.0) second (subst (λ s. IsUnitOf s unit) (sym cc) x) y)
 apart (r ∷ rs) e (suc m) zero a b unit first second x y =
-    let same : r ≡ b = cc in
     let both = parted (partner r rs) r (overlap rs) e in
-    absurd (not_at r rs m a unit (no_partner r rs both.0) first (subst (λ s. IsUnitOf s unit) (sym same) y) x)
+    absurd (not_at r rs m a unit (no_partner r rs both.0) first (subst (λ s. IsUnitOf s unit) (sym cc) y) x)
 apart (r ∷ rs) e (suc m) (suc n) a b unit first second x y =
-    let both = parted (partner r rs) r (overlap rs) e in
-    ap suc (apart rs both.1 m n a b unit first second x y)
+    ap suc (apart rs (parted (partner r rs) r (overlap rs) e).1 m n a b unit first second x y)
 
 none_past : (rs : List Raw) → past_end rs ≡ None → AllByRecursion (λ a. ends_past a ≡ false) rs
 none_past [] e = tt
@@ -93,10 +86,8 @@ within a unit e x = elim (cases_lt 864 (end_unit a)) [
 pub own_units : (rs : List Raw) → AllByRecursion IsNoFault (as_list (overlap rs) ++ as_list (past_end rs))
     → HaveOwnUnits rs
 own_units rs all =
-    let none : overlap rs ≡ None =
-    none_found (overlap rs) (all_left IsNoFault (as_list (overlap rs)) (as_list (past_end rs)) all) in
-    let few : past_end rs ≡ None =
-    none_found (past_end rs) (all_right IsNoFault (as_list (overlap rs)) (as_list (past_end rs)) all) in
+    let none = none_found (overlap rs) (all_left IsNoFault (as_list (overlap rs)) (as_list (past_end rs)) all) in
+    let few = none_found (past_end rs) (all_right IsNoFault (as_list (overlap rs)) (as_list (past_end rs)) all) in
     record {
       apart = λ m n a b unit first second x y. apart rs none m n a b unit first second x y;
       within = λ a unit inside x.
@@ -115,10 +106,7 @@ swap_units step period past i clean sw =
     let e : is_ensemble i ≡ true = first_holds (is_ensemble i) _ sw in
     let made : is_made (listener_after past).awaited (ensemble_of_item i) ≡ true = sym (ensemble_made past i e) ∙ sw in
     let k : KnownBefore = known_of step period past in
-    let all = (plain_ensemble step period past i clean e).swap made in
-    let rest = all_right IsNoFault
-    (when (not ((ensemble_of_item i).count % 250 == awaited_low k)) (faults.AnnouncedFor (awaited_low k))) _
-    all.1 in
+    let rest = all_right _ _ _ ((plain_ensemble step period past i clean e).swap made).1 in
     let units = all_right IsNoFault (notice_faults k) _ rest in
     let same : (listener_after (Said i ∷ past)).current.subs ≡ (listener_after past).next.subs =
     ap (λ (l : Listening). l.current.subs) (after_heard step period past i true (is_flagged i) clean e sw refl)
@@ -178,16 +166,13 @@ ensemble_ascends false false i l h = record { current = h.current; next = h.next
 entry_ascends : (step period : ℕ) (past : List Moment) (i : Item) (b : Bool) → is_ensemble i ≡ b
     → IsClean step period (Said i ∷ past) → Ascend (listener_after past) → Ascend (listener_after (Said i ∷ past))
 entry_ascends step period past i true e c h =
-    subst Ascend (sym (after_heard step period past i (is_swap past i) (is_flagged i) c e refl refl))
-    (ensemble_ascends (is_swap past i) (is_flagged i) i (listener_after past) h)
+    subst Ascend (sym (after_heard step _ past i _ _ c e refl refl)) (ensemble_ascends _ _ i _ h)
 entry_ascends step period past i false e c h =
-    subst Ascend (sym (after_member step period past i c e))
-    (member_ascends (listener_after past).tuned i.next i.raw (listener_after past) h)
+    subst Ascend (sym (after_member step _ past i c e)) (member_ascends _ _ i.raw _ h)
 
 all_ascend : (step period : ℕ) (past : List Moment) → IsClean step period past → Ascend (listener_after past)
 all_ascend step period [] c = record { current = tt; next = tt }
-all_ascend step period (Said i ∷ past) c =
-    entry_ascends step period past i (is_ensemble i) refl c (all_ascend step period past c.2)
+all_ascend step period (Said i ∷ past) c = entry_ascends step _ past i _ refl c (all_ascend step period past c.2)
 all_ascend step period (Ended count ∷ past) c = all_ascend step period past c
 
 -- ---- an entry that is in the picture leaves it as it is
@@ -247,10 +232,9 @@ stays step period past i false d true is sw now c settled before =
     subst HaveOwnUnits (sym subs) (before none)
 stays step period past i false d false is sw now c settled before =
     let l : Listening = listener_after past in
-    let none : settles_at period past ≡ 0 = member_settles period past i is ∙ settled in
     let same : (listener_after (Said i ∷ past)).current ≡ l.current =
     ap (λ (x : Listening). x.current) (after_member step period past i c is) ∙ no_current l.tuned i.next i.raw l now in
-    subst (λ (p : Pictured). HaveOwnUnits p.subs) (sym same) (before none)
+    subst (λ (p : Pictured). HaveOwnUnits p.subs) (sym same) (before (member_settles period past i is ∙ settled))
 
 own : (step period : ℕ) (past : List Moment) → 1 ≤ period → IsClean step period past → settles_at period past ≡ 0
     → HaveOwnUnits (listener_after past).current.subs

@@ -161,13 +161,9 @@ again_by : (one two first second : Bool) (raw y : Raw) (p : Pictured)
     → entry_at identifier_of (identifier_of y) (list_by first second p) ≡ Some y
     → entry_at identifier_of (identifier_of y) (list_by first second (with_by one two raw p)) ≡ Some y
 again_by true two true second raw y p agrees found = kept_stays raw y p.subs agrees found
-again_by true two false second raw y p agrees found = found
-again_by false true true second raw y p agrees found = found
 again_by false true false true raw y p agrees found = kept_stays raw y p.services agrees found
-again_by false true false false raw y p agrees found = found
-again_by false false true second raw y p agrees found = found
-again_by false false false true raw y p agrees found = found
 again_by false false false false raw y p agrees found = kept_stays raw y p.packets agrees found
+again_by _ _ _ _ raw y p agrees found = found
 
 pub found_again : (raw y : Raw) (p : Pictured) → ((known : Raw) → entry_like raw p ≡ Some known → known ≡ raw)
     → entry_like y p ≡ Some y → entry_like y (picture_with raw p) ≡ Some y

@@ -7,9 +7,8 @@ use Rattle.stream_laws.proofs.Words.{rows, said, subst, sym, true, ℕ}
 
 -- the entries of the current frame
 abbrev pub at_hand : List Moment → List Item
-at_hand [] = []
 at_hand (Said i ∷ past) = at_hand past ++ i ∷ []
-at_hand (Ended count ∷ past) = []
+at_hand _ = []
 
 -- the entries of each frame of the notice that has ended
 abbrev pub notice_rows : List Moment → List (List Item)
@@ -39,11 +38,10 @@ abbrev pub HasNone : List Item → Type 0
 HasNone items = AllByRecursion (λ i. is_ensemble i ≡ false) items
 
 pub none_at_hand : (past : List Moment) → has_ensemble past ≡ false → HasNone (at_hand past)
-none_at_hand [] e = tt
 none_at_hand (Said i ∷ past) e =
     let both = or_parts (is_ensemble i) (has_ensemble past) e in
     each_pushed (λ (j : Item). is_ensemble j ≡ false) (at_hand past) i (none_at_hand past both.1) both.0
-none_at_hand (Ended count ∷ past) e = tt
+none_at_hand _ e = tt
 
 -- ---- they are those of the last frames
 
@@ -81,8 +79,7 @@ ended_by count frames frame past true b hand h = record {
       ∙ sym (ap (λ t. cond t (notice_rows past ++ at_hand past ∷ []) []) b);
 }
 ended_by count frames frame past false b hand h =
-    none_last (frames ++ frame ∷ []) (Ended count ∷ past)
-    (ap (λ t. cond t (notice_rows past ++ at_hand past ∷ []) []) b)
+    none_last _ _ (ap (λ t. cond t (notice_rows past ++ at_hand past ∷ []) []) b)
 
 said_by : (frames : List (List Fib)) (items : List Item) (past : List Moment) → EndsWith frames past
     → EndsWith frames (said items past)
@@ -95,14 +92,11 @@ ends_by : (step : ℕ) (done frames : List (List Fib)) (past : List Moment) → 
     → EndsWith (done ++ frames) (after_frames step past frames)
 ends_by step done [] past hand h = subst (λ (fs : List (List Fib)). EndsWith fs past) (sym (append-nil done)) h
 ends_by step done (frame ∷ frames) past hand h =
-    let items : at_hand (said (frame_items frame) past) ≡ frame_items frame =
-    hand_after (frame_items frame) past ∙ ap (λ r. r ++ frame_items frame) hand in
+    let items = hand_after (frame_items frame) past ∙ ap (λ r. r ++ frame_items frame) hand in
     let one : EndsWith (done ++ frame ∷ []) (past_after_frame step past frame) =
-    ended_by _ done frame (said (frame_items frame) past) (has_begun (said (frame_items frame) past)) refl items
-    (said_by done (frame_items frame) past h) in
+    ended_by _ _ _ _ _ refl items (said_by done (frame_items frame) past h) in
     subst (λ (fs : List (List Fib)). EndsWith fs (after_frames step (past_after_frame step past frame) frames))
-    (append_assoc done (frame ∷ []) frames)
-    (ends_by step (done ++ frame ∷ []) frames (past_after_frame step past frame) refl one)
+    (append_assoc done (frame ∷ []) frames) (ends_by step (done ++ frame ∷ []) frames _ refl one)
 
 pub ends_with : (step : ℕ) (frames : List (List Fib)) → EndsWith frames (after_frames step [] frames)
 ends_with step frames = ends_by step [] frames [] refl (none_last [] [] refl)

@@ -55,9 +55,8 @@ items_due : (step period eid count : ℕ) (items : List Item) (past : List Momen
     → AreDue step eid count items past
 items_due step period eid count [] past c d h = record { each = tt; after = h }
 items_due step period eid count (i ∷ is) past c d h =
-    let here = clean_here step period i is past c in
     let one : IsDue step eid count i = λ e.
-    let p = plain_ensemble step period past i here e in (
+    let p = plain_ensemble step period past i (clean_here step period i is past c) e in (
       p.on_step,
       same_as (ensemble_of_item i).eid eid (last_eid step past) h p.eid,
       same_as (ensemble_of_item i).count count (due past) d p.count,
@@ -139,10 +138,8 @@ fibs_said first (fib ∷ fibs) e h =
 -- the FIG 0/0 that a frame begins with is its first one
 opening_first : (frame : List Fib) (e : EnsembleInformation) → first_opening frame ≡ Some e
     → first_of_frame frame ≡ Some e
-opening_first [] e h = absurd cc
-opening_first (None ∷ fibs) e h = absurd cc
-opening_first (Some [] ∷ fibs) e h = absurd cc
 opening_first (Some (f ∷ fs) ∷ fibs) e h = ap (λ o. first_or (first_or o (first_in_figs fs)) (first_of_frame fibs)) h
+opening_first _ e h = absurd cc
 
 -- ---- a frame as a whole
 
@@ -154,8 +151,7 @@ opened : (frame : List Fib) → 1 ≤ length frame → nat_lt 0 (damaged_in fram
     → (e : EnsembleInformation) × (first_opening frame ≡ Some e)
 opened [] some whole h = absurd (omega (arith, some))
 opened (None ∷ fibs) some whole h =
-    let none : damaged_in (None ∷ fibs) ≤ 0 = ltb-false 0 (damaged_in (None ∷ fibs)) whole in
-    absurd (omega (arith, none))
+    absurd (omega (arith, ltb-false 0 (damaged_in (None ∷ fibs)) whole))
 opened (Some figs ∷ fibs) some whole h = there_some (opening (Some figs)) h
 
 -- where FIG 0/0 is due, the frame begins with it
@@ -172,9 +168,7 @@ frame_opens size step last frame some all on =
     let missing = no_fault (count_due last frame % step == 0 && lacks_opening frame) faults.NoEnsemble
     (all_right IsNoFault (damaged_findings frame) _ later) in
     let long : size ≤ length frame = ltb-false (length frame) size short in
-    opened frame (omega (arith, some, long)) whole
-    (second_false (count_due last frame % step == 0) (lacks_opening frame)
-    (eq-eqb (count_due last frame % step) 0 on) missing)
+    opened frame (omega (arith, some, long)) whole (second_false _ _ (eq-eqb (count_due last _ % step) 0 on) missing)
 
 -- ---- the bytes of a frame
 
@@ -188,8 +182,7 @@ at_count laws r step eid count fibs all due_items opens = record {
       (x.item.next, ensemble_of_item x.item, header_heard laws r fibs x.item all x.ensemble x.inside);
   only = λ next e heard.
       let h = header_said laws r fibs next e all heard in
-      let d = each_contains (IsDue step eid count) (frame_items (map r.read fibs)) h.item due_items h.inside
-      h.ensemble in
+      let d = each_contains _ _ _ due_items h.inside h.ensemble in
       let counts : e.count ≡ count = ap (λ (x : EnsembleInformation). x.count) (sym h.says) ∙ d.2 in
       (ap (λ n. n % step) (sym d.2) ∙ d.0, ap (λ (x : EnsembleInformation). x.eid) (sym h.says) ∙ d.1, counts);
 }
@@ -247,10 +240,9 @@ later_none : (step period : ℕ) (items : List Item) (past : List Moment) → Is
     → IsFormed (said items past) → (at_hand past ≡ [] → ⊥) → HasNone items
 later_none step period [] past c w some = tt
 later_none step period (j ∷ js) past c w some =
-    let here = clean_here step period j js past c in
     let formed : IsFormed (Said j ∷ past) = before_said IsFormed formed_handed js (Said j ∷ past) w in (
       elim (is_ensemble j) as (λ t. is_ensemble j ≡ t → t ≡ false) [
-        | true ↦ λ e. absurd (some (alone_first step period past j here formed e))
+        | true ↦ λ e. absurd (some (alone_first step period past j (clean_here step period j js past c) formed e))
         | false ↦ λ e. refl
       ] refl,
       later_none step period js (Said j ∷ past) c w (not_empty (at_hand past) j),
@@ -281,14 +273,12 @@ first_due step period (i ∷ is) e c w s =
     ] in
     let ens : is_ensemble i ≡ true = ap is_ensemble same ∙ s.ensemble in
     let says : ensemble_of_item i ≡ e = ap ensemble_of_item same ∙ s.says in
-    let plain = plain_ensemble step period [] i (clean_here step period i is [] c) ens in
-    let eid : last_eid step (Said i ∷ []) ≡ Some e.eid =
-    ap (λ t. cond t (Some (ensemble_of_item i).eid) None) ens ∙ ap (λ (x : EnsembleInformation). Some x.eid) says in
+    let eid : last_eid step (Said i ∷ []) ≡ Some e.eid = cc (ens, says) in
     let rest = none_due step e.eid e.count is (Said i ∷ []) none eid in
     record {
       each = (
         (λ x. (
-          plain.on_step,
+          (plain_ensemble step period [] i (clean_here step period i is [] c) ens).on_step,
           ap (λ (y : EnsembleInformation). y.eid) says,
           ap (λ (y : EnsembleInformation). y.count) says,
         )),
@@ -326,8 +316,7 @@ pub counts_run_on : FibLaws → CountsRunOn
 counts_run_on laws r size step period [] some all f = (0, 0, zero_on_step step, tt)
 counts_run_on laws r size step period (fibs ∷ frames) some all f =
     let frame : List Fib = map r.read fibs in
-    let clean : IsClean step period (after_frames step [] (read_frames r (fibs ∷ frames))) =
-    all_clean size step period (read_frames r (fibs ∷ frames)) f in
+    let clean = all_clean size step period (read_frames r (fibs ∷ frames)) f in
     let free = frame_free size step period [] [] frame (read_frames r frames) f.room f.plain in
     let here : IsClean step period (said (frame_items frame) []) =
     before_frames (IsClean step period) (clean_handed step period) step (read_frames r frames)
@@ -335,8 +324,7 @@ counts_run_on laws r size step period (fibs ∷ frames) some all f =
     let formed : IsFormed (said (frame_items frame) []) =
     before_frames IsFormed formed_handed step (read_frames r frames) (past_after_frame step [] frame)
     (all_formed r step (fibs ∷ frames)) in
-    let o = frame_opens size step None frame some free.itself
-    (first_counts step period frame here (first_of_frame frame) refl) in
+    let o = frame_opens size step None frame some free.itself (first_counts step _ frame here _ refl) in
     let e : EnsembleInformation = o.0 in
     let x : IsSaid (frame_items frame) e = fibs_said true frame e (opening_first frame e o.1) in
     let items = first_due step period (frame_items frame) e here formed x in

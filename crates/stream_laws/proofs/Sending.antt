@@ -14,7 +14,7 @@ use Rattle.stream_laws.proofs.Words.{hear_figs, is_ensemble, is_long, is_next, i
 use Rattle.stream_laws.proofs.Words.{later_fibs, layout_mode, length, listening, map, map-append, marked, ne_eqb}
 use Rattle.stream_laws.proofs.Words.{noted_at, pageable, raw_entry, raw_is, raw_of, refl, replicate, reserved_fibs}
 use Rattle.stream_laws.proofs.Words.{said, said_append, second_next, sent_entries, sent_within, shown_bytes, subst, suc}
-use Rattle.stream_laws.proofs.Words.{sym, true, where_heard, zero, ℕ}
+use Rattle.stream_laws.proofs.Words.{sym, true, where_heard, zero, ℕ, then_joined}
 use Rattle.fib_carousel.specs.Packing.{same_head}
 use Rattle.fib_carousel.specs.Bytes.{AreFibs, with_entry_first, figs_of, ensemble_figs}
 use Rattle.fib_carousel.proofs.Sharing.{same_head_is}
@@ -54,12 +54,8 @@ joined_by : (on : Bool) (c n : Configuration) (m : Marked) (f : Written) (fs : L
     (cond b (under f.head (m.entry ∷ f.entries) ∷ fs) (under (head_of m) (m.entry ∷ []) ∷ f ∷ fs))
 joined_by on c n m f fs true e sent one rest =
     let same : head_of m ≡ f.head = same_head_is (head_of m) f.head e in
-    let more : FigIsSent on c n (under (head_of m) f.entries)
-    → FigIsSent on c n (under (head_of m) (m.entry ∷ f.entries)) =
-    λ before first. (item_sent on c n m first sent, before first) in
     let moved : FigIsSent on c n (under f.head f.entries) → FigIsSent on c n (under f.head (m.entry ∷ f.entries)) =
-    subst (λ (h : Head). FigIsSent on c n (under h f.entries) → FigIsSent on c n (under h (m.entry ∷ f.entries))) same
-    more in
+    rw (← same) (λ before first. (item_sent on c n m first sent, before first)) in
     (moved one, rest)
 joined_by on c n m f fs false e sent one rest = ((λ first. (item_sent on c n m first sent, tt)), (one, rest))
 
@@ -76,9 +72,7 @@ figs_are_sent on c n (m ∷ ms) all = joined_sent on c n m (figs_of ms) all.0 (f
 items_are_sent : (on : Bool) (c n : Configuration) (ws : List Written) (first : Bool)
     → AllByRecursion (FigIsSent on c n) ws → AllByRecursion (IsSentItem on c n) (figs_items first (map fig_of ws))
 items_are_sent on c n [] first all = tt
-items_are_sent on c n (w ∷ ws) first all =
-    all_append (IsSentItem on c n) (fig_items first (fig_of w)) (figs_items false (map fig_of ws)) (all.0 first)
-    (items_are_sent on c n ws false all.1)
+items_are_sent on c n (w ∷ ws) first all = all_append _ _ _ (all.0 first) (items_are_sent on c n ws false all.1)
 
 -- ---- a frame
 
@@ -149,12 +143,9 @@ fibs_read : OneList → (r : Reading) (figs : List (List Written)) (place : ℕ)
     → AreFibs figs (drop (32 * place) frame) → map r.read (fibs_from (length figs) place frame) ≡ as_read figs
 fibs_read one r [] place frame are = refl
 fibs_read one r (ws ∷ wss) place frame are =
-    let next : drop 32 (drop (32 * place) frame) ≡ drop (32 * (place + 1)) frame =
-    drop-drop 32 (32 * place) frame ∙ ap (λ d. drop d frame) (omega arith) in
+    let next = drop-drop 32 (32 * place) frame ∙ ap (λ d. drop d frame) (omega arith) in
     let rest : AreFibs wss (drop (32 * (place + 1)) frame) = subst (λ (b : List ℕ). AreFibs wss b) next are.1 in
-    ap (λ f. f ∷ map r.read (fibs_from (length wss) (place + 1) frame))
-    (is_read one r (fib_at frame place) (map fig_of ws) are.0.fib)
-    ∙ ap (λ fs. Some (map fig_of ws) ∷ fs) (fibs_read one r wss (place + 1) frame rest)
+    cc (is_read one r (fib_at frame place) (map fig_of ws) are.0.fib, fibs_read one r wss (place + 1) frame rest)
 
 sent_fibs : Laws → (plan : Plan) (u : State) → Airs plan u
     → AreFibs (first_figs plan u ∷ later_figs plan u) (shown_bytes plan u)
@@ -166,8 +157,7 @@ frame_read : OneList → Laws → (r : Reading) (plan : Plan) (u : State) → Ai
 frame_read one laws r plan u a =
     let frame : List ℕ = shown_bytes plan u in
     let are = sent_fibs laws plan u a in
-    let long = long_list (λ k. figs_of (fib_entries plan.layout k (sent_entries plan u)))
-    (later_fibs plan.layout u.page_index) (reserved_fibs plan.layout) [] in
+    let long = long_list (λ k. figs_of (fib_entries plan.layout k (sent_entries plan u))) _ _ _ in
     ap (map r.read) (first_of_fibs plan.layout frame)
     ∙ ap (λ k. r.read (fib_at frame 0) ∷ map r.read (fibs_from k 1 frame))
     (later_count plan.layout u.page_index ∙ sym long)
@@ -195,9 +185,7 @@ each_sent plan u (k ∷ ks) = (
 later_sent : (on : Bool) (c n : Configuration) (wss : List (List Written)) → AreSent on c n wss
     → AllByRecursion (IsSentItem on c n) (fibs_items false (as_read wss))
 later_sent on c n [] all = tt
-later_sent on c n (ws ∷ wss) all =
-    all_append (IsSentItem on c n) (figs_items false (map fig_of ws)) (fibs_items false (as_read wss))
-    (items_are_sent on c n ws false all.0) (later_sent on c n wss all.1)
+later_sent on c n (ws ∷ wss) all = all_append _ _ _ (items_are_sent _ _ _ _ _ all.0) (later_sent on c n wss all.1)
 
 pub frame_said : OneList → Laws → (r : Reading) (plan : Plan) (u : State) → Airs plan u
     → IsFrameSaid plan u (read_frame r plan.layout (shown_bytes plan u))
@@ -232,11 +220,6 @@ nothing_more : (o : Option Listening) (f : Listening → Option Listening) → (
     → o ≡ where_heard o f
 nothing_more None f h = refl
 nothing_more (Some l) f h = sym (h l)
-
-then_joined : (o : Option Listening) (f g h : Listening → Option Listening)
-    → ((l : Listening) → where_heard (f l) g ≡ h l) → where_heard (where_heard o f) g ≡ where_heard o h
-then_joined None f g h e = refl
-then_joined (Some l) f g h e = e l
 
 raws_heard : (first next : Bool) (raws : List Raw) (past : List Moment)
     → listening (said (items_of first next raws) past) ≡ where_heard (listening past) (hear_entries next raws)
@@ -273,8 +256,7 @@ fibs_heard one r first [] past l after h is = is ∙ ap Some (sym h)
 fibs_heard one r first (f ∷ fs) past l after (between, here, rest) is =
     let read : r.read f ≡ Some here.0 = is_read one r f here.0 here.1 in
     let now : listening (said (fib_items first (r.read f)) past) ≡ Some between =
-    ap (λ (fib : Fib). listening (said (fib_items first fib) past)) read ∙ figs_heard first here.0 past
-    ∙ ap (λ o. where_heard o (hear_figs here.0)) is ∙ here.2 in
+    cc (read, figs_heard first here.0 past, is, here.2) in
     ap listening (said_append (fib_items first (r.read f)) (fibs_items false (map r.read fs)) past)
     ∙ fibs_heard one r false fs (said (fib_items first (r.read f)) past) between after rest now
 
@@ -326,8 +308,7 @@ pub found_open : (step period : ℕ) (frame : List Fib) (past : List Moment) (no
     → findings_at_sent step period past noted (frame_sent frame)
     ≡ findings_at_items step period past (frame_items frame)
 found_open step period frame past noted all =
-    ap (findings_at_sent step period past noted) (fibs_alone true frame all)
-    ∙ found_alone step period (frame_items frame) past noted
+    cc (fibs_alone true frame all, found_alone step period (frame_items frame) past noted)
 
 -- ---- those of a run
 

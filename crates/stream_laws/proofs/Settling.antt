@@ -6,12 +6,12 @@ use Rattle.stream_laws.proofs.Words.{Some, State, Tuned, after_is, agree, airs, 
 use Rattle.stream_laws.proofs.Words.{ensemble_sent, entry_at, entry_is_of, eq-eqb, false, false≢true, frames_ended}
 use Rattle.stream_laws.proofs.Words.{headed, hear_entry, hears_entries, identifier_of, inl, inr, is_absent, is_ensemble}
 use Rattle.stream_laws.proofs.Words.{is_settled, known_of, layout_mode, length, listener_after, listening, lookup}
-use Rattle.stream_laws.proofs.Words.{lookup_among, lookup_in, member_heard, member_settles, nat_le, partly, raw_entry}
-use Rattle.stream_laws.proofs.Words.{refl, said, settles_at, shown, subst, sym, true, tuned_weaker, whole_is_set}
-use Rattle.stream_laws.proofs.Words.{whole_of, ℕ}
+use Rattle.stream_laws.proofs.Words.{lookup_among, lookup_in, member_heard, member_settles, nat_le, raw_entry, refl}
+use Rattle.stream_laws.proofs.Words.{said, settles_at, shown, subst, sym, true, tuned_weaker, whole_is_set, whole_of, ℕ}
+use Rattle.stream_laws.proofs.Words.{in_partly, sent_ext}
 use Rattle.stream_check.specs.declared.heard_table.Lookup.TheVariants as standings
 use Rattle.stream_laws.proofs.Sending.{IsSentItem}
-use Rattle.stream_laws.proofs.Agreeing.{sent_ext, one_heard}
+use Rattle.stream_laws.proofs.Agreeing.{one_heard}
 use Rattle.stream_laws.proofs.AgreeingRuns.{on_air}
 use Rattle.stream_laws.proofs.Findings.{Each, IsKnown}
 use Rattle.stream_laws.proofs.Clean.{said_ended}
@@ -23,23 +23,13 @@ in_chosen : (b : Bool) (x y : Raw) (rest : List Raw) → In x rest → In x (con
 in_chosen true x y rest h = inr h
 in_chosen false x y rest h = h
 
-in_known : (known : ℕ → Bool) (xs : List Raw) (x : Raw) → In x xs → known (identifier_of x) ≡ true
-    → In x (partly known xs)
-in_known known [] x h k = absurd h
-in_known known (y ∷ ys) x (inl same) k =
-    subst (λ (b : Bool). In x (cond b (y ∷ partly known ys) (partly known ys)))
-    (sym (ap (λ (z : Raw). known (identifier_of z)) same ∙ k)) (inl same)
-in_known known (y ∷ ys) x (inr more) k =
-    in_chosen (known (identifier_of y)) x y (partly known ys) (in_known known ys x more k)
-
 some_no_none : {X : Type 0} (x : Raw) → Some x ≡ None → X
 some_no_none x e = absurd cc
 
 not_none : (rs : List Raw) (x : Raw) → In x rs → entry_at identifier_of (identifier_of x) rs ≡ None → ⊥
 not_none [] x h e = absurd h
 not_none (y ∷ ys) x (inl same) e =
-    let here : (identifier_of y == identifier_of x) ≡ true =
-    eq-eqb (identifier_of y) (identifier_of x) (ap identifier_of same) in
+    let here = eq-eqb (identifier_of y) (identifier_of x) (ap identifier_of same) in
     some_no_none y (sym (ap (λ b. cond b (Some y) (entry_at identifier_of (identifier_of x) ys)) here) ∙ e)
 not_none (y ∷ ys) x (inr more) e =
     elim (identifier_of y == identifier_of x) as (λ b.
@@ -58,21 +48,16 @@ present_by raw part h (Some k) e =
 present : (full : List Raw) (C : Raw → Type 0) (raw : Raw) (part : List Raw) → In raw full → IsPart full C part → C raw
     → is_absent (lookup raw part) ≡ false
 present full C raw part inside h c =
-    let there : In raw part = subst (λ (xs : List Raw). In raw xs) (sym h.is)
-    (in_known h.known full raw inside (h.has raw inside c)) in
+    let there : In raw part = rw h.is (in_partly h.known full raw inside (h.has raw inside c)) in
     present_by raw part there (entry_at identifier_of (identifier_of raw) part) refl
 
 pub present_in : (full : Pictured) (C : Raw → Type 0) (raw : Raw) (p : Pictured) → IsOf raw full → IsPartial full C p
     → C raw → is_absent (lookup_in raw p) ≡ false
-present_in full C raw p (inl (ext, inside)) h c =
-    ap is_absent (ap (λ k. lookup raw (cond (k == 1) p.subs (cond (k == 2) p.services p.packets))) ext)
-    ∙ present full.subs C raw p.subs inside h.subs c
+present_in full C raw p (inl (ext, inside)) h c = cc (ext, present full.subs C raw p.subs inside h.subs c)
 present_in full C raw p (inr (inl (ext, inside))) h c =
-    ap is_absent (ap (λ k. lookup raw (cond (k == 1) p.subs (cond (k == 2) p.services p.packets))) ext)
-    ∙ present full.services C raw p.services inside h.services c
+    cc (ext, present full.services C raw p.services inside h.services c)
 present_in full C raw p (inr (inr (ext, inside))) h c =
-    ap is_absent (ap (λ k. lookup raw (cond (k == 1) p.subs (cond (k == 2) p.services p.packets))) ext)
-    ∙ present full.packets C raw p.packets inside h.packets c
+    cc (ext, present full.packets C raw p.packets inside h.packets c)
 
 -- ---- the entries of a frame
 
@@ -88,14 +73,11 @@ members_settled step period on c n is_c is_n C awaited [] past l is h all whole 
 members_settled step period on c n is_c is_n C awaited (i ∷ items) past l is h all whole =
     let s = all.0 in
     let e : is_ensemble i ≡ false = ap (λ (x : Raw). x.ext == 0) s.raw ∙ sent_ext on c n s.m s.sent in
-    let same : listener_after past ≡ l = after_is past l is in
     let hears = hears_entries on c n C Nothing awaited (s.m ∷ []) l (whole_is_set c is_c) (whole_is_set n is_n)
     (s.sent, tt) h in
-    let heard : hear_entry s.m.next (raw_entry s.m.entry) l ≡ Some hears.after =
-    one_heard (hear_entry s.m.next (raw_entry s.m.entry) l) hears.after hears.is in
     let later : listening (Said i ∷ past) ≡ Some hears.after =
     member_heard past i l is ∙ ap (λ b. hear_entry b i.raw l) s.next ∙ ap (λ x. hear_entry s.m.next x l) s.raw
-    ∙ heard in
+    ∙ (one_heard (hear_entry s.m.next (raw_entry s.m.entry) l) hears.after hears.is) in
     let knows = tuned_weaker on c n (Or C (SaidIn false (s.m ∷ []))) C (Or Nothing (SaidIn true (s.m ∷ []))) Nothing
     awaited hears.after (λ x had. inl had) (λ x no_entry. absurd no_entry) hears.knows in
     let rest = members_settled step period on c n is_c is_n C awaited items (Said i ∷ past) hears.after later knows
@@ -105,10 +87,9 @@ members_settled step period on c n is_c is_n C awaited (i ∷ items) past l is h
     → is_absent (lookup_in i.raw (listener_after past).current) ≡ false = λ settled current.
     elim s.sent [
       | inl sent ↦ (
-          let inside : IsOf i.raw (whole_of c) =
-          subst (λ (x : Raw). IsOf x (whole_of c)) (sym s.raw) (entry_is_of c s.m.entry sent.1) in
+          let inside = subst (λ (x : Raw). IsOf x (whole_of c)) (sym s.raw) (entry_is_of c s.m.entry sent.1) in
           let had : C i.raw = subst C (sym s.raw) (whole settled s.m.entry sent.1) in
-          ap (λ (x : Listening). is_absent (lookup_in i.raw x.current)) same
+          ap (λ (x : Listening). is_absent (lookup_in i.raw x.current)) (after_is past l is)
           ∙ present_in (whole_of c) C i.raw l.current inside h.current had
           )
       | inr sent ↦ absurd (false≢true (sym current ∙ s.next ∙ sent.1))
@@ -134,8 +115,7 @@ frame_settled period p ts c s holds past C N made items o en whole =
     let a = airs p ts c s holds in
     let f = en.entered in
     let l : Listening = headed (ensemble_sent plan u) en.heard in
-    let known = tuned_weaker on u.current u.next C C N Nothing f.awaited l (λ x y. y) (λ x no_entry. absurd no_entry)
-    f.knows in
+    let known = tuned_weaker _ _ _ _ _ _ _ _ _ (λ x y. y) (λ x no_entry. absurd no_entry) f.knows in
     each_opened (IsKnown step period) plan u made past items o
     (λ i ens says other. absurd (false≢true (sym other ∙ ens)))
     (members_settled step period on u.current u.next a.current a.next C f.awaited o.members (said o.heads past) l

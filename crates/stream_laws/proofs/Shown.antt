@@ -8,11 +8,11 @@ use Rattle.stream_laws.proofs.Words.{all_append, and_from, ap, append_assoc, are
 use Rattle.stream_laws.proofs.Words.{change_between, change_of, cond, contains_cases, contains_none, each_contains}
 use Rattle.stream_laws.proofs.Words.{each_kept, ensemble_of_item, entry_at, entry_like, eq-eqb, eqb-false, eqb-true}
 use Rattle.stream_laws.proofs.Words.{ext_of, false, false≢true, has_same_services, has_same_subs, heard_as}
-use Rattle.stream_laws.proofs.Words.{identifier_of, inl, inr, is_ensemble, is_flagged, is_swap, kept, listener_after}
-use Rattle.stream_laws.proofs.Words.{map, mapped_to, ne_eqb, not, packet_entry, packet_identified, packet_key}
-use Rattle.stream_laws.proofs.Words.{packet_within, raw_entry, refl, service_entries, service_entry, service_identified}
-use Rattle.stream_laws.proofs.Words.{service_key, service_within, shows_each, sub_entries, sub_entry, sub_identified}
-use Rattle.stream_laws.proofs.Words.{sub_key, sub_within, subst, sym, true, ℕ}
+use Rattle.stream_laws.proofs.Words.{identifier_of, inl, inr, is_ensemble, kept, listener_after, map, mapped_to, ne_eqb}
+use Rattle.stream_laws.proofs.Words.{not, packet_entry, packet_identified, packet_key, packet_within, raw_entry, refl}
+use Rattle.stream_laws.proofs.Words.{service_entries, service_entry, service_identified, service_key, service_within}
+use Rattle.stream_laws.proofs.Words.{shows_each, sub_entries, sub_entry, sub_identified, sub_key, sub_within, subst}
+use Rattle.stream_laws.proofs.Words.{sym, true, ℕ}
 use Rattle.mux_types.specs.declared.parts.Service.{Service}
 use Rattle.mux_types.specs.declared.parts.Packet.{Packet}
 use Rattle.mux_types.specs.Sameness.{is_same_list, is_same_sub, is_same_service, is_same_packet}
@@ -82,18 +82,15 @@ entry_kinds : (step period : ℕ) (past : List Moment) (i : Item) (b : Bool) →
     → IsClean step period (Said i ∷ past) → i.raw.ext < 4 → AreKinds (listener_after past)
     → AreKinds (listener_after (Said i ∷ past))
 entry_kinds step period past i true e c few h =
-    subst AreKinds (sym (after_heard step period past i (is_swap past i) (is_flagged i) c e refl refl))
-    (ensemble_kinds (is_swap past i) (is_flagged i) i (listener_after past) h)
+    subst AreKinds (sym (after_heard step _ past i _ _ c e refl refl)) (ensemble_kinds _ _ i _ h)
 entry_kinds step period past i false e c few h =
     let some : 0 < i.raw.ext = omega (arith, eqb-false i.raw.ext 0 e) in
-    subst AreKinds (sym (after_member step period past i c e))
-    (member_kinds (listener_after past).tuned i.next i.raw (listener_after past) some few h)
+    subst AreKinds (sym (after_member step _ past i c e)) (member_kinds _ _ i.raw _ some few h)
 
 pub all_kinds : (step period : ℕ) (past : List Moment) → IsClean step period past → IsFormed past
     → AreKinds (listener_after past)
 all_kinds step period [] c w = record { current = none; next = none }
-all_kinds step period (Said i ∷ past) c w =
-    entry_kinds step period past i (is_ensemble i) refl c w.0 (all_kinds step period past c.2 w.2)
+all_kinds step period (Said i ∷ past) c w = entry_kinds step _ past i _ refl c w.0 (all_kinds step period past c.2 w.2)
 all_kinds step period (Ended count ∷ past) c w = all_kinds step period past c w
 
 -- ---- the entries of each kind
@@ -157,10 +154,9 @@ found_of key f P (x ∷ xs) y same all up h = elim (contains_cases x xs y h) [
       (eq-eqb (identifier_of (f x)) (identifier_of (f y)) (ap (λ z. identifier_of (f z)) is)) ∙ ap (λ z. Some (f z)) is
   | inr later ↦ (
       let less : key x < key y = each_contains (λ z. key x < key z) xs y up.0 later in
-      let one : identifier_of (f x) ≡ key x = same x all.0 in
       let two : identifier_of (f y) ≡ key y = same y (each_contains P xs y all.1 later) in
       ap (λ t. cond t (Some (f x)) (entry_at identifier_of (identifier_of (f y)) (map f xs)))
-      (ne_eqb (identifier_of (f x)) (identifier_of (f y)) (λ e. omega (arith, less, one, two, e)))
+      (ne_eqb (identifier_of (f x)) (identifier_of (f y)) (λ e. omega (arith, less, two, e)))
       ∙ found_of key f P xs y same all.1 up.1 later
       )
 ]
@@ -221,12 +217,10 @@ entry_shown p c is h e inside = elim (Contains-append_cases (sub_entries c) (ser
 
 same_lists : (xs ys : List Raw) → are_same xs ys ≡ true → xs ≡ ys
 same_lists [] [] e = refl
-same_lists [] (y ∷ ys) e = absurd (false≢true e)
-same_lists (x ∷ xs) [] e = absurd (false≢true e)
 same_lists (x ∷ xs) (y ∷ ys) e =
-    let head : x ≡ y = agree_same x y (first_holds (agree x y) (are_same xs ys) e) in
     let tail : xs ≡ ys = same_lists xs ys (second_holds (agree x y) (are_same xs ys) e) in
-    ap (λ z. z ∷ xs) head ∙ ap (λ zs. y ∷ zs) tail
+    ap (λ z. z ∷ xs) (agree_same x y (first_holds (agree x y) (are_same xs ys) e)) ∙ ap (λ zs. y ∷ zs) tail
+same_lists _ _ e = absurd (false≢true e)
 
 same_itself : (xs : List Raw) → are_same xs xs ≡ true
 same_itself [] = refl
@@ -236,25 +230,21 @@ same_equal : (xs ys : List Raw) → xs ≡ ys → are_same xs ys ≡ true
 same_equal xs ys e = ap (are_same xs) (sym e) ∙ same_itself xs
 
 bools_equal : (a b : Bool) → (a ≡ true → b ≡ true) → (b ≡ true → a ≡ true) → a ≡ b
-bools_equal true true f g = refl
 bools_equal true false f g = sym (f refl)
 bools_equal false true f g = g refl
-bools_equal false false f g = refl
+bools_equal _ _ f g = refl
 
 -- the bytes of entries determine their contents
 entries_told : {T : Type 0} (f : T → Entry) (P : T → Type 0) (xs ys : List T) → SpellingIdentifies
     → ((x : T) → P x → IsWithin (f x)) → AllByRecursion P xs → AllByRecursion P ys
     → map (λ x. raw_entry (f x)) xs ≡ map (λ x. raw_entry (f x)) ys → map f xs ≡ map f ys
 entries_told f P [] [] tells within all other e = refl
-entries_told f P [] (y ∷ ys) tells within all other e = absurd cc
-entries_told f P (x ∷ xs) [] tells within all other e = absurd cc
 entries_told f P (x ∷ xs) (y ∷ ys) tells within all other e =
-    let whole : raw_entry (f x) ∷ map (λ z. raw_entry (f z)) xs ≡ raw_entry (f y) ∷ map (λ z. raw_entry (f z)) ys = e in
     let heads : raw_entry (f x) ≡ raw_entry (f y) = cc in
-    let tails : map (λ z. raw_entry (f z)) xs ≡ map (λ z. raw_entry (f z)) ys = cc in
     let one : f x ≡ f y = tells (f x) (f y) (within x all.0) (within y other.0) (ap (λ (r : Raw). r.ext) heads)
     (ap (λ (r : Raw). r.long) heads) (ap (λ (r : Raw). r.bytes) heads) in
-    ap (λ z. z ∷ map f xs) one ∙ ap (λ zs. f y ∷ zs) (entries_told f P xs ys tells within all.1 other.1 tails)
+    ap (λ z. z ∷ map f xs) one ∙ ap (λ zs. f y ∷ zs) (entries_told f P xs ys tells within all.1 other.1 cc)
+entries_told f P _ _ tells within all other e = absurd cc
 
 is_no_other : {T : Type 0} (xs ys : List T) (b : Bool) → (IsTrue (not b) → (HaveSameMembers xs ys → ⊥)) → xs ≡ ys
     → b ≡ true
@@ -289,10 +279,8 @@ services_same tells change p q c d is_c is_d h k =
     is_d.services_formed
     (h.services ∙ same_lists p.services q.services (first_holds (are_same p.services q.services) _ e)
     ∙ sym k.services) in
-    let two : map packet_entry c.packets ≡ map packet_entry d.packets =
-    entries_told packet_entry IsAddressed c.packets d.packets tells packet_within is_c.packets_addressed
-    is_d.packets_addressed
-    (h.packets ∙ same_lists p.packets q.packets (second_holds (are_same p.services q.services) _ e) ∙ sym k.packets) in
+    let two : map packet_entry c.packets ≡ map packet_entry d.packets = entries_told _ _ _ _ tells packet_within
+    is_c.packets_addressed is_d.packets_addressed (h.packets ∙ same_lists _ _ (second_holds _ _ e) ∙ sym k.packets) in
     is_no_other (service_entries c) (service_entries d) (has_same_services c d) right.services.0
     (ap (λ xs. xs ++ map packet_entry c.packets) one ∙ ap (λ ys. map service_entry d.services ++ ys) two))
     (λ e. and_from (are_same p.services q.services) (are_same p.packets q.packets)

@@ -125,15 +125,13 @@ with_fresh period now raw p f h =
 -- the picture of the current configuration after an entry
 pub no_current : (t n : Bool) (raw : Raw) (l : Listening) → (t && not n) ≡ false
     → (cond t (with_member n raw l) l).current ≡ l.current
-no_current true true raw l e = refl
 no_current true false raw l e = absurd (false≢true (sym e))
-no_current false n raw l e = refl
+no_current _ _ raw l e = refl
 
 pub a_current : (t n : Bool) (raw : Raw) (l : Listening) → (t && not n) ≡ true
     → (cond t (with_member n raw l) l).current ≡ picture_with raw l.current
-a_current true true raw l e = absurd (false≢true e)
 a_current true false raw l e = refl
-a_current false n raw l e = absurd (false≢true e)
+a_current _ _ raw l e = absurd (false≢true e)
 
 pub after_ensemble_is : (b f : Bool) (i : Item) (l : Listening)
     → (heard_as b f (ensemble_of_item i) l).current ≡ cond b l.next l.current
@@ -169,25 +167,21 @@ member_fresh : (step period : ℕ) (past : List Moment) (i : Item) (b : Bool)
     → AreFresh period past (listener_after past).current
     → AreFresh period (Said i ∷ past) (listener_after (Said i ∷ past)).current
 member_fresh step period past i true now e c h =
-    let is = heard_here past i e now in
     let same : (listener_after (Said i ∷ past)).current ≡ picture_with i.raw (listener_after past).current =
-    ap (λ (l : Listening). l.current) (after_member step period past i c e)
-    ∙ a_current (listener_after past).tuned i.next i.raw (listener_after past) now in
+    ap (λ (l : Listening). l.current) (after_member step _ past i c e) ∙ a_current _ _ i.raw _ now in
     subst (AreFresh period (Said i ∷ past)) (sym same)
-    (with_fresh period (Said i ∷ past) i.raw (listener_after past).current (omega (arith, is))
+    (with_fresh period (Said i ∷ past) i.raw (listener_after past).current (omega (arith, heard_here past i e now))
     (still_fresh period past i (listener_after past).current h))
 member_fresh step period past i false now e c h =
     let same : (listener_after (Said i ∷ past)).current ≡ (listener_after past).current =
-    ap (λ (l : Listening). l.current) (after_member step period past i c e)
-    ∙ no_current (listener_after past).tuned i.next i.raw (listener_after past) now in
+    ap (λ (l : Listening). l.current) (after_member step _ past i c e) ∙ no_current _ _ i.raw _ now in
     subst (AreFresh period (Said i ∷ past)) (sym same) (still_fresh period past i (listener_after past).current h)
 
 entry_fresh : (step period : ℕ) (past : List Moment) (i : Item) (b : Bool) → is_ensemble i ≡ b
     → IsClean step period (Said i ∷ past) → AreFresh period past (listener_after past).current
     → AreFresh period (Said i ∷ past) (listener_after (Said i ∷ past)).current
 entry_fresh step period past i true e c h = ensemble_fresh step period past i (is_swap past i) refl e c h
-entry_fresh step period past i false e c h =
-    member_fresh step period past i ((listener_after past).tuned && not i.next) refl e c h
+entry_fresh step period past i false e c h = member_fresh _ _ _ _ _ refl e c h
 
 ended_fresh : (period count : ℕ) (past : List Moment) (rs : List Raw)
     → AllByRecursion (λ x. is_silent period past x ≡ false) rs → AllByRecursion (IsFresh period past) rs
@@ -195,35 +189,28 @@ ended_fresh : (period count : ℕ) (past : List Moment) (rs : List Raw)
 ended_fresh period count past [] none all = tt
 ended_fresh period count past (r ∷ rs) none all =
     let other = eqb-false (last_heard (key_of r) past + period) (frames_ended past + 1) none.0 in
-    let fresh = all.0 in
-    (omega (arith, other, fresh), ended_fresh period count past rs none.1 all.1)
+    (omega (arith, other), ended_fresh period count past rs none.1 all.1)
 
 all_fresh : (step period : ℕ) (past : List Moment) → IsClean step period past → IsVocal period past
     → AreFresh period past (listener_after past).current
 all_fresh step period [] c v = record { subs = tt; services = tt; packets = tt }
-all_fresh step period (Said i ∷ past) c v =
-    entry_fresh step period past i (is_ensemble i) refl c (all_fresh step period past c.2 v)
+all_fresh step period (Said i ∷ past) c v = entry_fresh _ _ _ _ _ refl c (all_fresh step period past c.2 v)
 all_fresh step period (Ended count ∷ past) c v =
     let p : Pictured = (listener_after past).current in
     let h = all_fresh step period past c v.1 in
-    let none : AllByRecursion (λ x. is_silent period past x ≡ false) (all_entries p) =
-    none_silent (is_silent period past) (all_entries p) v.0 in
+    let none = none_silent (is_silent period past) (all_entries p) v.0 in
     let front = all_left (λ x. is_silent period past x ≡ false) (p.subs ++ p.services) p.packets none in
     record {
       subs = ended_fresh period count past p.subs
           (all_left (λ x. is_silent period past x ≡ false) p.subs p.services front) h.subs;
-      services = ended_fresh period count past p.services
-          (all_right (λ x. is_silent period past x ≡ false) p.subs p.services front) h.services;
-      packets = ended_fresh period count past p.packets
-          (all_right (λ x. is_silent period past x ≡ false) (p.subs ++ p.services) p.packets none) h.packets;
+      services = ended_fresh _ count past _ (all_right (λ x. is_silent period past x ≡ false) _ _ front) h.services;
+      packets = ended_fresh _ count past _ (all_right (λ x. is_silent period past x ≡ false) _ _ none) h.packets;
     }
 
 fresh_one : (period : ℕ) (past : List Moment) (p : Pictured) (raw : Raw) → AreFresh period past p
     → Contains (all_entries p) raw → IsFresh period past raw
 fresh_one period past p raw h inside =
-    each_contains (IsFresh period past) (all_entries p) raw
-    (all_append (IsFresh period past) (p.subs ++ p.services) p.packets
-    (all_append (IsFresh period past) p.subs p.services h.subs h.services) h.packets) inside
+    each_contains _ _ _ (all_append _ _ _ (all_append _ _ _ h.subs h.services) h.packets) inside
 
 -- ---- frames without a swap
 
@@ -239,22 +226,19 @@ swap_at_most (Ended count ∷ past) = let before = swap_at_most past in omega (a
 swap_grows : (items : List Item) (past : List Moment) → last_swap past ≤ last_swap (said items past)
 swap_grows [] past = omega arith
 swap_grows (i ∷ is) past =
-    let rest = swap_grows is (Said i ∷ past) in
-    let most = swap_at_most past in
     let one : last_swap past ≤ last_swap (Said i ∷ past) =
     elim (is_swap past i) as (λ b. last_swap past ≤ cond b (frames_ended past + 1) (last_swap past)) [
-      | true ↦ most
+      | true ↦ (swap_at_most past)
       | false ↦ omega arith
     ] in
-    omega (arith, rest, one)
+    omega (arith, swap_grows is (Said i ∷ past), one)
 
 swap_grows_further : (step : ℕ) (frames : List (List Fib)) (past : List Moment)
     → last_swap past ≤ last_swap (after_frames step past frames)
 swap_grows_further step [] past = omega arith
 swap_grows_further step (frame ∷ frames) past =
-    let one = swap_grows (frame_items frame) past in
     let rest = swap_grows_further step frames (past_after_frame step past frame) in
-    omega (arith, one, rest)
+    omega (arith, swap_grows (frame_items frame) past, rest)
 
 no_swap_here : (n : ℕ) (past : List Moment) (i : Item) → n ≤ frames_ended past → last_swap (Said i ∷ past) ≤ n
     → is_swap past i ≡ false
@@ -272,27 +256,21 @@ current_grows step period past i true d e now sw c =
     (ap (λ (l : Listening). l.current) (after_heard step period past i false (is_flagged i) c e sw refl)
     ∙ after_ensemble_is false (is_flagged i) i (listener_after past))
 current_grows step period past i false true e now sw c =
-    let tuned = first_holds (listener_after past).tuned (not i.next) now in
     let next = not-true i.next (second_holds (listener_after past).tuned (not i.next) now) in
-    let k = current_kept step period past i e tuned next c in
+    let k = current_kept step period past i e (first_holds (listener_after past).tuned (not i.next) now) next c in
     let same : (listener_after (Said i ∷ past)).current ≡ picture_with i.raw (listener_after past).current =
-    ap (λ (l : Listening). l.current) (after_member step period past i c e)
-    ∙ a_current (listener_after past).tuned i.next i.raw (listener_after past) now in
+    ap (λ (l : Listening). l.current) (after_member step _ past i c e) ∙ a_current _ _ i.raw _ now in
     λ y found. ap (entry_like y) same ∙ found_again i.raw y (listener_after past).current k.agrees found
 current_grows step period past i false false e now sw c =
-    same_next (listener_after past).current (listener_after (Said i ∷ past)).current
-    (ap (λ (l : Listening). l.current) (after_member step period past i c e)
-    ∙ no_current (listener_after past).tuned i.next i.raw (listener_after past) now)
+    same_next _ _ (ap (λ (l : Listening). l.current) (after_member step _ past i c e) ∙ no_current _ _ i.raw _ now)
 
 said_stays : (step period n : ℕ) (items : List Item) (past : List Moment) → IsClean step period (said items past)
     → n ≤ frames_ended past → last_swap (said items past) ≤ n
     → Grows (listener_after past).current (listener_after (said items past)).current
 said_stays step period n [] past c late few y found = found
 said_stays step period n (i ∷ is) past c late few y found =
-    let clean : IsClean step period (Said i ∷ past) =
-    before_said (IsClean step period) (clean_handed step period) is (Said i ∷ past) c in
-    let grows = swap_grows is (Said i ∷ past) in
-    let none = no_swap_here n past i late (omega (arith, grows, few)) in
+    let clean = before_said (IsClean step period) (clean_handed step period) is (Said i ∷ past) c in
+    let none = no_swap_here n past i late (omega (arith, swap_grows is (Said i ∷ past), few)) in
     said_stays step period n is (Said i ∷ past) c late few y
     (current_grows step period past i (is_ensemble i) ((listener_after past).tuned && not i.next) refl refl none clean y
     found)
@@ -304,8 +282,7 @@ frames_stay : (step period n : ℕ) (frames : List (List Fib)) (past : List Mome
 frames_stay step period n [] past c late few y found = found
 frames_stay step period n (frame ∷ frames) past c late few y found =
     let clean : IsClean step period (said (frame_items frame) past) =
-    before_frames (IsClean step period) (clean_handed step period) step frames (past_after_frame step past frame)
-    c in
+    before_frames _ (clean_handed step period) step frames _ c in
     let grows = swap_grows_further step frames (past_after_frame step past frame) in
     let ended = said_ended (frame_items frame) past in
     frames_stay step period n frames (past_after_frame step past frame) c (omega (arith, ended, late)) few y
@@ -324,11 +301,7 @@ heard_at : (step period key : ℕ) (past : List Moment) (i : Item) (b : Bool) �
     → IsClean step period (Said i ∷ past) → (n : ℕ) → n < last_heard key (Said i ∷ past)
     → (n < last_heard key past) ⊎ IsHeardAmong key (i ∷ []) (Said i ∷ past)
 heard_at step period key past i true e sw c n h =
-    let same : last_heard key (Said i ∷ past) ≡ last_heard key past =
-    ap (λ t. cond (t || (is_member past i && (not i.next && (key_of i.raw == key)))) (frames_ended past + 1)
-    (last_heard key past)) sw
-    ∙ ap (λ t. cond ((not t && (listener_after past).tuned) && (not i.next && (key_of i.raw == key)))
-    (frames_ended past + 1) (last_heard key past)) e in
+    let same : last_heard key (Said i ∷ past) ≡ last_heard key past = cc (sw, e) in
     inl (omega (arith, same, h))
 heard_at step period key past i false e sw c n h =
     elim ((listener_after past).tuned && (not i.next && (key_of i.raw == key)))
@@ -341,8 +314,7 @@ heard_at step period key past i false e sw c n h =
           let bare = first_holds (not i.next) (key_of i.raw == key) both in
           let now : ((listener_after past).tuned && not i.next) ≡ true = ap (λ t. t && not i.next) tuned ∙ bare in
           let same : (listener_after (Said i ∷ past)).current ≡ picture_with i.raw (listener_after past).current =
-          ap (λ (l : Listening). l.current) (after_member step period past i c e)
-          ∙ a_current (listener_after past).tuned i.next i.raw (listener_after past) now in
+          ap (λ (l : Listening). l.current) (after_member step _ past i c e) ∙ a_current _ _ i.raw _ now in
           inr (record {
             item = i;
             inside = contains_first i [];
@@ -367,10 +339,8 @@ heard_said step period key n (i ∷ is) past c late few h =
         found = more.found;
       })
       | inl before ↦
-          let clean : IsClean step period (Said i ∷ past) =
-          before_said (IsClean step period) (clean_handed step period) is (Said i ∷ past) c in
-          let grows = swap_grows is (Said i ∷ past) in
-          let none = no_swap_here n past i late (omega (arith, grows, few)) in
+          let clean = before_said (IsClean step period) (clean_handed step period) is (Said i ∷ past) c in
+          let none = no_swap_here n past i late (omega (arith, swap_grows is (Said i ∷ past), few)) in
           elim (heard_at step period key past i (is_ensemble i) refl none clean n before) [
             | inl earlier ↦ inl earlier
             | inr here ↦ inr (record {
@@ -403,8 +373,7 @@ heard_frames step period key n (frame ∷ frames) past c late few h =
       | inr more ↦ inr (more.0, contains_later frame frames more.0 more.1, more.2)
       | inl before ↦
           let clean : IsClean step period (said (frame_items frame) past) =
-          before_frames (IsClean step period) (clean_handed step period) step frames
-          (past_after_frame step past frame) c in
+          before_frames _ (clean_handed step period) step frames _ c in
           let grows = swap_grows_further step frames (past_after_frame step past frame) in
           elim (heard_said step period key n (frame_items frame) past clean late (omega (arith, grows, few)) before) [
             | inl earlier ↦ inl earlier
@@ -453,14 +422,12 @@ ended_before r step before = frames_counted step (read_frames r before) [] ∙ o
 
 pub current_stays : CurrentStays
 current_stays r size step period before window after raw faultless none known =
-    let clean = all_clean size step period (read_frames r (before ++ window))
-    (front_faultless r size step period before window after faultless) in
+    let clean = all_clean size step _ _ (front_faultless r size step _ _ _ after faultless) in
     let split = split_past r step before window in
-    let ended = ended_before r step before in
     ap (λ past. entry_like raw (listener_after past).current) split
     ∙ frames_stay step period (length (read_frames r before)) (read_frames r window)
     (after_frames step [] (read_frames r before))
-    (subst (IsClean step period) split clean) (omega (arith, ended))
+    (subst (IsClean step period) split clean) (omega (arith, ended_before r step before))
     (subst (λ past. last_swap past ≤ length (read_frames r before))
     (frames_twice step (read_frames r before) (read_frames r window) []) none) raw known
 
@@ -474,14 +441,11 @@ current_is_sent r size step period before window after raw bytes some len faultl
     let p : Pictured = (listener_after whole).current in
     let kinds : HasKinds p = (all_kinds step period whole clean (all_formed r step (before ++ window))).current in
     let is = there p raw kinds known in
-    let fresh : frames_ended whole < last_heard (key_of raw) whole + period =
-    fresh_one period whole p raw (all_fresh step period whole clean vocal) is.inside in
+    let fresh = fresh_one period whole p raw (all_fresh step period whole clean vocal) is.inside in
     let split = split_past r step before window in
     let ended = ended_before r step before in
     let frames : frames_ended whole ≡ length (read_frames r before) + length window =
-    ap frames_ended split ∙ frames_counted step (read_frames r window) start
-    ∙ ap (λ n. n + length (read_frames r window)) ended
-    ∙ ap (λ n. length (read_frames r before) + n) (length-map window (map r.read)) in
+    cc (split, frames_counted step (read_frames r window) start, ended, length-map window (map r.read)) in
     let since : length (read_frames r before) < last_heard (key_of raw) whole = omega (arith, fresh, frames, len) in
     let heard = heard_frames step period (key_of raw) (length (read_frames r before)) (read_frames r window) start
     (subst (IsClean step period) split clean) (omega (arith, ended))
@@ -494,10 +458,8 @@ current_is_sent r size step period before window after raw bytes some len faultl
       | inr here ↦
           let fibs = mapped_to (map r.read) window here.0 here.1 in
           let h = here.2 in
-          let found : entry_like h.item.raw p ≡ Some h.item.raw =
-          ap (λ past. entry_like h.item.raw (listener_after past).current) split ∙ h.found in
-          let same : h.item.raw ≡ raw =
-          one_found h.item.raw raw p (there p h.item.raw kinds found).small is.small h.key_is found known in
+          let found = ap (λ past. entry_like h.item.raw (listener_after past).current) split ∙ h.found in
+          let same = one_found h.item.raw raw p (there p h.item.raw kinds found).small is.small h.key_is found known in
           let inside : Contains (items_in r fibs.0) h.item =
           subst (λ fs. Contains (frame_items fs) h.item) (sym fibs.2) h.inside in (
             row_of fibs.0,

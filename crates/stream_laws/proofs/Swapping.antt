@@ -36,9 +36,8 @@ RowIsSaid next items row = (x : ℕ) → Contains row x → IsSaidAmong next ite
 
 abbrev pub RowsAreSaid : Pictured → List (List Item) → List (List ℕ) → Type 0
 RowsAreSaid next [] [] = Unit {0}
-RowsAreSaid next [] (r ∷ rs) = ⊥
-RowsAreSaid next (is ∷ iss) [] = ⊥
 RowsAreSaid next (is ∷ iss) (r ∷ rs) = RowIsSaid next is r × RowsAreSaid next iss rs
+RowsAreSaid next _ _ = ⊥
 
 -- the second picture has every entry of the first
 abbrev pub Grows : Pictured → Pictured → Type 0
@@ -69,16 +68,14 @@ among_more p items more x s = record {
 rows_grown : (p q : Pictured) (iss : List (List Item)) (rs : List (List ℕ)) → Grows p q → RowsAreSaid p iss rs
     → RowsAreSaid q iss rs
 rows_grown p q [] [] g s = tt
-rows_grown p q [] (r ∷ rs) g s = absurd s
-rows_grown p q (is ∷ iss) [] g s = absurd s
 rows_grown p q (is ∷ iss) (r ∷ rs) g s = (λ x c. among_grown p q is x g (s.0 x c), rows_grown p q iss rs g s.1)
+rows_grown p q _ _ g s = absurd s
 
 rows_longer : (p : Pictured) (iss : List (List Item)) (rs : List (List ℕ)) (is : List Item) (r : List ℕ)
     → RowsAreSaid p iss rs → RowIsSaid p is r → RowsAreSaid p (iss ++ is ∷ []) (rs ++ r ∷ [])
 rows_longer p [] [] is r s one = (one, tt)
-rows_longer p [] (x ∷ xs) is r s one = absurd s
-rows_longer p (y ∷ ys) [] is r s one = absurd s
 rows_longer p (y ∷ ys) (x ∷ xs) is r s one = (s.0, rows_longer p ys xs is r s.1 one)
+rows_longer p _ _ is r s one = absurd s
 
 pub record AreSaid (past : List Moment) : Type 0 where
   pub rows : RowsAreSaid (listener_after past).next (notice_rows past) (rows past)
@@ -104,14 +101,12 @@ same_next p q e y found = ap (entry_like y) e ∙ found
 
 no_next : (t n : Bool) (raw : Raw) (l : Listening) → (t && n) ≡ false → (cond t (with_member n raw l) l).next ≡ l.next
 no_next true true raw l e = absurd (false≢true (sym e))
-no_next true false raw l e = refl
-no_next false n raw l e = refl
+no_next _ _ raw l e = refl
 
 a_next : (t n : Bool) (raw : Raw) (l : Listening) → (t && n) ≡ true
     → (cond t (with_member n raw l) l).next ≡ picture_with raw l.next
 a_next true true raw l e = refl
-a_next true false raw l e = absurd (false≢true e)
-a_next false n raw l e = absurd (false≢true e)
+a_next _ _ raw l e = absurd (false≢true e)
 
 last_in : (items : List Item) (i : Item) → Contains (items ++ i ∷ []) i
 last_in items i = Contains-append_right items (i ∷ []) i (0, omega arith, refl)
@@ -120,25 +115,21 @@ member_said : (step period : ℕ) (past : List Moment) (i : Item) (b : Bool) →
     → is_ensemble i ≡ false → i.raw.ext < 4 → IsClean step period (Said i ∷ past) → AreSaid past
     → AreSaid (Said i ∷ past)
 member_said step period past i false is e small c s =
-    let next : (listener_after (Said i ∷ past)).next ≡ (listener_after past).next =
-    ap (λ (l : Listening). l.next) (after_member step period past i c e)
-    ∙ no_next (listener_after past).tuned i.next i.raw (listener_after past) is in
+    let next : (listener_after (Said i ∷ past)).next ≡ (listener_after past).next = cc
+    (after_member step period past i c e, no_next (listener_after past).tuned i.next i.raw (listener_after past) is) in
     said_further past (Said i ∷ past) (i ∷ [])
     (same_next (listener_after past).next (listener_after (Said i ∷ past)).next next)
     (ap (λ t. cond t [] (notice_rows past)) (no_swap past i e)) (member_rows past i e) refl
     (member_row past i e ∙ ap (λ t. row_at_hand past ++ cond t (key_of i.raw ∷ []) []) is
     ∙ append-nil (row_at_hand past)) s
 member_said step period past i true is e small c s =
-    let tuned : (listener_after past).tuned ≡ true = first_holds (listener_after past).tuned i.next is in
     let marked : i.next ≡ true = second_holds (listener_after past).tuned i.next is in
-    let kept = next_kept step period past i e tuned marked c in
-    let next : (listener_after (Said i ∷ past)).next ≡ picture_with i.raw (listener_after past).next =
-    ap (λ (l : Listening). l.next) (after_member step period past i c e)
-    ∙ a_next (listener_after past).tuned i.next i.raw (listener_after past) is in
+    let kept = next_kept step period past i e (first_holds (listener_after past).tuned i.next is) marked c in
+    let next : (listener_after (Said i ∷ past)).next ≡ picture_with i.raw (listener_after past).next = cc
+    (after_member step period past i c e, a_next (listener_after past).tuned i.next i.raw (listener_after past) is) in
     let g : Grows (listener_after past).next (listener_after (Said i ∷ past)).next =
     λ y found. ap (entry_like y) next ∙ found_again i.raw y (listener_after past).next kept.agrees found in
-    let row : row_at_hand (Said i ∷ past) ≡ row_at_hand past ++ key_of i.raw ∷ [] =
-    member_row past i e ∙ ap (λ t. row_at_hand past ++ cond t (key_of i.raw ∷ []) []) is in
+    let row = member_row past i e ∙ ap (λ t. row_at_hand past ++ cond t (key_of i.raw ∷ []) []) is in
     record {
       rows = subst (λ (xs : List (List Item)). RowsAreSaid (listener_after (Said i ∷ past)).next xs
           (rows (Said i ∷ past))) (sym (ap (λ t. cond t [] (notice_rows past)) (no_swap past i e)))
@@ -167,15 +158,11 @@ member_said step period past i true is e small c s =
 ensemble_said : (step period : ℕ) (past : List Moment) (i : Item) (b f : Bool) → is_swap past i ≡ b → is_flagged i ≡ f
     → is_ensemble i ≡ true → IsClean step period (Said i ∷ past) → AreSaid past → AreSaid (Said i ∷ past)
 ensemble_said step period past i true f sw fl e c s = record {
-  rows = subst (λ (xs : List (List Item)). RowsAreSaid (listener_after (Said i ∷ past)).next xs (rows (Said i ∷ past)))
-      (sym (ap (λ t. cond t [] (notice_rows past)) sw))
-      (subst (λ (xs : List (List ℕ)). RowsAreSaid (listener_after (Said i ∷ past)).next [] xs)
-      (sym (rows_are past i true sw)) tt);
+  rows = rw (ap (λ t. cond t [] (notice_rows past)) sw) (rw (rows_are past i true sw) tt);
   hand = λ x c. absurd (in_none x (subst (λ (r : List ℕ). Contains r x) (row_is past i true e sw) c));
 }
 ensemble_said step period past i false f sw fl e c s =
-    let next : (listener_after (Said i ∷ past)).next ≡ (listener_after past).next =
-    ap (λ (l : Listening). l.next) (after_heard step period past i false f c e sw fl) ∙ as_before f in
+    let next = ap (λ (l : Listening). l.next) (after_heard step period past i false f c e sw fl) ∙ as_before f in
     said_further past (Said i ∷ past) (i ∷ [])
     (same_next (listener_after past).next (listener_after (Said i ∷ past)).next next)
     (ap (λ t. cond t [] (notice_rows past)) sw) (rows_are past i false sw) refl (row_is past i false e sw) s
@@ -187,15 +174,12 @@ ensemble_said step period past i false f sw fl e c s =
 
 entry_said : (step period : ℕ) (past : List Moment) (i : Item) (b : Bool) → is_ensemble i ≡ b → i.raw.ext < 4
     → IsClean step period (Said i ∷ past) → AreSaid past → AreSaid (Said i ∷ past)
-entry_said step period past i true e small c s =
-    ensemble_said step period past i (is_swap past i) (is_flagged i) refl refl e c s
-entry_said step period past i false e small c s =
-    member_said step period past i ((listener_after past).tuned && i.next) refl e small c s
+entry_said step period past i true e small c s = ensemble_said _ _ _ _ _ _ refl refl e c s
+entry_said step period past i false e small c s = member_said _ _ _ _ _ refl e small c s
 
 pub all_said : (step period : ℕ) (past : List Moment) → IsClean step period past → IsFormed past → AreSaid past
 all_said step period [] c w = record { rows = tt; hand = λ x h. absurd (in_none x h) }
-all_said step period (Said i ∷ past) c w =
-    entry_said step period past i (is_ensemble i) refl w.0 c (all_said step period past c.2 w.2)
+all_said step period (Said i ∷ past) c w = entry_said _ _ _ _ _ refl w.0 c (all_said step period past c.2 w.2)
 all_said step period (Ended count ∷ past) c w =
     let s = all_said step period past c w in
     record { rows = ended (has_begun past) refl s; hand = λ x h. absurd (in_none x h) }
@@ -239,16 +223,13 @@ swap_rules : IsTheMost → (step period : ℕ) (past : List Moment) (e : Ensembl
     → is_made (listener_after past).awaited e ≡ true → IsMadeRight past e.count
 swap_rules most step period past e all whole made =
     let k : KnownBefore = known_of step period past in
-    let low = first_fine (not (e.count % 250 == awaited_low k)) (faults.AnnouncedFor (awaited_low k))
-    (notice_faults k ++ unit_faults k) all.1 in
-    let one = first_fine (not k.is_cut_off && nat_lt k.times 3) (faults.AnnouncedTimes k.times) _
-    (all_left IsNoFault (notice_faults k) (unit_faults k) low.1) in
+    let low = first_fine _ _ _ all.1 in
+    let one = first_fine _ _ _ (all_left IsNoFault (notice_faults k) (unit_faults k) low.1) in
     let two = first_fine (not k.is_cut_off && nat_lt k.heard 3) (faults.NextHeard k.heard) _ one.1 in
     let times : nat_lt (at_most 3 (times_announced past)) 3 ≡ false = other_false (is_cut_off past) _ whole one.0 in
     let heard : nat_lt (times_heard past) 3 ≡ false = other_false (is_cut_off past) _ whole two.0 in
     let three = no_fault (not k.is_cut_off && not (k.flags == changes k)) (faults.Flags k.flags (changes k)) two.1 in
-    let flags : (last_flags past == changes k) ≡ true =
-    not-false (last_flags past == changes k) (other_false (is_cut_off past) _ whole three) in
+    let flags = not-false (last_flags past == changes k) (other_false (is_cut_off past) _ whole three) in
     record {
       awaited = awaited_is (listener_after past).awaited e (e.count % 250) made
           (eqb-true (e.count % 250) (awaited_low k) (not-false (e.count % 250 == awaited_low k) low.0));
@@ -276,14 +257,11 @@ swap_noticed most step period past i c w sw whole =
     let right = swap_rules most step period past (ensemble_of_item i) (rules.swap made) whole made in
     let hand = alone_first step period past i c w e in
     let tracked = (all_tracked step period past c.2 w.2).announcing ((ensemble_of_item i).count % 250) right.awaited in
-    let counted : times_announced past ≤ flagged_rows (notice_rows past) + has_flagged (at_hand past) =
-    all_counted step period past c.2 w.2 in
-    let none : has_flagged (at_hand past) ≡ 0 = ap has_flagged hand in
     record {
       right = right;
       alone = hand;
       announced = tracked.rows;
-      flagged = omega (arith, counted, none, right.times);
+      flagged = omega (arith, all_counted step period past c.2 w.2, ap has_flagged hand, right.times);
       said = (all_said step period past c.2 w.2).rows;
     }
 
@@ -303,8 +281,7 @@ flagged_at g n (f ∷ fs) h = elim (list_any is_flagged (g f))
     as (λ t. list_any is_flagged (g f) ≡ t → suc n ≤ cond t 1 0 + flagged_rows (map g fs) → IsFlaggedAt g n (f ∷ fs)) [
       | true ↦ λ e le. record { place = 0; frame = f; got = refl; has = e; rest = omega (arith, le) }
       | false ↦ λ e le.
-          let less : suc n ≤ flagged_rows (map g fs) = omega (arith, le) in
-          let later = flagged_at g n fs less in
+          let later = flagged_at g n fs (omega (arith, le)) in
           record { place = suc later.place; frame = later.frame; got = later.got; has = later.has; rest = later.rest }
     ] refl h
 
@@ -349,10 +326,9 @@ pub in_part : {X : Type 0} (g : X → List Item) (next : Pictured) (fs : List X)
     → RowsAreSaid next (map g fs) rs → Contains (concat rs) x
     → (frame : X) × Contains fs frame × IsSaidAmong next (g frame) x
 in_part g next [] [] x s h = absurd (contains_none x h)
-in_part g next [] (r ∷ rs) x s h = absurd s
-in_part g next (f ∷ fs) [] x s h = absurd s
 in_part g next (f ∷ fs) (r ∷ rs) x s h = elim (Contains-append_cases r (concat rs) x h) [
   | inl here ↦ (f, contains_first f fs, s.0 x here)
   | inr later ↦ (let there = in_part g next fs rs x s.1 later in
       (there.0, contains_later f fs there.0 there.1, there.2))
 ]
+in_part g next _ _ x s h = absurd s

@@ -1,12 +1,11 @@
 -- The FIG 0/0 of a notice, where nothing is at fault.
 use Rattle.stream_laws.proofs.Words.{[], ◌&&◌, ◌++◌, ◌+◌, ◌<◌, ◌||◌, ◌∙◌, ◌∷◌, ◌≡◌, ◌≤◌, AllByRecursion, Bool, Ended}
-use Rattle.stream_laws.proofs.Words.{Item, List, Listening, Moment, None, Option, Said, Some, and_from}
-use Rattle.stream_laws.proofs.Words.{announces_another, ap, arith, began_early, cond, each_pushed, ensemble_of_item}
-use Rattle.stream_laws.proofs.Words.{false, false≢true, get_or, has_begun, has_ensemble, has_flags, is_ensemble}
-use Rattle.stream_laws.proofs.Words.{is_flagged, is_swap, known_of, last_flags, list_any, list_any-append}
-use Rattle.stream_laws.proofs.Words.{listener_after, member_began_early, member_flags, member_has_begun, member_times}
-use Rattle.stream_laws.proofs.Words.{no_swap, not, occurrence_of, refl, some_is, subst, sym, times_announced, true}
-use Rattle.stream_laws.proofs.Words.{unwrap_or, ℕ}
+use Rattle.stream_laws.proofs.Words.{Item, List, Listening, Moment, None, Option, Said, Some, and_from, ap, arith}
+use Rattle.stream_laws.proofs.Words.{began_early, cond, each_pushed, ensemble_of_item, false, false≢true, get_or}
+use Rattle.stream_laws.proofs.Words.{has_begun, has_ensemble, has_flags, is_ensemble, is_flagged, is_swap, known_of}
+use Rattle.stream_laws.proofs.Words.{last_flags, list_any, list_any-append, listener_after, member_began_early}
+use Rattle.stream_laws.proofs.Words.{member_flags, member_has_begun, member_times, no_swap, not, occurrence_of, refl}
+use Rattle.stream_laws.proofs.Words.{some_is, subst, sym, times_announced, true, unwrap_or, ℕ, none_some}
 use Rattle.stream_laws.proofs.Clean.{IsClean}
 use Rattle.stream_laws.proofs.Kept.{first_holds, second_holds, next_kept, awaited_member, after_heard, ensemble_made}
 use Rattle.stream_laws.proofs.Kept.{ensemble_flags, begun_is, times_are, flags_are, IsPlainEnsemble, plain_ensemble}
@@ -49,9 +48,6 @@ pub record IsTracked (past : List Moment) : Type 0 where
   pub alone : has_begun past ≡ true → (listener_after past).awaited ≡ None → HasBegunAlone past
   pub announcing : (low : ℕ) → (listener_after past).awaited ≡ Some low → IsAnnouncing past low
 
-pub no_some : {X : Type 0} (low : ℕ) (o : Option ℕ) → o ≡ None → o ≡ Some low → X
-no_some low o none some = absurd cc
-
 -- ---- an entry of FIG 0/1 to 0/3
 
 or_cases : (a b : Bool) → (a || b) ≡ false → a ≡ false
@@ -85,12 +81,10 @@ begun_alone step period past i c e t is none true was =
     not_begun true x y = refl
     not_begun false x y = refl
 begun_alone step period past i c e t is none false was =
-    let now : ((listener_after past).tuned && i.next) ≡ true =
-    later_or (has_begun past) _ (sym (member_has_begun past i e) ∙ is) was in
+    let now = later_or (has_begun past) _ (sym (member_has_begun past i e) ∙ is) was in
     let tuned : (listener_after past).tuned ≡ true = first_holds (listener_after past).tuned i.next now in
     let next : i.next ≡ true = second_holds (listener_after past).tuned i.next now in
-    let kept = next_kept step period past i e tuned next c in
-    let alone : has_ensemble past ≡ false = kept.early was in
+    let alone : has_ensemble past ≡ false = (next_kept step period past i e tuned next c).early was in
     record {
       early = member_began_early past i e
           ∙ ap (λ b. cond (b && not (has_begun past)) (not (has_ensemble past)) (began_early past)) now
@@ -103,8 +97,7 @@ begun_alone step period past i c e t is none false was =
 member_tracked : (step period : ℕ) (past : List Moment) (i : Item) → IsClean step period (Said i ∷ past)
     → is_ensemble i ≡ false → IsTracked past → IsTracked (Said i ∷ past)
 member_tracked step period past i c e t =
-    let same : (listener_after (Said i ∷ past)).awaited ≡ (listener_after past).awaited =
-    awaited_member step period past i c e in
+    let same = awaited_member step period past i c e in
     record {
       before = λ is.
           let b = t.before (or_cases (has_begun past) _ (sym (member_has_begun past i e) ∙ is)) in
@@ -119,9 +112,7 @@ member_tracked step period past i c e t =
           record {
             begun = member_has_begun past i e ∙ ap (λ b. b || ((listener_after past).tuned && i.next)) a.begun;
             flags = subst (λ (n : ℕ). 0 < n) (member_flags past i e) a.flags;
-            rows = subst (λ (n : ℕ). AllByRecursion (AllAnnounce n low) (notice_rows (Said i ∷ past)))
-                (member_flags past i e)
-                (subst (AllByRecursion (AllAnnounce (last_flags past) low)) (sym (same_rows past i e)) a.rows);
+            rows = rw (← member_flags past i e) (rw (same_rows past i e) a.rows);
             hand = subst (λ (n : ℕ). AllAnnounce n low (at_hand (Said i ∷ past))) (member_flags past i e)
                 (each_pushed (Announces (last_flags past) low) (at_hand past) i a.hand
                 (λ is_one. absurd (false≢true (sym e ∙ is_one))));
@@ -145,22 +136,13 @@ rows_before : (step period : ℕ) (past : List Moment) (i : Item) → is_ensembl
     → IsTracked past
     → (b : Bool) → has_begun past ≡ b → (aw : Option ℕ) → (listener_after past).awaited ≡ aw
     → AllByRecursion (AllAnnounce (ensemble_of_item i).change (get_or i.raw.bytes 4 0)) (notice_rows past)
-rows_before step period past i e sw f rules t false was aw is =
-    subst (AllByRecursion (AllAnnounce (ensemble_of_item i).change (get_or i.raw.bytes 4 0))) (sym (t.before was).rows)
-    tt
-rows_before step period past i e sw f rules t true was None is =
-    rows_announce (ensemble_of_item i).change (get_or i.raw.bytes 4 0) (notice_rows past) (t.alone was is).rows
+rows_before step period past i e sw f rules t false was aw is = rw (t.before was).rows tt
+rows_before step period past i e sw f rules t true was None is = rows_announce _ _ _ (t.alone was is).rows
 rows_before step period past i e sw f rules t true was (Some low) is =
-    let a = t.announcing low is in
-    let not_so : announces_another (known_of step period past) (ensemble_of_item i) ≡ false =
-    rules.again (sym (ensemble_made past i e) ∙ sw) in
     let same = not_another (listener_after past).awaited low (ensemble_of_item i).change (last_flags past)
-    (occurrence_of (ensemble_of_item i)) is not_so in
-    let low_is : occurrence_of (ensemble_of_item i) ≡ get_or i.raw.bytes 4 0 =
-    ap (λ (o : Option ℕ). unwrap_or o 0) (occurrence_is i f) in
-    subst (λ (n : ℕ). AllByRecursion (AllAnnounce n (get_or i.raw.bytes 4 0)) (notice_rows past)) (sym same.0)
-    (subst (λ (n : ℕ). AllByRecursion (AllAnnounce (last_flags past) n) (notice_rows past)) (sym same.1 ∙ low_is)
-    a.rows)
+    (occurrence_of (ensemble_of_item i)) is (rules.again (sym (ensemble_made past i e) ∙ sw)) in
+    let low_is = ap (λ (o : Option ℕ). unwrap_or o 0) (occurrence_is i f) in
+    rw same.0 (rw (← sym same.1 ∙ low_is) (t.announcing low is).rows)
 
 swap_rows : (past : List Moment) (i : Item) (b : Bool) → is_swap past i ≡ b
     → notice_rows (Said i ∷ past) ≡ cond b [] (notice_rows past)
@@ -180,21 +162,14 @@ flagged_tracked step period past i b c e hand sw fl t =
     let flags : last_flags (Said i ∷ past) ≡ (ensemble_of_item i).change = flags_are past i true fl in
     record {
       before = λ is. absurd (false≢true (sym is ∙ begun));
-      alone = λ is none. no_some low (listener_after (Said i ∷ past)).awaited none awaits;
+      alone = λ is none. none_some low (listener_after (Said i ∷ past)).awaited none awaits;
       announcing = λ n is.
           let same : low ≡ n = some_is low n (sym awaits ∙ is) in
           record {
             begun = begun;
             flags = subst (λ (m : ℕ). 0 < m) (sym flags) (some_flags (ensemble_of_item i).change f);
-            rows = subst (λ (m : ℕ). AllByRecursion (AllAnnounce m n) (notice_rows (Said i ∷ past))) (sym flags)
-                (subst (λ (m : ℕ). AllByRecursion (AllAnnounce (ensemble_of_item i).change m)
-                (notice_rows (Said i ∷ past))) same
-                (subst (AllByRecursion (AllAnnounce (ensemble_of_item i).change low)) (sym (swap_rows past i b sw))
-                (either b sw f rules)));
-            hand = subst (λ (m : ℕ). AllAnnounce m n (at_hand (Said i ∷ past))) (sym flags)
-                (subst (λ (m : ℕ). AllAnnounce (ensemble_of_item i).change m (at_hand (Said i ∷ past))) same
-                (subst (λ (r : List Item). AllAnnounce (ensemble_of_item i).change low (r ++ i ∷ [])) (sym hand)
-                ((λ is_one. (refl, occurrence_is i f)), tt)));
+            rows = rw flags (rw (← same) (rw (swap_rows past i b sw) (either b sw f rules)));
+            hand = rw flags (rw (← same) (rw hand ((λ is_one. (refl, occurrence_is i f)), tt)));
           };
     }
   where
@@ -210,17 +185,15 @@ flagged_tracked step period past i b c e hand sw fl t =
 swap_tracked : (step period : ℕ) (past : List Moment) (i : Item) → IsClean step period (Said i ∷ past)
     → is_ensemble i ≡ true → is_swap past i ≡ true → is_flagged i ≡ false → IsTracked (Said i ∷ past)
 swap_tracked step period past i c e sw fl =
-    let begun : has_begun (Said i ∷ past) ≡ false = begun_is past i true false e sw fl in
-    let awaits : (listener_after (Said i ∷ past)).awaited ≡ None =
-    ap (λ (l : Listening). l.awaited) (after_heard step period past i true false c e sw fl) in
+    let awaits = ap (λ (l : Listening). l.awaited) (after_heard step period past i true false c e sw fl) in
     record {
       before = λ is. record {
         awaited = awaits;
         times = times_are past i true false sw fl;
         rows = swap_rows past i true sw;
       };
-      alone = λ is none. absurd (false≢true (sym begun ∙ is));
-      announcing = λ low is. no_some low (listener_after (Said i ∷ past)).awaited awaits is;
+      alone = λ is none. absurd (false≢true (sym (begun_is past i true false e sw fl) ∙ is));
+      announcing = λ low is. none_some low (listener_after (Said i ∷ past)).awaited awaits is;
     }
 
 -- without flags, where it makes no swap
@@ -229,12 +202,9 @@ quiet_tracked : (step period : ℕ) (past : List Moment) (i : Item) → IsClean 
 quiet_tracked step period past i c e sw fl t =
     let f : has_flags (ensemble_of_item i) ≡ false = sym (ensemble_flags i e) ∙ fl in
     let rules = plain_ensemble step period past i c e in
-    let none : (listener_after past).awaited ≡ None =
-    nothing_awaited (listener_after past).awaited (ensemble_of_item i) (sym (ensemble_made past i e) ∙ sw) f in
-    let begun : has_begun (Said i ∷ past) ≡ has_begun past =
-    begun_is past i false false e sw fl ∙ same (has_begun past) in
-    let awaits : (listener_after (Said i ∷ past)).awaited ≡ None =
-    ap (λ (l : Listening). l.awaited) (after_heard step period past i false false c e sw fl) ∙ none in
+    let none : (listener_after past).awaited ≡ None = nothing_awaited _ _ (sym (ensemble_made past i e) ∙ sw) f in
+    let begun = begun_is past i false false e sw fl ∙ same (has_begun past) in
+    let awaits = ap (λ (l : Listening). l.awaited) (after_heard step period past i false false c e sw fl) ∙ none in
     record {
       before = λ is.
           let b = t.before (sym begun ∙ is) in
@@ -244,7 +214,7 @@ quiet_tracked step period past i c e sw fl t =
             rows = swap_rows past i false sw ∙ b.rows;
           };
       alone = λ is free. absurd (false≢true (sym f ∙ rules.flagged (t.alone (sym begun ∙ is) none).early));
-      announcing = λ low is. no_some low (listener_after (Said i ∷ past)).awaited awaits is;
+      announcing = λ low is. none_some low (listener_after (Said i ∷ past)).awaited awaits is;
     }
   where
     same : (x : Bool) → (x || false) ≡ x
@@ -268,8 +238,7 @@ alone_first step period past i c w e =
 entry_tracked : (step period : ℕ) (past : List Moment) (i : Item) (b : Bool) → is_ensemble i ≡ b
     → IsClean step period (Said i ∷ past) → IsFormed (Said i ∷ past) → IsTracked past → IsTracked (Said i ∷ past)
 entry_tracked step period past i true e c w t =
-    ensemble_tracked step period past i (is_swap past i) (is_flagged i) c e (alone_first step period past i c w e) refl
-    refl t
+    ensemble_tracked step _ past i _ _ c e (alone_first step _ past i c w e) refl refl t
 entry_tracked step period past i false e c w t = member_tracked step period past i c e t
 
 ended_rows : (count : ℕ) (past : List Moment) (b : Bool) → has_begun past ≡ b
@@ -282,8 +251,7 @@ all_tracked step period [] c w = record {
   alone = λ is. absurd (false≢true is);
   announcing = λ low is. absurd cc;
 }
-all_tracked step period (Said i ∷ past) c w =
-    entry_tracked step period past i (is_ensemble i) refl c w (all_tracked step period past c.2 w.2)
+all_tracked step period (Said i ∷ past) c w = entry_tracked _ _ _ _ _ refl c w (all_tracked step period past c.2 w.2)
 all_tracked step period (Ended count ∷ past) c w =
     let t = all_tracked step period past c w in
     record {
@@ -354,14 +322,10 @@ entry_counted step period past i b true sw fl hand h =
     by true times rows now was = omega (arith, times, rows, now, was)
     by false times rows now was = omega (arith, times, rows, now, was, h)
 entry_counted step period past i true false sw fl hand h =
-    let times : times_announced (Said i ∷ past) ≡ 0 = times_are past i true false sw fl in
-    omega (arith, times)
+    omega (arith, times_are past i true false sw fl)
 entry_counted step period past i false false sw fl hand h =
     let times : times_announced (Said i ∷ past) ≡ times_announced past + 0 = times_are past i false false sw fl in
-    let rows : flagged_rows (notice_rows (Said i ∷ past)) ≡ flagged_rows (notice_rows past) =
-    ap flagged_rows (swap_rows past i false sw) in
-    let more : has_flagged (at_hand past) ≤ has_flagged (at_hand (Said i ∷ past)) = hand_more (at_hand past) i in
-    omega (arith, times, rows, more, h)
+    omega (arith, times, ap flagged_rows (swap_rows past i false sw), hand_more (at_hand past) i, h)
 
 flagged_first : (step period : ℕ) (past : List Moment) (i : Item) → IsClean step period (Said i ∷ past)
     → IsFormed (Said i ∷ past) → is_flagged i ≡ true → at_hand past ≡ []
@@ -377,10 +341,6 @@ all_counted step period (Ended count ∷ past) c w =
   where
     ended : (b : Bool) → has_begun past ≡ b → IsCounted past → IsCounted (Ended count ∷ past)
     ended true is h =
-        let rows : flagged_rows (notice_rows (Ended count ∷ past)) ≡ flagged_rows (notice_rows past)
-        + has_flagged (at_hand past) =
-        ap flagged_rows (ended_rows count past true is) ∙ rows_more (notice_rows past) (at_hand past) in
-        omega (arith, rows, h)
+        omega (arith, ap flagged_rows (ended_rows count past true is) ∙ rows_more (notice_rows past) (at_hand past), h)
     ended false is h =
-        let none : times_announced past ≡ 0 = ((all_tracked step period past c w).before is).times in
-        omega (arith, none)
+        omega (arith, ((all_tracked step period past c w).before is).times)

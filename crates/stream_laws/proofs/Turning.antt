@@ -1,13 +1,14 @@
 -- Which page of entries is in turn in the frames of a run, and how many frames later each other one is.
 use Rattle.stream_laws.proofs.Words.{◌*◌, ◌+◌, ◌-◌, ◌<◌, ◌==◌, ◌||◌, ◌∙◌, ◌≡◌, ◌≢◌, ◌≤◌, ◌⊎◌, Bool, Configuration}
-use Rattle.stream_laws.proofs.Words.{Contact, Contains, Contains-append_left, Goes, Holds, IsCode, Known, LeftBy, List}
-use Rattle.stream_laws.proofs.Words.{Marked, None, Option, PageLaws, Plan, Program, Some, State, after_frame}
-use Rattle.stream_laws.proofs.Words.{after_goes, airs, ap, arith, begins_phase, cases_lt, cond, eqb-false, eqb-true}
-use Rattle.stream_laws.proofs.Words.{facts_of, false, happens, inl, inr, is_due, is_first_noticed, is_noticed, le-ltb}
-use Rattle.stream_laws.proofs.Words.{left_after_frame, links, lt-ltb, not_due, page_after, page_after_below}
-use Rattle.stream_laws.proofs.Words.{page_entries, page_set, refl, rounds, sends, sent_entries, sent_period}
-use Rattle.stream_laws.proofs.Words.{sent_rounds, shown, some_is, some_rounds, split_le, subst, sym, true, ℕ}
-use Rattle.stream_laws.proofs.Following.{begun_left, no_counts}
+use Rattle.stream_laws.proofs.Words.{Contact, Contains, Goes, Holds, IsCode, Known, LeftBy, List, Marked, None, Option}
+use Rattle.stream_laws.proofs.Words.{PageLaws, Plan, Program, Some, State, after_frame, after_goes, airs, ap, arith}
+use Rattle.stream_laws.proofs.Words.{begins_phase, cases_lt, cond, eqb-false, eqb-true, facts_of, false, happens, inl}
+use Rattle.stream_laws.proofs.Words.{inr, is_due, is_first_noticed, is_noticed, le-ltb, left_after_frame, links, lt-ltb}
+use Rattle.stream_laws.proofs.Words.{not_due, page_after, page_after_below, page_entries, refl, rounds, sends}
+use Rattle.stream_laws.proofs.Words.{sent_entries, sent_period, sent_rounds, shown, some_is, some_rounds, split_le}
+use Rattle.stream_laws.proofs.Words.{subst, sym, true, ℕ}
+use Rattle.stream_laws.proofs.Following.{no_counts}
+use Rattle.stream_laws.proofs.Words.{begun_left, left_on, current_inside}
 
 -- ---- how many frames later a page is in turn
 
@@ -113,22 +114,16 @@ pub new_bound : (p : Program) (ts : List Known) → IsCode p ts → (u : State) 
 new_bound p ts c u = (let some = some_period p ts c in
     record { from = omega (arith, some); to = omega (arith, some); outside = λ none. omega (arith, some) })
 
-pub current_inside : (c n : Configuration) (b : Bool) (m : Marked) → Contains (facts_of c false) m
-    → Contains (page_set c (cond b (Some n) None)) m
-current_inside c n false m h = h
-current_inside c n true m h = Contains-append_left (facts_of c false) (facts_of n true) m h
-
 abbrev pub turns_by : (p : Program) (ts : List Known) → IsCode p ts → (s : State) → Holds p ts s → (bound : ℕ)
     → IsBound p.plan (shown p s) bound → Turns p.plan (after_frame p s)
 turns_by p ts c s holds bound h =
     let plan : Plan = p.plan in
     let u : State = shown p s in
-    let a = airs p ts c s holds in
     record {
       ms = sent_entries plan u;
       page_index = page_after (sent_rounds plan u) u.page_index;
       bound = bound;
-      goes = after_goes plan u a (sent_entries plan u) refl;
+      goes = after_goes plan u (airs p ts c s holds) (sent_entries plan u) refl;
       below = page_after_below (sent_rounds plan u) u.page_index (some_rounds plan.layout (sent_entries plan u));
       has = λ m inside. current_inside u.current u.next (is_noticed plan.notice u.left) m inside;
       to = h.to;
@@ -159,11 +154,6 @@ none_before plan count (Some j) left n m g is k e below =
     let one : j ≡ plan.notice = some_is j plan.notice (sym g.0 ∙ is) in
     let two : j ≡ k = some_is j k e in
     omega (arith, one, two, below)
-
-left_on : (plan : Plan) (count k : ℕ) (before left : Option ℕ) (n m : Configuration) → before ≡ Some k
-    → LeftBy plan count before n left m → left ≡ Some k
-left_on plan count k None left n m e g = absurd cc
-left_on plan count k (Some j) left n m e g = g.0 ∙ e
 
 -- an entry that comes d frames later came before the frame, too, and the difference is in the bounds
 pub record Turned (p : Program) (s : State) (g : Turns p.plan s) : Type 0 where

@@ -4,11 +4,11 @@ use Rattle.stream_laws.proofs.Words.{Configuration, Contains, IsAscending, IsCon
 use Rattle.stream_laws.proofs.Words.{List, None, Raw, Some, Sub, and_right, ap, arith, cases_lt, cond, contains_first}
 use Rattle.stream_laws.proofs.Words.{contains_later, each_contains, end_unit, false, false_from_ne_true, false≢true}
 use Rattle.stream_laws.proofs.Words.{first_unit, identifier_of, inl, inr, is_long_form, le-ltb, ltb-true, map, nat_lt}
-use Rattle.stream_laws.proofs.Words.{option_of, overlap, overlap_or, partly, partner, past_end, raw_entry, refl}
-use Rattle.stream_laws.proofs.Words.{share_unit, size_of_sub, sub_entry, sub_identified, subst, sym, true, whole_is_set}
-use Rattle.stream_laws.proofs.Words.{whole_of, ℕ}
+use Rattle.stream_laws.proofs.Words.{option_of, overlap, partner, past_end, raw_entry, refl, share_unit, size_of_sub}
+use Rattle.stream_laws.proofs.Words.{sub_entry, sub_identified, sym, true, whole_is_set, whole_of, ℕ}
 use Rattle.mux_eep.specs.declared.sizes.EepSet.{EepSet}
 use Rattle.mux_eep.specs.declared.sizes.EepSet.TheVariants.{A, B}
+use Rattle.stream_laws.proofs.Words.{each_partly, ascends_partly}
 use Rattle.stream_check.specs.declared.finding.Fault.TheVariants as faults
 
 -- ---- an entry of FIG 0/1
@@ -22,21 +22,15 @@ word_low x below = omega (arith, below)
 
 starts : (s : Sub) → IsPlaced s → first_unit (raw_entry (sub_entry s)) ≡ s.start
 starts s h =
-    let named = h.named in
-    let ends = h.ends in
-    let word : (s.id * 1024 + s.start) / 256 % 256 * 256 + (s.id * 1024 + s.start) % 256 ≡ s.id * 1024 + s.start =
-    word_low (s.id * 1024 + s.start) (omega (arith, named, ends)) in
-    let low : (s.id * 1024 + s.start) % 1024 ≡ s.start = omega (arith, ends) in
-    ap (λ n. n % 1024) word ∙ low
+    let low : (s.id * 1024 + s.start) % 1024 ≡ s.start = omega arith in
+    ap (λ n. n % 1024) (word_low (s.id * 1024 + s.start) (omega arith)) ∙ low
 
 ends_at : (s : Sub) → IsPlaced s → end_unit (raw_entry (sub_entry s)) ≡ s.start + size_of_sub s
 ends_at s h =
-    let ends = h.ends in
-    let four = h.to_four in
     let few = few_options s.protection.set in
     let x : ℕ = 32768 + option_of s.protection.set * 4096 + (s.protection.level - 1) * 1024 + size_of_sub s in
-    let word : x / 256 % 256 * 256 + x % 256 ≡ x = word_low x (omega (arith, ends, four, few)) in
-    let low : x % 1024 ≡ size_of_sub s = omega (arith, ends) in
+    let word : x / 256 % 256 * 256 + x % 256 ≡ x = word_low x (omega (arith, few)) in
+    let low : x % 1024 ≡ size_of_sub s = omega arith in
     ap (λ n. n + x_size s) (starts s h) ∙ ap (λ n. s.start + n % 1024) word ∙ ap (λ n. s.start + n) low
   where
     x_size : Sub → ℕ
@@ -78,25 +72,22 @@ shared c sound is a b x y shares =
       | inr ge ↦ sound.apart x.sub y.sub (first_unit a) x.inside y.inside
           (omega (arith, start_a), omega (arith, aa, end_a)) (omega (arith, ge, start_b), omega (arith, ab, end_b))
     ] in
-    ap identifier_of (sym x.is) ∙ sub_identified x.sub placed_a ∙ same ∙ sym (sub_identified y.sub placed_b)
-    ∙ ap identifier_of y.is
+    cc (x.is, sub_identified x.sub placed_a, same, sub_identified y.sub placed_b, y.is)
 
 no_partner : (c : Configuration) → IsSound c → IsConfiguration c → (a : Raw) (bs : List Raw) → IsSubRaw c a
     → AllByRecursion (IsSubRaw c) bs → AllByRecursion (λ b. identifier_of a < identifier_of b) bs → partner a bs ≡ None
 no_partner c sound is a [] x all up = refl
 no_partner c sound is a (b ∷ bs) x all up =
-    let less : identifier_of a < identifier_of b = up.0 in
     let apart : share_unit a b ≡ false =
     false_from_ne_true (share_unit a b) (λ shares.
-    (let same = shared c sound is a b x all.0 shares in omega (arith, less, same))) in
+    (let same = shared c sound is a b x all.0 shares in omega (arith, same))) in
     ap (λ t. cond t (Some (identifier_of b)) (partner a bs)) apart ∙ no_partner c sound is a bs x all.1 up.1
 
 no_overlap : (c : Configuration) → IsSound c → IsConfiguration c → (rs : List Raw) → AllByRecursion (IsSubRaw c) rs
     → IsAscending identifier_of rs → overlap rs ≡ None
 no_overlap c sound is [] all up = refl
 no_overlap c sound is (r ∷ rs) all up =
-    ap (λ o. overlap_or o r (overlap rs)) (no_partner c sound is r rs all.0 all.1 up.0)
-    ∙ no_overlap c sound is rs all.1 up.1
+    cc (no_partner c sound is r rs all.0 all.1 up.0, no_overlap c sound is rs all.1 up.1)
 
 none_past : (c : Configuration) → IsConfiguration c → (rs : List Raw) → AllByRecursion (IsSubRaw c) rs
     → past_end rs ≡ None
@@ -105,10 +96,8 @@ none_past c is (r ∷ rs) all =
     let x = all.0 in
     let placed : IsPlaced x.sub = each_contains IsPlaced c.subs x.sub is.subs_placed x.inside in
     let last : end_unit r ≡ x.sub.start + size_of_sub x.sub = ap end_unit (sym x.is) ∙ ends_at x.sub placed in
-    let ends = placed.ends in
-    let within : nat_lt 864 (end_unit r) ≡ false = le-ltb 864 (end_unit r) (omega (arith, last, ends)) in
-    ap (λ t. cond t (Some (faults.PastEnd (identifier_of r))) (past_end rs)) (and_right (is_long_form r) _ within)
-    ∙ none_past c is rs all.1
+    let within : nat_lt 864 (end_unit r) ≡ false = le-ltb 864 (end_unit r) (omega (arith, last)) in
+    cc (and_right (is_long_form r) _ within, none_past c is rs all.1)
 
 -- ---- a part of them
 
@@ -120,31 +109,10 @@ each_of c (s ∷ ss) f = (
   each_of c ss (λ t h. f t (contains_later s ss t h)),
 )
 
-each_partly : (P : Raw → Type 0) (known : ℕ → Bool) (rs : List Raw) → AllByRecursion P rs
-    → AllByRecursion P (partly known rs)
-each_partly P known [] all = tt
-each_partly P known (r ∷ rs) all =
-    elim (known (identifier_of r)) as (λ t. AllByRecursion P (cond t (r ∷ partly known rs) (partly known rs))) [
-      | true ↦ (all.0, each_partly P known rs all.1)
-      | false ↦ each_partly P known rs all.1
-    ]
-
-ascends : (known : ℕ → Bool) (rs : List Raw) → IsAscending identifier_of rs
-    → IsAscending identifier_of (partly known rs)
-ascends known [] up = tt
-ascends known (r ∷ rs) up = elim (known (identifier_of r))
-    as (λ t. IsAscending identifier_of (cond t (r ∷ partly known rs) (partly known rs))) [
-      | true ↦ (each_partly (λ b. identifier_of r < identifier_of b) known rs up.0, ascends known rs up.1)
-      | false ↦ ascends known rs up.1
-    ]
-
 pub units_fine : (c : Configuration) (C : Raw → Type 0) (rs : List Raw) → IsSound c → IsConfiguration c
     → IsPart (whole_of c).subs C rs → (overlap rs ≡ None) × (past_end rs ≡ None)
 units_fine c C rs sound is h =
     let full : AllByRecursion (IsSubRaw c) (whole_of c).subs = each_of c c.subs (λ s inside. inside) in
-    let all : AllByRecursion (IsSubRaw c) rs =
-    subst (AllByRecursion (IsSubRaw c)) (sym h.is) (each_partly (IsSubRaw c) h.known (whole_of c).subs full) in
-    let up : IsAscending identifier_of rs =
-    subst (IsAscending identifier_of) (sym h.is)
-    (ascends h.known (whole_of c).subs (whole_is_set c is).subs_ascend) in
+    let all : AllByRecursion (IsSubRaw c) rs = rw h.is (each_partly (IsSubRaw c) h.known (whole_of c).subs full) in
+    let up : IsAscending identifier_of rs = rw h.is (ascends_partly h.known _ (whole_is_set c is).subs_ascend) in
     (no_overlap c sound is rs all up, none_past c is rs all)

@@ -41,30 +41,37 @@ pub use Rattle.plan_code.specs.Machine.{State, effect, effect_of, settle, step}
 pub use Rattle.plan_code.specs.Program.{Program, instr_at}
 pub use Rattle.plan_code.specs.declared.plan.Plan.{Plan}
 pub use Rattle.plan_runs.proofs.Announcing.{IsDue, heard_contacts, notice_airs, noticed_information, swaps_run}
+pub use Rattle.plan_runs.proofs.Announcing.{page_up, notice_hears, due_left}
 pub use Rattle.plan_runs.proofs.Carries.{IsNewly, LeftBy}
 pub use Rattle.plan_runs.proofs.Clock.{shown_count}
 pub use Rattle.plan_runs.proofs.Contents.{Laws}
+pub use Rattle.plan_runs.proofs.Counted.{swap_not_now}
 pub use Rattle.plan_runs.proofs.CurrentKnown.{SomeSaid, none_said}
 pub use Rattle.plan_runs.proofs.Facts.{Holds, IsCode, airs, code_of, frame_holds, happens_holds, played_holds}
 pub use Rattle.plan_runs.proofs.Facts.{run_holds}
 pub use Rattle.plan_runs.proofs.HeardFrame.{RowSaid, current_shown, due_current, enters, enters_swap, enters_untuned}
 pub use Rattle.plan_runs.proofs.HeardFrame.{frame_heard, zero_or_not}
 pub use Rattle.plan_runs.proofs.HeardFrames.{KnowsAt, Nothing, current_part, enters_known, knows_weaker}
-pub use Rattle.plan_runs.proofs.Hearing.{headed, hear_marked, raw_is, second_next}
+pub use Rattle.plan_runs.proofs.Hearing.{headed, hear_marked, raw_is, second_next, then_joined}
 pub use Rattle.plan_runs.proofs.Knowing.{InFrame, KnowsBy, KnowsPending, Still, Waits, WaitsBy, knows_after}
+pub use Rattle.plan_runs.proofs.Knowing.{none_awaited, long_notice}
 pub use Rattle.plan_runs.proofs.Knowledge.{CommittedBy, IsAhead}
+pub use Rattle.plan_runs.proofs.LastSent.{unnoticed_left}
+pub use Rattle.plan_runs.proofs.NewKnown.{said_append as said_of_two, said_one, begun_left, none_heard, left_on}
 pub use Rattle.plan_runs.proofs.Notice.{Links, base_of, both_rounds, contains_frame, frames_from, heard_frame, links}
-pub use Rattle.plan_runs.proofs.Notice.{notice_at, notice_at_is, noticed_state}
-pub use Rattle.plan_runs.proofs.Parts.{In, IsPart, each_in, part_takes, partly}
+pub use Rattle.plan_runs.proofs.Notice.{notice_at, notice_at_is, noticed_state, none_some}
+pub use Rattle.plan_runs.proofs.Parts.{In, IsPart, each_in, part_takes, partly, each_partly, ascends_partly, in_partly}
 pub use Rattle.plan_runs.proofs.Passing.{due_is, not_due, some_is}
-pub use Rattle.plan_runs.proofs.Periods.{Goes, after_goes, sends, sent_period}
+pub use Rattle.plan_runs.proofs.Periods.{Goes, after_goes, sends, sent_period, current_inside}
 pub use Rattle.plan_runs.proofs.Pictures.{HasAll, IsOf, IsPartial, contains_in, each_whole, entries_of, entry_is_of}
 pub use Rattle.plan_runs.proofs.Pictures.{fact_in, in_append, in_contains, in_fact, in_first, in_second, said_by}
 pub use Rattle.plan_runs.proofs.Pictures.{whole_is_set, whole_of}
 pub use Rattle.plan_runs.proofs.Right.{PageLaws, ensemble_right, ensemble_within, page_laws, pageable, sent_within}
+pub use Rattle.plan_runs.proofs.Swaps.{zero_or_more}
 pub use Rattle.plan_runs.proofs.Tracked.{Airs, SwapsOn, noticed, noticed_from, page_after_below, page_of, page_of_first}
 pub use Rattle.plan_runs.proofs.Tracked.{page_of_next, some_rounds, split_le, turn_is_page}
-pub use Rattle.plan_runs.proofs.Tuned.{IsSentOf, NextBy, Or, SaidIn, Tuned, hears_entries, tuned_weaker}
+pub use Rattle.plan_runs.proofs.Tuned.{IsSentOf, NextBy, Or, SaidIn, Tuned, hears_entries, tuned_weaker, some_ext}
+pub use Rattle.plan_runs.proofs.Tuned.{sent_ext}
 pub use Rattle.plan_runs.specs.Announced.{HasHeader, HasThreeHeaders, IsAnnounced, IsHeaded, IsHeardInSome}
 pub use Rattle.plan_runs.specs.Announced.{IsHeardWhole, RunsJoin, heard_left, heard_of, notice_begin, notice_frames}
 pub use Rattle.plan_runs.specs.Frames.{after_burst, after_frame, begins_phase, burst, ensemble_of, ensemble_sent}
