@@ -17,14 +17,13 @@ use Rattle.mux_types.specs.declared.entry.Entry.TheVariants.{Sub as SubOf, Servi
 pub lists_told : {T U : Type 0} (f : T → U) (P : T → Type 0) → ((a b : T) → P a → P b → f a ≡ f b → a ≡ b)
     → (xs ys : List T) → AllByRecursion P xs → AllByRecursion P ys → map f xs ≡ map f ys → xs ≡ ys
 lists_told f P told [] [] h k e = refl
-lists_told f P told [] (y ∷ ys) h k e = absurd (cc)
-lists_told f P told (x ∷ xs) [] h k e = absurd (cc)
 lists_told f P told (x ∷ xs) (y ∷ ys) h k e =
     let first : f x ≡ f y = cc in
     let rest : map f xs ≡ map f ys = cc in
     let head : x ≡ y = told x y h.0 k.0 first in
     let tail : xs ≡ ys = lists_told f P told xs ys h.1 k.1 rest in
     cc
+lists_told f P told _ _ h k e = absurd (cc)
 
 pub each_holds : {T : Type 0} (xs : List T) → AllByRecursion (λ (x : T). Unit {0}) xs
 each_holds [] = tt
@@ -35,20 +34,18 @@ pub parts_told : {T : Type 0} (test : T → Bool) (xs ys rs ts : List T) → All
     → AllByRecursion (λ x. test x ≡ true) ys → AllByRecursion (λ x. test x ≡ false) rs
     → AllByRecursion (λ x. test x ≡ false) ts → xs ++ rs ≡ ys ++ ts → (xs ≡ ys) × (rs ≡ ts)
 parts_told test [] [] rs ts h k i j e = (refl, e)
-parts_told test [] (y ∷ ys) [] ts h k i j e = absurd (cc)
 parts_told test [] (y ∷ ys) (r ∷ rs) ts h k i j e =
     let same : r ≡ y = cc in
     absurd (false≢true (sym i.0 ∙ ap test same ∙ k.0))
-parts_told test (x ∷ xs) [] rs [] h k i j e = absurd (cc)
 parts_told test (x ∷ xs) [] rs (t ∷ ts) h k i j e =
     let same : t ≡ x = cc in
     absurd (false≢true (sym j.0 ∙ ap test same ∙ h.0))
 parts_told test (x ∷ xs) (y ∷ ys) rs ts h k i j e =
-    let first : x ≡ y = cc in
     let rest : xs ++ rs ≡ ys ++ ts = cc in
     let more = parts_told test xs ys rs ts h.1 k.1 i j rest in
     let front : x ∷ xs ≡ y ∷ ys = cc in
     (front, more.1)
+parts_told test _ _ _ _ h k i j e = absurd (cc)
 
 pub each_map : {T U : Type 0} (f : T → U) (P : U → Type 0) → ((x : T) → P (f x)) → (xs : List T)
     → AllByRecursion P (map f xs)
@@ -58,10 +55,9 @@ each_map f P holds (x ∷ xs) = (holds x, each_map f P holds xs)
 -- ---- one entry
 
 pub set_told : (a b : EepSet) → option_of a ≡ option_of b → a ≡ b
-set_told A A e = refl
 set_told A B e = absurd (omega arith)
 set_told B A e = absurd (omega arith)
-set_told B B e = refl
+set_told _ _ e = refl
 
 -- the value of an entry of FIG 0/1, 0/2 and 0/3
 abbrev sub_of : SubEntry → Entry → SubEntry
@@ -126,15 +122,13 @@ sub_told rates a b h k e =
     λ i. record { id = id i; start = start i; protection = profile i; kbits = kbits i }
 
 pub component_told : (primary : Bool) (m n : Component) → component_entry primary m ≡ component_entry primary n → m ≡ n
-component_told primary (Sound ty sub) (Sound uy tub) e = cc
 component_told primary (Sound ty sub) (Stream uy tub) e = absurd (cc)
 component_told primary (Sound ty sub) (InPackets scid) e = absurd (cc)
 component_told primary (Stream ty sub) (Sound uy tub) e = absurd (cc)
-component_told primary (Stream ty sub) (Stream uy tub) e = cc
 component_told primary (Stream ty sub) (InPackets scid) e = absurd (cc)
 component_told primary (InPackets scid) (Sound uy tub) e = absurd (cc)
 component_told primary (InPackets scid) (Stream uy tub) e = absurd (cc)
-component_told primary (InPackets scid) (InPackets tcid) e = cc
+component_told primary _ _ e = cc
 
 pub components_told : (ms ns : List Component) → component_entries ms ≡ component_entries ns → ms ≡ ns
 components_told [] [] e = refl

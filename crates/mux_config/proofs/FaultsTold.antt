@@ -257,21 +257,15 @@ one_pair c i j k l o p =
 
 one_fault : (c : Configuration) (f g : ConfigFault) → IsFault c f → IsFault c g → f ≡ g
 one_fault c (Overlap i j) (Overlap k l) h k2 = one_pair c i j k l h k2
-one_fault c (Overlap i j) Orphan h k = absurd (not_apart c i j h k.0)
-one_fault c (Overlap i j) AddressUsed h k = absurd (not_apart c i j h k.0)
-one_fault c (Overlap i j) EmptyService h k = absurd (not_apart c i j h k.0)
-one_fault c Orphan (Overlap i j) h k = absurd (not_apart c i j k h.0)
-one_fault c Orphan Orphan h k = refl
 one_fault c Orphan AddressUsed h k = absurd (h.1 k.1)
 one_fault c Orphan EmptyService h k = absurd (h.1 k.1)
-one_fault c AddressUsed (Overlap i j) h k = absurd (not_apart c i j k h.0)
 one_fault c AddressUsed Orphan h k = absurd (k.1 h.1)
-one_fault c AddressUsed AddressUsed h k = refl
 one_fault c AddressUsed EmptyService h k = absurd (h.2 k.2)
-one_fault c EmptyService (Overlap i j) h k = absurd (not_apart c i j k h.0)
 one_fault c EmptyService Orphan h k = absurd (k.1 h.1)
 one_fault c EmptyService AddressUsed h k = absurd (k.2 h.2)
-one_fault c EmptyService EmptyService h k = refl
+one_fault c (Overlap i j) _ h k = absurd (not_apart c i j h k.0)
+one_fault c _ (Overlap i j) h k = absurd (not_apart c i j k h.0)
+one_fault c _ _ h k = refl
 
 -- a fault leaves the configuration unsound
 not_sound : (c : Configuration) (fault : ConfigFault) → IsFault c fault → IsSound c → ⊥

@@ -181,9 +181,8 @@ word_within_again total low high n rest from to small =
 -- ---- flags and protection profiles
 
 flag_is : (n : ℕ) → n ≤ 1 → flag_byte (eqb n 1) ≡ n
-flag_is zero small = refl
-flag_is (suc zero) small = refl
 flag_is (suc (suc n)) small = absurd (omega (arith, small))
+flag_is _ small = refl
 
 pub flag_front : (total : ℕ) (bytes : List ℕ) (x : Bool × List ℕ) → IsBytes bytes → flag_at total bytes ≡ Ok x
     → Front bytes (flag_byte x.0 ∷ []) x.1
@@ -198,9 +197,8 @@ flag_again total true rest = refl
 flag_again total false rest = refl
 
 set_is : (n : ℕ) → n ≤ 1 → set_byte (set_of n) ≡ n
-set_is zero small = refl
-set_is (suc zero) small = refl
 set_is (suc (suc n)) small = absurd (omega (arith, small))
+set_is _ small = refl
 
 pub protection_front : (total : ℕ) (bytes : List ℕ) (x : Profile × List ℕ) → IsBytes bytes
     → protection_at total bytes ≡ Ok x
@@ -295,13 +293,12 @@ component_of_front total at (suc zero) bytes x fits e =
       refl,
       (omega (arith, f.2), omega (arith, g.2)),
     )
-component_of_front total at (suc (suc zero)) bytes x fits e = absurd cc
 component_of_front total at (suc (suc (suc zero))) bytes x fits e =
     let a = bind_ok (u16_in_range total 0 4095 bytes) _ x e in
     let f = word_within_front total 0 4095 bytes a.0 fits a.1 in
     let made : Component × List ℕ = (InPackets a.0.0, a.0.1) in
     subst (IsRest 3 bytes) (ok_is made x a.2) (u16_bytes a.0.0, f.0, refl, omega (arith, f.2))
-component_of_front total at (suc (suc (suc (suc k)))) bytes x fits e = absurd cc
+component_of_front total at _ bytes x fits e = absurd cc
 
 pub component_front : (total : ℕ) (bytes : List ℕ) (x : Component × List ℕ) → IsBytes bytes
     → component_at total bytes ≡ Ok x

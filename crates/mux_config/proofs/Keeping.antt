@@ -23,6 +23,8 @@ use Rattle.std.specs.Option.{option_map}
 use Rattle.std.specs.Result.{is_err}
 use Rattle.mux_config.specs.declared.fault.EditFault.{EditFault}
 use Rattle.mux_types.specs.declared.parts.Carrier.TheVariants.{Sub as BySub, Packet as ByPacket}
+use Rattle.std.proofs.lemmas.Bool.{or_parts, false_from_ne_true, true_from_ne_false}
+use Rattle.mux_config.proofs.PartLaws.{different_pushed}
 
 -- ---- tests
 
@@ -39,10 +41,6 @@ pub there : {T : Type 0} (o : Option T) (fault : T → Option EditFault) → abs
     × (o ≡ Some x) × (fault x ≡ None)
 there None fault e = some_none IdAbsent e
 there (Some x) fault e = (x, refl, e)
-
-decided : (t : Bool) → (t ≡ true → ⊥) → t ≡ false
-decided true h = absurd (h refl)
-decided false h = refl
 
 -- ---- the member with a key
 
@@ -68,22 +66,14 @@ pub entry_found : {T : Type 0} (key : T → ℕ) (k : ℕ) (xs : List T) → has
 entry_found key k [] e = absurd (false≢true e)
 entry_found key k (x ∷ xs) e = same_by key k x xs (key x == k) (entry_at key k (x ∷ xs)) refl (entry_found key k xs) e
 
-present_by : (t : Bool) → (t ≡ false → ⊥) → t ≡ true
-present_by true h = refl
-present_by false h = absurd (h refl)
-
-absent_found_by : (t : Bool) → (t ≡ true → ⊥) → t ≡ false
-absent_found_by true h = absurd (h refl)
-absent_found_by false h = refl
-
 pub present : {T : Type 0} (key : T → ℕ) (k : ℕ) (xs : List T) (x : T) → entry_at key k xs ≡ Some x
     → has_entry key k xs ≡ true
-present key k xs x e = present_by (has_entry key k xs)
+present key k xs x e = true_from_ne_false (has_entry key k xs)
     (λ none. let wrong : Some x ≡ None = sym e ∙ absent_told key k xs none in some_none x wrong)
 
 pub absent_found : {T : Type 0} (key : T → ℕ) (k : ℕ) (xs : List T) → entry_at key k xs ≡ None
     → has_entry key k xs ≡ false
-absent_found key k xs e = absent_found_by (has_entry key k xs)
+absent_found key k xs e = false_from_ne_true (has_entry key k xs)
     (λ some. let found = entry_found key k xs some in let wrong : Some found.0 ≡ None = sym found.1 ∙ e in
     some_none found.0 wrong)
 
@@ -141,11 +131,8 @@ changed_here key k change (y ∷ ys) x up e same =
       | inl here ↦
           let one : key y == key (change x) ≡ true = eq-eqb (key y) (key (change x)) (here ∙ sym same) in
           let two : key y == k ≡ true = eq-eqb (key y) k here in
-          let first : Some y ≡ Some x = sym (ap (λ (t : Bool). cond t (Some y) (entry_at key k ys)) two) ∙ e in
-          let is : y ≡ x = cc in
           let tail = unchanged key k change (change x) ys same
           (each_weaker (λ z. key y < key z) (λ z. k < key z) (λ z h. omega (arith, h, here)) ys up.0) in
-          let head : change x ≡ change y = ap change (sym is) in
           rw (one, two) (cc)
       | inr other ↦
           let one : key y == key (change x) ≡ false = ne_eqb (key y) (key (change x)) (λ h. other (h ∙ same)) in
@@ -190,8 +177,6 @@ bounded : {T : Type 0} (key : T → ℕ) (xs : List T) (low high : ℕ) → IsAs
     → AllByRecursion (λ x. low ≤ key x) xs → AllByRecursion (λ x. key x < high) xs → low ≤ high → low + length xs ≤ high
 bounded key [] low high up from to le = omega arith
 bounded key (x ∷ xs) low high up from to le =
-    let first : low ≤ key x = from.0 in
-    let last : key x < high = to.0 in
     let rest = bounded key xs (suc (key x)) high up.1
     (each_weaker (λ z. key x < key z) (λ z. suc (key x) ≤ key z) (λ z h. omega arith) xs up.0) to.1 (omega arith) in
     omega (arith, rest)
@@ -289,10 +274,8 @@ set_changed P key k change xs x h found same holds =
 three_tests : (a b c : Bool) (n : ℕ)
     → is_err (cond a (Err ZeroRate) (cond b (Err NotMultiple) (cond c (Err PastMultiplex) (Ok n)))) ≡ false
     → (a ≡ false) × (b ≡ false) × (c ≡ false)
-three_tests true b c n e = absurd (false≢true (sym e))
-three_tests false true c n e = absurd (false≢true (sym e))
-three_tests false false true n e = absurd (false≢true (sym e))
 three_tests false false false n e = (refl, refl, refl)
+three_tests _ _ _ n e = absurd (false≢true (sym e))
 
 pub sized : (p : Profile) (kbits : ℕ) → is_err (size_or_fault p kbits) ≡ false → IsSize p kbits (table_size p kbits)
 sized p kbits e =
@@ -419,19 +402,6 @@ pub names_told : (carrier : Carrier) (m : Component) → names carrier m ≡ fal
 names_told carrier m e same = false≢true (sym e ∙ subst (λ (a : Carrier). is_same_carrier a carrier ≡ true) (sym same)
     (same_itself carrier))
 
-either : (a b : Bool) → (a || b) ≡ false → (a ≡ false) × (b ≡ false)
-either true b e = absurd (false≢true (sym e))
-either false b e = (refl, e)
-
-different_pushed : (ms : List Component) (m : Component) → AreDifferent ms → list_any (names (carrier_of m)) ms ≡ false
-    → AreDifferent (ms ++ m ∷ [])
-different_pushed [] m h e = (tt, tt)
-different_pushed (n ∷ ns) m h e =
-    let parts = either (names (carrier_of m) n) (list_any (names (carrier_of m)) ns) e in (
-      each_pushed (λ d. carrier_of n ≢ carrier_of d) ns m h.0 (names_told (carrier_of m) n parts.0),
-      different_pushed ns m h.1 parts.1,
-    )
-
 different_by : (test : Component → Bool) (m : Component) (ms : List Component) (t : Bool)
     → AllByRecursion (λ d. carrier_of m ≢ carrier_of d) (filter test ms) → AreDifferent (filter test ms)
     → AreDifferent (cond t (m ∷ filter test ms) (filter test ms))
@@ -500,12 +470,11 @@ drop_component_keeps sid carrier c h e =
 -- carriers that the test finds the same are equal
 pub carrier_same : (a b : Carrier) → is_same_carrier a b ≡ true → a ≡ b
 carrier_same (BySub m) (BySub n) e = ap BySub (eqb-true m n e)
-carrier_same (BySub m) (ByPacket n) e = absurd (false≢true e)
-carrier_same (ByPacket m) (BySub n) e = absurd (false≢true e)
 carrier_same (ByPacket m) (ByPacket n) e = ap ByPacket (eqb-true m n e)
+carrier_same _ _ e = absurd (false≢true e)
 
 named_not : (carrier : Carrier) (m : Component) → (carrier_of m ≢ carrier) → names carrier m ≡ false
-named_not carrier m differ = decided (names carrier m) (λ e. differ (carrier_same (carrier_of m) carrier e))
+named_not carrier m differ = false_from_ne_true (names carrier m) (λ e. differ (carrier_same (carrier_of m) carrier e))
 
 -- if no component has the carrier, all stay
 all_stay : (carrier : Carrier) (ms : List Component) → AllByRecursion (λ m. carrier_of m ≢ carrier) ms
@@ -517,7 +486,7 @@ pub stay_told : (carrier : Carrier) (ms : List Component) → list_any (names ca
     → filter (λ m. not (names carrier m)) ms ≡ ms
 stay_told carrier [] e = refl
 stay_told carrier (m ∷ ms) e =
-    let parts = either (names carrier m) (list_any (names carrier) ms) e in
+    let parts = or_parts (names carrier m) (list_any (names carrier) ms) e in
     rw parts.0 (ap (λ ns. m ∷ ns) (stay_told carrier ms parts.1))
 
 -- the others close up
@@ -541,9 +510,8 @@ closed_up carrier (n ∷ ns) (suc i) m h at is =
 
 either_number : (p : Packet) → has_bad_address p ≡ false → (1 ≤ p.address) × (p.address ≤ 1023)
 either_number p e =
-    let parts = either (p.address == 0) (ltb 1023 p.address) e in
-    let some = eqb-false p.address 0 parts.0 in
-    (omega (arith, some), ltb-false 1023 p.address parts.1)
+    let parts = or_parts (p.address == 0) (ltb 1023 p.address) e in
+    (omega (arith, eqb-false p.address 0 parts.0), ltb-false 1023 p.address parts.1)
 
 pub add_packet_fits : (p : Packet) (c : Configuration) → add_packet_fault p c ≡ None
     → (entry_at packet_key p.scid c.packets ≡ None) × (length c.packets < 64)

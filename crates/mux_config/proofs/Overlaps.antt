@@ -1,11 +1,12 @@
 -- The searches of sub-channels for the first overlap, and of packet components for an address used twice.
-use Rattle.mux_config.proofs.Words.{[], ◌&&◌, ◌+◌, ◌<◌, ◌==◌, ◌||◌, ◌∙◌, ◌∷◌, ◌≡◌, Bool, ConfigFault, List, None}
-use Rattle.mux_config.proofs.Words.{Option, Overlap, Packet, Some, Sub, ap, arith, cond, cut, drop, false, false≢true}
+use Rattle.mux_config.proofs.Words.{[], ◌+◌, ◌<◌, ◌==◌, ◌||◌, ◌∙◌, ◌∷◌, ◌≡◌, Bool, ConfigFault, List, None, Option}
+use Rattle.mux_config.proofs.Words.{Overlap, Packet, Some, Sub, ap, arith, cond, cut, drop, false, false≢true}
 use Rattle.mux_config.proofs.Words.{first_of_two, first_overlap, get_or-replicate, get_or-set_other, has_address_twice}
 use Rattle.mux_config.proofs.Words.{has_same_address, inl, inr, is_some, length, list_any, overlap_with, overlaps, refl}
 use Rattle.mux_config.proofs.Words.{replicate, slice_get, slice_index_or, slice_set, suc, sym, true, zero, ℕ}
 use Rattle.std.proofs.lemmas.Bool.Decides.{eqb_tells}
 use Rattle.std.proofs.lemmas.Grind.{get_or-set_at}
+use Rattle.std.proofs.lemmas.Bool.{or_parts, or_right, and_left}
 
 -- ---- the search for the first overlap
 
@@ -61,32 +62,18 @@ first_more xs i a fault all left e is none =
 abbrev pub is_named : ℕ → List Packet → Bool
 is_named s ps = list_any (λ (q : Packet). s == q.sub) ps
 
--- a packet component whose sub-channel no other has shares its address with none
-shares_none : (a b : Bool) → a ≡ false → (a && b) ≡ false
-shares_none true b e = absurd (false≢true (sym e))
-shares_none false b e = refl
-
-none_of_two : (a b : Bool) → (a || b) ≡ false → (a ≡ false) × (b ≡ false)
-none_of_two true b e = absurd (false≢true (sym e))
-none_of_two false b e = (refl, e)
-
 none_alike : (p : Packet) (ps : List Packet) → is_named p.sub ps ≡ false → list_any (has_same_address p) ps ≡ false
 none_alike p [] e = refl
 none_alike p (q ∷ qs) e =
-    let two = none_of_two (p.sub == q.sub) (is_named p.sub qs) e in
-    let first : has_same_address p q ≡ false = shares_none (p.sub == q.sub) (p.address == q.address) two.0 in
+    let two = or_parts (p.sub == q.sub) (is_named p.sub qs) e in
+    let first : has_same_address p q ≡ false = and_left (p.sub == q.sub) (p.address == q.address) two.0 in
     ap (λ (t : Bool). t || list_any (has_same_address p) qs) first ∙ none_alike p qs two.1
-
--- if two of the last ones share an address, two of all do
-either_later : (a b : Bool) → b ≡ true → (a || b) ≡ true
-either_later true b e = refl
-either_later false b e = e
 
 twice_later : (xs : List Packet) (i : ℕ) → has_address_twice (drop i xs) ≡ true → has_address_twice xs ≡ true
 twice_later xs zero e = e
 twice_later [] (suc i) e = e
 twice_later (x ∷ xs) (suc i) e =
-    either_later (list_any (has_same_address x) xs) (has_address_twice xs) (twice_later xs i e)
+    or_right (list_any (has_same_address x) xs) (has_address_twice xs) (twice_later xs i e)
 
 twice_step : (xs : List Packet) (i : ℕ) (p : Packet) → slice_get xs i ≡ Some p
     → has_address_twice (drop i xs)

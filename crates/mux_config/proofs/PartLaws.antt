@@ -1,6 +1,6 @@
 -- A sub-channel, a service or a packet component that is read is the one that was encoded, and what is encoded is read
 -- again.
-use Rattle.mux_config.proofs.Words.{[], ◌%◌, ◌*◌, ◌++◌, ◌+◌, ◌/◌, ◌<◌, ◌||◌, ◌∙◌, ◌∷◌, ◌≡◌, ◌≢◌, ◌≤◌, A, AllByRecursion}
+use Rattle.mux_config.proofs.Words.{[], ◌%◌, ◌*◌, ◌++◌, ◌+◌, ◌/◌, ◌<◌, ◌∙◌, ◌∷◌, ◌≡◌, ◌≢◌, ◌≤◌, A, AllByRecursion}
 use Rattle.mux_config.proofs.Words.{AreDifferent, B, Bool, Carrier, Component, EepFault, EepSet, Err, IsAddressed}
 use Rattle.mux_config.proofs.Words.{IsComponent, IsPlaced, IsService, IsSize, List, NotMultiple, Ok, Order, Packet}
 use Rattle.mux_config.proofs.Words.{PastMultiplex, Profile, Result, Service, Sub, ZeroRate, ap, append-nil}
@@ -17,6 +17,8 @@ use Rattle.mux_config.proofs.FieldLaws.{IsBytes, Front, front_then, bind_ok, ref
 use Rattle.mux_config.proofs.FieldLaws.{byte_within_front, byte_within_again, word_within_front, word_within_again}
 use Rattle.mux_config.proofs.FieldLaws.{flag_front, flag_again, protection_front, protection_again, sid_front}
 use Rattle.mux_config.proofs.FieldLaws.{sid_again, component_front, component_again}
+use Rattle.std.proofs.lemmas.Bool.{or_parts}
+use Rattle.mux_config.proofs.Rates.{units_positive}
 
 -- ---- sizes
 
@@ -38,11 +40,10 @@ size_ok p kbits n e =
     let z = test_ok (eqb kbits 0) ZeroRate (cond (ltb 0 (kbits % rate_step p.set)) (Err NotMultiple) past) n e in
     let m = test_ok (ltb 0 (kbits % rate_step p.set)) NotMultiple past n z.1 in
     let w = test_ok (ltb 864 (table_size p kbits)) PastMultiplex (Ok (table_size p kbits)) n m.1 in
-    let none : kbits ≡ 0 → ⊥ = eqb-false _ _ z.0 in
     let multiple : kbits % rate_step p.set ≤ 0 = ltb-false _ _ m.0 in (
       sym (same_size (table_size p kbits) n w.1),
       record {
-        positive = omega (arith, none);
+        positive = omega (arith, eqb-false _ _ z.0);
         multiple = omega (arith, multiple);
         from_table = refl;
         within = ltb-false _ _ w.0;
@@ -56,25 +57,9 @@ size_again p kbits size h =
     let within : ltb 864 (table_size p kbits) ≡ false = le-ltb _ _ (omega (arith, h.within, h.from_table)) in
     rw (some, multiple, within) refl
 
-chosen : (a b c : Bool) (k l m n : ℕ) → 0 < k → 0 < l → 0 < m → 0 < n → 0 < cond a k (cond b l (cond c m n))
-chosen true b c k l m n h i j g = h
-chosen false true c k l m n h i j g = i
-chosen false false true k l m n h i j g = j
-chosen false false false k l m n h i j g = g
-
 rate_small : (set : EepSet) (level kbits : ℕ) → units_of_step set level * (kbits / rate_step set) ≤ 864 → kbits < 65536
-rate_small A level kbits h =
-    let units : 0 < units_of_step A level =
-    chosen (eqb level 1) (eqb level 2) (eqb level 3) 12 8 6 4 (omega arith) (omega arith) (omega arith)
-    (omega arith) in
-    let more = le-mul_of_pos_right (kbits / 8) units in
-    omega (arith, h, more)
-rate_small B level kbits h =
-    let units : 0 < units_of_step B level =
-    chosen (eqb level 1) (eqb level 2) (eqb level 3) 27 21 18 15 (omega arith) (omega arith) (omega arith)
-    (omega arith) in
-    let more = le-mul_of_pos_right (kbits / 32) units in
-    omega (arith, h, more)
+rate_small A level kbits h = omega (arith, h, le-mul_of_pos_right (kbits / 8) (units_positive A level))
+rate_small B level kbits h = omega (arith, h, le-mul_of_pos_right (kbits / 32) (units_positive B level))
 
 -- ---- sub-channels
 
@@ -136,25 +121,19 @@ sub_again total low s rest h up =
 
 carrier_differs : (a b : Carrier) → is_same_carrier a b ≡ false → a ≢ b
 carrier_differs (BySub a) (BySub b) h e = eqb-false a b h (let same : a ≡ b = cc in same)
-carrier_differs (BySub a) (ByPacket b) h e = absurd cc
-carrier_differs (ByPacket a) (BySub b) h e = absurd cc
 carrier_differs (ByPacket a) (ByPacket b) h e = eqb-false a b h (let same : a ≡ b = cc in same)
+carrier_differs _ _ h e = absurd cc
 
 carrier_other : (a b : Carrier) → a ≢ b → is_same_carrier a b ≡ false
 carrier_other (BySub a) (BySub b) h = ne_eqb a b (λ e. h (ap (λ (n : ℕ). BySub n) e))
-carrier_other (BySub a) (ByPacket b) h = refl
-carrier_other (ByPacket a) (BySub b) h = refl
 carrier_other (ByPacket a) (ByPacket b) h = ne_eqb a b (λ e. h (ap (λ (n : ℕ). ByPacket n) e))
+carrier_other _ _ h = refl
 
-neither : (x y : Bool) → (x || y) ≡ false → (x ≡ false) × (y ≡ false)
-neither true y e = absurd cc
-neither false y e = (refl, e)
-
-different_pushed : (before : List Component) (c : Component) → AreDifferent before
+pub different_pushed : (before : List Component) (c : Component) → AreDifferent before
     → list_any (names (carrier_of c)) before ≡ false → AreDifferent (before ++ c ∷ [])
 different_pushed [] c all new = (tt, tt)
 different_pushed (b ∷ bs) c all new =
-    let n = neither (names (carrier_of c) b) (list_any (names (carrier_of c)) bs) new in (
+    let n = or_parts (names (carrier_of c) b) (list_any (names (carrier_of c)) bs) new in (
       each_pushed (λ d. carrier_of b ≢ carrier_of d) bs c all.0 (carrier_differs (carrier_of b) (carrier_of c) n.0),
       different_pushed bs c all.1 n.1,
     )
@@ -248,7 +227,6 @@ service_front total low bytes x fits e =
     let fm = components_front total [] n.0.0 n.0.1 m.0 fn.0.rest_fits tt tt m.1 in
     let up : low ≤ sid_key a.0.0 = ltb-false _ _ r.0 in
     let count : length m.0.0 ≡ n.0.0 = omega (arith, fm.3) in
-    let text : List ℕ = flat_map component_bytes m.0.0 in
     let both = front_then a.0.1 (n.0.0 ∷ []) n.0.1 fm.0 m.0.1 fn.0 fm.1 in
     let whole = front_then bytes (sid_field a.0.0) a.0.1 (n.0.0 ∷ fm.0) m.0.1 fa.0 both in
     let made : Service × List ℕ = (record { sid = a.0.0; components = m.0.0 }, m.0.1) in

@@ -1,15 +1,14 @@
 -- The offset of a field at fault is that of one of the bytes read.
-use Rattle.mux_config.proofs.Words.{[], ◌<◌, ◌>>=◌, ◌∷◌, ◌≤◌, Bool, Err, Field, List, Ok, Order, Reads, RecordFault}
-use Rattle.mux_config.proofs.Words.{Short, Width, arith, byte_at, byte_len, byte_within, cond, drop, false, flag_at}
+use Rattle.mux_config.proofs.Words.{[], ◌<◌, ◌>>=◌, ◌∷◌, ◌≤◌, Bool, Err, Field, List, Ok, Reads, RecordFault, Short}
+use Rattle.mux_config.proofs.Words.{Width, arith, byte_at, byte_len, byte_within, cond, drop, false, flag_at}
 use Rattle.mux_config.proofs.Words.{from_be_bytes, judged, length, length-drop, ltb, number_at, place, refuse}
 use Rattle.mux_config.proofs.Words.{sid_of_kind, suc, take, true, u16_in_range, w16, w32, zero, ℕ}
 use Rattle.mux_config.specs.FieldReading.{protection_at, sid_at, component_of, component_at}
 
 -- the offset in a fault is below `total`
 abbrev pub IsPlacedIn : ℕ → RecordFault → Type 0
-IsPlacedIn total Short = Unit {0}
 IsPlacedIn total (Field at) = at < total
-IsPlacedIn total Order = Unit {0}
+IsPlacedIn total _ = Unit {0}
 
 -- a reading of some of `total` bytes leaves no more than those, and the offset of its fault is below `total`
 abbrev pub Placed : {T : Type 0} → ℕ → Reads T → Type 0
@@ -51,9 +50,8 @@ placed_word total (b ∷ rest) f left next =
 
 judged_by : (total at : ℕ) (n : ℕ × List ℕ) (t u : Bool) → at < total → length n.1 ≤ total
     → Placed total (cond t (Err (Field at)) (cond u (Err (Field at)) (Ok n)))
-judged_by total at n true u within left = within
-judged_by total at n false true within left = within
 judged_by total at n false false within left = left
+judged_by total at n _ _ within left = within
 
 pub placed_judged : (total at low high n : ℕ) (rest : List ℕ) → at < total → length rest ≤ total
     → Placed total (judged at low high (n, rest))
@@ -96,16 +94,13 @@ placed_sid total bytes left = placed_bind total _ _ (placed_byte_within total 0 
 placed_component_of : (total at tmid : ℕ) (bytes : List ℕ) → at < total → length bytes ≤ total
     → Placed total (component_of total at tmid bytes)
 unfolding component_of
-placed_component_of total at zero bytes within left =
-    placed_bind total _ _ (placed_byte_within total 0 63 bytes left) (λ ty rest some.
-    placed_bind total _ _ (placed_byte_within total 0 63 rest some) (λ sub last after. after))
-placed_component_of total at (suc zero) bytes within left =
-    placed_bind total _ _ (placed_byte_within total 0 63 bytes left) (λ ty rest some.
-    placed_bind total _ _ (placed_byte_within total 0 63 rest some) (λ sub last after. after))
 placed_component_of total at (suc (suc zero)) bytes within left = within
 placed_component_of total at (suc (suc (suc zero))) bytes within left =
     placed_bind total _ _ (placed_word_within total 0 4095 bytes left) (λ scid rest after. after)
 placed_component_of total at (suc (suc (suc (suc k)))) bytes within left = within
+placed_component_of total at _ bytes within left =
+    placed_bind total _ _ (placed_byte_within total 0 63 bytes left) (λ ty rest some.
+    placed_bind total _ _ (placed_byte_within total 0 63 rest some) (λ sub last after. after))
 
 pub placed_component : (total : ℕ) (bytes : List ℕ) → length bytes ≤ total → Placed total (component_at total bytes)
 unfolding component_at

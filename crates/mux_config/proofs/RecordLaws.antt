@@ -188,7 +188,6 @@ read_so bytes (Ok f) read whole fault c rest h e =
 read_so bytes (Err e) read whole fault c rest h same =
     let again : config_at bytes ≡ given (c, rest) = ap config_at same
     ∙ record_again (length (config_bytes c ++ rest)) c rest h in
-    let wrong : Err e ≡ given (c, rest) = sym fault ∙ again in
     absurd cc
 
 -- a reading that consumed the whole encoding leaves what follows it

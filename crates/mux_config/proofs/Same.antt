@@ -1,7 +1,7 @@
 -- Parts that the tests of equality find the same are equal, and so are lists of them and whole configurations.
-use Rattle.mux_config.proofs.Words.{[], ◌&&◌, ◌↔◌, ◌∷◌, ◌≡◌, A, B, Bool, ChangeIsUnique, Component, Configuration}
-use Rattle.mux_config.proofs.Words.{EepSet, HaveSameMembers, List, OneRate, Packet, Service, Sid, Sound, Stream, Sub}
-use Rattle.mux_config.proofs.Words.{ap, eq-eqb, eqb, eqb-true, false, false≢true, has_same_services, has_same_subs}
+use Rattle.mux_config.proofs.Words.{[], ◌↔◌, ◌∷◌, ◌≡◌, A, B, Bool, ChangeIsUnique, Component, Configuration, EepSet}
+use Rattle.mux_config.proofs.Words.{HaveSameMembers, List, OneRate, Packet, Service, Sid, Sound, Stream, Sub, ap}
+use Rattle.mux_config.proofs.Words.{eq-eqb, eqb, eqb-true, false, false≢true, has_same_services, has_same_subs}
 use Rattle.mux_config.proofs.Words.{is_same_component, is_same_flag, is_same_list, is_same_packet, is_same_service}
 use Rattle.mux_config.proofs.Words.{is_same_set, is_same_sid, is_same_sub, map, not, refl, service_entries, sub_entries}
 use Rattle.mux_config.proofs.Words.{sub_entry, subst, sym, true, ℕ}
@@ -9,15 +9,9 @@ use Rattle.mux_types.specs.declared.numbers.Sid.TheVariants.{Short, Long}
 use Rattle.mux_config.specs.declared.flags.Change.{Change}
 use Rattle.mux_types.specs.declared.parts.Component.TheVariants.{Packet as InPackets}
 use Rattle.mux_config.proofs.FactSets.{same_members, subs_of_sets, services_of_sets}
+use Rattle.std.proofs.lemmas.Bool.{and_parts, and_from}
 
 -- ---- tests
-
-both_parts : (a b : Bool) → (a && b) ≡ true → (a ≡ true) × (b ≡ true)
-both_parts true b e = (refl, e)
-both_parts false b e = absurd (false≢true e)
-
-both_hold : (a b : Bool) → a ≡ true → b ≡ true → (a && b) ≡ true
-both_hold a b p q = subst (λ (x : Bool). (x && b) ≡ true) (sym p) q
 
 eqb_itself : (n : ℕ) → eqb n n ≡ true
 eqb_itself n = eq-eqb n n refl
@@ -34,18 +28,17 @@ flag_itself false = refl
 pub list_same : {T : Type 0} (same : T → T → Bool) → ((a b : T) → same a b ≡ true → a ≡ b) → (xs ys : List T)
     → is_same_list same xs ys ≡ true → xs ≡ ys
 list_same same told [] [] e = refl
-list_same same told [] (y ∷ ys) e = absurd (false≢true e)
-list_same same told (x ∷ xs) [] e = absurd (false≢true e)
 list_same same told (x ∷ xs) (y ∷ ys) e =
-    let parts = both_parts (same x y) (is_same_list same xs ys) e in
+    let parts = and_parts (same x y) (is_same_list same xs ys) e in
     let head : x ≡ y = told x y parts.0 in
     let tail : xs ≡ ys = list_same same told xs ys parts.1 in
     cc
+list_same same told _ _ e = absurd (false≢true e)
 
 pub list_itself : {T : Type 0} (same : T → T → Bool) → ((a : T) → same a a ≡ true) → (xs : List T)
     → is_same_list same xs xs ≡ true
 list_itself same told [] = refl
-list_itself same told (x ∷ xs) = both_hold _ _ (told x) (list_itself same told xs)
+list_itself same told (x ∷ xs) = and_from _ _ (told x) (list_itself same told xs)
 
 pub list_equal : {T : Type 0} (same : T → T → Bool) → ((a : T) → same a a ≡ true) → (xs ys : List T) → xs ≡ ys
     → is_same_list same xs ys ≡ true
@@ -55,10 +48,9 @@ list_equal same told xs ys e = let P : List _ → Type 0 = λ zs. is_same_list s
 -- ---- the parts of a configuration
 
 set_same : (a b : EepSet) → is_same_set a b ≡ true → a ≡ b
-set_same A A e = refl
 set_same A B e = absurd (false≢true e)
 set_same B A e = absurd (false≢true e)
-set_same B B e = refl
+set_same _ _ e = refl
 
 set_itself : (a : EepSet) → is_same_set a a ≡ true
 set_itself A = refl
@@ -66,10 +58,10 @@ set_itself B = refl
 
 pub sub_same : (a b : Sub) → is_same_sub a b ≡ true → a ≡ b
 sub_same a b e =
-    let one = both_parts _ _ e in
-    let two = both_parts _ _ one.0 in
-    let three = both_parts _ _ two.0 in
-    let four = both_parts _ _ three.0 in
+    let one = and_parts _ _ e in
+    let two = and_parts _ _ one.0 in
+    let three = and_parts _ _ two.0 in
+    let four = and_parts _ _ three.0 in
     let id : a.id ≡ b.id = eqb-true _ _ four.0 in
     let start : a.start ≡ b.start = eqb-true _ _ four.1 in
     let set : a.protection.set ≡ b.protection.set = set_same _ _ three.1 in
@@ -79,54 +71,48 @@ sub_same a b e =
 
 pub sub_itself : (a : Sub) → is_same_sub a a ≡ true
 sub_itself a =
-    both_hold _ _ (both_hold _ _
-    (both_hold _ _ (both_hold _ _ (eqb_itself a.id) (eqb_itself a.start)) (set_itself a.protection.set))
+    and_from _ _ (and_from _ _
+    (and_from _ _ (and_from _ _ (eqb_itself a.id) (eqb_itself a.start)) (set_itself a.protection.set))
     (eqb_itself a.protection.level)) (eqb_itself a.kbits)
 
 pub sid_same : (a b : Sid) → is_same_sid a b ≡ true → a ≡ b
 sid_same (Short a) (Short b) e = ap Short (eqb-true a b e)
-sid_same (Short a) (Long b) e = absurd (false≢true e)
-sid_same (Long a) (Short b) e = absurd (false≢true e)
 sid_same (Long a) (Long b) e = ap Long (eqb-true a b e)
+sid_same _ _ e = absurd (false≢true e)
 
 pub sid_itself : (a : Sid) → is_same_sid a a ≡ true
 sid_itself (Short a) = eqb_itself a
 sid_itself (Long a) = eqb_itself a
 
 pub component_same : (m n : Component) → is_same_component m n ≡ true → m ≡ n
-component_same (Sound ty sub) (Sound uy tub) e = let parts = both_parts _ _ e in let one : ty ≡ uy =
+component_same (Sound ty sub) (Sound uy tub) e = let parts = and_parts _ _ e in let one : ty ≡ uy =
     eqb-true _ _ parts.0 in let two : sub ≡ tub = eqb-true _ _ parts.1 in cc
-component_same (Sound ty sub) (Stream uy tub) e = absurd (false≢true e)
-component_same (Sound ty sub) (InPackets scid) e = absurd (false≢true e)
-component_same (Stream ty sub) (Sound uy tub) e = absurd (false≢true e)
-component_same (Stream ty sub) (Stream uy tub) e = let parts = both_parts _ _ e in let one : ty ≡ uy =
+component_same (Stream ty sub) (Stream uy tub) e = let parts = and_parts _ _ e in let one : ty ≡ uy =
     eqb-true _ _ parts.0 in let two : sub ≡ tub = eqb-true _ _ parts.1 in cc
-component_same (Stream ty sub) (InPackets scid) e = absurd (false≢true e)
-component_same (InPackets scid) (Sound uy tub) e = absurd (false≢true e)
-component_same (InPackets scid) (Stream uy tub) e = absurd (false≢true e)
 component_same (InPackets scid) (InPackets tcid) e = ap InPackets (eqb-true _ _ e)
+component_same _ _ e = absurd (false≢true e)
 
 pub component_itself : (m : Component) → is_same_component m m ≡ true
-component_itself (Sound ty sub) = both_hold _ _ (eqb_itself ty) (eqb_itself sub)
-component_itself (Stream ty sub) = both_hold _ _ (eqb_itself ty) (eqb_itself sub)
+component_itself (Sound ty sub) = and_from _ _ (eqb_itself ty) (eqb_itself sub)
+component_itself (Stream ty sub) = and_from _ _ (eqb_itself ty) (eqb_itself sub)
 component_itself (InPackets scid) = eqb_itself scid
 
 pub service_same : (a b : Service) → is_same_service a b ≡ true → a ≡ b
 service_same a b e =
-    let parts = both_parts _ _ e in
+    let parts = and_parts _ _ e in
     let sid : a.sid ≡ b.sid = sid_same _ _ parts.0 in
     let components : a.components ≡ b.components = list_same is_same_component component_same _ _ parts.1 in
     λ i. record { sid = sid i; components = components i }
 
 pub service_itself : (a : Service) → is_same_service a a ≡ true
-service_itself a = both_hold _ _ (sid_itself a.sid) (list_itself is_same_component component_itself a.components)
+service_itself a = and_from _ _ (sid_itself a.sid) (list_itself is_same_component component_itself a.components)
 
 pub packet_same : (p q : Packet) → is_same_packet p q ≡ true → p ≡ q
 packet_same p q e =
-    let one = both_parts _ _ e in
-    let two = both_parts _ _ one.0 in
-    let three = both_parts _ _ two.0 in
-    let four = both_parts _ _ three.0 in
+    let one = and_parts _ _ e in
+    let two = and_parts _ _ one.0 in
+    let three = and_parts _ _ two.0 in
+    let four = and_parts _ _ three.0 in
     let scid : p.scid ≡ q.scid = eqb-true _ _ four.0 in
     let dg : p.dg ≡ q.dg = flag_same _ _ four.1 in
     let ty : p.ty ≡ q.ty = eqb-true _ _ three.1 in
@@ -136,8 +122,8 @@ packet_same p q e =
 
 pub packet_itself : (p : Packet) → is_same_packet p p ≡ true
 packet_itself p =
-    both_hold _ _ (both_hold _ _
-    (both_hold _ _ (both_hold _ _ (eqb_itself p.scid) (flag_itself p.dg)) (eqb_itself p.ty)) (eqb_itself p.sub))
+    and_from _ _ (and_from _ _
+    (and_from _ _ (and_from _ _ (eqb_itself p.scid) (flag_itself p.dg)) (eqb_itself p.ty)) (eqb_itself p.sub))
     (eqb_itself p.address)
 
 -- ---- configurations
@@ -152,14 +138,14 @@ subs_itself xs ys e = subst (λ (zs : List Sub). is_same_list is_same_sub xs zs 
 services_same : (c d : Configuration) → has_same_services c d ≡ true → (c.services ≡ d.services)
     × (c.packets ≡ d.packets)
 services_same c d e =
-    let parts = both_parts _ _ e in (
+    let parts = and_parts _ _ e in (
       list_same is_same_service service_same c.services d.services parts.0,
       list_same is_same_packet packet_same c.packets d.packets parts.1,
     )
 
 services_itself : (c d : Configuration) → c.services ≡ d.services → c.packets ≡ d.packets → has_same_services c d ≡ true
 services_itself c d e f =
-    both_hold _ _
+    and_from _ _
     (subst (λ (zs : List Service). is_same_list is_same_service c.services zs ≡ true) e
     (list_itself is_same_service service_itself c.services))
     (subst (λ (zs : List Packet). is_same_list is_same_packet c.packets zs ≡ true) f

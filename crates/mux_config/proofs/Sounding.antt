@@ -1,5 +1,5 @@
 -- A configuration is sound exactly if no fault is found.
-use Rattle.mux_config.proofs.Words.{[], ◌%◌, ◌&&◌, ◌+◌, ◌/◌, ◌<◌, ◌==◌, ◌||◌, ◌∙◌, ◌∷◌, ◌≡◌, ◌≢◌, ◌⊎◌, A, AddressUsed}
+use Rattle.mux_config.proofs.Words.{[], ◌%◌, ◌+◌, ◌/◌, ◌<◌, ◌==◌, ◌||◌, ◌∙◌, ◌∷◌, ◌≡◌, ◌≢◌, ◌⊎◌, A, AddressUsed}
 use Rattle.mux_config.proofs.Words.{AllByRecursion, AreCarried, AreFilled, B, Bool, Carrier, Component, ConfigFault}
 use Rattle.mux_config.proofs.Words.{Configuration, Contains, EepSet, EmptyService, IsAscending, IsConfiguration}
 use Rattle.mux_config.proofs.Words.{IsCrowded, IsPlaced, IsSound, IsThere, IsUnitOf, List, None, Option, Orphan}
@@ -7,27 +7,20 @@ use Rattle.mux_config.proofs.Words.{Overlap, Packet, Service, Some, Sub, ap, ari
 use Rattle.mux_config.proofs.Words.{contains_cases, contains_first, contains_later, contains_none, each_contains}
 use Rattle.mux_config.proofs.Words.{entry_at, eq-eqb, eqb-true, false, false≢true, first_fault, first_of_two}
 use Rattle.mux_config.proofs.Words.{first_overlap, has_address_twice, has_entry, has_orphan, has_same_address, inl, inr}
-use Rattle.mux_config.proofs.Words.{is_crowded, is_empty_service, is_missing, is_some, le-mul_of_pos_right, length}
-use Rattle.mux_config.proofs.Words.{list_any, lt-ltb, ltb, ltb-true, ne_eqb, not, other_fault, overlap_with, overlaps}
-use Rattle.mux_config.proofs.Words.{packet_key, rate_step, refl, size_of_sub, sub_key, subst, sym, true, units_of_step}
-use Rattle.mux_config.proofs.Words.{ℕ}
+use Rattle.mux_config.proofs.Words.{is_crowded, is_empty_service, is_missing, is_some, length, list_any, lt-ltb, ltb}
+use Rattle.mux_config.proofs.Words.{ltb-true, ne_eqb, not, other_fault, overlap_with, overlaps, packet_key, rate_step}
+use Rattle.mux_config.proofs.Words.{refl, size_of_sub, sub_key, subst, sym, true, ℕ, le-mul_of_pos_right, units_of_step}
 use Rattle.mux_types.specs.declared.parts.Carrier.TheVariants.{Sub as BySub, Packet as ByPacket}
 use Rattle.mux_config.proofs.Rates.{units_positive}
+use Rattle.std.proofs.lemmas.Bool.{or_parts, and_parts, and_from, false_from_ne_true, or_right, or_from, not-false}
 
 -- ---- members of a list
-
-either : (a b : Bool) → (a || b) ≡ false → (a ≡ false) × (b ≡ false)
-either true b e = absurd (false≢true (sym e))
-either false b e = (refl, e)
-
-neither : (a b : Bool) → a ≡ false → b ≡ false → (a || b) ≡ false
-neither a b p q = subst (λ (t : Bool). (t || b) ≡ false) (sym p) q
 
 pub none_told : {T : Type 0} (test : T → Bool) (xs : List T) (x : T) → list_any test xs ≡ false → Contains xs x
     → test x ≡ false
 none_told test [] x e there = absurd (contains_none x there)
 none_told test (y ∷ ys) x e there =
-    let parts = either (test y) (list_any test ys) e in
+    let parts = or_parts (test y) (list_any test ys) e in
     elim (contains_cases y ys x there) [
       | inl same ↦ ap test (sym same) ∙ parts.0
       | inr later ↦
@@ -38,7 +31,7 @@ pub none_holds : {T : Type 0} (test : T → Bool) (xs : List T) → ((x : T) →
     → list_any test xs ≡ false
 none_holds test [] h = refl
 none_holds test (y ∷ ys) h =
-    neither (test y) (list_any test ys) (h y (contains_first y ys))
+    or_from (test y) (list_any test ys) (h y (contains_first y ys))
     (none_holds test ys (λ x there. h x (contains_later y ys x there)))
 
 any_told_by : {T : Type 0} (test : T → Bool) (y : T) (ys : List T) (t : Bool) → test y ≡ t
@@ -46,10 +39,6 @@ any_told_by : {T : Type 0} (test : T → Bool) (y : T) (ys : List T) (t : Bool) 
     × Contains (y ∷ ys) x × (test x ≡ true)
 any_told_by test y ys true is e rest = (y, contains_first y ys, is)
 any_told_by test y ys false is e rest = let found = rest e in (found.0, contains_later y ys found.0 found.1, found.2)
-
-or_true : (a b : Bool) → b ≡ true → (a || b) ≡ true
-or_true true b e = refl
-or_true false b e = e
 
 pub any_told : {T : Type 0} (test : T → Bool) (xs : List T) → list_any test xs ≡ true → (x : T) × Contains xs x
     × (test x ≡ true)
@@ -62,21 +51,10 @@ any_holds test [] x there e = absurd (contains_none x there)
 any_holds test (y ∷ ys) x there e =
     elim (contains_cases y ys x there) [
       | inl same ↦ subst (λ (t : Bool). (t || list_any test ys) ≡ true) (sym (ap test same ∙ e)) refl
-      | inr later ↦ or_true (test y) (list_any test ys) (any_holds test ys x later e)
+      | inr later ↦ or_right (test y) (list_any test ys) (any_holds test ys x later e)
     ]
 
 -- ---- tests
-
-both_parts : (a b : Bool) → (a && b) ≡ true → (a ≡ true) × (b ≡ true)
-both_parts true b e = (refl, e)
-both_parts false b e = absurd (false≢true e)
-
-both_hold : (a b : Bool) → a ≡ true → b ≡ true → (a && b) ≡ true
-both_hold a b p q = subst (λ (x : Bool). (x && b) ≡ true) (sym p) q
-
-not_false : (t : Bool) → not t ≡ false → t ≡ true
-not_false true e = refl
-not_false false e = absurd (false≢true (sym e))
 
 no_pair : (t : Bool) (fault : ConfigFault) (rest : Option ConfigFault) → cond t (Some fault) rest ≡ None → (t ≡ false)
     × (rest ≡ None)
@@ -89,10 +67,8 @@ no_fault (Some fault) other e = absurd (cc)
 
 no_tests : (a b c : Bool) → cond a (Some Orphan) (cond b (Some AddressUsed) (cond c (Some EmptyService) None)) ≡ None
     → (a ≡ false) × (b ≡ false) × (c ≡ false)
-no_tests true b c e = absurd (cc)
-no_tests false true c e = absurd (cc)
-no_tests false false true e = absurd (cc)
 no_tests false false false e = (refl, refl, refl)
+no_tests _ _ _ e = absurd (cc)
 
 all_none : (one : Option ConfigFault) (a b c : Bool) → one ≡ None → a ≡ false → b ≡ false → c ≡ false
     → first_of_two one (cond a (Some Orphan) (cond b (Some AddressUsed) (cond c (Some EmptyService) None))) ≡ None
@@ -116,20 +92,19 @@ sized s h =
 pub overlaps_told : (a b : Sub) → IsPlaced a → IsPlaced b → overlaps a b ≡ true → (unit : ℕ) × IsUnitOf a unit
     × IsUnitOf b unit
 overlaps_told a b h k e =
-    let parts = both_parts (ltb a.start (b.start + size_of_sub b)) (ltb b.start (a.start + size_of_sub a)) e in
+    let parts = and_parts (ltb a.start (b.start + size_of_sub b)) (ltb b.start (a.start + size_of_sub a)) e in
     let one : a.start < b.start + size_of_sub b = ltb-true _ _ parts.0 in
     let two : b.start < a.start + size_of_sub a = ltb-true _ _ parts.1 in
-    let m = sized a h in
     let n = sized b k in
     elim (cases_lt a.start b.start) [
       | inl lt ↦ (b.start, (omega arith, two), (omega arith, omega (arith, n)))
       | inr ge ↦
-          (a.start, (omega arith, omega (arith, m)), (ge, one))
+          (a.start, (omega arith, omega (arith, sized a h)), (ge, one))
     ]
 
 pub overlaps_found : (a b : Sub) (unit : ℕ) → IsUnitOf a unit → IsUnitOf b unit → overlaps a b ≡ true
 overlaps_found a b unit h k =
-    both_hold _ _ (lt-ltb a.start (b.start + size_of_sub b) (omega (arith, h.0, k.1)))
+    and_from _ _ (lt-ltb a.start (b.start + size_of_sub b) (omega (arith, h.0, k.1)))
     (lt-ltb b.start (a.start + size_of_sub a) (omega (arith, k.0, h.1)))
 
 with_none : (a : Sub) (bs : List Sub) → ((b : Sub) → Contains bs b → overlaps a b ≡ false) → overlap_with a bs ≡ None
@@ -148,16 +123,12 @@ with_told a (y ∷ ys) b e there =
           with_told a ys b parts.1 later
     ]
 
-decided : (t : Bool) → (t ≡ true → ⊥) → t ≡ false
-decided true h = absurd (h refl)
-decided false h = refl
-
 pub apart_found : (xs : List Sub) → IsAscending sub_key xs → AllByRecursion IsPlaced xs
     → ((a b : Sub) (unit : ℕ) → Contains xs a → Contains xs b → IsUnitOf a unit → IsUnitOf b unit → a.id ≡ b.id)
     → first_overlap xs ≡ None
 apart_found [] order placed apart = refl
 apart_found (a ∷ bs) order placed apart =
-    let none : overlap_with a bs ≡ None = with_none a bs (λ b there. decided (overlaps a b) (λ e.
+    let none : overlap_with a bs ≡ None = with_none a bs (λ b there. false_from_ne_true (overlaps a b) (λ e.
     let shared = overlaps_told a b placed.0 (each_contains IsPlaced bs b placed.1 there) e in
     let same : a.id ≡ b.id = apart a b shared.0 (contains_first a bs) (contains_later a bs b there) shared.1 shared.2 in
     let less : a.id < b.id = each_contains (λ (y : Sub). a.id < y.id) bs b order.0 there in
@@ -188,10 +159,10 @@ apart_told (x ∷ xs) e a b unit h k i j =
 
 missing_told : (c : Configuration) (carrier : Carrier) → is_missing c carrier ≡ false → IsThere c carrier
 missing_told c (BySub id) e =
-    let found = any_told (λ x. sub_key x == id) c.subs (not_false (has_entry sub_key id c.subs) e) in
+    let found = any_told (λ x. sub_key x == id) c.subs (not-false (has_entry sub_key id c.subs) e) in
     (found.0, found.1, eqb-true _ _ found.2)
 missing_told c (ByPacket scid) e =
-    let found = any_told (λ x. packet_key x == scid) c.packets (not_false (has_entry packet_key scid c.packets) e) in
+    let found = any_told (λ x. packet_key x == scid) c.packets (not-false (has_entry packet_key scid c.packets) e) in
     (found.0, found.1, eqb-true _ _ found.2)
 
 missing_found : (c : Configuration) (carrier : Carrier) → IsThere c carrier → is_missing c carrier ≡ false
@@ -202,13 +173,13 @@ missing_found c (ByPacket scid) there =
 -- ---- addresses
 
 same_address_told : (p q : Packet) → p.sub ≡ q.sub → p.address ≡ q.address → has_same_address p q ≡ true
-same_address_told p q e f = both_hold _ _ (eq-eqb _ _ e) (eq-eqb _ _ f)
+same_address_told p q e f = and_from _ _ (eq-eqb _ _ e) (eq-eqb _ _ f)
 
 pub twice_told : (ps : List Packet) → has_address_twice ps ≡ false → (p q : Packet) → Contains ps p → Contains ps q
     → p.sub ≡ q.sub → p.address ≡ q.address → p.scid ≡ q.scid
 twice_told [] e p q h k i j = absurd (contains_none p h)
 twice_told (x ∷ xs) e p q h k i j =
-    let parts = either (list_any (has_same_address x) xs) (has_address_twice xs) e in
+    let parts = or_parts (list_any (has_same_address x) xs) (has_address_twice xs) e in
     elim (contains_cases x xs p h) [
       | inl s ↦ elim (contains_cases x xs q k) [
         | inl t ↦ ap (λ (y : Packet). y.scid) (sym s ∙ t)
@@ -228,13 +199,13 @@ pub twice_none : (ps : List Packet) → IsAscending packet_key ps
 twice_none [] order h = refl
 twice_none (x ∷ xs) order h =
     let first : list_any (has_same_address x) xs ≡ false =
-    none_holds (has_same_address x) xs (λ q there. decided (has_same_address x q) (λ e.
-    let parts = both_parts _ _ e in
+    none_holds (has_same_address x) xs (λ q there. false_from_ne_true (has_same_address x q) (λ e.
+    let parts = and_parts _ _ e in
     let same : x.scid ≡ q.scid =
     h x q (contains_first x xs) (contains_later x xs q there) (eqb-true _ _ parts.0) (eqb-true _ _ parts.1) in
     let less : x.scid < q.scid = each_contains (λ (y : Packet). x.scid < y.scid) xs q order.0 there in
     omega arith)) in
-    neither _ _ first (twice_none xs order.1 (λ p q i j. h p q (contains_later x xs p i) (contains_later x xs q j)))
+    or_from _ _ first (twice_none xs order.1 (λ p q i j. h p q (contains_later x xs p i) (contains_later x xs q j)))
 
 -- ---- all together
 
@@ -247,7 +218,7 @@ empty_told (m ∷ ms) e = absurd (omega arith)
 
 pub orphans_told : (c : Configuration) → has_orphan c ≡ false → AreCarried c
 orphans_told c e =
-    let orphans = either (list_any
+    let orphans = or_parts (list_any
     (λ (s : Service). list_any (λ (m : Component). is_missing c (carrier_of m)) s.components) c.services)
     (list_any (λ (p : Packet). is_missing c (BySub p.sub)) c.packets) e in
     record {
@@ -261,7 +232,7 @@ orphans_told c e =
 
 pub orphans_found : (c : Configuration) → AreCarried c → has_orphan c ≡ false
 orphans_found c carried =
-    neither _ _
+    or_from _ _
     (none_holds (λ (s : Service). list_any (λ (m : Component). is_missing c (carrier_of m)) s.components) c.services
     (λ s h. none_holds (λ (m : Component). is_missing c (carrier_of m)) s.components
     (λ m k. missing_found c (carrier_of m) (carried.components s m h k))))
@@ -353,7 +324,6 @@ shared (a ∷ bs) order placed e =
 pub crowded_told : (c : Configuration) → IsConfiguration c → is_some (first_overlap c.subs) ≡ true → IsCrowded c
 crowded_told c is e =
     let found = shared c.subs is.subs_ascend is.subs_placed e in
-    let less : found.0.id < found.1.id = found.5 in
     record {
       first = found.0;
       second = found.1;

@@ -99,8 +99,7 @@ stays_by : {T : Type 0} (more : List ℕ) (r s : Reads T) (fault : RecordFault) 
     → fault ≢ Short → s ≡ Err fault
 stays_by more (Ok x) s fault h e other = absurd (cc)
 stays_by more (Err Short) s fault h e other = absurd (let same : Short ≡ fault = cc in other (sym same))
-stays_by more (Err (Field p)) s fault h e other = h ∙ e
-stays_by more (Err Order) s fault h e other = h ∙ e
+stays_by more _ s fault h e other = h ∙ e
 
 no_fault_read : (c : Configuration) (rest : List ℕ) (fault : RecordFault) → IsConfiguration c
     → config_at (config_bytes c ++ rest) ≡ Err fault → ⊥
@@ -117,8 +116,7 @@ first_by : {T : Type 0} (more : List ℕ) (r s : Reads T) (fault : RecordFault) 
     → (r ≡ Err Short) ⊎ (r ≡ Err fault)
 first_by more (Ok x) s fault h e = absurd (cc)
 first_by more (Err Short) s fault h e = inl refl
-first_by more (Err (Field p)) s fault h e = inr (sym h ∙ e)
-first_by more (Err Order) s fault h e = inr (sym h ∙ e)
+first_by more _ s fault h e = inr (sym h ∙ e)
 
 pub faults_are_first : FaultsAreFirst
 faults_are_first bytes n fault h =
@@ -136,8 +134,7 @@ cut_by : (more : List ℕ) (c : Configuration) (r s : Reads Configuration) → G
     → r ≡ Err Short
 cut_by more c (Ok x) s h e some = absurd (some (none_behind more x.1 (rest_of x.0 c (x.1 ++ more) [] s h e)))
 cut_by more c (Err Short) s h e some = refl
-cut_by more c (Err (Field p)) s h e some = absurd (cc)
-cut_by more c (Err Order) s h e some = absurd (cc)
+cut_by more c _ s h e some = absurd (cc)
 
 pub cuts_are_short : CutsAreShort
 cuts_are_short c n is less =

@@ -20,13 +20,11 @@ pub goes_bind : {A B : Type 0} (more : List ℕ) (r s : Reads A) (k l : A × Lis
     → ((x : A) (rest : List ℕ) → Goes more (k (x, rest)) (l (x, rest ++ more))) → Goes more (r >>= k) (s >>= l)
 goes_bind more (Ok x) s k l h f = subst (λ t. Goes more (k x) (t >>= l)) (sym h) (f x.0 x.1)
 goes_bind more (Err Short) s k l h f = tt
-goes_bind more (Err (Field p)) s k l h f = ap (λ t. t >>= l) h
-goes_bind more (Err Order) s k l h f = ap (λ t. t >>= l) h
+goes_bind more _ s k l h f = ap (λ t. t >>= l) h
 
 pub goes_fault : (T : Type 0) (more : List ℕ) (f g : RecordFault) → f ≡ g → Goes {T = T} more (Err f) (Err g)
 goes_fault T more Short g e = tt
-goes_fault T more (Field p) g e = ap Err (sym e)
-goes_fault T more Order g e = ap Err (sym e)
+goes_fault T more _ g e = ap Err (sym e)
 
 pub goes_refuse : {T : Type 0} (more : List ℕ) (test : Bool) (f g : RecordFault) (k l : Reads T) → f ≡ g → Goes more k l
     → Goes more (refuse test f >>= λ _. k) (refuse test g >>= λ _. l)
@@ -67,9 +65,8 @@ goes_number w bytes more = number_by w bytes more (ltb (length bytes) (byte_len 
 judged_by : (more : List ℕ) (at by : ℕ) (n : ℕ × List ℕ) (t u : Bool) → at ≡ by
     → Goes more (cond t (Err (Field at)) (cond u (Err (Field at)) (Ok n)))
     (cond t (Err (Field by)) (cond u (Err (Field by)) (Ok (n.0, n.1 ++ more))))
-judged_by more at by n true u e = goes_fault _ more (Field at) (Field by) (ap Field e)
-judged_by more at by n false true e = goes_fault _ more (Field at) (Field by) (ap Field e)
 judged_by more at by n false false e = refl
+judged_by more at by n _ _ e = goes_fault _ more (Field at) (Field by) (ap Field e)
 
 pub goes_judged : (more : List ℕ) (at by low high : ℕ) (n : ℕ) (rest : List ℕ) → at ≡ by
     → Goes more (judged at low high (n, rest)) (judged by low high (n, rest ++ more))
@@ -115,17 +112,14 @@ goes_sid total bytes more = goes_bind more _ _ _ _ (goes_byte_within total 0 1 b
 goes_component_of : (total at by tmid : ℕ) (bytes more : List ℕ) → at ≡ by
     → Goes more (component_of total at tmid bytes) (component_of (total + length more) by tmid (bytes ++ more))
 unfolding component_of
-goes_component_of total at by zero bytes more e =
-    goes_bind more _ _ _ _ (goes_byte_within total 0 63 bytes more) (λ ty rest.
-    goes_bind more _ _ _ _ (goes_byte_within total 0 63 rest more) (λ sub last. refl))
-goes_component_of total at by (suc zero) bytes more e =
-    goes_bind more _ _ _ _ (goes_byte_within total 0 63 bytes more) (λ ty rest.
-    goes_bind more _ _ _ _ (goes_byte_within total 0 63 rest more) (λ sub last. refl))
 goes_component_of total at by (suc (suc zero)) bytes more e = goes_fault _ more (Field at) (Field by) (ap Field e)
 goes_component_of total at by (suc (suc (suc zero))) bytes more e =
     goes_bind more _ _ _ _ (goes_word_within total 0 4095 bytes more) (λ scid rest. refl)
 goes_component_of total at by (suc (suc (suc (suc k)))) bytes more e =
     goes_fault _ more (Field at) (Field by) (ap Field e)
+goes_component_of total at by _ bytes more e =
+    goes_bind more _ _ _ _ (goes_byte_within total 0 63 bytes more) (λ ty rest.
+    goes_bind more _ _ _ _ (goes_byte_within total 0 63 rest more) (λ sub last. refl))
 
 pub goes_component : (total : ℕ) (bytes more : List ℕ)
     → Goes more (component_at total bytes) (component_at (total + length more) (bytes ++ more))
