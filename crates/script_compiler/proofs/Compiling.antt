@@ -59,9 +59,7 @@ pub compiles_applied : (c d : Context) (line number : ℕ) (named rest : Block) 
     (x : Result Bool CompileFault) → d.plan.now ≡ c.plan.now → d.counters ≡ c.counters → c.counters ≤ 8 →
     Compiles d named nothing v w x → Compiles c (apply line number named rest) rest v w x
 compiles_applied c d line number named rest v w (Ok f) plan counters deep h = record {
-  left = left_apply c.plan.now c.counters line number named rest v w f deep
-      (subst (λ p. Left p c.counters named v w f nothing) plan
-      (subst (λ r. Left d.plan.now r named v w f nothing) counters h.left));
+  left = left_apply c.plan.now c.counters line number named rest v w f deep (rw (← plan) (rw (← counters) h.left));
   limits = h.limits;
 }
 compiles_applied c d line number named rest v w (Err e) plan counters deep h =

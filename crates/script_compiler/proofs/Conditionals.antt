@@ -43,9 +43,7 @@ module _ {plan : Plan} {r line : ℕ} {c : Condition} {first : Block} {w0 w2 w3 
 
   first_lines : w3.lines.items ≡ (w0.lines.items ++ line_of_instr line (test_of c 0) ∷ [])
       ++ lines_of_placed (places plan r (length w0.lines.items + 1) first (without_label w0.now.flow))
-  first_lines = first_whole.lines
-      ∙ ap (λ xs. xs ++ lines_of_placed (places plan r (length w0.lines.items + 1) first (without_label w0.now.flow)))
-      b.forks.lines
+  first_lines = cc (first_whole.lines, b.forks.lines)
 
   -- the number of instructions with the jump at the end of the branch, if it falls out
   jump_end : length (w3.lines.items ++ lines_of_placed (jumping f line r w3)) ≡ length w0.lines.items + 1
@@ -53,12 +51,8 @@ module _ {plan : Plan} {r line : ℕ} {c : Condition} {first : Block} {w0 w2 w3 
       + (if falls_out first then 1 else 0)
   jump_end =
       let jump : length (lines_of_placed (jumping f line r w3)) ≡ (if falls_out first then 1 else 0) =
-      jump_length line 0 r (way f w3) (falls_out first)
-      (ap (λ w. is_some w) (sym first_whole.leads) ∙ after_falls plan first (without_label w0.now.flow)) in
-      length-append w3.lines.items (lines_of_placed (jumping f line r w3))
-      ∙ ap (λ n. n + length (lines_of_placed (jumping f line r w3))) first_end
-      ∙ ap (λ n. length w0.lines.items + 1 + length
-      (places plan r (length w0.lines.items + 1) first (without_label w0.now.flow)) + n) jump
+      jump_length line 0 r _ _ (ap (λ w. is_some w) (sym first_whole.leads) ∙ after_falls plan first _) in
+      cc (length-append w3.lines.items (lines_of_placed (jumping f line r w3)), first_end, jump)
 
 -- ---- `if` without `else`
 
@@ -85,10 +79,8 @@ module _ {plan : Plan} {r line : ℕ} {c : Condition} {first : Block} {w0 w2 w3 
       ∙ append_assoc w0.unpriced.items (unpriced_labels pc (alone line (test_of c 0) r w0.now))
       (unpriced_labels (pc + 1) firsts)
       ∙ ap (λ xs. w0.unpriced.items ++ xs) (sym (marks_both pc (alone line (test_of c end) r w0.now) firsts)) in
-      let met : meet (point_after plan first (without_label w0.now.flow)) (Some w0.now) ≡ Some w5.now =
-      ap (λ w. meet w (Some w0.now)) h.leads ∙ close.met in
-      let agree : WaysAgree (point_after plan first (without_label w0.now.flow)) (Some w0.now) =
-      subst (λ w. WaysAgree w (Some w0.now)) (sym h.leads) close.agree in
+      let met = ap (λ w. meet w (Some w0.now)) h.leads ∙ close.met in
+      let agree = subst (λ w. WaysAgree w (Some w0.now)) (sym h.leads) close.agree in
       record {
         emitted = placed_instr line (test_of c end) r w0.now ∷ firsts;
         emits = record { lines = code; unpriced = labels; saved = close.saved };
@@ -98,14 +90,7 @@ module _ {plan : Plan} {r line : ℕ} {c : Condition} {first : Block} {w0 w2 w3 
         leads = ap (λ w. onward w None (λ u. point_after plan rest u)) met;
         judged = λ j. (h.judged, agree, subst (λ w. Reached w rest (λ u. IsJudged plan rest u)) (sym met) j);
         only = λ j. subst (λ w. Reached w rest (λ u. IsJudged plan rest u)) met j.2;
-        fails = λ at given j. inr (
-          h.judged,
-          inr (
-            agree,
-            subst (λ w. IsRefusedAfter w rest (λ u. IsRefusedIn plan rest u at given) at given)
-                (sym met) j,
-          ),
-        );
+        fails = λ at given j. inr (h.judged, inr (agree, rw met j));
         repeats = λ n. let k = h.repeats deep in omega (arith, n, k);
         fewer = omega arith;
       }
@@ -183,10 +168,7 @@ aimed_jump : (line r jump end : ℕ) (w : Option ProgramPoint) (before ys code :
     → aimed_at w line jump code ≡ before ++ (lines_of_placed (onward w [] (alone line (Jump end) r)) ++ ys)
 aimed_jump line r jump end None before ys code e h k = e
 aimed_jump line r jump end (Some u) before ys code e h k =
-    ap (λ n. slice_set code jump (line_of_instr line (Jump n))) k
-    ∙ ap (λ n. slice_set code n (line_of_instr line (Jump end))) h
-    ∙ ap (λ z. slice_set z (length before) (line_of_instr line (Jump end))) e
-    ∙ set-append_seam before (line_of_instr line (Jump 0)) ys (line_of_instr line (Jump end))
+    cc (k, h, e, set-append_seam before (line_of_instr line (Jump 0)) ys (line_of_instr line (Jump end)))
 
 module _ {plan : Plan} {r line at : ℕ} {c : Condition} {first : Block} {w0 w2 w3 w6 : Work} {f1 : Bool}
     (b : HasFirst plan r line c first w0 w2 w3 f1)
@@ -195,8 +177,7 @@ module _ {plan : Plan} {r line at : ℕ} {c : Condition} {first : Block} {w0 w2 
   else_start : length w6.lines.items ≡ length w0.lines.items + 1
       + length (places plan r (length w0.lines.items + 1) first (without_label w0.now.flow))
       + (if falls_out first then 1 else 0)
-  else_start = ap length turned.lines ∙ length-set (w3.lines.items ++ lines_of_placed (jumping f1 line r w3)) at _
-      ∙ jump_end b
+  else_start = rw (turned.lines, length-set (w3.lines.items ++ lines_of_placed (jumping f1 line r w3)) at _, jump_end b)
 
   module _ {second : Block} {w7 : Work} {f2 : Bool} (left2 : Left plan r second w6 w7 f2 nothing) where
     second_whole : Whole plan r (length w0.lines.items + 1
@@ -210,8 +191,7 @@ module _ {plan : Plan} {r line at : ℕ} {c : Condition} {first : Block} {w0 w2 
     -- the branches agree, if the block is valid
     pub second_agrees : BranchesAgree (point_after plan first (without_label w0.now.flow))
         (point_after plan second (at_label w0.now.flow)) → BranchesAgree (way f1 w3) (way f2 w7)
-    second_agrees agree = subst (λ w. BranchesAgree w (way f2 w7)) (first_whole b).leads
-        (subst (λ w. BranchesAgree (point_after plan first (without_label w0.now.flow)) w) second_whole.leads agree)
+    second_agrees agree = rw (← (first_whole b).leads) (rw (← second_whole.leads) agree)
 
     pub either_why : (rest : Block) (cause : Cause) → (cause ≡ Mismatch)
         × ((front : List ProgramPoint) (a : Option ProgramPoint) → f1 ≡ is_some a → w7.saved.items ≡ front
@@ -246,9 +226,8 @@ module _ {plan : Plan} {r line at : ℕ} {c : Condition} {first : Block} {w0 w2 
         let jumps = onward a [] (alone line (Jump end) r) in
         let jumps0 = jumping f1 line r w3 in
         let code5 = w3.lines.items ++ lines_of_placed jumps0 in
-        let code5' : code5 ≡ (w0.lines.items ++ test ∷ []) ++ (lines_of_placed firsts ++ lines_of_placed jumps0) =
-        ap (λ xs. xs ++ lines_of_placed jumps0) (first_lines b)
-        ∙ append_assoc (w0.lines.items ++ test ∷ []) (lines_of_placed firsts) (lines_of_placed jumps0) in
+        let code5' : code5 ≡ (w0.lines.items ++ test ∷ []) ++ (lines_of_placed firsts ++ lines_of_placed jumps0) = cc
+        (first_lines b, append_assoc (w0.lines.items ++ test ∷ []) (lines_of_placed firsts) (lines_of_placed jumps0)) in
         let code6 : w6.lines.items ≡ w0.lines.items ++ there ∷ (lines_of_placed firsts ++ lines_of_placed jumps0) =
         start_else.lines ∙ ap (λ n. slice_set code5 pc (line_of_instr line (test_of c n))) (jump_end b)
         ∙ aimed w0.lines.items (lines_of_placed firsts ++ lines_of_placed jumps0) test there code5 code5' in
@@ -261,17 +240,15 @@ module _ {plan : Plan} {r line at : ℕ} {c : Condition} {first : Block} {w0 w2 
         (code6 ∙ sym (append_assoc w0.lines.items (there ∷ lines_of_placed firsts) (lines_of_placed jumps0)))
         ∙ append_assoc before (lines_of_placed jumps0) (lines_of_placed seconds) in
         let more = jumps ++ seconds in
-        let jumps_more : lines_of_placed more ≡ lines_of_placed (onward (way f1 w3) [] (alone line (Jump end) r))
-        ++ lines_of_placed seconds = lines_both jumps seconds
-        ∙ ap (λ w. lines_of_placed (onward w [] (alone line (Jump end) r)) ++ lines_of_placed seconds) h.leads in
+        let jumps_more : lines_of_placed more ≡ lines_of_placed (onward (way f1 w3) [] (alone line (Jump end) r)) ++
+        lines_of_placed seconds = cc (lines_both jumps seconds, h.leads) in
         let code : w8.lines.items ≡ w0.lines.items ++ there ∷ lines_of_placed (firsts ++ more) =
         arr.lines ∙ aimed_jump line r (length w3.lines.items) end (way f1 w3) before (lines_of_placed seconds)
         w7.lines.items code7 at_jump (whole_length h2 else_start)
         ∙ ap (λ xs. before ++ xs) (sym jumps_more) ∙ append_assoc w0.lines.items (there ∷ lines_of_placed firsts)
         (lines_of_placed more) ∙ ap (λ xs. w0.lines.items ++ there ∷ xs) (sym (lines_both firsts more)) in
         let joff : unpriced_labels out jumps ≡ unpriced_labels (length w3.lines.items) jumps0 =
-        ap (λ w. unpriced_labels out (onward w [] (alone line (Jump end) r))) h.leads
-        ∙ jump_labels line end 0 r out (way f1 w3) ∙ ap (λ n. unpriced_labels n jumps0) (sym (first_end b)) in
+        cc (h.leads, jump_labels line end 0 r out (way f1 w3), first_end b) in
         let jcount : length jumps ≡ (if falls_out first then 1 else 0) =
         let n = jump_end b in let m = length-append w3.lines.items (lines_of_placed jumps0) in let e = first_end b in
         let k = ap (λ w. length (onward w [] (alone line (Jump end) r))) h.leads
@@ -280,9 +257,7 @@ module _ {plan : Plan} {r line at : ℕ} {c : Condition} {first : Block} {w0 w2 
         let l1 = unpriced_labels (pc + 1) firsts in
         let l2 = unpriced_labels (length w3.lines.items) jumps0 in
         let l3 = unpriced_labels start seconds in
-        let lab_more : unpriced_labels out more ≡ l2 ++ l3 =
-        marks_both out jumps seconds ∙ ap (λ xs. xs ++ unpriced_labels (out + length jumps) seconds) joff
-        ∙ ap (λ n. l2 ++ unpriced_labels (out + n) seconds) jcount in
+        let lab_more : unpriced_labels out more ≡ l2 ++ l3 = cc (marks_both out jumps seconds, joff, jcount) in
         let lab_all : unpriced_labels pc (placed_instr line (test_of c start) r w0.now ∷ (firsts ++ more)) ≡ l0
         ++ (l1 ++ (l2 ++ l3)) =
         marks_both pc (alone line (test_of c start) r w0.now) (firsts ++ more)
@@ -293,19 +268,14 @@ module _ {plan : Plan} {r line at : ℕ} {c : Condition} {first : Block} {w0 w2 
         (start_else.unpriced ∙ ap (λ xs. xs ++ l2) (h.unpriced ∙ ap (λ xs. xs ++ l1) b.forks.unpriced))
         ∙ append_assoc ((w0.unpriced.items ++ l0) ++ l1) l2 l3 ∙ append_assoc (w0.unpriced.items ++ l0) l1 (l2 ++ l3)
         ∙ append_assoc w0.unpriced.items l0 (l1 ++ (l2 ++ l3)) ∙ ap (λ xs. w0.unpriced.items ++ xs) (sym lab_all) in
-        let joins : join a z ≡ way f w8 = ap (λ w. join w z) h.leads ∙ ap (λ w. join (way f1 w3) w) h2.leads
-        ∙ sym arr.leads in
-        let agree : BranchesAgree a z =
-        subst (λ w. BranchesAgree w z) (sym h.leads)
-        (subst (λ w. BranchesAgree (way f1 w3) w) (sym h2.leads) arr.agree) in
+        let joins = ap (λ w. join w z) h.leads ∙ ap (λ w. join (way f1 w3) w) h2.leads ∙ sym arr.leads in
+        let agree : BranchesAgree a z = rw h.leads (rw h2.leads arr.agree) in
         let len8 : length w8.lines.items ≡ end =
         let n = ap length code in let m = length-append w0.lines.items (there ∷ lines_of_placed (firsts ++ more)) in
         let k = length_lines (firsts ++ more) in let q = length-append firsts more in let y =
         length-append jumps seconds in omega (arith, n, m, k, q, y, jcount) in
         let rests = onward (way f w8) [] (λ u. places plan r (length w8.lines.items) rest u) in
-        let at_rests : onward (join a z) [] (λ u. places plan r end rest u) ≡ rests =
-        ap (λ w. onward w [] (λ u. places plan r end rest u)) joins
-        ∙ ap (λ n. onward (way f w8) [] (λ u. places plan r n rest u)) (sym len8) in
+        let at_rests : onward (join a z) [] (λ u. places plan r end rest u) ≡ rests = cc (joins, len8) in
         record {
           emitted = placed_instr line (test_of c start) r w0.now ∷ (firsts ++ more);
           emits = record { lines = code; unpriced = labels; saved = arr.saved };
@@ -314,13 +284,7 @@ module _ {plan : Plan} {r line at : ℕ} {c : Condition} {first : Block} {w0 w2 
               (sym (append_assoc jumps seconds rests))
               ∙ ap (λ xs. placed_instr line (test_of c start) r w0.now ∷ xs) (sym (append_assoc firsts more rests));
           leads = ap (λ w. onward w None (λ u. point_after plan rest u)) joins;
-          judged = λ j. (
-            h.judged,
-            h2.judged,
-            agree,
-            subst (λ w. Reached w rest (λ u. IsJudged plan rest u)) (sym joins)
-                j,
-          );
+          judged = λ j. (h.judged, h2.judged, agree, rw joins j);
           only = λ j. subst (λ w. Reached w rest (λ u. IsJudged plan rest u)) joins j.3;
           fails = λ at given j. inr (
             h.judged,
@@ -375,8 +339,7 @@ module _ {limit : CodeLimit} {plan : Plan} {r line : ℕ} (c : Condition) {first
       ∙ ap (λ ps. Jumps ++ ps) (append_assoc Seconds Rests can.more)) in
       record {
         judged = can.judged.0;
-        deep = counters_less limit (r + nested (either line c first second rest)) (r + nested first) (omega arith)
-            can.deep;
+        deep = counters_less _ _ _ (omega arith) can.deep;
         onward = λ u e. jump_covers plan r Stop rest (Seconds ++ More) Away line (Jump Stop) r u e;
         space = subst (λ ps. HasSpace limit w2 ps) e space;
       }
@@ -391,8 +354,7 @@ module _ {limit : CodeLimit} {plan : Plan} {r line : ℕ} (c : Condition) {first
   module _ {w2 w3 : Work} {f1 : Bool} (b : HasFirst plan r line c first w0 w2 w3 f1) where
     -- before the jump at the end of the first branch
     space_out : HasSpace limit w3 (onward (way f1 w3) [] (alone line (Jump Stop) r) ++ (Seconds ++ More))
-    space_out = subst (λ w. HasSpace limit w3 (onward w [] (alone line (Jump Stop) r) ++ (Seconds ++ More)))
-        (first_whole b).leads (room_after (either_fits b.forks) w3 f1 (first_whole b))
+    space_out = rw (← (first_whole b).leads) (room_after (either_fits b.forks) w3 f1 (first_whole b))
 
     pub can_either_turned :
         ((front : List ProgramPoint) (entry : ProgramPoint) → w3.saved.items ≡ front ++ entry ∷ []
@@ -410,11 +372,9 @@ module _ {limit : CodeLimit} {plan : Plan} {r line : ℕ} (c : Condition) {first
           ∙ length-append w3.lines.items jumps in
           record {
             judged = can.judged.1;
-            deep = counters_less limit (r + nested (either line c first second rest)) (r + nested second) (omega arith)
-                can.deep;
+            deep = counters_less _ _ _ (omega arith) can.deep;
             onward = second_covers;
-            space = space_left limit w3 w6 f1 line r line r (Jump Stop) (Seconds ++ More) lines turned.unpriced
-                space_out;
+            space = space_left _ _ _ _ _ _ _ _ _ _ lines turned.unpriced space_out;
           }
 
       pub can_either_second : CanEmit limit plan r second w6
@@ -427,8 +387,7 @@ module _ {limit : CodeLimit} {plan : Plan} {r line : ℕ} (c : Condition) {first
       can_either_closed {w7} {f2} left2 full =
           let z = point_after plan second (at_label w0.now.flow) in
           let h2 = second_whole b turned left2 in
-          let joins : join Away z ≡ join (way f1 w3) (way f2 w7) =
-          ap (λ w. join w z) (first_whole b).leads ∙ ap (λ w. join (way f1 w3) w) h2.leads in
+          let joins = ap (λ w. join w z) (first_whole b).leads ∙ ap (λ w. join (way f1 w3) w) h2.leads in
           full w0.saved.items (way f1 w3) (some_is f1 w3) (second_saved b turned left2) More
           (λ u e. onward_covers plan r Stop rest can.more (join Away z) (λ v k. can.onward v k) u (joins ∙ e))
           (room_after second_fits w7 f2 h2)

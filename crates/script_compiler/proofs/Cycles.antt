@@ -30,16 +30,13 @@ set_there (b ∷ ps) (suc k) lt = set_there ps k (omega (arith, lt))
 set_kept : (ps : List Bool) (j k : ℕ) → IsAt ps j → IsAt (slice_set ps k true) j
 set_kept [] j k h = cc
 set_kept (b ∷ ps) zero zero h = refl
-set_kept (b ∷ ps) zero (suc k) h = h
-set_kept (b ∷ ps) (suc j) zero h = h
 set_kept (b ∷ ps) (suc j) (suc k) h = set_kept ps j k h
+set_kept (b ∷ ps) _ _ h = h
 
 set_only : (ps : List Bool) (j k : ℕ) → IsAt (slice_set ps k true) j → IsAt ps j ⊎ (j ≡ k)
-set_only [] j k h = inl h
 set_only (b ∷ ps) zero zero h = inr refl
-set_only (b ∷ ps) zero (suc k) h = inl h
-set_only (b ∷ ps) (suc j) zero h = inl h
 set_only (b ∷ ps) (suc j) (suc k) h = elim (set_only ps j k h) [ inl a ↦ inl a | inr e ↦ inr (ap (λ n. suc n) e) ]
+set_only _ _ _ h = inl h
 
 set_trues : (ps : List Bool) (k : ℕ) (d : Bool) → k < length ps → get_or ps k d ≡ false
     → trues (slice_set ps k true) ≡ trues ps + 1
@@ -49,9 +46,8 @@ set_trues (false ∷ ps) zero d lt e = omega arith
 set_trues (b ∷ ps) (suc k) d lt e = (let h = set_trues ps k d (omega (arith, lt)) e in omega (arith, h))
 
 set_long : (ps : List Bool) (k : ℕ) → length (slice_set ps k true) ≡ length ps
-set_long [] k = refl
-set_long (b ∷ ps) zero = refl
 set_long (b ∷ ps) (suc k) = (let h = set_long ps k in omega (arith, h))
+set_long _ _ = refl
 
 pub trues_most : (ps : List Bool) → trues ps ≤ length ps
 trues_most [] = omega arith
@@ -67,10 +63,9 @@ none_true (true ∷ ps) h = absurd (omega (arith, h))
 none_true (false ∷ ps) h = (let i = none_true ps (omega (arith, h)) in omega (arith, i))
 
 pub none_at : (ps : List Bool) (k : ℕ) → trues ps ≡ 0 → IsAt ps k → ⊥
-none_at [] k h e = cc
 none_at (true ∷ ps) k h e = absurd (omega (arith, h))
-none_at (false ∷ ps) zero h e = cc
 none_at (false ∷ ps) (suc k) h e = none_at ps k (omega (arith, h)) e
+none_at _ _ h e = cc
 
 -- ---- adding one pc, or none
 
@@ -99,16 +94,10 @@ grows_one ps qs ws vs place d lt off e f =
         long = ap length e ∙ set_long ps place;
         kept = λ k h. subst (λ (l : List Bool). IsAt l k) (sym e) (set_kept ps k place h);
         only = λ k h. set_only ps k place (subst (λ (l : List Bool). IsAt l k) e h);
-        fresh = λ k h. elim (set_only ps k place (subst (λ (l : List Bool). IsAt l k) e h)) [
-          | inl a ↦ inl a
-          | inr same ↦ inr (subst (λ (l : List ℕ). IsIn k l) (sym f)
-              (subst (λ n. IsIn k (ws ++ n ∷ [])) same (in_last k ws)))
-        ];
+        fresh = λ k h. elim (set_only ps k place (rw (← e) h))
+        [ | inl a ↦ inl a | inr same ↦ inr (rw f (rw (← same) (in_last k ws))) ];
         still = λ k h. subst (λ (l : List ℕ). IsIn k l) (sym f) (in_left k ws (place ∷ []) h);
-        waits = λ k h. elim (in_snoc k place ws (subst (λ (l : List ℕ). IsIn k l) f h)) [
-          | inl a ↦ inl a
-          | inr same ↦ inr (subst (λ n. IsAt qs n) (sym same) there)
-        ];
+        waits = λ k h. elim (in_snoc k place ws (rw (← f) h)) [ | inl a ↦ inl a | inr same ↦ inr (rw same there) ];
         count = (let a = ap trues e ∙ set_trues ps place d lt off in
             let b = ap length f ∙ length-append ws (place ∷ []) in omega (arith, a, b));
       };
@@ -156,8 +145,7 @@ stays_reached : (code : List Instr) (places : List Bool) (pc : ℕ) → pc < len
     → ((k : ℕ) → IsAt places k → IsExpanded code places k) → (m k : ℕ) → IsExpanded code places k
     → CanReach code (suc m) k pc → IsAt places pc
 stays_reached code places pc lt closed zero k leads h =
-    let within : h.1 < length code = subst (λ n. n < length code) (sym h.4) lt in
-    subst (λ n. IsAt places n) h.4 (leads h.0 h.1 h.2 h.3 within)
+    subst (λ n. IsAt places n) h.4 (leads h.0 h.1 h.2 h.3 (subst (λ n. n < length code) (sym h.4) lt))
 stays_reached code places pc lt closed (suc m) k leads h =
     let rest = h.4 in
     let within : h.1 < length code = slice_get_within code h.1 rest.0 rest.2 in
@@ -189,8 +177,7 @@ module _ (code : List Instr) (pc : ℕ) where
       → ((i : Instr) (k : ℕ) → slice_get code place ≡ Some i → StepsTo i place k → wanted k)
       → old ≡ ws ++ place ∷ [] → Searched code pc n ps old → GrowsBy ps qs ws vs wanted → Searched code pc (n + 1) qs vs
   step_sound n ps qs old ws vs place o at wanted goes all e s g =
-      let point_here : IsAt ps place =
-      s.waits place (subst (λ (l : List ℕ). IsIn place l) (sym e) (in_last place ws)) in
+      let point_here = s.waits place (subst (λ (l : List ℕ). IsIn place l) (sym e) (in_last place ws)) in
       let leads : IsExpanded code qs place = λ i to f x lt.
       g.all to (all i to f x) (let l = s.long in omega (arith, lt, l)) in
       record {

@@ -1,7 +1,7 @@
 -- The code that the compiler emits, step by step, is the code of the block.
 use Rattle.script_compiler.proofs.Words.{[], ◌++◌, ◌+◌, ◌∙◌, ◌∷◌, ◌≡◌, ◌≤◌, Act, Block, Bool, Emits, IsFine, IsJudged}
-use Rattle.script_compiler.proofs.Words.{IsRefusedAfter, IsRefusedIn, Jump, Left, Line, List, None, Option, PlacedInstr}
-use Rattle.script_compiler.proofs.Words.{Plan, ProgramPoint, Reached, Some, Work, after_instr, alone, ap, append-nil}
+use Rattle.script_compiler.proofs.Words.{IsRefusedIn, Jump, Left, Line, List, None, Option, PlacedInstr, Plan}
+use Rattle.script_compiler.proofs.Words.{ProgramPoint, Reached, Some, Work, after_instr, alone, ap, append-nil}
 use Rattle.script_compiler.proofs.Words.{append_assoc, apply, arith, basic, false, if◌then◌else◌, inr, instr_of_act}
 use Rattle.script_compiler.proofs.Words.{is_some, known_at, length, length-append, line_of_instr, lines_of_placed}
 use Rattle.script_compiler.proofs.Words.{nested, nothing, onward, placed_instr, places, point_after, refl}
@@ -37,8 +37,7 @@ marks_both pc (p ∷ ps) qs = by p.point.labelled (marks_both (pc + 1) ps qs
 
 pub laid_length : (a b : Work) (ps : List PlacedInstr) → Emits a b ps
     → length b.lines.items ≡ length a.lines.items + length ps
-laid_length a b ps l = ap length l.lines ∙ length-append a.lines.items (lines_of_placed ps)
-    ∙ ap (λ n. length a.lines.items + n) (length_lines ps)
+laid_length a b ps l = cc (l.lines, length-append a.lines.items (lines_of_placed ps), length_lines ps)
 
 pub lays_both : (a b c : Work) (ps qs : List PlacedInstr) → Emits a b ps → Emits b c qs → Emits a c (ps ++ qs)
 lays_both a b c ps qs h k = record {
@@ -129,8 +128,7 @@ none_reached (Some s) = tt
 whole_here : (plan : Plan) (r : ℕ) (b : Block) (v w : Work) (f : Bool) → Left plan r b v w f nothing
     → Whole plan r (length v.lines.items) b v.now v w f
 whole_here plan r b v w f l =
-    let e : places plan r (length v.lines.items) b v.now ≡ l.emitted =
-    l.whole ∙ ap (λ xs. l.emitted ++ xs) (no_more (way f w)) ∙ append-nil l.emitted in
+    let e = l.whole ∙ ap (λ xs. l.emitted ++ xs) (no_more (way f w)) ∙ append-nil l.emitted in
     record {
       lines = l.emits.lines ∙ ap (λ ps. v.lines.items ++ lines_of_placed ps) (sym e);
       unpriced = l.emits.unpriced ∙ ap (λ ps. v.unpriced.items ++ unpriced_labels (length v.lines.items) ps) (sym e);
@@ -142,17 +140,14 @@ whole_here plan r b v w f l =
 
 pub whole_of : (plan : Plan) (r pc : ℕ) (b : Block) (s : ProgramPoint) (v w : Work) (f : Bool)
     → length v.lines.items ≡ pc → v.now ≡ s → Left plan r b v w f nothing → Whole plan r pc b s v w f
-whole_of plan r pc b s v w f e h l =
-    subst (λ x. Whole plan r pc b x v w f) h (subst (λ n. Whole plan r n b v.now v w f) e (whole_here plan r b v w f l))
+whole_of plan r pc b s v w f e h l = rw (← h) (rw (← e) (whole_here plan r b v w f l))
 
 module _ {plan : Plan} {r pc : ℕ} {b : Block} {s : ProgramPoint} {v w : Work} {f : Bool}
     (h : Whole plan r pc b s v w f) where
   pub whole_length : {n : ℕ} → length v.lines.items ≡ n → length w.lines.items ≡ n + length (places plan r pc b s)
   whole_length at =
-      let e = ap length h.lines in
       let m = length-append v.lines.items (lines_of_placed (places plan r pc b s)) in
-      let k = length_lines (places plan r pc b s) in
-      omega (arith, e, m, k, at)
+      omega (arith, ap length h.lines, m, length_lines (places plan r pc b s), at)
 
 pub some_is : (g : Bool) (w : Work) → g ≡ is_some (way g w)
 some_is true w = refl
@@ -179,20 +174,15 @@ left_apply plan r line number named rest v w f deep left =
     let h = whole_here plan r named v w f left in
     let names = places plan r pc named v.now in
     let emits : Emits v w names = record { lines = h.lines; unpriced = h.unpriced; saved = h.saved } in
-    let len : length w.lines.items ≡ pc + length names = laid_length v w names emits in
     record {
       emitted = names;
       emits = emits;
       whole = ap (λ x. names ++ onward x [] (λ u. places plan r (pc + length names) rest u)) h.leads
-          ∙ ap (λ m. names ++ onward (way f w) [] (λ u. places plan r m rest u)) (sym len);
+          ∙ ap (λ m. names ++ onward (way f w) [] (λ u. places plan r m rest u)) (sym (laid_length v w names emits));
       leads = ap (λ x. onward x None (λ u. point_after plan rest u)) h.leads;
       judged = λ j. (h.judged, subst (λ x. Reached x rest (λ u. IsJudged plan rest u)) (sym h.leads) j);
       only = λ j. subst (λ x. Reached x rest (λ u. IsJudged plan rest u)) h.leads j.1;
-      fails = λ at given j. inr (
-        h.judged,
-        subst (λ x. IsRefusedAfter x rest (λ u. IsRefusedIn plan rest u at given) at given) (sym h.leads)
-            j,
-      );
+      fails = λ at given j. inr (h.judged, rw h.leads j);
       repeats = λ m. let k = h.repeats deep in omega (arith, m, k);
       fewer = omega arith;
     }

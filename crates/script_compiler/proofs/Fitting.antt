@@ -1,11 +1,11 @@
 -- If there is room for a block, there is room for what is emitted of it at each step.
 use Rattle.script_compiler.proofs.Words.{[], ◌++◌, ◌+◌, ◌∙◌, ◌≡◌, ◌≤◌, Block, Bool, BranchesAgree, CanEmit, CodeLimit}
-use Rattle.script_compiler.proofs.Words.{Configurations, Counters, Covers, End, HasCounters, HasRoomFor, HasSpace}
-use Rattle.script_compiler.proofs.Words.{HasTable, Instr, Instructions, IsCovered, IsJudged, Keeps, Labels, Leaves}
-use Rattle.script_compiler.proofs.Words.{Left, List, None, Option, PlacedInstr, Plan, ProgramPoint, Some, Tabled}
-use Rattle.script_compiler.proofs.Words.{WaysAgree, Work, all_places, alone, ap, append-nil, append_assoc, apply, arith}
-use Rattle.script_compiler.proofs.Words.{at_label, join, length, meet, merged, named_by, names_of, nested, nothing}
-use Rattle.script_compiler.proofs.Words.{onward, placed_instr, places, point_after, refl, subst, sym, true, way, ℕ}
+use Rattle.script_compiler.proofs.Words.{Configurations, Counters, Covers, End, HasCounters, HasSpace, HasTable, Instr}
+use Rattle.script_compiler.proofs.Words.{Instructions, IsJudged, Keeps, Labels, Left, List, None, Option, PlacedInstr}
+use Rattle.script_compiler.proofs.Words.{Plan, ProgramPoint, Some, WaysAgree, Work, all_places, alone, ap, append-nil}
+use Rattle.script_compiler.proofs.Words.{append_assoc, apply, arith, at_label, join, length, meet, merged, nested}
+use Rattle.script_compiler.proofs.Words.{nothing, onward, placed_instr, places, point_after, refl, subst, sym, true}
+use Rattle.script_compiler.proofs.Words.{way, ℕ}
 use Rattle.script_compiler.proofs.Rooms.{leaves_same}
 use Rattle.script_compiler.proofs.Emitted.{Whole, whole_length}
 use Rattle.script_compiler.proofs.Steps.{Starts, whole_start}
@@ -15,24 +15,20 @@ use Rattle.script_compiler.proofs.Spaces.{covered_fits, covers_block}
 -- ---- one statement after another
 
 pub counters_less : (limit : CodeLimit) (m n : ℕ) → n ≤ m → HasCounters limit m → HasCounters limit n
-counters_less Instructions m n le h = tt
-counters_less Labels m n le h = tt
-counters_less Configurations m n le h = tt
 counters_less Counters m n le h = omega (arith, le, h)
+counters_less _ m n le h = tt
 
 pub can_then : (limit : CodeLimit) (plan : Plan) (r : ℕ) (b c : Block) (v w : Work) → Left plan r b v w true c
     → CanEmit limit plan r b v → CanEmit limit plan r c w
 can_then limit plan r b c v w left can =
     let rest = places plan r (length w.lines.items) c w.now in
-    let e : places plan r (length v.lines.items) b v.now ++ can.more ≡ left.emitted ++ (rest ++ can.more) =
-    ap (λ ps. ps ++ can.more) left.whole ∙ append_assoc left.emitted rest can.more in
+    let e = ap (λ ps. ps ++ can.more) left.whole ∙ append_assoc left.emitted rest can.more in
     record {
       judged = left.only can.judged;
       deep = counters_less limit (r + nested b) (r + nested c) (let f = left.fewer in omega (arith, f)) can.deep;
       more = can.more;
       onward = λ u h. can.onward u (left.leads ∙ h);
-      space = space_after limit v w left.emitted (rest ++ can.more) left.emits
-          (subst (λ ps. HasSpace limit v ps) e can.space);
+      space = space_after limit v w left.emitted (rest ++ can.more) left.emits (rw (← e) can.space);
     }
 
 -- ---- labels at which paths merge
@@ -56,8 +52,7 @@ module _ (plan : Plan) (r pc : ℕ) (rest : Block) (more : List PlacedInstr) whe
       let m = at_label (merged x.flow s.flow) in
       let same : x ≡ u = cc in
       let there = onward_covers (Some m) on m refl refl in
-      subst (λ (y : ProgramPoint). IsCovered y.flow (places plan r pc rest m ++ more)) same
-      (covered_fits x.flow m.flow (places plan r pc rest m ++ more) agree.0 there)
+      rw (← same) (covered_fits x.flow m.flow (places plan r pc rest m ++ more) agree.0 there)
 
   pub join_covers : (a b : Option ProgramPoint) → BranchesAgree a b → Onward (join a b) → (u : ProgramPoint)
       → b ≡ Some u → Covers u (rests (join a b) ++ more)
@@ -74,8 +69,7 @@ module _ (plan : Plan) (r pc : ℕ) (rest : Block) (more : List PlacedInstr) whe
 space_whole : (limit : CodeLimit) (plan : Plan) (r pc : ℕ) (b : Block) (s : ProgramPoint) (v w : Work) (f : Bool)
     (more : List PlacedInstr) → Whole plan r pc b s v w f → HasSpace limit v (places plan r pc b s ++ more)
     → HasSpace limit w more
-space_whole limit plan r pc b s v w f more h space =
-    space_from limit v w pc (places plan r pc b s) more (whole_length h refl) h.unpriced space
+space_whole limit plan r pc b s v w f more h space = space_from _ _ _ _ _ _ (whole_length h refl) h.unpriced space
 
 -- ---- a block at a known point
 
@@ -91,8 +85,7 @@ module _ {limit : CodeLimit} {plan : Plan} {r pc : ℕ} {b : Block} {s : Program
     {more : List PlacedInstr} (h : Fits limit plan r pc b s w more) where
   pub can_here : length w.lines.items ≡ pc → w.now ≡ s → CanEmit limit plan r b w
   can_here at now =
-      let same : places plan r pc b s ≡ places plan r (length w.lines.items) b w.now =
-      ap (λ n. places plan r n b s) (sym at) ∙ ap (λ t. places plan r (length w.lines.items) b t) (sym now) in
+      let same : places plan r pc b s ≡ places plan r (length w.lines.items) b w.now = cc (at, now) in
       record {
         judged = subst (λ t. IsJudged plan b t) (sym now) h.judged;
         deep = h.deep;
@@ -127,8 +120,7 @@ can_apply limit plan r line k named rest w can =
       judged = can.judged.0;
       deep = counters_less limit (r + nested (apply line k named rest)) (r + nested named) (omega arith) can.deep;
       more = rests ++ can.more;
-      onward = λ u e. onward_covers plan r (pc + length names) rest can.more (point_after plan named w.now)
-          (λ v h. can.onward v h) u e;
+      onward = λ u e. onward_covers plan r _ rest can.more (point_after plan named w.now) (λ v h. can.onward v h) u e;
       space = subst (λ ps. HasSpace limit w ps) (append_assoc names rests can.more) can.space;
     }
 
@@ -138,10 +130,8 @@ pub table_none : (w : Work) → w.unpriced.table ≡ [] → w.unpriced.items ≡
 table_none w configs unpriced = record {
   few = let e = ap length configs in omega (arith, e);
   labels = let e = ap length unpriced in omega (arith, e);
-  room = subst (λ cs. Leaves [] cs w.unpriced.items) (sym configs)
-      (subst (λ ms. Leaves [] [] ms) (sym unpriced) (leaves_same []));
-  tabled = subst (λ cs. Tabled [] w.unpriced.items cs) (sym configs)
-      (subst (λ ms. Tabled [] ms []) (sym unpriced) refl);
+  room = rw configs (rw unpriced (leaves_same []));
+  tabled = rw configs (rw unpriced refl);
 }
 
 few_space : (limit : CodeLimit) (deep : ℕ) (w : Work) (ps : List PlacedInstr) → w.lines.items ≡ []
@@ -149,16 +139,12 @@ few_space : (limit : CodeLimit) (deep : ℕ) (w : Work) (ps : List PlacedInstr) 
 few_space Instructions deep w ps lines unpriced few = let e = ap length lines in omega (arith, e, few)
 few_space Labels deep w ps lines unpriced few = let e = ap length unpriced in let n = marks_count 0 ps in
     omega (arith, e, n, few)
-few_space Configurations deep w ps lines unpriced few =
-    subst (λ ms. HasRoomFor [] (named_by ms ++ names_of ps)) (sym unpriced)
-    (subst (λ cs. HasRoomFor [] cs) (marks_named 0 ps) few)
+few_space Configurations deep w ps lines unpriced few = rw unpriced (rw (← marks_named 0 ps) few)
 few_space Counters deep w ps lines unpriced few = tt
 
 few_counters : (limit : CodeLimit) (deep : ℕ) (ps : List PlacedInstr) → Keeps limit deep ps → HasCounters limit deep
-few_counters Instructions deep ps few = tt
-few_counters Labels deep ps few = tt
-few_counters Configurations deep ps few = tt
 few_counters Counters deep ps few = few
+few_counters _ deep ps few = tt
 
 module _ (limit : CodeLimit) (plan : Plan) (last : ℕ) {b c : Block} {t : ProgramPoint} {w0 : Work}
     (starts : Starts b c t w0) (few : Keeps limit (nested b) (all_places plan last b t)) where
@@ -168,21 +154,18 @@ module _ (limit : CodeLimit) (plan : Plan) (last : ℕ) {b c : Block} {t : Progr
       let ending = onward (point_after plan b t) [] (alone last End 0) in
       record {
         judged = judged;
-        deep = counters_less limit (nested b) (0 + nested b) (omega arith)
-            (few_counters limit (nested b) (all_places plan last b t) few);
+        deep = counters_less _ _ _ (omega arith) (few_counters _ _ _ few);
         onward = λ u e. jump_covers plan 0 0 b [] (point_after plan b t) last End 0 u e;
         space = subst (λ ps. HasSpace limit w0 (places plan 0 0 b t ++ ps)) (sym (append-nil ending))
             (few_space limit (nested b) w0 (all_places plan last b t) starts.lines starts.unpriced few);
       }
 
   pub can_whole : IsJudged plan b t → CanEmit limit plan 0 c w0
-  can_whole judged = subst (λ x. CanEmit limit plan 0 x w0) (sym starts.same)
-      (can_here (whole_fits judged) (ap length starts.lines) starts.now)
+  can_whole judged = rw starts.same (can_here (whole_fits judged) (ap length starts.lines) starts.now)
 
   pub space_whole_end : {w1 : Work} {f : Bool} → Left plan 0 c w0 w1 f nothing
       → HasSpace limit w1 (onward (way f w1) [] (alone last End 0))
   space_whole_end {w1} {f} left =
       let h = whole_start starts plan left in
       subst (λ w. HasSpace limit w1 (onward w [] (alone last End 0))) h.leads
-      (space_whole limit plan 0 0 b t w0 w1 f (onward (point_after plan b t) [] (alone last End 0)) h
-      (few_space limit (nested b) w0 (all_places plan last b t) starts.lines starts.unpriced few))
+      (space_whole limit plan 0 0 b t w0 w1 f _ h (few_space limit _ w0 _ starts.lines starts.unpriced few))

@@ -71,8 +71,7 @@ module _ (p : Program) where
       → Next n b d (effect p.plan i (at pc cs d))) → Follows (suc n) pc cs b
   by_instr n pc cs b i h f = λ d runs ok.
       let same : ok.instr ≡ i = same_Some ok.instr i (sym ok.within ∙ h) in
-      let allowed : IsAllowed p.plan i (at pc cs d) =
-      subst (λ (x : Instr). IsAllowed p.plan x (at pc cs d)) same ok.allowed in
+      let allowed = subst (λ (x : Instr). IsAllowed p.plan x (at pc cs d)) same ok.allowed in
       subst (λ (o : Option Instr). Next n b d (effect_of p.plan o (at pc cs d))) (sym h) (f d runs allowed)
 
   -- a step of the script alone
@@ -101,8 +100,7 @@ module _ (p : Program) where
   jumps_on : (m pc to : ℕ) (cs : List ℕ) (b : Block) → instr_at p pc ≡ Some (Jump to)
       → ((q : ℕ) → q < m → Follows q to cs b) → Follows m pc cs b
   jumps_on zero pc to cs b h f = tt
-  jumps_on (suc m) pc to cs b h f =
-      by_instr m pc cs b (Jump to) h (λ d runs ok. (b, comes_same (reading b (scene_of d)), f m (omega arith)))
+  jumps_on (suc m) pc to cs b h f = by_instr _ _ _ _ _ h (λ d runs ok. (b, comes_same _, f m (omega arith)))
 
   -- what a test does, as the script reads
   tested : (c : Condition) (to : ℕ) (s : State) → effect p.plan (test_of c to) s
@@ -256,10 +254,8 @@ module _ (p : Program) where
         by_instr n pc cs (basic line act (followed rest k)) (instr_of_act act)
         (there pc (placed_instr line (instr_of_act act) r s) st.0) (λ d runs ok.
         let there' = act_place p.plan act (at pc cs d) in
-        let follows : Follows n (pc + 1) cs (followed rest k) =
-        ih n (omega arith) rest r (pc + 1) t k cs st.1 eight
-        (λ m le u ds eu same. go_at (suc n) _ _ r (point_after p.plan rest t) cs k e go m (omega (arith, le)) u ds
-        eu same) in
+        let follows : Follows n (pc + 1) cs (followed rest k) = ih n (omega arith) rest r (pc + 1) t k cs st.1 eight
+        (λ m le u ds eu same. go_at _ _ _ _ _ _ _ e go m (omega (arith, le)) u ds eu same) in
         let follows' : Follows n (effect p.plan (instr_of_act act) (at pc cs d)).pc
         (effect p.plan (instr_of_act act) (at pc cs d)).counters (followed rest k) =
         subst (λ x. Follows n (effect p.plan (instr_of_act act) (at pc cs d)).pc x (followed rest k)) (sym there'.1)
@@ -286,10 +282,8 @@ module _ (p : Program) where
         let rests = onward w [] (λ u. places p.plan r end rest u) in
         let e : pc + length (places p.plan r pc (when line c first rest) s) ≡ end + length rests =
         omega (arith, length-append firsts rests) in
-        let next = rest_goes n r end rest w cs k (λ m le. ih m (omega (arith, le)) rest)
-        (stand_back whole (pc + 1) firsts rests st.1)
-        (λ m le u ds eu same. go_at (suc n) _ _ r (point_after p.plan (when line c first rest) s) cs k e go m
-        (omega (arith, le)) u ds eu same) in
+        let next = rest_goes _ _ _ _ _ _ _ (λ m le. ih m (omega (arith, le)) rest) (stand_back _ _ _ _ st.1)
+        (λ m le u ds eu same. go_at _ _ _ _ _ _ _ e go m (omega (arith, le)) u ds eu same) in
         let v = meets_some (point_after p.plan first t) s in
         let b = when line c first (followed rest k) in
         by_instr n pc cs b (test_of c end) (there pc (placed_instr line (test_of c end) r s) st.0) (λ d runs ok.
@@ -309,9 +303,7 @@ module _ (p : Program) where
         let w = join a b in
         let rests = onward w [] (λ u. places p.plan r end rest u) in
         let jumps = onward a [] (alone line (Jump end) r) in
-        let len : length jumps ≡ (if falls_out first then 1 else 0) =
-        jump_length line (Jump end) r a (falls_out first) (after_falls p.plan first t) in
-        let at_start : out + length jumps ≡ start = ap (λ m. out + m) len in
+        let len = jump_length line (Jump end) r a (falls_out first) (after_falls p.plan first t) in
         let e : pc + length (places p.plan r pc (either line c first second rest) s) ≡ end + length rests =
         omega (
           arith,
@@ -321,7 +313,7 @@ module _ (p : Program) where
           length-append seconds rests,
         ) in
         let st_jumps = stand_back whole (pc + 1) firsts (jumps ++ (seconds ++ rests)) st.1 in
-        let st_seconds = subst (λ m. Stand whole m (seconds ++ rests)) at_start
+        let st_seconds = subst (λ m. Stand whole m (seconds ++ rests)) (ap (λ m. out + m) len)
         (stand_back whole out jumps (seconds ++ rests) st_jumps) in
         let next = rest_goes n r end rest w cs k (λ m le. ih m (omega (arith, le)) rest)
         (stand_back whole start seconds rests st_seconds)
@@ -335,20 +327,16 @@ module _ (p : Program) where
         (ih n (omega arith) first r (pc + 1) t K cs
         (stand_front whole (pc + 1) firsts (jumps ++ (seconds ++ rests)) st.1) eight (λ m le u ds eu same.
         let v = joins_first a b u eu in
-        let j = there_after line (Jump end) r out (λ x. []) a u eu
-        (stand_front whole out jumps (seconds ++ rests) st_jumps) in
+        let j = there_after _ _ _ _ (λ x. []) _ _ eu (stand_front _ _ _ _ st_jumps) in
         jumps_on m out end ds K (there out (placed_instr line (Jump end) r u) j.0)
         (λ q lt. next v.0 v.1 q (omega (arith, le, lt)) ds same)))
         (ih n (omega arith) second r start (at_label s.flow) K cs (stand_front whole start seconds rests st_seconds)
         eight (λ m le u ds eu same. let v = joins_second a b u eu in next v.0 v.1 m le ds same)))
     by_block (suc n) ih (repeat line zero body rest) r pc s k cs st eight go =
-        let f = formed pc (placed_instr line (Set r zero) r s) st.0 in
-        absurd (let z : 1 ≤ 0 = f.1 in omega (arith, z))
+        absurd (let z : 1 ≤ 0 = (formed pc (placed_instr line (Set r zero) r s) st.0).1 in omega (arith, z))
     by_block (suc n) ih (repeat line (suc c) body rest) r pc s k cs st eight go =
-        let f = formed pc (placed_instr line (Set r (suc c)) r s) st.0 in
-        let low : r < 8 = f.0 in
-        let t = without_label s.flow in
-        let start = head body t in
+        let low : r < 8 = (formed pc (placed_instr line (Set r (suc c)) r s) st.0).0 in
+        let start = head body (without_label s.flow) in
         let bodies = places p.plan (r + 1) (pc + 1) body start in
         let a = point_after p.plan body start in
         let end = pc + 1 + length bodies in
@@ -363,9 +351,7 @@ module _ (p : Program) where
         let at' : pc + length (places p.plan r pc (repeat line (suc c) body rest) s) ≡ end + 1 + length (more u) =
         let x = ap (λ w. length (onward w [] (λ v. placed_instr line (Loop r (pc + 1)) (r + 1) v ∷ more v))) eu in
         omega (arith, e, x) in
-        let leads : point_after p.plan (repeat line (suc c) body rest) s
-        ≡ point_after p.plan rest (without_label u.flow) =
-        ap (λ w. onward w None (λ v. point_after p.plan rest (without_label v.flow))) eu in
+        let leads = ap (λ w. onward w None (λ v. point_after p.plan rest (without_label v.flow))) eu in
         ih q (omega (arith, le)) rest r (end + 1) (without_label u.flow) k ds there'.1 same.0
         (λ m le' v es ev same'. go_at (suc n) _ _ r (point_after p.plan (repeat line (suc c) body rest) s) cs k at'
         go m (omega (arith, le, le')) v es (leads ∙ ev) (same_then r cs ds es same same')) in

@@ -4,10 +4,10 @@ use Rattle.script_compiler.proofs.Words.{Bool, CompileFault, Configuration, Cont
 use Rattle.script_compiler.proofs.Words.{IsDeepAtMost, IsJudged, IsLabel, IsLine, IsPlan, IsProgram, IsRefusal}
 use Rattle.script_compiler.proofs.Words.{IsScript, Label, Limit, Line, List, Memory, PlacedInstr, Plan, Refused, Some}
 use Rattle.script_compiler.proofs.Words.{Tree, UnpricedLabel, ap, arith, beginning, body_of, false, first_counters}
-use Rattle.script_compiler.proofs.Words.{get_or, if◌then◌else◌, instrs_of, label_key, length, lines_of_placed, longest}
-use Rattle.script_compiler.proofs.Words.{nested, opening_of, option_map, placed_instrs, refl, slice_get, slice_get-map}
-use Rattle.script_compiler.proofs.Words.{slice_get_within, slice_index, subst, suc, sym, true, unpriced_label}
-use Rattle.script_compiler.proofs.Words.{unpriced_labels, zero, ℕ}
+use Rattle.script_compiler.proofs.Words.{get_or, if◌then◌else◌, instrs_of, label_key, length, lines_of_placed, nested}
+use Rattle.script_compiler.proofs.Words.{opening_of, option_map, placed_instrs, refl, slice_get, slice_get-map}
+use Rattle.script_compiler.proofs.Words.{slice_get_within, subst, suc, sym, true, unpriced_label, unpriced_labels, zero}
+use Rattle.script_compiler.proofs.Words.{ℕ}
 use Rattle.plan_code.proofs.Ascending.{AscendsFrom, from_ascends}
 use Rattle.plan_code.specs.declared.flags.Counters.{Counters}
 use Rattle.script_compiler.proofs.Making.{labels_length, Parts, code_from, lines_are, marks_are}
@@ -49,21 +49,12 @@ module _ (table : List Configuration) where
       raised p.point.labelled k p ps ls are (λ low' rest le' a. ascends_marks ps (k + 1) low' rest le' a) low le
 
   counters_few : (r : ℕ) → r ≤ 8 → (first_counters r).0 < 256
-  counters_few zero le = omega arith
-  counters_few (suc zero) le = omega arith
-  counters_few (suc (suc zero)) le = omega arith
-  counters_few (suc (suc (suc zero))) le = omega arith
-  counters_few (suc (suc (suc (suc zero)))) le = omega arith
-  counters_few (suc (suc (suc (suc (suc zero))))) le = omega arith
-  counters_few (suc (suc (suc (suc (suc (suc zero)))))) le = omega arith
-  counters_few (suc (suc (suc (suc (suc (suc (suc zero))))))) le = omega arith
-  counters_few (suc (suc (suc (suc (suc (suc (suc (suc zero)))))))) le = omega arith
   counters_few (suc (suc (suc (suc (suc (suc (suc (suc (suc r))))))))) le = absurd (omega (arith, le))
+  counters_few _ le = omega arith
 
   counters_within : (ms : List UnpricedLabel) (ls : List Label) → AreLabelsOf table ms ls → IsDeepAtMost 8 ms
       → AllByRecursion (λ (l : Label). l.counters.0 < 256) ls
-  counters_within [] ls are deep =
-      subst (λ (xs : List Label). AllByRecursion (λ (l : Label). l.counters.0 < 256) xs) (sym are) tt
+  counters_within [] ls are deep = rw are tt
   counters_within (m ∷ ms) [] are deep = absurd are
   counters_within (m ∷ ms) (l ∷ ls) are deep = (
     subst (λ (c : Counters). c.0 < 256) (sym are.0.counters) (counters_few m.repeats deep.0),
@@ -75,11 +66,8 @@ module _ (table : List Configuration) where
 some_marks : (p : PlacedInstr) (ps qs : List PlacedInstr) → qs ≡ p ∷ ps → p.point.labelled ≡ true
     → 1 ≤ length (unpriced_labels 0 qs)
 some_marks p ps qs e l =
-    let there : unpriced_labels 0 qs ≡ unpriced_label 0 p ∷ unpriced_labels 1 ps =
-    ap (λ xs. unpriced_labels 0 xs) e
-    ∙ ap (λ b. if b then unpriced_label 0 p ∷ unpriced_labels 1 ps else unpriced_labels 1 ps) l in
-    let n = ap length there in
-    omega (arith, n)
+    let there : unpriced_labels 0 qs ≡ unpriced_label 0 p ∷ unpriced_labels 1 ps = cc (e, l) in
+    omega (arith, ap length there)
 
 some_places : (p : PlacedInstr) (ps qs : List PlacedInstr) → qs ≡ p ∷ ps → 1 ≤ length qs
 some_places p ps qs e = let n = ap length e in omega (arith, n)
@@ -117,11 +105,8 @@ module _ {s : Tree} {plan : Plan} {config : Configuration} {lines : List Line} {
   label_cost : (l : Label) → Contains labels l → (i : Instr) → slice_get (instrs_of lines) l.pc ≡ Some i → (1 ≤ l.cost)
       × (l.cost ≤ 255)
   label_cost l has i there =
-      let cost : l.cost ≡ longest (instrs_of lines) (plan.budget + 1) l.pc = p.priced l has ∙ p.each l.pc in
       let least = one_least (instrs_of lines) plan.budget l.pc i there in
-      let price : l.cost ≡ slice_index needs l.pc = p.priced l has in
-      let most = p.within l.pc in
-      (omega (arith, cost, least), omega (arith, price, most, budget_most))
+      (omega (arith, least), omega (arith, budget_most))
 
   instr_there : (k : ℕ) (q : PlacedInstr) → slice_get all k ≡ Some q → slice_get (instrs_of lines) k ≡ Some q.instr
   instr_there k q e =
@@ -134,18 +119,14 @@ module _ {s : Tree} {plan : Plan} {config : Configuration} {lines : List Line} {
   label_formed : AllByRecursion IsLine lines → (l : Label) → Contains labels l → IsLabel (length configs) l
   label_formed formed l has =
       let at = label_contained configs all labels 0 l labels_of_all has in
-      let within = slice_get_within all at.index at.place at.there in
-      let few = kept.instructions in
-      let pc = at.is.place in
       let bounds = all_bounds s.header (let n = script.headed.notice_from in omega (arith, n)) script.headed.notice_to
-      s.last_line (body_of s) (beginning (opening_of s)) kept.judged
-      (subst (λ (ls : List Line). AllByRecursion IsLine ls) lines_of_all formed) tt in
-      let pc_is : at.index ≡ l.pc = omega (arith, pc) in
+      s.last_line (body_of s) (beginning (opening_of s)) kept.judged (rw (← lines_of_all) formed) tt in
+      let pc_is : at.index ≡ l.pc = omega arith in
       let cost = label_cost l has at.place.instr
       (subst (λ k. slice_get (instrs_of lines) k ≡ Some at.place.instr) pc_is
       (instr_there at.index at.place at.there)) in
       record {
-        place = omega (arith, pc, within, few);
+        place = omega (arith, slice_get_within all at.index at.place at.there);
         current = slice_get_within configs l.cur at.place.point.flow.current at.is.current;
         following = slice_get_within configs l.next at.place.point.flow.next at.is.following;
         bounds = subst AreBounds (sym at.is.pending) (bounds_at all at.index at.place bounds at.there);
@@ -165,23 +146,18 @@ module _ {s : Tree} {plan : Plan} {config : Configuration} {lines : List Line} {
       let count = labels_length configs (unpriced_labels 0 all) labels labels_of_all in
       let some = some_marks first.place first.rest all first.is (first.labelled refl) in
       let some_labels : 1 ≤ length labels = omega (arith, count, some) in
-      let few_labels = kept.labels in
-      let emitted = ap length lines_of_all in
-      let counted = length_lines all in
       let some_lines = some_places first.place first.rest all first.is in
-      let few_lines = kept.instructions in
       record {
         planned = subst IsPlan (sym p.made_from.plan_is) script.headed;
         configurations_from = some_table (length configs) labels some_labels labels_are;
         configurations_to = kept.configurations;
         configurations_formed = made;
         labels_from = some_labels;
-        labels_to = omega (arith, count, few_labels);
+        labels_to = omega (arith, count);
         labels_formed = labels_are;
-        labels_ascend = from_ascends label_key 0 labels
-            (ascends_marks configs all 0 0 labels (omega arith) labels_of_all);
-        lines_from = omega (arith, emitted, counted, some_lines);
-        lines_to = omega (arith, emitted, counted, few_lines);
+        labels_ascend = from_ascends _ 0 _ (ascends_marks _ all 0 0 labels (omega arith) labels_of_all);
+        lines_from = omega (arith, ap length lines_of_all, length_lines all, some_lines);
+        lines_to = omega (arith, ap length lines_of_all, length_lines all);
         lines_formed = formed;
       }
 

@@ -5,7 +5,7 @@ use Rattle.script_compiler.proofs.Words.{false, is_for, is_in, is_level, list_an
 use Rattle.script_compiler.proofs.Words.{sym, true, with_alternative, with_alternatives, with_contact, with_level, ℕ}
 use Rattle.std.proofs.Math.Bool.{or-false, or_assoc}
 use Rattle.std.proofs.lemmas.Nat.Bits.{bit_at-zero}
-use Rattle.script_front.specs.declared.alternatives.Alternative.TheVariants.{Contact, Until, Frames}
+use Rattle.script_front.specs.declared.alternatives.Alternative.TheVariants.{Contact}
 use Rattle.script_front.specs.Waits.{IsAlternative}
 
 any_or_true : (b : Bool) → (b || true) ≡ true
@@ -45,8 +45,7 @@ levelled false true set c d low small =
 one_kept : (a : Alternative) (set : Contacts) (d : ℕ) (closed : Bool) → IsAlternative a → d < 16
     → is_in (with_alternative closed a set) d ≡ (is_in set d || is_for d closed a)
 one_kept (Contact c level) set d closed is small = levelled closed level set c d is small
-one_kept (Until moment) set d closed is small = sym (or-false (is_in set d))
-one_kept (Frames frames) set d closed is small = sym (or-false (is_in set d))
+one_kept _ set d closed is small = sym (or-false (is_in set d))
 
 kept_with : (all : List Alternative) (set : Contacts) (d : ℕ) (closed : Bool) → AllByRecursion IsAlternative all
     → d < 16 → is_in (with_alternatives closed all set) d ≡ (is_in set d || list_any (is_for d closed) all)

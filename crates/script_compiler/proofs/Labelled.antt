@@ -66,14 +66,11 @@ module _ (table : List Configuration) where
   label_found [] ls k j p are h e = cc
   label_found (q ∷ ps) ls k zero p are h e =
       let same : q ≡ p = same_Some q p h in
-      let at : k ≡ k + 0 = omega arith in
-      let point_here = found_head k q.point.labelled q ps ls (ap (λ (x : PlacedInstr). x.point.labelled) same ∙ e)
-      are in
-      subst (λ n. Found n p ls) at (subst (λ (x : PlacedInstr). Found k x ls) same point_here)
+      let point_here = found_head k _ q ps ls (ap (λ (x : PlacedInstr). x.point.labelled) same ∙ e) are in
+      subst (λ n. Found n p ls) (omega arith) (subst (λ (x : PlacedInstr). Found k x ls) same point_here)
   label_found (q ∷ ps) ls k (suc j) p are h e =
-      let at : k + 1 + j ≡ k + suc j = omega arith in
       found_later k (k + suc j) q.point.labelled q p ps ls (omega arith) are
-      (λ rest a. subst (λ n. Found n p rest) at (label_found ps rest (k + 1) j p a h e))
+      (λ rest a. subst (λ n. Found n p rest) (omega arith) (label_found ps rest (k + 1) j p a h e))
 
   later : (k : ℕ) (q : PlacedInstr) (ps : List PlacedInstr) (l : Label) → Stands (k + 1) ps l → Stands k (q ∷ ps) l
   later k q ps l m = let at : k + 1 + m.index ≡ k + suc m.index = omega arith in
@@ -93,14 +90,13 @@ module _ (table : List Configuration) where
       → Stands (k + 1) ps l) → slice_get ls i ≡ Some l → Stands k (q ∷ ps) l
   label_only_from k i q ps true [] l e are ih h = absurd are
   label_only_from k zero q ps true (m ∷ ls) l e are ih h =
-      let at : k ≡ k + 0 = omega arith in
       let same : m ≡ l = same_Some m l h in
       record {
         index = 0;
         place = q;
         there = refl;
         labelled = e;
-        is = subst (λ n. IsLabelOf table (unpriced_label n q) l) at
+        is = subst (λ n. IsLabelOf table (unpriced_label n q) l) (omega arith)
             (subst (λ (x : Label). IsLabelOf table (unpriced_label k q) x) same are.0);
       }
   label_only_from k (suc i) q ps true (m ∷ ls) l e are ih h = later k q ps l (ih i ls are.1 h)
@@ -143,8 +139,7 @@ module _ (table : List Configuration) where
   label_place ps ls pc l p are h e =
       let f = found_label ls pc l h in
       let m = label_only ps ls 0 f.0 l are f.1 in
-      let zero_plus : 0 + m.index ≡ m.index = omega arith in
-      let at : m.index ≡ pc = sym zero_plus ∙ sym m.is.place ∙ f.2 in
+      let at : m.index ≡ pc = sym (omega arith) ∙ sym m.is.place ∙ f.2 in
       let same : m.place ≡ p = same_Some m.place p (sym m.there ∙ subst (λ n. slice_get ps n ≡ Some p) (sym at) e) in
       subst (λ (x : PlacedInstr). x.point.labelled ≡ true) same m.labelled
 
@@ -244,9 +239,8 @@ chain plan (when line c first rest) r pc s came h =
     let end = pc + 1 + length firsts in
     let goes = continues (test_of c end) in
     let front = chain plan first r (pc + 1) (without_label s.flow) goes (λ e. test_continues c end) in
-    let back = rest_chain (ends goes firsts) (λ u. places plan r end rest u) (λ u. point_after plan rest u)
-    (meet a (Some s)) (λ u k. chain plan rest r end u (ends goes firsts) k)
-    (λ u e. meet_follows (ends goes firsts) a s u e) in
+    let back = rest_chain _ (λ u. places plan r end rest u) (λ u. point_after plan rest u) _
+    (λ u k. chain plan rest r end u (ends goes firsts) k) (λ u e. meet_follows _ a s u e) in
     let both = chain_both goes firsts _ _ front.inner back in
     record { inner = (h, both.inner); exits = both.exits }
 chain plan (either line c first second rest) r pc s came h =
@@ -264,8 +258,7 @@ chain plan (either line c first second rest) r pc s came h =
     let middle = chain plan second r start (at_label s.flow) come (labelled_follows come (at_label s.flow) refl) in
     let back = rest_chain (ends come seconds) (λ u. places plan r end rest u) (λ u. point_after plan rest u) (join a b)
     (λ u k. chain plan rest r end u (ends come seconds) k) (join_follows (ends come seconds) a b middle.exits) in
-    let both = chain_both goes firsts _ _ front.inner
-    (chain_both (ends goes firsts) jumps _ _ jump (chain_both come seconds _ _ middle.inner back)) in
+    let both = chain_both _ _ _ _ front.inner (chain_both _ _ _ _ jump (chain_both _ _ _ _ middle.inner back)) in
     record { inner = (h, both.inner); exits = both.exits }
 chain plan (repeat line n body rest) r pc s came h =
     let start = head body (without_label s.flow) in
@@ -273,8 +266,7 @@ chain plan (repeat line n body rest) r pc s came h =
     let a = point_after plan body start in
     let end = pc + 1 + length bodies in
     let front = chain plan body (r + 1) (pc + 1) start true (λ e. refl) in
-    let come = ends true bodies in
-    let back = rest_chain come (λ u. placed_instr line (Loop r (pc + 1)) (r + 1) u
+    let back = rest_chain (ends true bodies) (λ u. placed_instr line (Loop r (pc + 1)) (r + 1) u
     ∷ places plan r (end + 1) rest (without_label u.flow)) (λ u. point_after plan rest (without_label u.flow)) a
     (λ u k. let ih = chain plan rest r (end + 1) (without_label u.flow) true (λ e. refl) in
     record { inner = (k, ih.inner); exits = ih.exits }) front.exits in
@@ -285,8 +277,7 @@ chain plan (forever line body rest) r pc s came h =
     let bodies = places plan r pc body start in
     let front = chain plan body r pc start came (head_follows came (falls_out body) s h) in
     record {
-      inner = connected_both came bodies _ front.inner
-          (jump_chain (ends came bodies) line pc r (point_after plan body start) front.exits);
+      inner = connected_both _ _ _ front.inner (jump_chain _ _ _ _ _ front.exits);
       exits = λ u e. cc;
     }
 chain plan (apply line k named rest) r pc s came h =

@@ -54,11 +54,9 @@ pub marks_more : (table more : List Configuration) (ms : List IndexedLabel) → 
     → map (unpriced_in (table ++ more)) ms ≡ map (unpriced_in table) ms
 marks_more table more [] h = refl
 marks_more table more (m ∷ ms) h =
-    let one : unpriced_in (table ++ more) m ≡ unpriced_in table m =
-    mark_as m _ _ _ _ (at_more table more m.cur h.0) (at_more table more m.next h.1) in
+    let one = mark_as m _ _ _ _ (at_more table more m.cur h.0) (at_more table more m.next h.1) in
     let rest = marks_more table more ms h.2 in
-    ap (λ (x : UnpricedLabel). x ∷ map (unpriced_in (table ++ more)) ms) one
-    ∙ ap (λ (xs : List UnpricedLabel). unpriced_in table m ∷ xs) rest
+    cc (one, rest)
 
 pub within_more : (n k : ℕ) (ms : List IndexedLabel) → n ≤ k → AreInTable n ms → AreInTable k ms
 within_more n k [] le h = tt
@@ -73,15 +71,13 @@ within_push n (x ∷ ms) m cur next h = (h.0, h.1, within_push n ms m cur next h
 pub added_marks : (c : Configuration) (table new : List Configuration) (ms : List IndexedLabel) → Added c table new
     → AreInTable (length table) ms → map (unpriced_in new) ms ≡ map (unpriced_in table) ms
 added_marks c table new ms (inl old) h = ap (λ (t : List Configuration). map (unpriced_in t) ms) old.1
-added_marks c table new ms (inr fresh) h = ap (λ (t : List Configuration). map (unpriced_in t) ms) fresh.1
-    ∙ marks_more table (c ∷ []) ms h
+added_marks c table new ms (inr fresh) h = cc (fresh.1, marks_more table (c ∷ []) ms h)
 
 pub added_within : (c : Configuration) (table new : List Configuration) (ms : List IndexedLabel) → Added c table new
     → AreInTable (length table) ms → AreInTable (length new) ms
 added_within c table new ms (inl old) h = subst (λ (t : List Configuration). AreInTable (length t) ms) (sym old.1) h
 added_within c table new ms (inr fresh) h =
-    let e = ap length fresh.1 ∙ length-append table (c ∷ []) in
-    within_more (length table) (length new) ms (omega (arith, e)) h
+    within_more (length table) (length new) ms (omega (arith, ap length fresh.1 ∙ length-append table (c ∷ []))) h
 
 -- whether the configuration is added or refused
 pub kept_marks : (x : Result ℕ CompileFault) (c : Configuration) (table new : List Configuration)
@@ -94,16 +90,14 @@ pub kept_within : (x : Result ℕ CompileFault) (c : Configuration) (table new :
     (ms : List IndexedLabel) → OnOk x (Added c table new) → IfErr x (λ _. new ≡ table) → AreInTable (length table) ms
     → AreInTable (length new) ms
 kept_within (Ok i) c table new ms added kept h = added_within c table new ms added h
-kept_within (Err e) c table new ms added kept h =
-    subst (λ (t : List Configuration). AreInTable (length t) ms) (sym kept) h
+kept_within (Err e) c table new ms added kept h = rw kept h
 
 -- ---- an unpriced label of two configurations in the table
 
 pub grown : (c d : Configuration) (i : ℕ) (table new : List Configuration) → Added d table new
     → slice_get table i ≡ Some c → slice_get new i ≡ Some c
 grown c d i table new (inl old) e = ap (λ (t : List Configuration). slice_get t i) old.1 ∙ e
-grown c d i table new (inr fresh) e = ap (λ (t : List Configuration). slice_get t i) fresh.1
-    ∙ stays table (d ∷ []) i c e
+grown c d i table new (inr fresh) e = cc (fresh.1, stays table (d ∷ []) i c e)
 
 pub mark_is : (table : List Configuration) (m : IndexedLabel) (c d : Configuration) → slice_get table m.cur ≡ Some c
     → slice_get table m.next ≡ Some d → unpriced_in table m
@@ -171,7 +165,7 @@ ok_each (Err f) m h = h
 
 -- ---- each configuration once
 
-in_more : (xs : List Configuration) (c : Configuration) (i : ℕ) (d : Configuration)
+pub in_more : (xs : List Configuration) (c : Configuration) (i : ℕ) (d : Configuration)
     → slice_get (xs ++ c ∷ []) i ≡ Some d → (slice_get xs i ≡ Some d) ⊎ ((i ≡ length xs) × (d ≡ c))
 in_more [] c zero d e = inr (refl, (let h : d ≡ c = cc in h))
 in_more [] c (suc i) d e = cc
@@ -215,9 +209,7 @@ tracked_in xs ys f a h = (
 pub table_in : (xs ys : List Configuration) (ks : List ℕ) → Extends xs ys → AreBelow (length xs) ks
     → map (configuration_at ys) ks ≡ map (configuration_at xs) ks
 table_in xs ys [] a h = refl
-table_in xs ys (k ∷ ks) a h =
-    ap (λ (c : Configuration). c ∷ map (configuration_at ys) ks) (at_in xs ys k a h.0)
-    ∙ ap (λ (cs : List Configuration). configuration_at xs k ∷ cs) (table_in xs ys ks a h.1)
+table_in xs ys (k ∷ ks) a h = cc (at_in xs ys k a h.0, table_in xs ys ks a h.1)
 
 pub below_more : (m n : ℕ) (ks : List ℕ) → m ≤ n → AreBelow m ks → AreBelow n ks
 below_more m n [] le h = tt
@@ -245,10 +237,8 @@ pub none_in_table : (xs : List Configuration) (ks : List ℕ) (k : ℕ) → IsDi
     → slice_get (map (configuration_at xs) ks) i ≢ Some (configuration_at xs k)
 none_in_table xs ks k once below lt none i e =
     let f = from_table xs ks i (configuration_at xs k) e in
-    let there : slice_get xs f.0 ≡ Some (configuration_at xs k) =
-    at_within xs f.0 (below_at (length xs) ks i f.0 below f.1) ∙ ap Some f.2 in
-    let same : f.0 ≡ k = once f.0 k (configuration_at xs k) there (at_within xs k lt) in
-    none i (f.1 ∙ ap Some same)
+    let there = at_within xs f.0 (below_at (length xs) ks i f.0 below f.1) ∙ ap Some f.2 in
+    none i (f.1 ∙ ap Some (once f.0 k (configuration_at xs k) there (at_within xs k lt)))
 
 -- ---- program points
 
@@ -277,9 +267,7 @@ all_in_pool xs ys (s ∷ ss) a h = (in_pool xs ys s a h.0, all_in_pool xs ys ss 
 pub all_same : (xs ys : List Configuration) (ss : List IndexedPoint) → Extends xs ys → AreInPool (length xs) ss
     → map (point_in ys) ss ≡ map (point_in xs) ss
 all_same xs ys [] a h = refl
-all_same xs ys (s ∷ ss) a h =
-    ap (λ (x : ProgramPoint). x ∷ map (point_in ys) ss) (spot_same xs ys s a h.0)
-    ∙ ap (λ (l : List ProgramPoint). point_in xs s ∷ l) (all_same xs ys ss a h.1)
+all_same xs ys (s ∷ ss) a h = cc (spot_same xs ys s a h.0, all_same xs ys ss a h.1)
 
 pub pushed_in_pool : (n : ℕ) (ss : List IndexedPoint) (s : IndexedPoint) → IsInPool n s → AreInPool n ss
     → AreInPool n (ss ++ s ∷ [])
@@ -305,9 +293,7 @@ prints_more (x ∷ xs) c = ap (λ (l : List ℕ). print_of x ∷ l) (prints_more
 
 pub prints_push : (ps : List ℕ) (xs : List Configuration) (p : ℕ) (c : Configuration) → ps ≡ map print_of xs
     → p ≡ print_of c → (ys : List Configuration) → ys ≡ xs ++ c ∷ [] → ps ++ p ∷ [] ≡ map print_of ys
-prints_push ps xs p c e f ys g =
-    ap (λ (l : List ℕ). l ++ p ∷ []) e ∙ ap (λ n. map print_of xs ++ n ∷ []) f ∙ sym (prints_more xs c)
-    ∙ sym (ap (λ (l : List Configuration). map print_of l) g)
+prints_push ps xs p c e f ys g = cc (e, f, prints_more xs c, g)
 
 -- ---- a table that is a prefix of its pool
 
@@ -317,9 +303,8 @@ in_order_from xs [] j h each = refl
 in_order_from xs (k ∷ ks) j h each =
     let point_here : k ≡ j = (let e = each 0 k refl in omega (arith, e)) in
     let lt : j < length xs = subst (λ n. n < length xs) point_here h.0 in
-    let cutting = cut xs j (configuration_at xs j) (at_within xs j lt) in
     let rest = in_order_from xs ks (j + 1) h.1 (λ i m e. let f = each (suc i) m e in omega (arith, f)) in
-    ap (λ (l : List Configuration). take (suc (length ks)) l) cutting
+    ap (λ (l : List Configuration). take (suc (length ks)) l) (cut xs j (configuration_at xs j) (at_within xs j lt))
     ∙ ap (λ (l : List Configuration). configuration_at xs j ∷ l) rest
     ∙ ap (λ n. configuration_at xs n ∷ map (configuration_at xs) ks) (sym point_here)
 

@@ -55,8 +55,7 @@ module _ {plan : Plan} {r pc : ℕ} {body : Block} {s : ProgramPoint} {v w x : W
 
   -- the end of the body fits the head, if the loop is valid
   pub end_fits : FitsEntry (point_after plan body (head body s)) (head body s) → FitsEntry (way f x) w.now
-  end_fits round = subst (λ t. FitsEntry (way f x) t) (sym b.entry.now)
-      (subst (λ o. FitsEntry o (head body s)) body_whole.leads round)
+  end_fits round = rw b.entry.now (rw (← body_whole.leads) round)
 
   pub loop_why : {X : Type 0} (line : ℕ) (cause : Cause) → (cause ≡ Mismatch)
       × ((front : List ProgramPoint) (entry : ProgramPoint) → x.saved.items ≡ front ++ entry ∷ []
@@ -75,8 +74,7 @@ module _ {plan : Plan} {r pc : ℕ} {body : Block} {s : ProgramPoint} {v w x : W
 
   module _ {line q : ℕ} {i : Instr} {z : Work} (g : ClosesLoop f line q i v.saved.items w.now x z) where
     round_fits : FitsEntry (point_after plan body (head body s)) (head body s)
-    round_fits = subst (λ o. FitsEntry o (head body s)) (sym body_whole.leads)
-        (subst (λ t. FitsEntry (way f x) t) b.entry.now g.round)
+    round_fits = rw body_whole.leads (rw (← b.entry.now) g.round)
 
     loop_emits : Emits v z (places plan r pc body (head body s)
         ++ onward (point_after plan body (head body s)) [] (alone line i q))
@@ -84,8 +82,7 @@ module _ {plan : Plan} {r pc : ℕ} {body : Block} {s : ProgramPoint} {v w x : W
         let h = body_whole in
         let bodies = places plan r pc body (head body s) in
         let back = onward (point_after plan body (head body s)) [] (alone line i q) in
-        let back_is : onward (way f x) [] (alone line i q) ≡ back =
-        ap (λ o. onward o [] (alone line i q)) (sym h.leads) in
+        let back_is = ap (λ o. onward o [] (alone line i q)) (sym h.leads) in
         let at : length v.lines.items ≡ pc = ap length (sym b.entry.lines) ∙ b.entry.at in
         record {
           lines = g.lines ∙ ap (λ ps. x.lines.items ++ lines_of_placed ps) back_is
@@ -132,9 +129,7 @@ loop_whole : (plan : Plan) (line : ℕ) (i : Instr) (q r end : ℕ) (rest : Bloc
     → length w.lines.items ≡ end + length (onward (way f v) [] (alone line i q)) →
     onward (way f v) [] (λ u. placed_instr line i q u ∷ places plan r (end + 1) rest (without_label u.flow))
     ≡ onward (way f v) [] (alone line i q) ++ onward (way f w) [] (λ u. places plan r (length w.lines.items) rest u)
-loop_whole plan line i q r end rest true v w e h =
-    ap (λ n. placed_instr line i q v.now ∷ places plan r n rest (without_label v.now.flow)) (sym h)
-    ∙ ap (λ s. placed_instr line i q v.now ∷ places plan r (length w.lines.items) rest s) (sym e)
+loop_whole plan line i q r end rest true v w e h = cc (h, e)
 loop_whole plan line i q r end rest false v w e h = refl
 
 loop_leads : (plan : Plan) (rest : Block) (f : Bool) (v w : Work)
@@ -204,15 +199,8 @@ module _ {plan : Plan} {r line n : ℕ} {body : Block} {w0 w1 w2 w3 w4 : Work} {
             ∙ ap (λ xs. placed_instr line (Set r n) r w0.now ∷ xs) (sym (append_assoc bodies back rests));
         leads = ap (λ w. onward w None (λ u. point_after plan rest (without_label u.flow))) h.leads
             ∙ loop_leads plan rest f w3 w4 g.now;
-        judged = λ j. (
-          h.judged,
-          round_fits b g,
-          subst
-              (λ w. Reached w rest (λ u. IsJudged plan rest (without_label u.flow))) (sym h.leads)
-              (loop_reached plan rest f w3 w4 g.now j),
-        );
-        only = λ j. loop_reached_back plan rest f w3 w4 g.now
-            (subst (λ w. Reached w rest (λ u. IsJudged plan rest (without_label u.flow))) h.leads j.2);
+        judged = λ j. (h.judged, round_fits b g, rw h.leads (loop_reached plan rest f w3 w4 g.now j));
+        only = λ j. loop_reached_back plan rest f w3 w4 g.now (rw (← h.leads) j.2);
         fails = λ at given j. inr (
           h.judged,
           inr (
@@ -247,8 +235,7 @@ module _ {limit : CodeLimit} {plan : Plan} {r line n : ℕ} {body rest : Block} 
       let after : ProgramPoint → List PlacedInstr = λ u.
       places plan r (length w0.lines.items + 1 + length Bodies + 1) rest (without_label u.flow) in
       let back = onward Gone [] (λ u. placed_instr line Again (r + 1) u ∷ after u) in
-      let space : HasSpace limit w1 ((Bodies ++ back) ++ can.more) =
-      space_after limit w0 w1 (alone line (Set r n) r w0.now) ((Bodies ++ back) ++ can.more) emits can.space in
+      let space : HasSpace limit w1 ((Bodies ++ back) ++ can.more) = space_after _ _ _ _ _ emits can.space in
       record {
         judged = can.judged.0;
         deep = counters_less limit (r + nested (repeat line n body rest)) (r + 1 + nested body) (omega arith) can.deep;

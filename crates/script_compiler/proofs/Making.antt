@@ -1,15 +1,16 @@
 -- A script has one code, is accepted if it has one, and the parts from which it is made.
-use Rattle.script_compiler.proofs.Words.{[], ◌++◌, ◌+◌, ◌<◌, ◌∙◌, ◌∷◌, ◌≡◌, ◌≤◌, ◌⊎◌, Added, AreFine, AreLabelsOf}
-use Rattle.script_compiler.proofs.Words.{CodeLimit, Configuration, Contains, CostsItsNeeds, Instr, IsAccepted, IsCodeOf}
-use Rattle.script_compiler.proofs.Words.{IsJudged, IsNeed, IsProgram, IsSound, IsWithin, IsWithinBudget, Item, Keeps}
-use Rattle.script_compiler.proofs.Words.{Label, Line, List, Plan, Priced, Program, ScriptsHaveOneCode, Some, Swap}
-use Rattle.script_compiler.proofs.Words.{Tabled, Tree, UnpricedLabel, all_places, ap, arith, beginning, body_of, get_or}
-use Rattle.script_compiler.proofs.Words.{inl, inr, instrs_of, length, lines_of_placed, longest, nested, opening_of}
-use Rattle.script_compiler.proofs.Words.{pages_alone, placed_instrs, refl, same_Some, slice_get, slice_index, subst}
-use Rattle.script_compiler.proofs.Words.{suc, sym, unpriced_labels, with_items, zero, ℕ}
+use Rattle.script_compiler.proofs.Words.{[], ◌+◌, ◌<◌, ◌∙◌, ◌∷◌, ◌≡◌, ◌≤◌, ◌⊎◌, Added, AreFine, AreLabelsOf, CodeLimit}
+use Rattle.script_compiler.proofs.Words.{Configuration, Contains, CostsItsNeeds, Instr, IsAccepted, IsCodeOf, IsJudged}
+use Rattle.script_compiler.proofs.Words.{IsNeed, IsProgram, IsSound, IsWithin, IsWithinBudget, Item, Keeps, Label, Line}
+use Rattle.script_compiler.proofs.Words.{List, Plan, Priced, Program, ScriptsHaveOneCode, Some, Swap, Tabled, Tree}
+use Rattle.script_compiler.proofs.Words.{UnpricedLabel, all_places, ap, arith, beginning, body_of, get_or, inl, inr}
+use Rattle.script_compiler.proofs.Words.{instrs_of, length, lines_of_placed, longest, nested, opening_of, pages_alone}
+use Rattle.script_compiler.proofs.Words.{placed_instrs, refl, slice_get, slice_index, subst, suc, sym, unpriced_labels}
+use Rattle.script_compiler.proofs.Words.{with_items, ℕ}
 use Rattle.plan_code.specs.declared.flags.Counters.{Counters}
 use Rattle.mux_config.specs.Configuration.{nothing}
 use Rattle.script_compiler.proofs.Emitted.{length_lines}
+use Rattle.script_compiler.proofs.Labelling.{in_more}
 use Rattle.script_compiler.proofs.Rooms.{within_keeps, costs_needs}
 use Rattle.script_compiler.proofs.Paths.{within_from, need_most, one_need}
 
@@ -29,8 +30,7 @@ pub tabled_once : (table : List Configuration) (ms : List UnpricedLabel) (a b : 
 tabled_once table [] a b h k = h ∙ sym k
 tabled_once table (m ∷ ms) a b h k =
     let one : h.0 ≡ k.0 = added_once m.flow.current table h.0 k.0 h.2 k.2 in
-    let both : h.1 ≡ k.1 = added_once m.flow.next k.0 h.1 k.1
-    (subst (λ (t : List Configuration). Added m.flow.next t h.1) one h.3) k.3 in
+    let both : h.1 ≡ k.1 = added_once m.flow.next k.0 h.1 k.1 (rw (← one) h.3) k.3 in
     tabled_once k.1 ms a b (subst (λ (t : List Configuration). Tabled t ms a) both h.4) k.4
 
 -- no configuration is in it twice
@@ -40,22 +40,12 @@ AreDistinct table = (i j : ℕ) (c : Configuration) → slice_get table i ≡ So
 distinct_none : AreDistinct []
 distinct_none i j c e f = absurd (cc)
 
-inside_or_last : (table : List Configuration) (c d : Configuration) (i : ℕ) → slice_get (table ++ c ∷ []) i ≡ Some d
-    → (slice_get table i ≡ Some d) ⊎ ((i ≡ length table) × (d ≡ c))
-inside_or_last [] c d zero e = inr (refl, sym (same_Some c d e))
-inside_or_last [] c d (suc i) e = absurd (cc)
-inside_or_last (x ∷ table) c d zero e = inl e
-inside_or_last (x ∷ table) c d (suc i) e = elim (inside_or_last table c d i e) [
-  | inl there ↦ inl there
-  | inr last ↦ inr (omega (arith, last.0), last.1)
-]
-
 distinct_added : (c : Configuration) (table new : List Configuration) → Added c table new → AreDistinct table
     → AreDistinct new
 distinct_added c table new (inl h) d = subst (λ (t : List Configuration). AreDistinct t) (sym h.1) d
 distinct_added c table new (inr h) d =
     subst (λ (t : List Configuration). AreDistinct t) (sym h.1)
-    (λ i j x e f. by i j x (inside_or_last table c x i e) (inside_or_last table c x j f))
+    (λ i j x e f. by i j x (in_more table c i x e) (in_more table c j x f))
   where
     here : (x : Configuration) (i : ℕ) → slice_get table i ≡ Some x → x ≡ c → ⊥
     here x i e same = h.0 (i, e ∙ ap (λ (y : Configuration). Some y) same)
@@ -71,8 +61,7 @@ distinct_tabled : (table : List Configuration) (ms : List UnpricedLabel) (new : 
     → Tabled table ms new → AreDistinct table → AreDistinct new
 distinct_tabled table [] new h d = subst (λ (t : List Configuration). AreDistinct t) (sym h) d
 distinct_tabled table (m ∷ ms) new h d =
-    distinct_tabled h.1 ms new h.4
-    (distinct_added m.flow.next h.0 h.1 h.3 (distinct_added m.flow.current table h.0 h.2 d))
+    distinct_tabled h.1 ms new h.4 (distinct_added _ _ _ h.3 (distinct_added _ _ _ h.2 d))
 
 -- ---- the labels
 
@@ -89,54 +78,12 @@ later_in l x ls h = (suc h.0, omega (arith, h.1), h.2)
 label_once : (a b : Label) → a.pc ≡ b.pc → a.cur ≡ b.cur → a.next ≡ b.next → a.pending ≡ b.pending
     → a.counters ≡ b.counters → a.cost ≡ b.cost → a ≡ b
 label_once a b pc cur next pending counters cost =
-    ap (λ n. let l : Label = record {
-      pc = n;
-      cur = a.cur;
-      next = a.next;
-      pending = a.pending;
-      counters = a.counters;
-      cost = a.cost;
-    } in l) pc
-    ∙ ap (λ n. let l : Label = record {
-      pc = b.pc;
-      cur = n;
-      next = a.next;
-      pending = a.pending;
-      counters = a.counters;
-      cost = a.cost;
-    } in l) cur
-    ∙ ap (λ n. let l : Label = record {
-      pc = b.pc;
-      cur = b.cur;
-      next = n;
-      pending = a.pending;
-      counters = a.counters;
-      cost = a.cost;
-    } in l) next
-    ∙ ap (λ (p : Swap). let l : Label = record {
-      pc = b.pc;
-      cur = b.cur;
-      next = b.next;
-      pending = p;
-      counters = a.counters;
-      cost = a.cost;
-    } in l) pending
-    ∙ ap (λ (c : Counters). let l : Label = record {
-      pc = b.pc;
-      cur = b.cur;
-      next = b.next;
-      pending = b.pending;
-      counters = c;
-      cost = a.cost;
-    } in l) counters
-    ∙ ap (λ n. let l : Label = record {
-      pc = b.pc;
-      cur = b.cur;
-      next = b.next;
-      pending = b.pending;
-      counters = b.counters;
-      cost = n;
-    } in l) cost
+    ap (λ n. let l : Label = record a { pc = n } in l) pc
+    ∙ ap (λ n. let l : Label = record a { pc = b.pc; cur = n } in l) cur
+    ∙ ap (λ n. let l : Label = record a { pc = b.pc; cur = b.cur; next = n } in l) next
+    ∙ ap (λ (p : Swap). let l : Label = record b { pending = p; counters = a.counters; cost = a.cost } in l) pending
+    ∙ ap (λ (c : Counters). let l : Label = record b { counters = c; cost = a.cost } in l) counters
+    ∙ ap (λ n. let l : Label = record b { cost = n } in l) cost
 
 labels_once : (code : List Instr) (table : List Configuration) (ms : List UnpricedLabel) (ls ks : List Label)
     → AreDistinct table → AreLabelsOf table ms ls → AreLabelsOf table ms ks → AreNeeds code ls → AreNeeds code ks
@@ -162,40 +109,21 @@ labels_once code table (x ∷ ms) (a ∷ ls) (b ∷ ks) d h k m n =
 program_once : (a b : Program) → a.plan ≡ b.plan → a.configurations ≡ b.configurations → a.labels ≡ b.labels
     → a.lines ≡ b.lines → a ≡ b
 program_once a b plan configurations labels lines =
-    ap (λ (x : Plan). let p : Program = record {
-      plan = x;
-      configurations = a.configurations;
-      labels = a.labels;
-      lines = a.lines;
-    } in p) plan
+    ap (λ (x : Plan). let p : Program = record a { plan = x } in p) plan
     ∙ ap (λ (x : List Configuration). let p : Program =
     record { plan = b.plan; configurations = x; labels = a.labels; lines = a.lines } in p) configurations
-    ∙ ap (λ (x : List Label). let p : Program = record {
-      plan = b.plan;
-      configurations = b.configurations;
-      labels = x;
-      lines = a.lines;
-    } in p) labels
-    ∙ ap (λ (x : List Line). let p : Program = record {
-      plan = b.plan;
-      configurations = b.configurations;
-      labels = b.labels;
-      lines = x;
-    } in p) lines
+    ∙ ap (λ (x : List Label). let p : Program = record b { labels = x; lines = a.lines } in p) labels
+    ∙ ap (λ (x : List Line). let p : Program = record b { lines = x } in p) lines
 
 pub scripts_have_one_code : ScriptsHaveOneCode
 scripts_have_one_code s a b h k m n =
     let ms = unpriced_labels 0 (placed_instrs s) in
-    let table : a.configurations ≡ b.configurations =
-    tabled_once [] ms a.configurations b.configurations h.table k.table in
+    let table = tabled_once [] ms a.configurations b.configurations h.table k.table in
     let lines : a.lines ≡ b.lines = h.lines ∙ sym k.lines in
-    let labels : AreLabelsOf b.configurations ms a.labels =
-    subst (λ (t : List Configuration). AreLabelsOf t ms a.labels) table h.labels in
-    let needs : AreNeeds (instrs_of b.lines) a.labels =
-    subst (λ (ls : List Line). AreNeeds (instrs_of ls) a.labels) lines m in
+    let labels = subst (λ (t : List Configuration). AreLabelsOf t ms a.labels) table h.labels in
+    let needs = subst (λ (ls : List Line). AreNeeds (instrs_of ls) a.labels) lines m in
     let distinct = distinct_tabled [] ms b.configurations k.table distinct_none in
-    program_once a b (h.plan ∙ sym k.plan) table
-    (labels_once (instrs_of b.lines) b.configurations ms a.labels b.labels distinct labels k.labels needs n) lines
+    program_once _ _ (h.plan ∙ sym k.plan) table (labels_once _ _ _ _ _ distinct labels k.labels needs n) lines
 
 -- ---- a script that has a code is accepted
 
@@ -268,13 +196,9 @@ module _ {s : Tree} {plan : Plan} {config : Configuration} (o : Opens s plan con
       (pc : ℕ) → plan.budget < get_or needs pc 0 → IsWithinBudget s.header.budget
       (instrs_of (lines_of_placed (placed_instrs s))) → ⊥
   over_budget lines needs emitted each pc over within =
-      let there : IsWithinBudget plan.budget (instrs_of lines) =
-      subst (λ (ls : List Line). IsWithinBudget plan.budget (instrs_of ls))
-      (sym (emitted ∙ ap lines_of_placed places_are))
+      let there : IsWithinBudget plan.budget (instrs_of lines) = rw (emitted ∙ ap lines_of_placed places_are)
       (of_parts (λ q x. IsWithinBudget q.budget (instrs_of (lines_of_placed (placed_instrs s)))) within) in
-      let e = each pc in
-      let most = need_most (instrs_of lines) plan.budget pc there in
-      absurd (omega (arith, e, most, over))
+      absurd (omega (arith, need_most (instrs_of lines) plan.budget pc there, over))
 
 -- the lines of a script, their needs within the budget, and the labels with their table
 pub record Parts (s : Tree) (plan : Plan) (config : Configuration) (lines : List Line) (unpriced : List UnpricedLabel)

@@ -42,8 +42,7 @@ module _ (code : List Instr) where
       → HasPath code pc (if b then 1 else 1 + max (if continues i then longest code n (pc + 1) else 0)
       (need_to (λ to. longest code n to) (target_of i)))
   path_at i pc n e ih true s = one i pc e
-  path_at i pc n e ih false s =
-      longer_of pc _ _ (on_path i pc n e s ih (continues i) refl) (target_path i pc n e s ih (target_of i) refl)
+  path_at i pc n e ih false s = longer_of _ _ _ (on_path _ _ _ e s ih _ refl) (target_path _ _ _ e s ih _ refl)
 
   path_from : (pc n : ℕ) → ((to : ℕ) → HasPath code to (longest code n to)) → (o : Option Instr) → slice_get code pc ≡ o
       → HasPath code pc (need_at o pc (λ to. longest code n to))
@@ -74,8 +73,7 @@ module _ (code : List Instr) where
       g.0 in
       elim g.1 [
         | inl h ↦
-            let e : (if continues i then further (pc + 1) else 0) ≡ further to =
-            ap (λ b. if b then further (pc + 1) else 0) h.0 ∙ ap further (sym h.1) in
+            let e = ap (λ b. if b then further (pc + 1) else 0) h.0 ∙ ap further (sym h.1) in
             omega (arith, whole, e)
         | inr h ↦ let e : need_to further (target_of i) ≡ further to = ap (λ o. need_to further o) h in
             omega (arith, whole, e)
@@ -88,11 +86,7 @@ module _ (code : List Instr) where
   longest_most (suc n) (suc (suc m)) pc h le =
       let ih = longest_most n (suc m) h.1 h.4 (omega arith) in
       let least = goes_least h.0 pc h.1 (λ to. longest code n to) h.3 in
-      let at : need_at (slice_get code pc) pc (λ to. longest code n to)
-      ≡ need_at (Some h.0) pc (λ to. longest code n to) = ap (λ o. need_at o pc (λ to. longest code n to)) h.2 in
-      let whole : suc (suc m) ≤ need_at (slice_get code pc) pc (λ to. longest code n to) =
-      omega (arith, ih, least, at) in
-      whole
+      omega (arith, ih, least, ap (λ o. need_at o pc (λ to. longest code n to)) h.2)
 
   -- ---- if every path is within the budget
 
@@ -106,8 +100,7 @@ module _ (code : List Instr) where
       → StepsTo i pc to → longest code (budget + 1) to + 1 ≤ longest code (budget + 1) pc
   need_onward budget pc to i w e g =
       let path = extend i to (longest code (budget + 1) to) pc e g (has_longest (budget + 1) to) in
-      let most = w pc _ path in
-      longest_most (budget + 1) (longest code (budget + 1) to + 1) pc path (omega (arith, most))
+      longest_most (budget + 1) (longest code (budget + 1) to + 1) pc path (omega (arith, w pc _ path))
 
   -- what is computed is the need
   pub is_need : (budget pc : ℕ) → IsWithinBudget budget code → IsNeed code pc (longest code (budget + 1) pc)
@@ -118,11 +111,10 @@ module _ (code : List Instr) where
 
   pub shorter : (m n pc : ℕ) → m ≤ n → HasPath code pc n → HasPath code pc m
   shorter zero n pc le h = tt
-  shorter (suc m) zero pc le h = absurd (omega arith)
   shorter (suc zero) (suc zero) pc le h = h
-  shorter (suc (suc m)) (suc zero) pc le h = absurd (omega arith)
   shorter (suc zero) (suc (suc n)) pc le h = one h.0 pc h.2
   shorter (suc (suc m)) (suc (suc n)) pc le h = (h.0, h.1, h.2, h.3, shorter (suc m) (suc n) h.1 (omega arith) h.4)
+  shorter _ _ pc le h = absurd (omega arith)
 
   -- and if what is computed is within the budget, so is every path
   pub within_from : (budget : ℕ) → ((pc : ℕ) → longest code (budget + 1) pc ≤ budget) → IsWithinBudget budget code
@@ -142,9 +134,7 @@ need_least_from i pc n further h false e =
     λ b. elim b as (λ c. (if c then further (pc + 1) else 0) ≤ n) [ true ↦ h (pc + 1) | false ↦ omega arith ] in
     let back : (o : Option ℕ) → need_to further o ≤ n =
     λ o. elim o as (λ x. need_to further x ≤ n) [ None ↦ omega arith | Some to ↦ h to ] in
-    let x = on (continues i) in
-    let y = back (target_of i) in
-    omega (arith, x, y)
+    omega (arith, on (continues i), back (target_of i))
 
 pub longest_bound : (code : List Instr) (n pc : ℕ) → longest code n pc ≤ n
 longest_bound code zero pc = omega arith
@@ -169,8 +159,7 @@ need_same None pc f g h = refl
 need_same (Some i) pc f g h =
     let back : (t : Option ℕ) → need_to f t ≡ need_to g t =
     λ t. elim t as (λ x. need_to f x ≡ need_to g x) [ None ↦ refl | Some to ↦ h to ] in
-    ap (λ n. if suspends i then 1 else 1 + max (if continues i then n else 0) (need_to f (target_of i))) (h (pc + 1))
-    ∙ ap (λ n. if suspends i then 1 else 1 + max (if continues i then g (pc + 1) else 0) n) (back (target_of i))
+    cc (h (pc + 1), back (target_of i))
 
 pub next_round : (code : List Instr) (further next : List ℕ) (n : ℕ)
     → ((pc : ℕ) → get_or further pc 0 ≡ longest code n pc)
@@ -178,8 +167,7 @@ pub next_round : (code : List Instr) (further next : List ℕ) (n : ℕ)
     → get_or next pc 0 ≡ longest code (n + 1) pc
 next_round code further next n h k pc =
     let e : suc n ≡ n + 1 = omega arith in
-    k pc ∙ need_same (slice_get code pc) pc (λ to. get_or further to 0) (λ to. longest code n to) h
-    ∙ ap (λ m. longest code m pc) e
+    cc (k pc, need_same (slice_get code pc) pc (λ to. get_or further to 0) (λ to. longest code n to) h, e)
 
 -- once an iteration changes nothing, later ones do not either
 pub longest_stays : (code : List Instr) (n k : ℕ) → ((pc : ℕ) → longest code (n + 1) pc ≡ longest code n pc) → (pc : ℕ)
@@ -262,28 +250,24 @@ module _ (code : List Instr) where
       → longest code (budget + 1) pc ≡ longest code budget pc
   longest_stays_within budget h pc =
       let le = h pc in
-      let bound = longest_bound code budget pc in
-      let a = longest_most code budget (longest code (budget + 1) pc) pc (has_longest code (budget + 1) pc) le in
       let b = longest_most code (budget + 1) (longest code budget pc) pc (has_longest code budget pc)
-      (omega (arith, bound)) in
-      omega (arith, a, b)
+      (omega (arith, longest_bound code budget pc)) in
+      omega (arith, longest_most code budget (longest code (budget + 1) pc) pc (has_longest code (budget + 1) pc) le, b)
 
   -- if all are within the budget, each is one more than the greatest that can follow
   pub needs_follow : (budget : ℕ) → ((pc : ℕ) → longest code (budget + 1) pc ≤ budget) → (pc : ℕ)
       → longest code (budget + 1) pc ≡ need_at (slice_get code pc) pc (λ to. longest code (budget + 1) to)
   needs_follow budget h pc =
       let e : budget + 1 ≡ suc budget = omega arith in
-      ap (λ m. longest code m pc) e
-      ∙ need_same (slice_get code pc) pc (λ to. longest code budget to) (λ to. longest code (budget + 1) to)
-      (λ to. sym (longest_stays_within budget h to))
+      ap (λ m. longest code m pc) e ∙ need_same _ _ (λ to. longest code budget to) (λ to. longest code (budget + 1) to)
+      (λ to. sym (longest_stays_within _ h _))
 
   -- and no path has more instructions than the greatest of them
   pub none_longer : (budget first : ℕ) → ((pc : ℕ) → longest code (budget + 1) pc ≤ budget)
       → ((k : ℕ) → k < length code → longest code (budget + 1) k ≤ longest code (budget + 1) first)
       → IsWithinBudget (longest code (budget + 1) first) code
   none_longer budget first h greatest pc n path =
-      let few = within_from code budget h pc n path in
-      let most = longest_most code (budget + 1) n pc path (omega (arith, few)) in
+      let most = longest_most code (budget + 1) n pc path (omega (arith, within_from code budget h pc n path)) in
       elim (cases_lt pc (length code)) [
         | inl lt ↦ let g = greatest pc lt in omega (arith, most, g)
         | inr ge ↦ let none = none_longest (budget + 1) pc ge in omega (arith, most, none)

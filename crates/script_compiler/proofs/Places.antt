@@ -1,6 +1,6 @@
 -- Where a block begins and ends: what is known first, and the points after it.
-use Rattle.script_compiler.proofs.Words.{[], ◌&&◌, ◌++◌, ◌+◌, ◌<◌, ◌||◌, ◌∙◌, ◌∷◌, ◌≡◌, ◌⊎◌, Block, Bool, End, Instr}
-use Rattle.script_compiler.proofs.Words.{Jump, List, None, Option, PlacedInstr, Plan, ProgramPoint, Some, after_instr}
+use Rattle.script_compiler.proofs.Words.{[], ◌&&◌, ◌++◌, ◌+◌, ◌||◌, ◌∙◌, ◌∷◌, ◌≡◌, ◌⊎◌, Block, Bool, End, Instr, Jump}
+use Rattle.script_compiler.proofs.Words.{List, None, Option, PlacedInstr, Plan, ProgramPoint, Some, after_instr}
 use Rattle.script_compiler.proofs.Words.{all_places, alone, ap, append_assoc, apply, arith, at_label, basic, either}
 use Rattle.script_compiler.proofs.Words.{falls_out, false, forever, get_or-append_seam, head, if◌then◌else◌, inl, inr}
 use Rattle.script_compiler.proofs.Words.{instr_of_act, is_some, join, length, length-append, meet, nothing, onward}
@@ -26,26 +26,21 @@ join_falls (Some u) (Some v) = refl
 
 -- there is a point after a block exactly if it falls out
 pub after_falls : (plan : Plan) (b : Block) (s : ProgramPoint) → is_some (point_after plan b s) ≡ falls_out b
-after_falls plan nothing s = refl
 after_falls plan (basic line act rest) s =
     after_falls plan rest (without_label (after_instr plan (instr_of_act act) s.flow))
-after_falls plan (stop line rest) s = refl
-after_falls plan (when line c first rest) s =
-    meet_falls (point_after plan first (without_label s.flow)) s _ (falls_out rest) (λ u. after_falls plan rest u)
+after_falls plan (when line c first rest) s = meet_falls _ _ _ _ (λ u. after_falls plan rest u)
 after_falls plan (either line c first second rest) s =
     let a = point_after plan first (without_label s.flow) in
     let b = point_after plan second (at_label s.flow) in
     let e : is_some (join a b) ≡ (falls_out first || falls_out second) =
-    join_falls a b ∙ ap (λ f. f || is_some b) (after_falls plan first (without_label s.flow))
-    ∙ ap (λ f. falls_out first || f) (after_falls plan second (at_label s.flow)) in
+    cc (join_falls a b, after_falls plan first (without_label s.flow), after_falls plan second (at_label s.flow)) in
     onward_falls (join a b) _ _ (falls_out rest) e (λ u. after_falls plan rest u)
 after_falls plan (repeat line n body rest) s =
     onward_falls (point_after plan body (head body (without_label s.flow))) _ _ (falls_out rest)
     (after_falls plan body (head body (without_label s.flow))) (λ u. after_falls plan rest (without_label u.flow))
-after_falls plan (forever line body rest) s = refl
 after_falls plan (apply line k named rest) s =
-    onward_falls (point_after plan named s) _ _ (falls_out rest) (after_falls plan named s)
-    (λ u. after_falls plan rest u)
+    onward_falls _ _ _ _ (after_falls plan named s) (λ u. after_falls plan rest u)
+after_falls plan _ s = refl
 
 -- ---- ranges of a code, and the points where branches meet
 
@@ -62,19 +57,16 @@ pub stand_back : (code : List PlacedInstr) (pc : ℕ) (a b : List PlacedInstr) �
     → Stand code (pc + length a) b
 stand_back code pc [] b h = let e : pc ≡ pc + 0 = omega arith in subst (λ n. Stand code n b) e h
 stand_back code pc (i ∷ a) b h =
-    let e : pc + 1 + length a ≡ pc + length (i ∷ a) = omega arith in
-    subst (λ n. Stand code n b) e (stand_back code (pc + 1) a b h.1)
+    subst (λ n. Stand code n b) (omega arith) (stand_back code (pc + 1) a b h.1)
 
 pub stand_all : (ps before : List PlacedInstr) → Stand (before ++ ps) (length before) ps
 stand_all [] before = tt
 stand_all (p ∷ ps) before =
-    let within : length before < length (before ++ p ∷ ps) = omega (arith, length-append before (p ∷ ps)) in
-    let here = slice_get-get_or (before ++ p ∷ ps) (length before) p within
+    let here = slice_get-get_or (before ++ p ∷ ps) (length before) p (omega (arith, length-append before (p ∷ ps)))
     ∙ ap Some (get_or-append_seam before p ps p) in
-    let n : length (before ++ p ∷ []) ≡ length before + 1 = omega (arith, length-append before (p ∷ [])) in
     let rest = stand_all ps (before ++ p ∷ []) in
     let rest' = subst (λ l. Stand l (length (before ++ p ∷ [])) ps) (append_assoc before (p ∷ []) ps) rest in
-    (here, subst (λ m. Stand (before ++ p ∷ ps) m ps) n rest')
+    (here, subst (λ m. Stand (before ++ p ∷ ps) m ps) (omega (arith, length-append before (p ∷ []))) rest')
 
 -- ---- points after branches
 
@@ -143,12 +135,10 @@ first_of plan r pc (forever line body rest) s =
     let back = onward (point_after plan body start) [] (alone line (Jump pc) r) in
     elim (first_of plan r pc body start) [
       | inl none ↦
-          let e : places plan r pc body start ++ back ≡ placed_instr line (Jump pc) r start ∷ [] =
-          ap (λ xs. xs ++ back) none.0 ∙ ap (λ w. onward w [] (alone line (Jump pc) r)) none.1 in
           inr (record {
             place = placed_instr line (Jump pc) r start;
             rest = [];
-            is = e;
+            is = (ap (λ xs. xs ++ back) none.0 ∙ ap (λ w. onward w [] (alone line (Jump pc) r)) none.1);
             flow = refl;
             labelled = λ l. head_labelled (falls_out body) s.labelled l;
           })
@@ -167,13 +157,9 @@ first_of plan r pc (apply line k named rest) s =
     let rests = onward (point_after plan named s) [] (λ u. places plan r (pc + length names) rest u) in
     elim (first_of plan r pc named s) [
       | inl none ↦
-          let e : names ++ rests ≡ places plan r (pc + length names) rest s =
-          ap (λ xs. xs ++ rests) none.0 ∙ ap (λ w. onward w [] (λ u. places plan r (pc + length names) rest u))
-          none.1 in
-          let leads : point_after plan (apply line k named rest) s ≡ point_after plan rest s =
-          ap (λ w. onward w None (λ u. point_after plan rest u)) none.1 in
+          let e : names ++ rests ≡ places plan r (pc + length names) rest s = cc (none.0, none.1) in
           elim (first_of plan r (pc + length names) rest s) [
-            | inl empty ↦ inl (e ∙ empty.0, leads ∙ empty.1)
+            | inl empty ↦ inl (e ∙ empty.0, (ap (λ w. onward w None (λ u. point_after plan rest u)) none.1) ∙ empty.1)
             | inr some ↦ inr (record {
               place = some.place;
               rest = some.rest;
@@ -191,8 +177,7 @@ first_of_all plan last b s =
     let ending = onward (point_after plan b s) [] (alone last End 0) in
     elim (first_of plan 0 0 b s) [
       | inl none ↦
-          let e : places plan 0 0 b s ++ ending ≡ placed_instr last End 0 s ∷ [] =
-          ap (λ xs. xs ++ ending) none.0 ∙ ap (λ w. onward w [] (alone last End 0)) none.1 in
+          let e = ap (λ xs. xs ++ ending) none.0 ∙ ap (λ w. onward w [] (alone last End 0)) none.1 in
           record { place = placed_instr last End 0 s; rest = []; is = e; flow = refl; labelled = λ l. l }
       | inr some ↦ begins_more s (places plan 0 0 b s) ending some
     ]

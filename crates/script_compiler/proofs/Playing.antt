@@ -8,10 +8,9 @@ use Rattle.script_compiler.proofs.Words.{State, Tree, after_burst, after_frame, 
 use Rattle.script_compiler.proofs.Words.{basic, beginning, begins, body_of, closes, either, eq-eqb, falls_out, false}
 use Rattle.script_compiler.proofs.Words.{find, first_done, followed, forever, head, if◌then◌else◌, inl, inr, instr_at}
 use Rattle.script_compiler.proofs.Words.{label_at, length, lines_of_placed, nothing, onward, opening_of, opens}
-use Rattle.script_compiler.proofs.Words.{option_map, placed_instr, placed_instrs, places, point_after, reading, ready}
-use Rattle.script_compiler.proofs.Words.{refl, repeat, scene_of, shown, slice_get, slice_get-map, step, stop, subst}
-use Rattle.script_compiler.proofs.Words.{suc, sym, true, unpriced_label, unpriced_labels, when, with_next_counts, zero}
-use Rattle.script_compiler.proofs.Words.{ℕ}
+use Rattle.script_compiler.proofs.Words.{option_map, placed_instr, places, point_after, reading, ready, refl, repeat}
+use Rattle.script_compiler.proofs.Words.{scene_of, shown, slice_get, slice_get-map, step, stop, subst, suc, sym, true}
+use Rattle.script_compiler.proofs.Words.{unpriced_label, unpriced_labels, when, zero, ℕ}
 use Rattle.plan_runs.specs.declared.event.Event.{Event}
 use Rattle.plan_runs.specs.Runs.{IsStart, RunIsAllowed, happens, run}
 use Rattle.plan_runs.specs.TypedRuns.{IsPlayed}
@@ -126,8 +125,7 @@ first_label table ls t (p ∷ ps) h labels l e =
 pub opening_first : (s : Tree) (code : Program) (l : Label) → IsCodeOf s code → label_at code 0 ≡ Some l
     → slice_get code.configurations l.cur ≡ Some (opening_of s)
 opening_first s code l h e =
-    first_label code.configurations code.labels (beginning (opening_of s)).flow (placed_instrs s)
-    (all_begin s.header s.last_line (body_of s) (beginning (opening_of s)) refl) h.labels l e
+    first_label _ _ _ _ (all_begin s.header s.last_line (body_of s) (beginning (opening_of s)) refl) h.labels _ e
 
 -- ---- the code of a script plays as the script reads, over every list of events
 
@@ -149,8 +147,7 @@ event_one plan Frame x y z h g =
 pub all_one : (plan : Plan) (es : List Event) (x y z : Reading) → PerformsAll plan x es y → PerformsAll plan x es z
     → z ≡ y
 all_one plan [] x y z h g = sym g ∙ h
-all_one plan (e ∷ es) x y z h g =
-    all_one plan es h.0 y z h.2 (subst (λ u. PerformsAll plan u es z) (event_one plan e x h.0 g.0 h.1 g.1) g.2)
+all_one plan (e ∷ es) x y z h g = all_one plan es h.0 y z h.2 (rw (← event_one plan e x h.0 g.0 h.1 g.1) g.2)
 
 -- ---- bursts, frames and events
 
@@ -160,8 +157,7 @@ module _ (p : Program) where
       (c : Block) × (m : ℕ) × Performs p.plan (reading b (scene_of s)) m (reading c (scene_of t))
       × Follows p more t.pc t.counters c
   burst_plays zero more s t b f h =
-      let len : 0 + more ≡ more = omega arith in
-      let g : Follows p more s.pc s.counters b = subst (λ q. Follows p q s.pc s.counters b) len f in (
+      let g : Follows p more s.pc s.counters b = subst (λ q. Follows p q s.pc s.counters b) (omega arith) f in (
         b,
         0,
         (h.0, ap (λ (u : State). reading b (scene_of u)) h.1),
@@ -169,8 +165,7 @@ module _ (p : Program) where
       )
   burst_plays (suc n) more s t b f h =
       let len : suc n + more ≡ suc (n + more) = omega arith in
-      let g : Follows p (suc (n + more)) s.pc s.counters b = subst (λ q. Follows p q s.pc s.counters b) len f in
-      let one = g s h.0 h.1 in
+      let one = (subst (λ q. Follows p q s.pc s.counters b) len f) s h.0 h.1 in
       let rest = burst_plays n more (step p s) t one.0 one.2 h.2 in
       let all = one.1 rest.1 (reading rest.0 (scene_of t)) rest.2 in
       (rest.0, all.0, all.1, rest.3)
@@ -188,15 +183,11 @@ module _ (p : Program) where
   frame_plays more s b h f =
       let begun = ready_place s in
       let t = after_burst p s in
-      let f' : Follows p (h.steps + more) (ready s).pc (ready s).counters b =
-      subst (λ x. Follows p (h.steps + more) (ready s).pc x b) (sym begun.1)
-      (subst (λ x. Follows p (h.steps + more) x s.counters b) (sym begun.0) f) in
+      let f' : Follows p (h.steps + more) (ready s).pc (ready s).counters b = rw begun.1 (rw begun.0 f) in
       let r = burst_plays h.steps more (ready s) t b f' h.executes in
       let ended = shown_scene p s in
-      let statements : Performs p.plan (reading b (opens (scene_of s))) r.1 (reading r.0 (scene_of t)) =
-      subst (λ x. Performs p.plan (reading b x) r.1 (reading r.0 (scene_of t))) (ready_scene s) r.2 in
-      let counts : scene_of (with_next_counts p.plan (shown p s)) ≡ closes p.plan (scene_of t) =
-      ap (λ x. closes p.plan x) ended.0 in
+      let statements = subst (λ x. Performs p.plan (reading b x) r.1 (reading r.0 (scene_of t))) (ready_scene s) r.2 in
+      let counts = ap (λ x. closes p.plan x) ended.0 in
       let follows : Follows p more (shown p s).pc (shown p s).counters r.0 =
       subst (λ x. Follows p more (shown p s).pc x r.0) (sym ended.1.1)
       (subst (λ x. Follows p more x t.counters r.0) (sym ended.1.0) r.3) in (
@@ -342,18 +333,15 @@ scripts_play s p formed typed code start first events in_range started within =
     record { program = formed; typed = typed; reached = starts_are_reached p start first in_range started } in
     let allowed : RunIsAllowed p first events = (typed_code_runs p first events played).allowed in
     let lines : p.lines ≡ lines_of_placed (all_places p.plan s.last_line (body_of s) (beginning (opening_of s))) =
-    subst (λ plan. p.lines ≡ lines_of_placed (all_places plan s.last_line (body_of s) (beginning (opening_of s))))
-    (sym code.plan) code.lines in
+    rw code.plan code.lines in
     let eight : length first.counters ≡ 8 = ap length started.counters in
     let n = counted p events first allowed in
-    let follows : Follows p n first.pc first.counters (body_of s) =
-    subst (λ pc. Follows p n pc first.counters (body_of s)) (sym started.pc)
-    (code_follows p s.last_line (body_of s) (beginning (opening_of s)) formed lines n first.counters eight) in
+    let follows : Follows p n first.pc first.counters (body_of s) = subst
+    (λ pc. Follows p n pc first.counters (body_of s)) (sym started.pc) (code_follows _ _ _ _ formed lines _ _ eight) in
     let r = events_play p events first (body_of s) allowed follows in
     let there = reading r.0 (scene_of (run p first events)) in
     let comes : PerformsAll s.header (begins s start) events there =
-    subst (λ x. PerformsAll s.header (reading (body_of s) x) events there) (starts_alike s p start first code started)
-    (subst (λ plan. PerformsAll plan (reading (body_of s) (scene_of first)) events there) code.plan r.1) in
+    rw (← starts_alike s p start first code started) (rw (← code.plan) r.1) in
     record {
       end = there;
       comes = comes;

@@ -29,6 +29,5 @@ snoc_front (a ∷ xs) (b ∷ ys) x y e =
 
 pub snoc_last : (xs ys : List ProgramPoint) (x y : ProgramPoint) → xs ++ x ∷ [] ≡ ys ++ y ∷ [] → x ≡ y
 snoc_last xs ys x y e =
-    let f = snoc_front xs ys x y e in
-    let g : xs ++ x ∷ [] ≡ xs ++ y ∷ [] = e ∙ ap (λ zs. zs ++ y ∷ []) (sym f) in
+    let g : xs ++ x ∷ [] ≡ xs ++ y ∷ [] = e ∙ ap (λ zs. zs ++ y ∷ []) (sym (snoc_front xs ys x y e)) in
     let h : x ∷ [] ≡ y ∷ [] = append_cancel_left xs (x ∷ []) (y ∷ []) g in cc

@@ -55,8 +55,7 @@ paused_bounds (Perhaps hi) t h k = perhaps_bounds hi t h.1
 
 settled_bounds : (p : Swap) (t : Known) → AreBounds t.pending → AreBounds (after_settle p t).pending
 settled_bounds Idle t k = k
-settled_bounds (Within lo hi) t k = tt
-settled_bounds (Perhaps hi) t k = tt
+settled_bounds _ t k = tt
 
 moved_bounds : (plan : Plan) (i : Instr) (t : Flow) → 1 ≤ plan.notice → plan.notice ≤ 248 → IsFine plan i (known_at t)
     → IsInstr i → AreBounds t.pending → AreBounds (after_instr plan i t).pending
@@ -186,16 +185,14 @@ module _ (plan : Plan) (least : 1 ≤ plan.notice) (most : plan.notice ≤ 248) 
       let jumps = onward a [] (alone line (Jump end) r) in
       let rests = onward (join a b) [] (λ u. places plan r end rest u) in
       let back = instrs_back jumps (seconds ++ rests) (instrs_back firsts (jumps ++ (seconds ++ rests)) i.1) in
-      let one = block_bounds first r (pc + 1) (without_label s.flow) j.0
-      (instrs_front firsts (jumps ++ (seconds ++ rests)) i.1) h in
+      let one = block_bounds first r (pc + 1) (without_label s.flow) j.0 (instrs_front _ _ i.1) h in
       let two = block_bounds second r start (at_label s.flow) j.1 (instrs_front seconds rests back) h in
       let more =
       bounds_onward (join a b) rest (λ u. IsJudged plan rest u) (λ u. places plan r end rest u)
       (λ u. point_after plan rest u) (join_bounds a b one.1 two.1) j.3 (instrs_back seconds rests back)
       (λ u q k g. block_bounds rest r end u q k g)
       in
-      let all = bounds_both jumps (seconds ++ rests) (bounds_alone a line (Jump end) r one.1)
-      (bounds_both seconds rests two.0 more.0) in
+      let all = bounds_both _ _ (bounds_alone _ _ _ _ one.1) (bounds_both _ _ two.0 more.0) in
       ((h, bounds_both firsts (jumps ++ (seconds ++ rests)) one.0 all), more.1)
   block_bounds (repeat line n body rest) r pc s j i h =
       let start = head body (without_label s.flow) in
@@ -234,6 +231,5 @@ module _ (plan : Plan) (least : 1 ≤ plan.notice) (most : plan.notice ≤ 248) 
       → AtAll (all_places plan last b s)
   all_bounds last b s j lines h =
       let ending = onward (point_after plan b s) [] (alone last End 0) in
-      let one = block_bounds b 0 0 s j
-      (instrs_front (places plan 0 0 b s) ending (instrs_from_lines (all_places plan last b s) lines)) h in
+      let one = block_bounds _ _ _ _ j (instrs_front _ _ (instrs_from_lines _ lines)) h in
       bounds_both (places plan 0 0 b s) ending one.0 (bounds_alone (point_after plan b s) last End 0 one.1)

@@ -1,11 +1,10 @@
 -- A script that is refused is not accepted; why, and at which line.
-use Rattle.script_compiler.proofs.Words.{◌<◌, ◌≡◌, ◌≢◌, Before, Block, Cause, CompileFault, Configuration, Err, IfErr}
-use Rattle.script_compiler.proofs.Words.{IfRefused, IsDone, IsOpeningRefused, Limit, List, Memory, None, Ok, Option}
-use Rattle.script_compiler.proofs.Words.{Plan, Refused, Result, Round, Some, Statement, Statement-F, Where, WhereSome}
-use Rattle.script_compiler.proofs.Words.{before, first_fault, nat_lt, pages_alone, statement_step, subst, sym, ℕ}
-use Rattle.plan_verifier.specs.Tests.{unless, cause_of, cause_if, start_cause}
+use Rattle.script_compiler.proofs.Words.{◌≡◌, ◌≢◌, Before, Block, Cause, CompileFault, Configuration, Err, IfErr}
+use Rattle.script_compiler.proofs.Words.{IfRefused, IsDone, IsOpeningRefused, List, Memory, None, Ok, Option, Plan}
+use Rattle.script_compiler.proofs.Words.{Refused, Result, Some, Statement, Statement-F, before, statement_step, subst}
+use Rattle.script_compiler.proofs.Words.{sym, ℕ}
+use Rattle.plan_verifier.specs.Tests.{unless, start_cause}
 use Rattle.plan_verifier.proofs.DecidingFlows.{Computes, computes_some, computes_where, computes_orelse, decides_lt}
-use Rattle.plan_verifier.specs.declared.cause.Cause.TheVariants.{Config as OfConfig}
 use Rattle.script_compiler.proofs.Trees.{by_step}
 
 -- ---- a block's statements
@@ -34,15 +33,13 @@ err_two (Err y) m h k = m y h k
 pub refused_map : (e : CompileFault) {P Q : ℕ → Cause → Type 0} → ((at : ℕ) (given : Cause) → P at given → Q at given)
     → IfRefused e P → IfRefused e Q
 refused_map (Refused at given) m h = m at given h
-refused_map (Limit line limit) m h = tt
-refused_map Memory m h = tt
+refused_map _ m h = tt
 
 -- a refusal is not `Memory`
 pub refused_but_memory : (e : CompileFault) {P Q : ℕ → Cause → Type 0}
     → ((at : ℕ) (given : Cause) → e ≢ Memory → P at given → Q at given) → IfRefused e P → IfRefused e Q
 refused_but_memory (Refused at given) m h = m at given (λ is. cc) h
-refused_but_memory (Limit line limit) m h = tt
-refused_but_memory Memory m h = tt
+refused_but_memory _ m h = tt
 
 pub refused_here : (e : CompileFault) (line : ℕ) (cause : Cause) (P : ℕ → Cause → Type 0) → e ≡ Refused line cause
     → P line cause → IfRefused e P
@@ -51,12 +48,7 @@ refused_here e line cause P is h = subst (λ (x : CompileFault). IfRefused x P) 
 -- ---- why the opening of a script is refused, from the cause found
 
 opening_computes : (plan : Plan) (c : Configuration) → Computes (start_cause plan c) (IsOpeningRefused plan c)
-opening_computes plan c =
-    computes_orelse (cause_of (first_fault c) OfConfig) (cause_if (nat_lt plan.period (pages_alone plan c)) Round)
-    (WhereSome (first_fault c) OfConfig) (Where (plan.period < pages_alone plan c) Round)
-    (computes_some (first_fault c) OfConfig)
-    (computes_where (nat_lt plan.period (pages_alone plan c)) (plan.period < pages_alone plan c) Round
-    (decides_lt plan.period (pages_alone plan c)))
+opening_computes plan c = computes_orelse _ _ _ _ (computes_some _ _) (computes_where _ _ _ (decides_lt _ _))
 
 found_by : (o : Option Cause) (cause : Cause) → unless o ≡ Err cause → o ≡ Some cause
 found_by None cause e = absurd cc

@@ -64,10 +64,7 @@ room_added c table one cs (inr new) there room = λ xs n.
     let n' : AreNew (table ++ c ∷ []) cs xs = subst (λ t. AreNew t cs xs) new.1 n in
     let wider = new_wider table (table ++ c ∷ []) cs xs (λ x t. stands_front table (c ∷ []) x t) n' in
     let fresh : IsInTable c xs → ⊥ = λ h. out_of (table ++ c ∷ []) cs xs c n' h (length table, stands_last table c) in
-    let k = room (c ∷ xs) (there, new.0, fresh, wider) in
-    let m = ap length new.1 in
-    let q = length-append table (c ∷ []) in
-    omega (arith, k, m, q)
+    omega (arith, room (c ∷ xs) (there, new.0, fresh, wider), ap length new.1, length-append table (c ∷ []))
 
 -- ---- after labels
 
@@ -78,8 +75,7 @@ pub leaves_mark : (m : UnpricedLabel) (table one both : List Configuration) → 
     → Added m.flow.next one both → Leaves table both (m ∷ [])
 leaves_mark m table one both a b = λ more room.
     let cs = m.flow.current ∷ m.flow.next ∷ more in
-    let r1 = room_added m.flow.current table one cs a (0, refl) room in
-    let r2 = room_added m.flow.next one both cs b (1, refl) r1 in
+    let r2 = room_added m.flow.next one both cs b (1, refl) (room_added m.flow.current table one cs a (0, refl) room) in
     room_fewer both more cs (λ x h. (suc (suc h.0), h.1)) r2
 
 pub named_both : (ms ns : List UnpricedLabel) → named_by (ms ++ ns) ≡ named_by ms ++ named_by ns
@@ -89,8 +85,7 @@ named_both (m ∷ ms) ns = ap (λ xs. m.flow.current ∷ m.flow.next ∷ xs) (na
 pub leaves_both : (t0 t1 t2 : List Configuration) (ms ns : List UnpricedLabel) → Leaves t0 t1 ms → Leaves t1 t2 ns
     → Leaves t0 t2 (ms ++ ns)
 leaves_both t0 t1 t2 ms ns h k = λ more room.
-    let e : named_by (ms ++ ns) ++ more ≡ named_by ms ++ (named_by ns ++ more) =
-    ap (λ xs. xs ++ more) (named_both ms ns) ∙ append_assoc (named_by ms) (named_by ns) more in
+    let e = ap (λ xs. xs ++ more) (named_both ms ns) ∙ append_assoc (named_by ms) (named_by ns) more in
     k more (h (named_by ns ++ more) (subst (λ cs. HasRoomFor t0 cs) e room))
 
 -- ---- no room
@@ -98,8 +93,7 @@ leaves_both t0 t1 t2 ms ns h k = λ more room.
 pub full_table : (table : List Configuration) (c : Configuration) → ((i : ℕ) → slice_get table i ≢ Some c)
     → 256 ≤ length table → HasRoomFor table (c ∷ []) → ⊥
 full_table table c none full room =
-    let k = room (c ∷ []) ((0, refl), (λ h. none h.0 h.1), (λ h. none_in_nothing c h), tt) in
-    absurd (omega (arith, k, full))
+    absurd (omega (arith, room (c ∷ []) ((0, refl), (λ h. none h.0 h.1), (λ h. none_in_nothing c h), tt), full))
 
 pub room_two : (table : List Configuration) (a b : Configuration) → (IsInTable a table → ⊥) → (IsInTable b table → ⊥)
     → (b ≡ a → ⊥) → HasRoomFor table (a ∷ b ∷ []) → length table + 2 ≤ 256
@@ -159,9 +153,7 @@ differ_most : (xs table : List Configuration) → AllDiffer table xs → length 
 differ_most [] table h = omega arith
 differ_most (x ∷ xs) table h =
     let i = h.0.0 in
-    let n = without_length i table x h.0.1 in
-    let ih = differ_most xs (without i table) (kept xs (λ y k. k) h.2) in
-    omega (arith, n, ih)
+    omega (arith, without_length i table x h.0.1, differ_most xs (without i table) (kept xs (λ y k. k) h.2))
   where
     kept : (ys : List Configuration) → ((y : Configuration) → IsInTable y ys → IsInTable y xs) → AllDiffer table ys
         → AllDiffer (without h.0.0 table) ys
@@ -183,8 +175,7 @@ tabled_keeps : (ms : List UnpricedLabel) (table new : List Configuration) → Ta
     → IsInTable d table → IsInTable d new
 tabled_keeps [] table new t d h = subst (λ x. IsInTable d x) (sym t) h
 tabled_keeps (m ∷ ms) table new t d h =
-    tabled_keeps ms t.1 new t.4 d
-    (grows_stands m.flow.next t.0 t.1 t.3 d (grows_stands m.flow.current table t.0 t.2 d h))
+    tabled_keeps ms t.1 new t.4 d (grows_stands _ _ _ t.3 _ (grows_stands _ _ _ t.2 _ h))
 
 tabled_names : (ms : List UnpricedLabel) (table new : List Configuration) → Tabled table ms new
     → (d : Configuration) (i : ℕ) → slice_get (named_by ms) i ≡ Some d → IsInTable d new
@@ -193,8 +184,7 @@ tabled_names (m ∷ ms) table new t d zero e =
     let point_here = grows_stands m.flow.next t.0 t.1 t.3 m.flow.current (added_stands m.flow.current table t.0 t.2) in
     subst (λ x. IsInTable x new) (same_Some m.flow.current d e) (tabled_keeps ms t.1 new t.4 m.flow.current point_here)
 tabled_names (m ∷ ms) table new t d (suc zero) e =
-    subst (λ x. IsInTable x new) (same_Some m.flow.next d e)
-    (tabled_keeps ms t.1 new t.4 m.flow.next (added_stands m.flow.next t.0 t.1 t.3))
+    rw (← same_Some m.flow.next d e) (tabled_keeps ms t.1 new t.4 m.flow.next (added_stands m.flow.next t.0 t.1 t.3))
 tabled_names (m ∷ ms) table new t d (suc (suc i)) e = tabled_names ms t.1 new t.4 d i e
 
 new_differ : (table cs new xs : List Configuration) → ((d : Configuration) → IsInTable d cs → IsInTable d new)
@@ -279,10 +269,8 @@ places_deep plan (repeat line n body rest) r pc s h =
     )
 places_deep plan (forever line body rest) r pc s h =
     let start = head body s in
-    let bodies = places plan r pc body start in
-    let low : r ≤ 8 = omega (arith, h) in
-    deep_both bodies _ (places_deep plan body r pc start (omega (arith, h)))
-    (deep_onward (point_after plan body start) (alone line (Jump pc) r) (λ u. (low, tt)))
+    deep_both (places plan r pc body start) _ (places_deep plan body r pc start (omega (arith, h)))
+    (deep_onward (point_after plan body start) (alone line (Jump pc) r) (λ u. ((omega (arith, h)), tt)))
 places_deep plan (apply line k named rest) r pc s h =
     let names = places plan r pc named s in
     deep_both names _ (places_deep plan named r pc s (omega (arith, h)))
@@ -308,10 +296,8 @@ nested_deep plan last b t deep =
 
 -- a code within a limit satisfies what the compiler tests
 pub within_keeps : (k : CodeLimit) (s : Tree) → IsWithin k s → Keeps k (nested (body_of s)) (placed_instrs s)
-within_keeps Instructions s h = h
-within_keeps Labels s h = h
 within_keeps Configurations s h = room_from (unpriced_labels 0 (placed_instrs s)) (λ table t. h table t)
-within_keeps Counters s h = h
+within_keeps _ s h = h
 
 -- the code of an accepted script is within each limit
 pub accepted_within : (k : CodeLimit) (s : Tree) → IsAccepted s → IsWithin k s
@@ -324,8 +310,7 @@ accepted_within Counters s a = a.repeats
 
 pub last_new : (c : Configuration) (table new : List Configuration) (i : ℕ) → i ≡ length table → new ≡ table ++ c ∷ []
     → slice_get new i ≡ Some c
-last_new c table new i e f = ap (λ xs. slice_get xs i) f ∙ ap (λ n. slice_get (table ++ c ∷ []) n) e
-    ∙ stands_last table c
+last_new c table new i e f = cc (f, e, stands_last table c)
 
 -- not among the first `k + 1`
 none_at : (xs : List Configuration) (k : ℕ) (c : Configuration) → slice_get xs k ≢ Some c
@@ -349,18 +334,15 @@ pub none_more : (xs : List Configuration) (k : ℕ) (x c : Configuration) → x 
     → (x ≡ c → ⊥) → ((i : ℕ) → i < k → slice_get xs i ≢ Some c) → (i : ℕ) → i < k + 1 → slice_get xs i ≢ Some c
 none_more xs k x c is lt differs = none_at xs k c (λ e.
     let point_here : Some (get_or xs k x) ≡ Some c = sym (slice_get-get_or xs k x lt) ∙ e in
-    let h : get_or xs k x ≡ c = cc in
-    differs (is ∙ h))
+    differs (is ∙ cc))
 
 -- a configuration is not at an index with another fingerprint
 pub none_by_print : (xs : List Configuration) (prints : List ℕ) (k print : ℕ) (c : Configuration)
     → prints ≡ map print_of xs → print ≡ print_of c → k < length prints → (get_or prints k 0 ≡ print → ⊥)
     → ((i : ℕ) → i < k → slice_get xs i ≢ Some c) → (i : ℕ) → i < k + 1 → slice_get xs i ≢ Some c
 none_by_print xs prints k print c all one lt differs = none_at xs k c (λ e.
-    let point_here : slice_get prints k ≡ option_map print_of (slice_get xs k) =
-    ap (λ ps. slice_get ps k) all ∙ slice_get-map print_of xs k in
-    let there : Some (get_or prints k 0) ≡ Some (print_of c) =
-    sym (slice_get-get_or prints k 0 lt) ∙ point_here ∙ ap (option_map print_of) e in
+    let point_here = ap (λ ps. slice_get ps k) all ∙ slice_get-map print_of xs k in
+    let there = sym (slice_get-get_or prints k 0 lt) ∙ point_here ∙ ap (option_map print_of) e in
     let h : get_or prints k 0 ≡ print_of c = cc in
     differs (h ∙ sym one))
 
@@ -381,6 +363,5 @@ costs_needs code lines labels needs budget same_lines same_labels each within pr
     let all = within_from (instrs_of lines) budget (λ pc. let e = each pc in let h = within pc in
     omega (arith, e, h)) in
     let cost : l.cost ≡ longest (instrs_of lines) (budget + 1) l.pc = priced l has' ∙ each l.pc in
-    let need : IsNeed (instrs_of lines) l.pc l.cost =
-    subst (λ n. IsNeed (instrs_of lines) l.pc n) (sym cost) (is_need (instrs_of lines) budget l.pc all) in
+    let need = subst (λ n. IsNeed (instrs_of lines) l.pc n) (sym cost) (is_need (instrs_of lines) budget l.pc all) in
     subst (λ (ls : List Line). IsNeed (instrs_of ls) l.pc l.cost) (sym same_lines) need

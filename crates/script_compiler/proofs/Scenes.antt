@@ -1,9 +1,9 @@
 -- The scene after an instruction or a frame depends on the scene before alone.
-use Rattle.script_compiler.proofs.Words.{◌+◌, ◌∙◌, ◌≡◌, Act, Bool, Ended, Hold, IsAllowed, None, Option, Plan, Program}
-use Rattle.script_compiler.proofs.Words.{Running, ScenesSuffice, Some, State, Waits, WaitsAny, WaitsContact, WaitsDay}
-use Rattle.script_compiler.proofs.Words.{WaitsSwap, acts, after_burst, ap, effect, false, if◌then◌else◌, instr_of_act}
-use Rattle.script_compiler.proofs.Words.{is_due, is_first_noticed, is_here, opens, ready, refl, scene_of, settle, shown}
-use Rattle.script_compiler.proofs.Words.{state_of_scene, sym, true, with_due_swap, with_hold_ended, with_swap, ℕ}
+use Rattle.script_compiler.proofs.Words.{◌+◌, ◌∙◌, ◌≡◌, Act, Bool, Hold, IsAllowed, None, Option, Plan, Program}
+use Rattle.script_compiler.proofs.Words.{Running, ScenesSuffice, Some, State, acts, after_burst, ap, effect, false}
+use Rattle.script_compiler.proofs.Words.{if◌then◌else◌, instr_of_act, is_due, is_first_noticed, is_here, opens, ready}
+use Rattle.script_compiler.proofs.Words.{refl, scene_of, settle, shown, state_of_scene, sym, true, with_due_swap}
+use Rattle.script_compiler.proofs.Words.{with_hold_ended, with_swap, ℕ}
 use Rattle.script_front.specs.declared.tree.Act.TheVariants.{Edit, Wait, WaitContact, Until, WaitAny, CommitIn}
 use Rattle.script_front.specs.declared.tree.Act.TheVariants.{CommitAt, Join, Settle}
 
@@ -18,13 +18,7 @@ SamePlace s t = (t.pc ≡ s.pc) × (t.counters ≡ s.counters)
 -- ---- a frame's beginning and end
 
 here_same : (s : State) (h : Hold) → is_here s h ≡ is_here (plain s) h
-here_same s Running = refl
-here_same s (Waits n) = refl
-here_same s (WaitsDay t) = refl
-here_same s (WaitsContact c closed) = refl
-here_same s (WaitsAny closed opened until left) = refl
-here_same s WaitsSwap = refl
-here_same s Ended = refl
+here_same s _ = refl
 
 ends_by : (b : Bool) (s : State) → scene_of (if b then record s { hold = Running } else s)
     ≡ scene_of (if b then record (plain s) { hold = Running } else plain s)
@@ -32,20 +26,16 @@ ends_by true s = refl
 ends_by false s = refl
 
 hold_ends : (s : State) → scene_of (with_hold_ended s) ≡ scene_of (with_hold_ended (plain s))
-hold_ends s = ends_by (is_here s s.hold) s
-    ∙ ap (λ b. scene_of (if b then record (plain s) { hold = Running } else plain s)) (here_same s s.hold)
+hold_ends s = cc (ends_by (is_here s s.hold) s, here_same s s.hold)
 
 swaps_by : (b : Bool) (s : State) → scene_of (if b then with_swap s else s)
     ≡ scene_of (if b then with_swap (plain s) else plain s)
 swaps_by true s = refl
 swaps_by false s = refl
 
-swap_falls : (s : State) → scene_of (with_due_swap s) ≡ scene_of (with_due_swap (plain s))
-swap_falls s = swaps_by (is_due s.left) s
-
 pub ready_scene : (s : State) → scene_of (ready s) ≡ opens (scene_of s)
 ready_scene s =
-    hold_ends (with_due_swap s) ∙ ap (λ x. scene_of (with_hold_ended (state_of_scene x))) (swap_falls s)
+    hold_ends (with_due_swap s) ∙ ap (λ x. scene_of (with_hold_ended (state_of_scene x))) (swaps_by (is_due s.left) s)
     ∙ sym (hold_ends (with_due_swap (plain s)))
 
 swap_place : (b : Bool) (s : State) → SamePlace s (if b then with_swap s else s)
@@ -84,27 +74,13 @@ settles_at (Some left) s = (refl, refl)
 
 pub act_scene : (plan : Plan) (a : Act) (s : State) → scene_of (effect plan (instr_of_act a) s)
     ≡ acts plan (instr_of_act a) (scene_of s)
-act_scene plan (Edit edit) s = refl
-act_scene plan (Wait frames) s = refl
-act_scene plan (WaitContact contact closed) s = refl
-act_scene plan (Until moment) s = refl
-act_scene plan (WaitAny all) s = refl
-act_scene plan (CommitIn delay) s = refl
-act_scene plan (CommitAt count) s = refl
-act_scene plan Join s = refl
 act_scene plan Settle s = settles_by s.left s
+act_scene plan _ s = refl
 
 pub act_place : (plan : Plan) (a : Act) (s : State) → ((effect plan (instr_of_act a) s).pc ≡ s.pc + 1)
     × ((effect plan (instr_of_act a) s).counters ≡ s.counters)
-act_place plan (Edit edit) s = (refl, refl)
-act_place plan (Wait frames) s = (refl, refl)
-act_place plan (WaitContact contact closed) s = (refl, refl)
-act_place plan (Until moment) s = (refl, refl)
-act_place plan (WaitAny all) s = (refl, refl)
-act_place plan (CommitIn delay) s = (refl, refl)
-act_place plan (CommitAt count) s = (refl, refl)
-act_place plan Join s = (refl, refl)
 act_place plan Settle s = settles_at s.left s
+act_place plan _ s = (refl, refl)
 
 pub act_fine : (plan : Plan) (a : Act) (s : State)
     → (IsAllowed plan (instr_of_act a) s → IsAllowed plan (instr_of_act a) (plain s))

@@ -9,7 +9,7 @@ use Rattle.script_compiler.proofs.Words.{if◌then◌else◌, inl, inr, instr_of
 use Rattle.script_compiler.proofs.Words.{known_with, length, length-append, meet, merged, nested, nothing, onward}
 use Rattle.script_compiler.proofs.Words.{placed_instr, places, point_after, refl, repeat, same_Some, set_after}
 use Rattle.script_compiler.proofs.Words.{slice_get, stop, subst, suc, sym, target_of, test_of, true, when}
-use Rattle.script_compiler.proofs.Words.{without_counter, without_label, zero, ℕ}
+use Rattle.script_compiler.proofs.Words.{without_counter, without_label, ℕ}
 use Rattle.plan_code.specs.declared.flags.Counters.{Counters}
 use Rattle.plan_verifier.proofs.Finding.{commit_fine}
 use Rattle.script_front.specs.declared.tree.Act.TheVariants.{Edit as Edits, Wait as Waits, WaitContact as WaitsContact}
@@ -128,8 +128,7 @@ module _ (plan : Plan) (code : List PlacedInstr) where
       → AllHold plan code pc (a ++ b)
   hold_both pc [] b h k = let e : pc + 0 ≡ pc = omega arith in subst (λ n. AllHold plan code n b) e k
   hold_both pc (p ∷ a) b h k =
-      let e : pc + length (p ∷ a) ≡ pc + 1 + length a = omega arith in
-      (h.0, hold_both (pc + 1) a b h.1 (subst (λ n. AllHold plan code n b) e k))
+      (h.0, hold_both (pc + 1) a b h.1 (subst (λ n. AllHold plan code n b) (omega arith) k))
 
   -- it has such a label, if the point requires one
   lands_meets : (pc r : ℕ) (s : ProgramPoint) (t : Flow) → Lands code pc r s → s.labelled ≡ true → FitsFlow t s.flow
@@ -168,9 +167,6 @@ module _ (plan : Plan) (code : List PlacedInstr) where
   lands_at : (line pc r : ℕ) (i : Instr) (s : ProgramPoint) → slice_get code pc ≡ Some (placed_instr line i r s)
       → Lands code pc r s
   lands_at line pc r i s h = record { place = placed_instr line i r s; there = h; repeats = refl; fits = inl refl }
-
-  moved_pc : (a b : ℕ) → a ≡ b → (r : ℕ) (s : ProgramPoint) → Lands code a r s → Lands code b r s
-  moved_pc a b e r s l = subst (λ n. Lands code n r s) e l
 
   exit_moved : (a b : ℕ) → a ≡ b → (r : ℕ) (w : Option ProgramPoint) → Exit code a r w → Exit code b r w
   exit_moved a b e r w h = subst (λ n. Exit code n r w) e h
@@ -261,8 +257,7 @@ module _ (plan : Plan) (code : List PlacedInstr) where
       → Holds plan code pc (placed_instr line (instr_of_act a) r s)
   basic_holds line a r pc s h l = record {
     fine = λ n. act_fine a s.flow (first_counters r) n h;
-    onward = λ _. subst (λ q. Lands code (pc + 1) q (without_label (after_instr plan (instr_of_act a) s.flow)))
-        (sym ((act_goes_on a).1 r)) l;
+    onward = λ _. rw ((act_goes_on a).1 r) l;
     targets = λ to e. no_target to (target_of (instr_of_act a)) (act_goes_on a).0 e;
     counters = (act_goes_on a).2 (first_counters r) ∙ ap first_counters (sym ((act_goes_on a).1 r));
   }
@@ -277,16 +272,14 @@ module _ (plan : Plan) (code : List PlacedInstr) where
       record {
         fine = λ n. tt;
         onward = λ _. l;
-        targets = λ n e.
-            subst (λ x. Meets code x r s.flow) (some_number to n e) m;
+        targets = λ n e. rw (← some_number to n e) m;
         counters = refl;
       }
   test_holds line (IfTime from until) to r pc s l m =
       record {
         fine = λ n. tt;
         onward = λ _. l;
-        targets = λ n e.
-            subst (λ x. Meets code x r s.flow) (some_number to n e) m;
+        targets = λ n e. subst (λ x. Meets code x r s.flow) (some_number _ _ e) m;
         counters = refl;
       }
 
@@ -296,8 +289,7 @@ module _ (plan : Plan) (code : List PlacedInstr) where
       record {
         fine = λ n. tt;
         onward = λ e. cc;
-        targets = λ n e.
-            subst (λ x. Meets code x r s.flow) (some_number to n e) m;
+        targets = λ n e. rw (← some_number to n e) m;
         counters = refl;
       }
 
@@ -316,15 +308,8 @@ module _ (plan : Plan) (code : List PlacedInstr) where
       subst (λ n. is_set (first_counters n) r ≡ true) one (counters_change_alone (first_counters r) r low).0
 
   unset_after : (r : ℕ) → r < 8 → without_counter r (first_counters (r + 1)) ≡ first_counters r
-  unset_after zero low = refl
-  unset_after (suc zero) low = refl
-  unset_after (suc (suc zero)) low = refl
-  unset_after (suc (suc (suc zero))) low = refl
-  unset_after (suc (suc (suc (suc zero)))) low = refl
-  unset_after (suc (suc (suc (suc (suc zero))))) low = refl
-  unset_after (suc (suc (suc (suc (suc (suc zero)))))) low = refl
-  unset_after (suc (suc (suc (suc (suc (suc (suc zero))))))) low = refl
   unset_after (suc (suc (suc (suc (suc (suc (suc (suc r)))))))) low = absurd (omega (arith, low))
+  unset_after _ low = refl
 
   loop_holds : (line : ℕ) (to r pc : ℕ) (s : ProgramPoint) → r < 8 → Lands code (pc + 1) r (without_label s.flow)
       → Meets code to (r + 1) s.flow → Holds plan code pc (placed_instr line (Loop r to) (r + 1) s)
@@ -339,13 +324,10 @@ module _ (plan : Plan) (code : List PlacedInstr) where
   pub sound : (b : Block) (r pc : ℕ) (s : ProgramPoint) → r + nested b ≤ 8 → IsJudged plan b s
       → Stand code pc (places plan r pc b s) → Exit code (pc + length (places plan r pc b s)) r (point_after plan b s)
       → AllHold plan code pc (places plan r pc b s) × Lands code pc r s
-  sound nothing r pc s deep j st ex = (tt, moved_pc (pc + 0) pc (omega arith) r s (ex s refl))
+  sound nothing r pc s deep j st ex = (tt, (subst (λ n. Lands code n r s) (omega arith) (ex s refl)))
   sound (basic line act rest) r pc s deep j st ex =
       let t = without_label (after_instr plan (instr_of_act act) s.flow) in
-      let e : pc + length (places plan r pc (basic line act rest) s) ≡ pc + 1 + length (places plan r (pc + 1) rest t) =
-      omega arith in
-      let ih = sound rest r (pc + 1) t (omega (arith, deep)) j.1 st.1
-      (exit_moved _ _ e r (point_after plan rest t) ex) in
+      let ih = sound rest r (pc + 1) t (omega (arith, deep)) j.1 st.1 (exit_moved _ _ (omega arith) _ _ ex) in
       ((basic_holds line act r pc s j.0 ih.1, ih.0), lands_at line pc r (instr_of_act act) s st.0)
   sound (stop line rest) r pc s deep j st ex = ((end_holds line r pc s, tt), lands_at line pc r End s st.0)
   sound (when line c first rest) r pc s deep j st ex =
@@ -355,12 +337,10 @@ module _ (plan : Plan) (code : List PlacedInstr) where
       let w = meet a (Some s) in
       let end = pc + 1 + length firsts in
       let rests = onward w [] (λ u. places plan r end rest u) in
-      let e : pc + length (places plan r pc (when line c first rest) s) ≡ end + length rests =
-      omega (arith, length-append firsts rests) in
       let back = rest_holds r r end (λ u. places plan r end rest u) (λ u. point_after plan rest u) rest
       (λ u. IsJudged plan rest u) w (λ u _. sound rest r end u (omega (arith, deep))) j.2
       (stand_back code (pc + 1) firsts rests st.1)
-      (exit_moved _ _ e r (point_after plan (when line c first rest) s) ex) in
+      (exit_moved _ _ (omega (arith, length-append firsts rests)) r (point_after plan (when line c first rest) s) ex) in
       let front = sound first r (pc + 1) t (omega (arith, deep)) j.0 (stand_front code (pc + 1) firsts rests st.1)
       (λ u h.
       let m = meets_left a (Some s) u j.1 h in
@@ -383,8 +363,7 @@ module _ (plan : Plan) (code : List PlacedInstr) where
       let w = join a b in
       let rests = onward w [] (λ u. places plan r end rest u) in
       let jumps = onward a [] (alone line (Jump end) r) in
-      let len : length jumps ≡ (if falls_out first then 1 else 0) =
-      jump_length line end r a (falls_out first) (after_falls plan first t) in
+      let len = jump_length line end r a (falls_out first) (after_falls plan first t) in
       let at_start : out + length jumps ≡ start = ap (λ n. out + n) len in
       let e : pc + length (places plan r pc (either line c first second rest) s) ≡ end + length rests =
       omega (
@@ -395,19 +374,16 @@ module _ (plan : Plan) (code : List PlacedInstr) where
         length-append seconds rests,
       ) in
       let st_jumps = stand_back code (pc + 1) firsts (jumps ++ (seconds ++ rests)) st.1 in
-      let st_seconds = subst (λ n. Stand code n (seconds ++ rests)) at_start
-      (stand_back code out jumps (seconds ++ rests) st_jumps) in
+      let st_seconds = subst (λ n. Stand code n (seconds ++ rests)) at_start (stand_back _ _ _ _ st_jumps) in
       let back = rest_holds r r end (λ u. places plan r end rest u) (λ u. point_after plan rest u) rest
       (λ u. IsJudged plan rest u) w (λ u _. sound rest r end u (omega (arith, deep))) j.3
       (stand_back code start seconds rests st_seconds)
       (exit_moved _ _ e r (point_after plan (either line c first second rest) s) ex) in
       let middle = sound second r start (at_label s.flow) (omega (arith, deep)) j.1
       (stand_front code start seconds rests st_seconds) (second_lands end r a b j.2 back.1) in
-      let front = sound first r (pc + 1) t (omega (arith, deep)) j.0
-      (stand_front code (pc + 1) firsts (jumps ++ (seconds ++ rests)) st.1)
-      (back_exit line (Jump end) r out (λ u. []) a (stand_front code out jumps (seconds ++ rests) st_jumps)) in
-      let jump = jump_holds_where line end r out a (λ u h.
-      jump_holds line end r out u (first_meets end r a b j.2 back.1 u h)) in
+      let front = sound first r (pc + 1) t (omega (arith, deep)) j.0 (stand_front _ _ _ _ st.1)
+      (back_exit _ _ _ _ (λ u. []) _ (stand_front _ _ _ _ st_jumps)) in
+      let jump = jump_holds_where _ _ _ _ _ (λ u h. jump_holds _ _ _ _ _ (first_meets _ _ _ _ j.2 back.1 _ h)) in
       let target = lands_meets start r (at_label s.flow) s.flow middle.1 refl (fits_same s.flow) in
       let seconds_hold = hold_both start seconds rests middle.0 back.0 in
       let jumps_hold = hold_both out jumps (seconds ++ rests) jump
@@ -429,16 +405,13 @@ module _ (plan : Plan) (code : List PlacedInstr) where
       let e : pc + length (places plan r pc (repeat line n body rest) s) ≡ end + length rests =
       omega (arith, length-append bodies rests) in
       let st_rests = stand_back code (pc + 1) bodies rests st.1 in
-      let front = sound body (r + 1) (pc + 1) start (omega (arith, deep)) j.0
-      (stand_front code (pc + 1) bodies rests st.1)
-      (back_exit line (Loop r (pc + 1)) (r + 1) end more a st_rests) in
+      let front = sound body (r + 1) (pc + 1) start (omega (arith, deep)) j.0 (stand_front _ _ _ _ st.1)
+      (back_exit _ _ _ _ _ _ st_rests) in
       let back = rest_holds (r + 1) r end (λ u. placed_instr line (Loop r (pc + 1)) (r + 1) u ∷ more u)
       (λ u. point_after plan rest (without_label u.flow)) rest (λ u. IsJudged plan rest (without_label u.flow)) a
       (λ u h k su eu.
-      let f : end + length (placed_instr line (Loop r (pc + 1)) (r + 1) u ∷ more u) ≡ end + 1 + length (more u) =
-      omega arith in
       let ih = sound rest r (end + 1) (without_label u.flow) (omega (arith, deep)) k su.1
-      (exit_moved _ _ f r (point_after plan rest (without_label u.flow)) eu) in
+      (exit_moved _ _ (omega arith) r (point_after plan rest (without_label u.flow)) eu) in
       let m = lands_meets (pc + 1) (r + 1) start u.flow front.1 (head_labelled body t u h)
       (comes_round a start u j.1 h) in (
         (loop_holds line (pc + 1) r end u (omega (arith, deep)) ih.1 m, ih.0),
@@ -457,9 +430,8 @@ module _ (plan : Plan) (code : List PlacedInstr) where
       let a = point_after plan body start in
       let end = pc + length bodies in
       let jumps = onward a [] (alone line (Jump pc) r) in
-      let st_jumps = stand_back code pc bodies jumps st in
       let front = sound body r pc start (omega (arith, deep)) j.0 (stand_front code pc bodies jumps st)
-      (back_exit line (Jump pc) r end (λ u. []) a st_jumps) in
+      (back_exit line (Jump pc) r end (λ u. []) a (stand_back code pc bodies jumps st)) in
       let jump = jump_holds_where line pc r end a (λ u h.
       jump_holds line pc r end u
       (lands_meets pc r start u.flow front.1 (head_labelled body s u h) (comes_round a start u j.1 h))) in

@@ -9,8 +9,8 @@ use Rattle.script_compiler.proofs.Words.{Tabled, UnpricedLabel, UnpricedTable, W
 use Rattle.script_compiler.proofs.Words.{arith, at_label, configuration_at, count_of_labels, false, if◌then◌else◌, inl}
 use Rattle.script_compiler.proofs.Words.{inr, is_some, jumping, known_at, length, length-append, lines_of_placed, meet}
 use Rattle.script_compiler.proofs.Words.{merged, named_by, names_of, onward, placed_instr, places, point_after}
-use Rattle.script_compiler.proofs.Words.{point_in, refl, slice_get, subst, suc, sym, true, unpriced_in, unpriced_label}
-use Rattle.script_compiler.proofs.Words.{unpriced_labels, way, zero, ℕ}
+use Rattle.script_compiler.proofs.Words.{point_in, refl, slice_get, subst, suc, sym, true, unpriced_in, unpriced_labels}
+use Rattle.script_compiler.proofs.Words.{way, zero, ℕ}
 use Rattle.script_compiler.proofs.Places.{first_of}
 use Rattle.script_compiler.proofs.Emitted.{laid_length, length_lines}
 use Rattle.script_compiler.proofs.Labelling.{tabled_more, mark_is, one_mark}
@@ -26,8 +26,7 @@ labels_by false k n = refl
 
 labels_both : (ps qs : List PlacedInstr) → count_of_labels (ps ++ qs) ≡ count_of_labels ps + count_of_labels qs
 labels_both [] qs = omega arith
-labels_both (p ∷ ps) qs = ap (λ n. if p.point.labelled then 1 + n else n) (labels_both ps qs)
-    ∙ labels_by p.point.labelled (count_of_labels ps) (count_of_labels qs)
+labels_both (p ∷ ps) qs = cc (labels_both ps qs, labels_by p.point.labelled (count_of_labels ps) (count_of_labels qs))
 
 names_by : (b : Bool) (x y : Configuration) (xs ys : List Configuration)
     → (if b then x ∷ y ∷ (xs ++ ys) else (xs ++ ys)) ≡ (if b then x ∷ y ∷ xs else xs) ++ ys
@@ -37,8 +36,7 @@ names_by false x y xs ys = refl
 names_both : (ps qs : List PlacedInstr) → names_of (ps ++ qs) ≡ names_of ps ++ names_of qs
 names_both [] qs = refl
 names_both (p ∷ ps) qs =
-    ap (λ xs. if p.point.labelled then p.point.flow.current ∷ p.point.flow.next ∷ xs else xs) (names_both ps qs)
-    ∙ names_by p.point.labelled p.point.flow.current p.point.flow.next (names_of ps) (names_of qs)
+    cc (names_both ps qs, names_by p.point.labelled p.point.flow.current p.point.flow.next (names_of ps) (names_of qs))
 
 count_by : (b : Bool) (m : UnpricedLabel) (ms : List UnpricedLabel) (n : ℕ) → length ms ≡ n
     → length (if b then m ∷ ms else ms) ≡ (if b then 1 + n else n)
@@ -47,8 +45,7 @@ count_by false m ms n e = e
 
 pub marks_count : (pc : ℕ) (ps : List PlacedInstr) → length (unpriced_labels pc ps) ≡ count_of_labels ps
 marks_count pc [] = refl
-marks_count pc (p ∷ ps) = count_by p.point.labelled (unpriced_label pc p) (unpriced_labels (pc + 1) ps)
-    (count_of_labels ps) (marks_count (pc + 1) ps)
+marks_count pc (p ∷ ps) = count_by _ _ _ _ (marks_count (pc + 1) ps)
 
 named_if : (b : Bool) (m : UnpricedLabel) (ms : List UnpricedLabel) (xs : List Configuration) → named_by ms ≡ xs
     → named_by (if b then m ∷ ms else ms) ≡ (if b then m.flow.current ∷ m.flow.next ∷ xs else xs)
@@ -57,8 +54,7 @@ named_if false m ms xs e = e
 
 pub marks_named : (pc : ℕ) (ps : List PlacedInstr) → named_by (unpriced_labels pc ps) ≡ names_of ps
 marks_named pc [] = refl
-marks_named pc (p ∷ ps) = named_if p.point.labelled (unpriced_label pc p) (unpriced_labels (pc + 1) ps) (names_of ps)
-    (marks_named (pc + 1) ps)
+marks_named pc (p ∷ ps) = named_if _ _ _ _ (marks_named (pc + 1) ps)
 
 -- ---- after part of what there was room for has been emitted
 
@@ -88,9 +84,7 @@ pub space_spot : (k : CodeLimit) (w : Work) (p q : PlacedInstr) (ps : List Place
     → HasSpace k w (p ∷ ps) → HasSpace k w (q ∷ ps)
 space_spot Instructions w p q ps e h = h
 space_spot Labels w p q ps e h =
-    let count : count_of_labels (p ∷ ps) ≡ count_of_labels (q ∷ ps) =
-    ap (λ (s : ProgramPoint). if s.labelled then 1 + count_of_labels ps else count_of_labels ps) e in
-    omega (arith, h, count)
+    omega (arith, h, ap (λ (s : ProgramPoint). if s.labelled then 1 + count_of_labels ps else count_of_labels ps) e)
 space_spot Configurations w p q ps e h =
     let names : names_of (p ∷ ps) ≡ names_of (q ∷ ps) =
     ap (λ (s : ProgramPoint). if s.labelled then s.flow.current ∷ s.flow.next ∷ names_of ps else names_of ps) e in
@@ -108,16 +102,14 @@ pub space_as : (k : CodeLimit) (v w : Work) (ps : List PlacedInstr) → length w
     → w.unpriced.items ≡ v.unpriced.items → HasSpace k v ps → HasSpace k w ps
 space_as Instructions v w ps lines unpriced h = omega (arith, h, lines)
 space_as Labels v w ps lines unpriced h = let m = ap length unpriced in omega (arith, h, m)
-space_as Configurations v w ps lines unpriced h =
-    subst (λ ms. HasRoomFor [] (named_by ms ++ names_of ps)) (sym unpriced) h
+space_as Configurations v w ps lines unpriced h = rw unpriced h
 space_as Counters v w ps lines unpriced h = tt
 
 pub space_onward : (k : CodeLimit) (w : Work) (line line' r r' : ℕ) (i j : Instr) (a : Option ProgramPoint)
     (ps : List PlacedInstr) → HasSpace k w (onward a [] (alone line i r) ++ ps)
     → HasSpace k w (onward a [] (alone line' j r') ++ ps)
 space_onward k w line line' r r' i j None ps h = h
-space_onward k w line line' r r' i j (Some s) ps h =
-    space_spot k w (placed_instr line i r s) (placed_instr line' j r' s) ps refl h
+space_onward k w line line' r r' i j (Some s) ps h = space_spot _ _ _ _ _ refl h
 
 -- ---- labels that are required
 
@@ -203,12 +195,9 @@ pub room_names : (w : Work) (t : Flow) (ps : List PlacedInstr) → HasTable w �
 room_names w t ps table cover h =
     let p = cover.place in
     let more = names_of cover.rest in
-    let e : names_of ps ≡ p.point.flow.current ∷ p.point.flow.next ∷ more =
-    ap names_of cover.is ∙ ap (λ (b : Bool). if b then p.point.flow.current ∷ p.point.flow.next ∷ more else more)
-    cover.labelled in
+    let e : names_of ps ≡ p.point.flow.current ∷ p.point.flow.next ∷ more = cc (cover.is, cover.labelled) in
     let room : HasRoomFor w.unpriced.table (p.point.flow.current ∷ p.point.flow.next ∷ more) =
-    table.room (p.point.flow.current ∷ p.point.flow.next ∷ more)
-    (subst (λ cs. HasRoomFor [] (named_by w.unpriced.items ++ cs)) e h) in
+    table.room (p.point.flow.current ∷ p.point.flow.next ∷ more) (rw (← e) h) in
     room_fewer w.unpriced.table (t.current ∷ t.next ∷ []) (p.point.flow.current ∷ p.point.flow.next ∷ more)
     (λ c k. stands_more p.point.flow.current p.point.flow.next c more (cover.names c k)) room
 
@@ -219,11 +208,9 @@ pub table_mark : (v w : Work) (one : List Configuration) (m : UnpricedLabel) →
 table_mark v w one m a b e few fewer table = record {
   few = few;
   labels = let n = ap length e ∙ length-append v.unpriced.items (m ∷ []) in omega (arith, n, fewer);
-  room = subst (λ ms. Leaves [] w.unpriced.table ms) (sym e)
-      (leaves_both [] v.unpriced.table w.unpriced.table v.unpriced.items (m ∷ []) table.room
-      (leaves_mark m v.unpriced.table one w.unpriced.table a b));
-  tabled = subst (λ ms. Tabled [] ms w.unpriced.table) (sym e)
-      (tabled_more v.unpriced.table one w.unpriced.table v.unpriced.items m [] table.tabled a b);
+  room =
+  subst (λ ms. Leaves [] w.unpriced.table ms) (sym e) (leaves_both [] _ _ _ _ table.room (leaves_mark m _ one _ a b));
+  tabled = rw e (tabled_more v.unpriced.table one w.unpriced.table v.unpriced.items m [] table.tabled a b);
 }
 
 -- ---- one of two configurations
@@ -245,9 +232,8 @@ room_next table one a b added room = room_right one a b (room_added a table one 
 -- if a fault is an exceeded limit
 pub limit_map : (e : CompileFault) {P Q : ℕ → CodeLimit → Type 0} → ((at : ℕ) (k : CodeLimit) → P at k → Q at k)
     → IfLimit e P → IfLimit e Q
-limit_map (Refused line cause) m h = tt
 limit_map (Limit line k) m h = m line k h
-limit_map Memory m h = tt
+limit_map _ m h = tt
 
 -- a fault that is no refusal
 pub limit_at_map : (e : CompileFault) (line : ℕ) {P Q : CodeLimit → Type 0} → ((k : CodeLimit) → P k → Q k)
@@ -276,8 +262,7 @@ limits_here (Err e) line m h = limit_here e line m h
 pub never_refused : (e : CompileFault) (line : ℕ) (P : CodeLimit → Type 0) (Q : ℕ → Cause → Type 0) → IsLimitAt line P e
     → IfRefused e Q
 never_refused (Refused at cause) line P Q h = absurd h
-never_refused (Limit at k) line P Q h = tt
-never_refused Memory line P Q h = tt
+never_refused _ line P Q h = tt
 
 pub none_refused : {A : Type 0} (x : Result A CompileFault) (line : ℕ) (P : CodeLimit → Type 0) (Q : ℕ → Cause → Type 0)
     → IfErr x (λ e. IsLimitAt line P e) → IfErr x (λ e. IfRefused e Q)
@@ -311,8 +296,7 @@ pub space_restored : (k : CodeLimit) (v w : Work) (falls : Bool) (m n : ℕ) (i 
     → HasSpace k w (onward (way falls w) [] (alone m i n) ++ ps)
     → HasSpace k v (onward (way falls v) [] (alone m i n) ++ ps)
 space_restored k v w falls m n i ps lines unpriced now h =
-    let there = space_as k w v (onward (way falls w) [] (alone m i n) ++ ps) (ap (λ x. length x.items) lines)
-    (ap (λ x. x.items) unpriced) h in
+    let there = space_as _ _ _ _ (ap (λ x. length x.items) lines) (ap (λ x. x.items) unpriced) h in
     subst (λ (s : ProgramPoint). HasSpace k v (onward (if falls then Some s else None) [] (alone m i n) ++ ps))
     (sym now) there
 
@@ -358,5 +342,4 @@ pub marked_here : (w : Work) (pc r line : ℕ) (i : Instr) (items : List Unprice
     → items ≡ w.unpriced.items ++ mark_with pc r w.now ∷ [] → items ≡ w.unpriced.items
     ++ unpriced_labels (length w.lines.items) (alone line i r w.now)
 marked_here w pc r line i items labelled at is =
-    is ∙ ap (λ (ms : List UnpricedLabel). w.unpriced.items ++ ms)
-    (one_mark (length w.lines.items) pc (placed_instr line i r w.now) labelled at)
+    cc (is, one_mark (length w.lines.items) pc (placed_instr line i r w.now) labelled at)

@@ -3,10 +3,10 @@ use Rattle.script_compiler.proofs.Words.{[], ◌&&◌, ◌++◌, ◌+◌, ◌<�
 use Rattle.script_compiler.proofs.Words.{CompileFault, Emits, End, Err, Global, IfOk, IsFine, IsJudged, Left, List}
 use Rattle.script_compiler.proofs.Words.{None, Ok, OnOk, Plan, ProgramPoint, Reached, Result, Some, Statement, Vec}
 use Rattle.script_compiler.proofs.Words.{Work, after_instr, all_places, alone, ap, append-nil, apply, arith, basic}
-use Rattle.script_compiler.proofs.Words.{before, block_of, drop, either, facts_of, false, forever, get_or, has_no_instr}
-use Rattle.script_compiler.proofs.Words.{instr_of_act, known_at, length, lines_of_placed, map, named_at, nested}
-use Rattle.script_compiler.proofs.Words.{nothing, onward, places, point_after, refl, repeat, stop, subst, suc, sym}
-use Rattle.script_compiler.proofs.Words.{tables, take, true, unpriced_labels, way, when, without_label, zero, ℕ}
+use Rattle.script_compiler.proofs.Words.{before, block_of, drop, facts_of, false, get_or, has_no_instr, instr_of_act}
+use Rattle.script_compiler.proofs.Words.{known_at, length, lines_of_placed, map, named_at, nested, nothing, onward}
+use Rattle.script_compiler.proofs.Words.{places, point_after, refl, subst, suc, sym, tables, take, true}
+use Rattle.script_compiler.proofs.Words.{unpriced_labels, way, without_label, zero, ℕ}
 use Rattle.script_compiler.proofs.Trees.{statements_cut, tables_take, tables_length}
 use Rattle.script_compiler.proofs.Emitted.{left_act, left_apply, left_start, Whole, whole_of, whole_length, lines_both}
 use Rattle.script_compiler.proofs.Emitted.{marks_both}
@@ -43,9 +43,7 @@ pub left_before : (plan : Plan) (r : ℕ) (table : List Block) (ss : List Statem
     (f g : Bool) → s ≡ get_or ss k s → k < length ss → f ≡ g →
     Left plan r (block_of table ss) v w f (block_of table (drop k ss))
     → Left plan r (block_of table ss) v w g (before table s (block_of table (drop (k + 1) ss)))
-left_before plan r table ss k s v w f g is lt e left =
-    subst (λ b. Left plan r (block_of table ss) v w g b) (statements_cut table ss k s is lt)
-    (subst (λ x. Left plan r (block_of table ss) v w x (block_of table (drop k ss))) e left)
+left_before plan r table ss k s v w f g is lt e left = rw (← statements_cut table ss k s is lt) (rw (← e) left)
 
 -- ---- blocks by number
 
@@ -54,9 +52,8 @@ map_length P [] = refl
 map_length P (x ∷ xs) = omega (arith, map_length P xs)
 
 take_map : (P : Block → BlockFacts) (k : ℕ) (xs : List Block) → take k (map P xs) ≡ map P (take k xs)
-take_map P zero xs = refl
-take_map P (suc k) [] = refl
 take_map P (suc k) (x ∷ xs) = ap (λ ys. P x ∷ ys) (take_map P k xs)
+take_map P _ _ = refl
 
 pub facts_length : (facts : List BlockFacts) (bs : List (Vec Statement Global)) → facts ≡ map facts_of (tables bs)
     → length facts ≡ length bs
@@ -64,8 +61,7 @@ facts_length facts bs e = ap length e ∙ map_length facts_of (tables bs) ∙ ta
 
 pub facts_take : (facts : List BlockFacts) (bs : List (Vec Statement Global)) (k : ℕ) → facts ≡ map facts_of (tables bs)
     → take k facts ≡ map facts_of (tables (take k bs))
-facts_take facts bs k e = ap (λ xs. take k xs) e ∙ take_map facts_of k (tables bs)
-    ∙ ap (λ xs. map facts_of xs) (sym (tables_take bs k))
+facts_take facts bs k e = cc (e, take_map facts_of k (tables bs), tables_take bs k)
 
 silent_named : (table : List Block) (facts : List BlockFacts) (k : ℕ) (d : BlockFacts) → facts ≡ map facts_of table
     → k < length facts → has_no_instr (named_at table k) ≡ (get_or facts k d).emits_nothing
@@ -86,12 +82,6 @@ record Silent (plan : Plan) (b : Block) (s : ProgramPoint) : Type 0 where
 
 silent_block : (plan : Plan) (b : Block) (s : ProgramPoint) → has_no_instr b ≡ true → Silent plan b s
 silent_block plan nothing s h = record { empty = λ r pc. refl; leads = refl; judged = tt; flat = refl }
-silent_block plan (basic line act rest) s h = cc
-silent_block plan (stop line rest) s h = cc
-silent_block plan (when line c first rest) s h = cc
-silent_block plan (either line c first second rest) s h = cc
-silent_block plan (repeat line n body rest) s h = cc
-silent_block plan (forever line body rest) s h = cc
 silent_block plan (apply line k name rest) s h =
     let both : (a b : Bool) → (a && b) ≡ true → (a ≡ true) × (b ≡ true) =
     λ a b e. elim a as (λ x. (x && b) ≡ true → (x ≡ true) × (b ≡ true)) [ true ↦ λ g. (refl, g) | false ↦ λ g. cc ]
@@ -110,6 +100,7 @@ silent_block plan (apply line k name rest) s h =
       judged = (a.judged, subst (λ w. Reached w rest (λ u. IsJudged plan rest u)) (sym a.leads) b.judged);
       flat = let n = a.flat in let m = b.flat in omega (arith, n, m);
     }
+silent_block plan _ s h = cc
 
 -- applying a block that emits nothing changes nothing
 pub silent_step : (plan : Plan) (r line : ℕ) (bs : List (Vec Statement Global)) (s : Statement) (name k : ℕ)
@@ -119,8 +110,7 @@ pub silent_step : (plan : Plan) (r line : ℕ) (bs : List (Vec Statement Global)
     → Left plan r (before (tables bs) s rest) w w true rest
 silent_step plan r line bs s name k facts d w deep e ek es lt is_silent rest =
     let b = named_at (tables bs) name in
-    let is : has_no_instr b ≡ true = ap (λ n. has_no_instr (named_at (tables bs) n)) (sym ek)
-    ∙ silent_named (tables bs) facts k d es lt ∙ is_silent in
+    let is : has_no_instr b ≡ true = cc (ek, silent_named (tables bs) facts k d es lt, is_silent) in
     let h = silent_block plan b w.now is in
     let none : Left plan r b w w true nothing = record {
       emitted = [];
@@ -148,8 +138,7 @@ pub unnamed_step : (plan : Plan) (r line : ℕ) (bs : List (Vec Statement Global
     → r ≤ 8 → ((rest : Block) → before (tables bs) s rest ≡ apply line name (named_at (tables bs) name) rest) → k ≡ name
     → length bs ≤ k → (rest : Block) → Left plan r (before (tables bs) s rest) w w true rest
 unnamed_step plan r line bs s name k w deep e ek le rest =
-    let without_label : named_at (tables bs) name ≡ nothing =
-    named_past (tables bs) name (omega (arith, tables_length bs, ek, le)) in
+    let without_label = named_past (tables bs) name (omega (arith, tables_length bs, ek, le)) in
     let h = left_apply plan r line name nothing rest w w true deep (left_start plan r nothing w) in
     subst (λ b. Left plan r b w w true rest) (sym (e rest ∙ ap (λ b. apply line name b rest) without_label)) h
 
@@ -170,8 +159,7 @@ pub record Starts (b c : Block) (t : ProgramPoint) (w0 : Work) : Type 0 where
 
 module _ {b c : Block} {t : ProgramPoint} {w0 w1 : Work} {f : Bool} (starts : Starts b c t w0) where
   pub whole_start : (plan : Plan) → Left plan 0 c w0 w1 f nothing → Whole plan 0 0 b t w0 w1 f
-  whole_start plan left = whole_of plan 0 0 b t w0 w1 f (ap length starts.lines) starts.now
-      (subst (λ x. Left plan 0 x w0 w1 f nothing) starts.same left)
+  whole_start plan left = whole_of plan 0 0 b t w0 w1 f (ap length starts.lines) starts.now (rw (← starts.same) left)
 
 pub laid_whole : (plan : Plan) (last : ℕ) (w1 w2 : Work) (f : Bool) {b c : Block} {t : ProgramPoint} {w0 : Work}
     → Starts b c t w0 → Left plan 0 c w0 w1 f nothing →
@@ -180,17 +168,14 @@ laid_whole plan last w1 w2 f {b} {c} {t} {w0} starts left emits =
     let h = whole_start starts plan left in
     let body = places plan 0 0 b t in
     let ending = onward (point_after plan b t) [] (alone last End 0) in
-    let ending_is : onward (way f w1) [] (alone last End 0) ≡ ending =
-    ap (λ w. onward w [] (alone last End 0)) (sym h.leads) in
+    let ending_is = ap (λ w. onward w [] (alone last End 0)) (sym h.leads) in
     let code1 : w1.lines.items ≡ lines_of_placed body = h.lines ∙ ap (λ xs. xs ++ lines_of_placed body) starts.lines in
-    let labels1 : w1.unpriced.items ≡ unpriced_labels 0 body =
-    h.unpriced ∙ ap (λ xs. xs ++ unpriced_labels 0 body) starts.unpriced in
-    let at : length w1.lines.items ≡ 0 + length body = whole_length h (ap length starts.lines) in
+    let labels1 = h.unpriced ∙ ap (λ xs. xs ++ unpriced_labels 0 body) starts.unpriced in
     record {
       lines = emits.lines ∙ ap (λ ps. w1.lines.items ++ lines_of_placed ps) ending_is
           ∙ ap (λ xs. xs ++ lines_of_placed ending) code1 ∙ sym (lines_both body ending);
       unpriced = emits.unpriced ∙ ap (λ ps. w1.unpriced.items ++ unpriced_labels (length w1.lines.items) ps) ending_is
-          ∙ ap (λ n. w1.unpriced.items ++ unpriced_labels n ending) at
+          ∙ ap (λ n. w1.unpriced.items ++ unpriced_labels n ending) (whole_length h (ap length starts.lines))
           ∙ ap (λ xs. xs ++ unpriced_labels (0 + length body) ending) labels1 ∙ sym (marks_both 0 body ending);
       judged = h.judged;
       repeats = let k = h.repeats (omega arith) in omega (arith, k);

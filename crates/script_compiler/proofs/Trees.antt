@@ -36,14 +36,11 @@ and_true false b = refl
 
 step_falls : (table : List Block) (x : Statement-F Before) (rest : Block)
     → falls_out (statement_step table x rest) ≡ (falls_out (statement_step table x nothing) && falls_out rest)
-step_falls table (Statement-F.Act line act) rest = refl
-step_falls table (Statement-F.End line) rest = refl
-step_falls table (Statement-F.If line condition first) rest = refl
 step_falls table (Statement-F.IfElse line condition first second) rest =
     and_true (falls_out (whole first.items) || falls_out (whole second.items)) (falls_out rest)
 step_falls table (Statement-F.Repeat line times body) rest = and_true (falls_out (whole body.items)) (falls_out rest)
-step_falls table (Statement-F.Forever line body) rest = refl
 step_falls table (Statement-F.Apply line block) rest = and_true (falls_out (named_at table block)) (falls_out rest)
+step_falls table _ rest = refl
 
 falls_before : (table : List Block) (s : Statement) (rest : Block)
     → falls_out (before table s rest) ≡ (falls_out (before table s nothing) && falls_out rest)
@@ -53,19 +50,13 @@ falls_before table s rest = by_step table (λ f. falls_out (f rest) ≡ (falls_o
 pub falls_cut : (table : List Block) (ss : List Statement) (k : ℕ) (s : Statement) → s ≡ get_or ss k s → k < length ss
     → falls_out (block_of table (drop k ss))
     ≡ (falls_out (before table s nothing) && falls_out (block_of table (drop (k + 1) ss)))
-falls_cut table ss k s is lt =
-    ap falls_out (statements_cut table ss k s is lt) ∙ falls_before table s (block_of table (drop (k + 1) ss))
+falls_cut table ss k s is lt = ap falls_out (statements_cut _ _ _ _ is lt) ∙ falls_before _ _ _
 
 step_silent : (table : List Block) (x : Statement-F Before) (rest : Block)
     → has_no_instr (statement_step table x rest) ≡ (has_no_instr (statement_step table x nothing) && has_no_instr rest)
-step_silent table (Statement-F.Act line act) rest = refl
-step_silent table (Statement-F.End line) rest = refl
-step_silent table (Statement-F.If line condition first) rest = refl
-step_silent table (Statement-F.IfElse line condition first second) rest = refl
-step_silent table (Statement-F.Repeat line times body) rest = refl
-step_silent table (Statement-F.Forever line body) rest = refl
 step_silent table (Statement-F.Apply line block) rest =
     and_true (has_no_instr (named_at table block)) (has_no_instr rest)
+step_silent table _ rest = refl
 
 pub silent_cut : (table : List Block) (ss : List Statement) (k : ℕ) (s : Statement) → s ≡ get_or ss k s → k < length ss
     → has_no_instr (block_of table (drop k ss))
@@ -190,9 +181,8 @@ added_at table (b ∷ bs) zero d lt = refl
 added_at table (b ∷ bs) (suc k) d lt = added_at (table ++ block_of table b ∷ []) bs k d (omega (arith, lt))
 
 map_take : (k : ℕ) (bs : List (Vec Statement Global)) → map (λ b. b.items) (take k bs) ≡ take k (map (λ b. b.items) bs)
-map_take zero bs = refl
-map_take (suc k) [] = refl
 map_take (suc k) (b ∷ bs) = ap (λ xs. b.items ∷ xs) (map_take k bs)
+map_take _ _ = refl
 
 map_length : (bs : List (Vec Statement Global)) → length (map (λ (v : Vec Statement Global). v.items) bs) ≡ length bs
 map_length [] = refl
@@ -225,9 +215,7 @@ pub applied_is : (bs : List (Vec Statement Global)) (s : Statement) (line number
     (ss : List Statement) → s ≡ Apply line number → k ≡ number → b ≡ get_or bs k b → k < length bs → ss ≡ b.items →
     (rest : Block) → before (tables bs) s rest ≡ apply line number (block_of (tables (take k bs)) ss) rest
 applied_is bs s line number k b ss is number_is there lt same rest =
-    is_apply (tables bs) s line number is rest ∙ ap (λ n. apply line number (named_at (tables bs) n) rest)
-    (sym number_is) ∙ ap (λ x. apply line number x rest) (tables_at bs k b there lt)
-    ∙ ap (λ x. apply line number (block_of (tables (take k bs)) x) rest) (sym same)
+    cc (is_apply (tables bs) s line number is rest, number_is, tables_at bs k b there lt, same)
 
 pub tables_length : (bs : List (Vec Statement Global)) → length (tables bs) ≡ length bs
 tables_length bs = ap length (tables_added bs) ∙ added_length [] (map (λ b. b.items) bs) ∙ map_length bs
@@ -253,9 +241,6 @@ map_more (x ∷ xs) b = ap (λ ys. facts_of x ∷ ys) (map_more xs b)
 abbrev pub told : Bool → Bool → BlockFacts
 told f g = record { reaches_end = f; emits_nothing = g }
 
-both_facts : (b : Block) (f g : Bool) → f ≡ falls_out b → g ≡ has_no_instr b → told f g ≡ facts_of b
-both_facts b f g e h = ap (λ x. told x g) e ∙ ap (λ x. told (falls_out b) x) h
-
 pub facts_more :
     (bs : List (Vec Statement Global)) (k : ℕ) (b : Vec Statement Global) (facts : List BlockFacts) (f g : Bool)
     → b ≡ get_or bs k b → k < length bs → facts ≡ map facts_of (tables (take k bs)) →
@@ -264,7 +249,7 @@ pub facts_more :
 facts_more bs k b facts f g is lt e h h2 =
     let one : suc k ≡ k + 1 = omega arith in
     ap (λ xs. xs ++ told f g ∷ []) e ∙ ap (λ x. map facts_of (tables (take k bs)) ++ x ∷ [])
-    (both_facts (block_of (tables (take k bs)) b.items) f g h h2)
+    (ap (λ x. told x g) h ∙ ap (λ x. told (falls_out (block_of (tables (take k bs)) b.items)) x) h2)
     ∙ sym (map_more (tables (take k bs)) (block_of (tables (take k bs)) b.items))
     ∙ ap (λ xs. map facts_of xs) (sym (table_more [] (map (λ v. v.items) (take k bs)) b.items))
     ∙ ap (λ xs. map facts_of (table_of [] xs)) (sym (take_items bs k b is lt))

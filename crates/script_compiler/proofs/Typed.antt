@@ -3,14 +3,14 @@ use Rattle.script_compiler.proofs.Words.{[], ◌+◌, ◌-◌, ◌<◌, ◌∙�
 use Rattle.script_compiler.proofs.Words.{CommitIn, Configuration, Contains, CostsItsNeeds, Edit, End, FitsFlow}
 use Rattle.script_compiler.proofs.Words.{FitsSwap, Flow, Idle, Instr, IsAccepted, IsCodeOf, IsFine, IsJudged, IsLabelOf}
 use Rattle.script_compiler.proofs.Words.{IsNeed, IsSound, IsWithinBudget, Join, Jump, Known, Label, List, Loop, None}
-use Rattle.script_compiler.proofs.Words.{Option, Perhaps, PlacedInstr, Plan, Program, ProgramPoint, Set, Settle, Some}
-use Rattle.script_compiler.proofs.Words.{StepsTo, Swap, Test, TestTime, Tree, Until, Wait, WaitAny, WaitContact, Within}
-use Rattle.script_compiler.proofs.Words.{after_instr, all_places, ap, arith, beginning, body_of, cases_lt, continues}
-use Rattle.script_compiler.proofs.Words.{false, first_counters, if◌then◌else◌, inl, inr, instr_at, instrs_of, is_set}
-use Rattle.script_compiler.proofs.Words.{known_at, known_with, label_at, leaves, left_over, length, lines_of_placed}
-use Rattle.script_compiler.proofs.Words.{longest, nested, opening_of, option_map, pages_alone, placed_instrs, refl}
-use Rattle.script_compiler.proofs.Words.{rests, same_Some, slice_get, slice_get_within, spent, subst, suc, suspends}
-use Rattle.script_compiler.proofs.Words.{sym, target_of, true, unpriced_label, unpriced_labels, without_label, zero, ℕ}
+use Rattle.script_compiler.proofs.Words.{Option, Perhaps, PlacedInstr, Plan, Program, Set, Settle, Some, StepsTo, Swap}
+use Rattle.script_compiler.proofs.Words.{Test, TestTime, Tree, Until, Wait, WaitAny, WaitContact, Within, after_instr}
+use Rattle.script_compiler.proofs.Words.{all_places, ap, arith, beginning, body_of, cases_lt, continues, false}
+use Rattle.script_compiler.proofs.Words.{first_counters, if◌then◌else◌, inl, inr, instr_at, instrs_of, is_set, known_at}
+use Rattle.script_compiler.proofs.Words.{known_with, label_at, leaves, left_over, length, lines_of_placed, longest}
+use Rattle.script_compiler.proofs.Words.{nested, opening_of, option_map, pages_alone, placed_instrs, refl, rests}
+use Rattle.script_compiler.proofs.Words.{same_Some, slice_get, slice_get_within, spent, subst, suc, suspends, sym}
+use Rattle.script_compiler.proofs.Words.{target_of, true, unpriced_label, unpriced_labels, without_label, zero, ℕ}
 use Rattle.plan_code.specs.declared.flags.Counters.{Counters}
 use Rattle.plan_verifier.proofs.Leaving.{leaves_known}
 use Rattle.plan_verifier.specs.Typing.{Declares, CanEnter, Arrives, HasOpening, IsLabelTyped, Reaches, IsAfter, IsSafe}
@@ -21,6 +21,7 @@ use Rattle.script_compiler.proofs.Places.{Stand, stand_all, first_of_all}
 use Rattle.script_compiler.proofs.Sound.{counted, Lands, Meets, Holds, AllHold, all_hold, opens, fits_same}
 use Rattle.script_compiler.proofs.Labelled.{Connected, all_connected, Found, label_found, label_contained}
 use Rattle.script_compiler.proofs.Labelled.{found_contained, label_place}
+use Rattle.script_compiler.proofs.Words.{slice_there}
 
 -- ---- successors of an instruction
 
@@ -77,11 +78,6 @@ instr_line : (ps : List PlacedInstr) (pc : ℕ) (p : PlacedInstr) → slice_get 
 instr_line [] pc p e = cc
 instr_line (q ∷ ps) zero p e = ap (λ (x : PlacedInstr). Some x.instr) (same_Some q p e)
 instr_line (q ∷ ps) (suc pc) p e = instr_line ps pc p e
-
-got : {A : Type 0} (xs : List A) (i : ℕ) → i < length xs → (x : A) × (slice_get xs i ≡ Some x)
-got [] i lt = absurd (omega (arith, lt))
-got (x ∷ xs) zero lt = (x, refl)
-got (x ∷ xs) (suc i) lt = got xs i (omega (arith, lt))
 
 module _ (code : Program) (whole : List PlacedInstr) where
   abbrev plan : Plan
@@ -162,21 +158,19 @@ module _ (code : Program) (whole : List PlacedInstr) where
     at_each [] k came c st co h j p t e f = cc
     at_each (q ∷ ps) k came c st co h zero p t e f =
         let after_it = slice_get (knowns (left_over plan q.instr (known_there k q came).allowance) (k + 1) ps) 0 in
-        let point_here : k ≡ k + 0 = omega arith in
         let first = at_head q ps k came c co h in
         let as_p = subst (λ x. At k x (known_there k q came) (slice_get ps 0) after_it) (same_Some q p e) first in
         let as_t = subst (λ x. At k p x (slice_get ps 0) after_it) (same_Some (known_there k q came) t f) as_p in
-        subst (λ n. At n p t (slice_get ps 0) after_it) point_here as_t
+        subst (λ n. At n p t (slice_get ps 0) after_it) (omega arith) as_t
     at_each (q ∷ ps) k came c st co h (suc j) p t e f =
         let a = (known_there k q came).allowance in
         let came' = left_over plan q.instr a in
-        let point_here : k + 1 + j ≡ k + suc j = omega arith in
         let further : suc (j + 1) ≡ suc j + 1 = omega arith in
         let afford = head_affords k came q.point.labelled (λ e. h (co.0 e)) in
         let ih = at_each ps (k + 1) came' (continues q.instr) st.1 co.1
         (λ g. enough k (k + 1) q a st.0 afford (λ s. ((runs_on q.instr).0 g s, inl (g, refl)))) j p t e f in
         let at_here = subst (λ n. At n p t (slice_get ps (j + 1)) (slice_get (knowns came' (k + 1) ps) (j + 1)))
-        point_here ih in
+        (omega arith) ih in
         subst (λ n. At (k + suc j) p t (slice_get (q ∷ ps) n) (slice_get (knowns came k (q ∷ ps)) n)) further at_here
 
     -- ---- the typing of the whole code
@@ -205,7 +199,7 @@ module _ (code : Program) (whole : List PlacedInstr) where
 
       -- what is known at a pc
       known_of : (pc : ℕ) (p : PlacedInstr) → slice_get whole pc ≡ Some p → (t : Known) × (slice_get typing pc ≡ Some t)
-      known_of pc p e = got typing pc (omega (arith, slice_get_within whole pc p e, length_knowns 0 0 whole))
+      known_of pc p e = slice_there typing pc (omega (arith, slice_get_within whole pc p e, length_knowns 0 0 whole))
 
       -- ---- labels
 
@@ -228,8 +222,7 @@ module _ (code : Program) (whole : List PlacedInstr) where
         -- its cost is the need of its pc
         cost_is : (l : Label) (pc : ℕ) → Contains code.labels l → l.pc ≡ pc → l.cost ≡ need pc
         cost_is l pc has at =
-            let is : IsNeed instrs l.pc l.cost =
-            subst (λ ls. IsNeed (instrs_of ls) l.pc l.cost) lines_are (costs l has) in
+            let is = subst (λ ls. IsNeed (instrs_of ls) l.pc l.cost) lines_are (costs l has) in
             let point_here : IsNeed instrs pc l.cost = subst (λ n. IsNeed instrs n l.cost) at is in
             one_need instrs pc l.cost (need pc) point_here (is_need instrs plan.budget pc within)
 
@@ -249,16 +242,14 @@ module _ (code : Program) (whole : List PlacedInstr) where
             → need pc ≤ a → CanEnter code m.label (known_with f c a)
         comes_to pc p f c a m fits ec n =
             let has = found_contained code.configurations code.labels pc m.label m.there in
-            let cost = cost_is m.label pc has m.is.place in
             record {
               declared = known_with p.point.flow (first_counters p.repeats) (need pc);
               declares = declares_place pc p m.label has m.is;
               fits = record {
-                swap = swap_known f.pending p.point.flow.pending f p.point.flow c (first_counters p.repeats) a (need pc)
-                    fits;
+                swap = swap_known _ _ _ _ _ _ _ _ fits;
                 counters = λ r on. subst (λ x. is_set x r ≡ true) (sym ec) on;
               };
-              affords = omega (arith, cost, n);
+              affords = omega (arith, cost_is m.label pc has m.is.place, n);
             }
 
         meets_reaches : (to : ℕ) (p : PlacedInstr) (a : ℕ) → need to ≤ a → Meets whole to p.repeats p.point.flow
@@ -268,34 +259,25 @@ module _ (code : Program) (whole : List PlacedInstr) where
             record {
               label = found.label;
               there = found.there;
-              comes = comes_to to m.place p.point.flow (first_counters p.repeats) a found m.fits
-                  (ap first_counters (sym m.repeats)) n;
+              comes = comes_to to _ _ _ a found m.fits (ap first_counters (sym m.repeats)) n;
             }
 
         arrives_at : (pc r a : ℕ) (f : Flow) → need pc ≤ a → (l : Lands whole pc r (without_label f))
             → slice_get typing pc ≡ Some (known_there pc l.place a) → (b : Bool) → l.place.point.labelled ≡ b →
             Arrives code typing pc (label_at code pc) (known_with f (first_counters r) a)
         arrives_at pc r a f n l known true b =
-            let fits : FitsFlow f l.place.point.flow = elim l.fits [
-              | inl same ↦ subst (λ (x : ProgramPoint). FitsFlow f x.flow) (sym same) (fits_same f)
-              | inr h ↦ h.1
-            ] in
+            let fits : FitsFlow f l.place.point.flow =
+            elim l.fits [ | inl same ↦ rw same (fits_same f) | inr h ↦ h.1 ] in
             let found = label_there pc l.place l.there b in
-            subst (λ o. Arrives code typing pc o (known_with f (first_counters r) a)) (sym found.there)
-            (comes_to pc l.place f (first_counters r) a found fits (ap first_counters (sym l.repeats)) n)
+            rw found.there (comes_to pc l.place f (first_counters r) a found fits (ap first_counters (sym l.repeats)) n)
         arrives_at pc r a f n l known false b =
             let point : l.place.point ≡ without_label f = elim l.fits [
               | inl same ↦ same
               | inr h ↦ let e : true ≡ false = sym h.0 ∙ b in cc
             ] in
-            let same : known_there pc l.place a ≡ known_with f (first_counters r) a =
-            ap (λ x. known_with l.place.point.flow (first_counters l.place.repeats) (if x then need pc else a)) b
-            ∙ ap (λ (x : ProgramPoint). known_with x.flow (first_counters l.place.repeats) a) point
-            ∙ ap (λ n. known_with f (first_counters n) a) l.repeats in
-            let there : slice_get typing pc ≡ Some (known_with f (first_counters r) a) =
-            known ∙ ap (λ x. Some x) same in
+            let same : known_there pc l.place a ≡ known_with f (first_counters r) a = cc (b, point, l.repeats) in
             subst (λ o. Arrives code typing pc o (known_with f (first_counters r) a))
-            (sym (no_label pc l.place l.there b (label_at code pc) refl)) there
+            (sym (no_label pc l.place l.there b (label_at code pc) refl)) (known ∙ ap (λ x. Some x) same)
 
         safe_place : (pc : ℕ) (p : PlacedInstr) (t : Known) → slice_get whole pc ≡ Some p → slice_get typing pc ≡ Some t
             → IsSafe code typing pc p.instr t
@@ -325,50 +307,40 @@ module _ (code : Program) (whole : List PlacedInstr) where
               targets = λ to g.
                   let more = need_onward instrs plan.budget pc to p.instr within (instr_of_place whole pc p e)
                   ((runs_on p.instr).1 to g, inr g) in
-                  let n : need to ≤ t.allowance - 1 = omega (arith, more, a.affords) in
                   subst (λ x. Reaches code to (spent x)) (sym a.known)
-                  (meets_reaches to p (t.allowance - 1) n (h.targets to g));
+                  (meets_reaches to p (t.allowance - 1) (omega (arith, more, a.affords)) (h.targets to g));
             }
 
         safe : (pc : ℕ) (i : Instr) (t : Known) → instr_at code pc ≡ Some i → slice_get typing pc ≡ Some t
             → IsSafe code typing pc i t
         safe pc i t e f =
-            let there : option_map (λ l. l.instr) (slice_get (lines_of_placed whole) pc) ≡ Some i =
-            subst (λ ls. option_map (λ l. l.instr) (slice_get ls pc) ≡ Some i) lines_are e in
+            let there = subst (λ ls. option_map (λ l. l.instr) (slice_get ls pc) ≡ Some i) lines_are e in
             let p = place_of whole pc i there in subst (λ x. IsSafe code typing pc x t) p.2 (safe_place pc p.0 t p.1 f)
 
         placed_label : (l : Label) → Contains code.labels l → IsLabelTyped code typing l
         placed_label l has =
             let m = label_contained code.configurations whole code.labels 0 l labels_are has in
-            let point_here : 0 + m.index ≡ m.index = omega arith in
-            let is : IsLabelOf code.configurations (unpriced_label m.index m.place) l =
-            subst (λ n. IsLabelOf code.configurations (unpriced_label n m.place) l) point_here m.is in
+            let is = subst (λ n. IsLabelOf code.configurations (unpriced_label n m.place) l) (omega arith) m.is in
             let t = known_of m.index m.place m.there in
             let a = at_pc m.index m.place t.0 m.there t.1 in
             let same : t.0 ≡ known_with m.place.point.flow (first_counters m.place.repeats) (need m.index) =
-            a.known ∙ ap (λ n. known_with m.place.point.flow (first_counters m.place.repeats) n)
-            (a.marked m.labelled) in
-            let cost = cost_is l m.index has is.place in
-            let most = need_most instrs plan.budget m.index within in
+            cc (a.known, a.marked m.labelled) in
             record {
               known = known_with m.place.point.flow (first_counters m.place.repeats) (need m.index);
               there = ap (λ n. slice_get typing n) is.place ∙ t.1 ∙ ap (λ x. Some x) same;
               declares = declares_place m.index m.place l has is;
-              within = omega (arith, cost, most);
+              within = omega (arith, cost_is l m.index has is.place, need_most instrs plan.budget m.index within);
             }
 
         after_one : (pc : ℕ) → pc < length code.lines → label_at code pc ≡ None → 0 < pc → IsAfter code pc
         after_one zero lt h pos = absurd (omega (arith, pos))
         after_one (suc pc) lt h pos =
             let n = length_lines whole in
-            let m = ap length lines_are in
-            let before = got whole pc (omega (arith, lt, n, m)) in
-            let point_here = got whole (suc pc) (omega (arith, lt, n, m)) in
+            let before = slice_there whole pc (omega (arith, lt, n, ap length lines_are)) in
+            let point_here = slice_there whole (suc pc) (omega (arith, lt, n, ap length lines_are)) in
             let t = known_of pc before.0 before.1 in
             let a = at_pc pc before.0 t.0 before.1 t.1 in
             let next : suc pc ≡ pc + 1 = omega arith in
-            let at_next : slice_get whole (pc + 1) ≡ Some point_here.0 =
-            subst (λ n. slice_get whole n ≡ Some point_here.0) next point_here.1 in
             let there : instr_at code pc ≡ Some before.0.instr =
             subst (λ ls. option_map (λ l. l.instr) (slice_get ls pc) ≡ Some before.0.instr) (sym lines_are)
             (instr_line whole pc before.0 before.1) in
@@ -377,7 +349,7 @@ module _ (code : Program) (whole : List PlacedInstr) where
               instr = before.0.instr;
               next = next;
               there = there;
-              onward = a.connected point_here.0 at_next
+              onward = a.connected point_here.0 (subst (λ n. slice_get whole n ≡ Some point_here.0) next point_here.1)
                   (unlabelled (suc pc) point_here.0 point_here.1 h point_here.0.point.labelled refl);
             }
           where
@@ -446,23 +418,20 @@ typed_from code last b c lines_are labels_are costs sound period deep judged wit
     let there : slice_get whole 0 ≡ Some first.place = ap (λ xs. slice_get xs 0) first.is in
     let m = opens code.plan last b s deep judged refl in
     let same : m.place ≡ first.place = same_Some m.place first.place (sym m.there ∙ there) in
-    let repeats : first.place.repeats ≡ 0 = sym (ap (λ (x : PlacedInstr). x.repeats) same) ∙ m.repeats in
     typed_by code whole within st co holds lines_are labels_are costs
     (opening_by code whole within st co holds lines_are labels_are costs first.place c there (first.labelled refl)
-    first.flow repeats sound period)
+    first.flow (sym (ap (λ (x : PlacedInstr). x.repeats) same) ∙ m.repeats) sound period)
 
 pub accepted_typed : (s : Tree) (code : Program) → IsAccepted s → IsCodeOf s code → CostsItsNeeds code → IsTyped code
 accepted_typed s code a is costs =
     let b = body_of s in
     let c = opening_of s in
     let e : s.header ≡ code.plan = sym is.plan in
-    let places_are : placed_instrs s ≡ all_places code.plan s.last_line b (beginning c) =
-    ap (λ (p : Plan). all_places p s.last_line b (beginning c)) e in
-    let deep : nested b ≤ 8 = a.repeats in
+    let places_are = ap (λ (p : Plan). all_places p s.last_line b (beginning c)) e in
     typed_from code s.last_line b c (is.lines ∙ ap lines_of_placed places_are)
     (subst (λ ps. AreLabelsOf code.configurations (unpriced_labels 0 ps) code.labels) places_are is.labels) costs
     a.sound
-    (subst (λ (p : Plan). pages_alone p c ≤ p.period) e a.within_period) deep
+    (subst (λ (p : Plan). pages_alone p c ≤ p.period) e a.within_period) a.repeats
     (subst (λ (p : Plan). IsJudged p b (beginning c)) e a.judged)
     (subst (λ ps. IsWithinBudget code.plan.budget (instrs_of (lines_of_placed ps))) places_are
     (subst (λ (p : Plan). IsWithinBudget p.budget (instrs_of (lines_of_placed (placed_instrs s)))) e a.within))

@@ -1,14 +1,12 @@
 -- Only excessive costs are refused with `Cost`, and at which line.
 use Rattle.script_compiler.proofs.Words.{[], ◌+◌, ◌<◌, ◌∙◌, ◌∷◌, ◌≡◌, ◌≤◌, Block, Cause, ClosesCycle, CommitAt}
-use Rattle.script_compiler.proofs.Words.{CommitIn, CommitRefused, Configuration, Cost, Count, End, FlowRefused}
-use Rattle.script_compiler.proofs.Words.{HasCostAt, HasPath, Instr, IsCostlyAt, IsItemRefused, IsMismatch}
-use Rattle.script_compiler.proofs.Words.{IsRefusedAfter, IsRefusedIn, IsSome, IsUnreached, Item, Join, JoinIdle, Jump}
-use Rattle.script_compiler.proofs.Words.{Known, Line, List, Loop, Mismatch, NoChange, None, Notice, Option, Pending}
-use Rattle.script_compiler.proofs.Words.{Plan, ProgramPoint, Round, Set, Settle, Some, SwapUncertain, Table, Test}
-use Rattle.script_compiler.proofs.Words.{TestTime, Until, Wait, WaitAny, WaitContact, WhereSome, apply, arith, basic}
-use Rattle.script_compiler.proofs.Words.{either, first_fault, forever, inl, inr, instr_of_act, instrs_of, known_at}
-use Rattle.script_compiler.proofs.Words.{longest, nothing, refl, repeat, rules, slice_get, stop, suc, sym, when, zero}
-use Rattle.script_compiler.proofs.Words.{ℕ}
+use Rattle.script_compiler.proofs.Words.{CommitIn, CommitRefused, Configuration, Cost, Count, FlowRefused, HasCostAt}
+use Rattle.script_compiler.proofs.Words.{HasPath, Instr, IsCostlyAt, IsItemRefused, IsMismatch, IsRefusedAfter}
+use Rattle.script_compiler.proofs.Words.{IsRefusedIn, IsSome, IsUnreached, Item, Join, JoinIdle, Known, Line, List}
+use Rattle.script_compiler.proofs.Words.{Mismatch, NoChange, None, Notice, Option, Pending, Plan, ProgramPoint, Round}
+use Rattle.script_compiler.proofs.Words.{Some, SwapUncertain, Table, Wait, WhereSome, apply, arith, basic, either}
+use Rattle.script_compiler.proofs.Words.{first_fault, forever, inl, inr, instr_of_act, instrs_of, known_at, longest}
+use Rattle.script_compiler.proofs.Words.{nothing, refl, repeat, rules, slice_get, stop, suc, sym, when, zero, ℕ}
 use Rattle.mux_config.specs.Edits.{edit_fault, changed}
 use Rattle.plan_code.specs.declared.instr.Instr.TheVariants.{Edit as Edits}
 use Rattle.plan_verifier.specs.declared.cause.Cause.TheVariants.{Edit as OfEdit, Config as OfConfig}
@@ -24,9 +22,6 @@ some_uncosted (Some x) cause given not_cost h e = not_cost x (sym h ∙ e)
 edit_uncosted : (o : Option _) (given : Cause) → WhereSome o OfEdit given → given ≡ Cost → ⊥
 edit_uncosted o given h e = some_uncosted o OfEdit given (λ x f. cc) h e
 
-config_uncosted : (o : Option _) (given : Cause) → WhereSome o OfConfig given → given ≡ Cost → ⊥
-config_uncosted o given h e = some_uncosted o OfConfig given (λ x f. cc) h e
-
 commit_uncosted : (plan : Plan) (t : Known) (fault : Type 0) (cause given : Cause) → (cause ≡ Cost → ⊥)
     → CommitRefused plan t fault cause given → given ≡ Cost → ⊥
 commit_uncosted plan t fault cause given not_cost h e = elim h [
@@ -34,7 +29,7 @@ commit_uncosted plan t fault cause given not_cost h e = elim h [
   | inr b ↦ elim b.1 [
     | inl a ↦ not_cost (sym a.1 ∙ e)
     | inr b ↦ elim b.1 [
-      | inl a ↦ config_uncosted (first_fault t.next) given a e
+      | inl a ↦ some_uncosted (first_fault t.next) OfConfig given (λ x f. cc) a e
       | inr b ↦ elim b.1 [
         | inl a ↦ (let x : NoChange ≡ Cost = sym a.1 ∙ e in cc)
         | inr b ↦ (let x : Round ≡ Cost = sym b.1.1 ∙ e in cc)
@@ -51,23 +46,11 @@ flow_uncosted plan (Edits edit) t given h e = elim h [
 flow_uncosted plan (CommitIn delay) t given h e = commit_uncosted plan t _ Notice given (λ f. cc) h e
 flow_uncosted plan (CommitAt count) t given h e = commit_uncosted plan t _ Count given (λ f. cc) h e
 flow_uncosted plan (Wait frames) t given h e = (let x : SwapUncertain ≡ Cost = sym h.1 ∙ e in cc)
-flow_uncosted plan (Until day) t given h e = h
-flow_uncosted plan (WaitContact contact closed) t given h e = h
-flow_uncosted plan (WaitAny closed opened until frames) t given h e = h
 flow_uncosted plan Join t given h e = (let x : JoinIdle ≡ Cost = sym h.1 ∙ e in cc)
-flow_uncosted plan Settle t given h e = h
-flow_uncosted plan (Test contact target) t given h e = h
-flow_uncosted plan (TestTime from until target) t given h e = h
-flow_uncosted plan (Jump target) t given h e = h
-flow_uncosted plan (Loop counter target) t given h e = h
-flow_uncosted plan (Set counter times) t given h e = h
-flow_uncosted plan End t given h e = h
-
-table_uncosted : (given : Cause) → given ≡ Table → given ≡ Cost → ⊥
-table_uncosted given h e = (let x : Table ≡ Cost = sym h ∙ e in cc)
+flow_uncosted plan _ t given h e = h
 
 unreached_uncosted : (b : Block) (at : ℕ) (given : Cause) → IsUnreached b at given → given ≡ Cost → ⊥
-unreached_uncosted b at given h e = table_uncosted given h.1 e
+unreached_uncosted b at given h e = (let x : Table ≡ Cost = sym h.1 ∙ e in cc)
 
 mismatch_uncosted : (line : ℕ) (agree : Type 0) (at : ℕ) (given : Cause) → IsMismatch line agree at given → given ≡ Cost
     → ⊥
@@ -144,12 +127,9 @@ first_costly code budget pc none over before = inr (
   record {
     point_here = (longest code (budget + 1) pc, over, has_longest code (budget + 1) pc);
     earlier = λ k lt h.
-        let n = h.0 in
-        let more = h.1 in
         let most = longest_most code (budget + 1) (budget + 1) k
-        (shorter code (budget + 1) n k (omega (arith, more)) h.2) (omega arith) in
-        let few = before k lt in
-        absurd (omega (arith, most, few));
+        (shorter code (budget + 1) h.0 k (omega arith) h.2) (omega arith) in
+        absurd (omega (arith, most));
   },
 )
 

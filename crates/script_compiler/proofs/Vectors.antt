@@ -2,11 +2,11 @@
 use Rattle.script_compiler.proofs.Words.{[], ◌∙◌, ◌∷◌, ◌≡◌, Block, Contact, Contacts, End, Ended, Frame, Hold, Instr}
 use Rattle.script_compiler.proofs.Words.{IsCodeOf, IsProgram, Line, List, None, Performs, PerformsAll, PlaysAsItReads}
 use Rattle.script_compiler.proofs.Words.{Program, Reading, Running, Scene, Some, Start, State, Tree, Waits, ap, apply}
-use Rattle.script_compiler.proofs.Words.{arith, basic, begins, either, false, first_is, inl, inr, label, nothing, plan}
-use Rattle.script_compiler.proofs.Words.{reading, refl, suc, sym, true, zero, ℕ}
+use Rattle.script_compiler.proofs.Words.{arith, basic, begins, either, first_is, inl, inr, label, nothing, plan}
+use Rattle.script_compiler.proofs.Words.{reading, refl, sym, true, ℕ}
 use Rattle.plan_verifier.proofs.OneVerdict.{typed_if}
 use Rattle.plan_runs.proofs.Samples.{all_open, start_at, in_range, first_state, it_starts}
-use Rattle.script_front.specs.declared.tree.Act.TheVariants.{Wait, Join}
+use Rattle.script_front.specs.declared.tree.Act.TheVariants.{Wait}
 use Rattle.mux_config.specs.Configuration.{nothing as no_configuration}
 use Rattle.plan_code.specs.declared.instr.Instr.TheVariants.{Wait as WaitInstr}
 use Rattle.plan_verifier.proofs.Samples.{code as labelled}
@@ -53,10 +53,6 @@ branches_exchanged n h = let e = held_same _ _ (performs_one plan 2 n _ _ _ open
   where
     different : Waits 4 ≡ Waits 5 → ⊥
     different e = absurd cc
-
-join_traps : (n : ℕ) (y : Reading) → Performs plan (reading (basic 1 Join nothing) (after 0 all_open Running)) n y → ⊥
-join_traps zero y h = let e : true ≡ false = h.0 in absurd cc
-join_traps (suc n) y h = let e : false ≡ true = h.1 in absurd cc
 
 -- ---- frames and events, where a wait is over
 

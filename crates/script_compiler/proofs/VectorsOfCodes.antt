@@ -35,9 +35,6 @@ waits rest = basic 3 (Waits 1) rest
 a_test_jumps : StepsTo (Test 1 5) 0 5
 a_test_jumps = (refl, inr refl)
 
-a_wait_suspends : (to : ℕ) → StepsTo (Wait 1) 0 to → ⊥
-a_wait_suspends to h = let e : true ≡ false = h.0 in absurd cc
-
 stops : (i j : Instr) (to pc : ℕ) → suspends i ≡ true → Some i ≡ Some j → StepsTo j pc to → ⊥
 stops i j to pc s e g =
     let is : j ≡ i = cc in
@@ -236,20 +233,6 @@ ending cost = record {
   configurations = no_configuration ∷ [];
   labels = record { pc = 0; cur = 0; next = 0; pending = Idle; counters = record { 0 = 0 }; cost = cost } ∷ [];
   lines = record { number = 2; instr = End } ∷ [];
-}
-
-is_code : IsCodeOf (ends [] 20) (ending 1)
-is_code = record {
-  plan = refl;
-  lines = refl;
-  table = (
-    no_configuration ∷ [],
-    no_configuration ∷ [],
-    inr ((λ h. let e : None ≡ Some no_configuration = h.1 in absurd cc), refl),
-    inl ((0, refl), refl),
-    refl,
-  );
-  labels = (record { place = refl; current = refl; following = refl; pending = refl; counters = refl }, refl);
 }
 
 is_no_code : IsCodeOf (ends [] 20) (record (ending 1) { lines = [] }) → ⊥

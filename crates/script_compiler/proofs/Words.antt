@@ -27,6 +27,7 @@ pub use Rattle.plan_runs.specs.Frames.{with_next_counts, with_swap}
 pub use Rattle.plan_runs.specs.declared.event.Event.TheVariants.{Contact, Frame}
 pub use Rattle.plan_runs.specs.declared.event.Start.{Start}
 pub use Rattle.plan_verifier.proofs.Samples.{first_is, label, one_sub, plan, sub}
+pub use Rattle.plan_verifier.proofs.Verdicts.{slice_there}
 pub use Rattle.plan_verifier.specs.Causes.{CommitRefused, FlowRefused, Where, WhereSome}
 pub use Rattle.plan_verifier.specs.Flows.{FitsFlow, Flow, after_instr, known_at, known_with, left_over, merged, rests}
 pub use Rattle.plan_verifier.specs.Flows.{set_after, widest}
