@@ -13,7 +13,7 @@ use Rattle.fib_carousel.proofs.Words.{inr, later_fibs, length, length-append, le
 use Rattle.fib_carousel.proofs.Words.{length-replicate, map, marked, marked_of, occurrence_bytes, packing, page_bytes}
 use Rattle.fib_carousel.proofs.Words.{page_entries, page_figs, page_set, refl, replicate, reserved_fibs, reserved_figs}
 use Rattle.fib_carousel.proofs.Words.{room, same_head, subst, suc, sym, take, take_at, true, used_fibs, used_figs}
-use Rattle.fib_carousel.proofs.Words.{valid_is, with_entry_first, zero, ℕ}
+use Rattle.fib_carousel.proofs.Words.{valid_is, with_entry_first, zero, ℕ, each_contains, AllByRecursion-append}
 use Rattle.std.proofs.lemmas.Grind.{flat_map-append}
 use Rattle.fib_codec.specs.Grammar.{Fig, Open, Other, IsFig, AreFigs, IsValid, IsOurs, fig_of}
 use Rattle.fib_codec.proofs.Sent.{heard_is_written}
@@ -24,7 +24,7 @@ use Rattle.fib_carousel.proofs.Widths.{some_fibs, first_of_page}
 use Rattle.fib_carousel.proofs.Least.{of_packing}
 use Rattle.fib_carousel.proofs.Pieces.{page_is_fibs}
 use Rattle.fib_carousel.proofs.Sharing.{same_head_is, figs_cost, written_of}
-use Rattle.fib_carousel.proofs.Sendable.{each_append, sendable_page_set}
+use Rattle.fib_carousel.proofs.Sendable.{sendable_page_set}
 use Rattle.fib_carousel.proofs.Sent.{written_figs, fib_fits, fib_room}
 
 -- the FIGs of entries contain exactly these entries
@@ -124,9 +124,9 @@ fits_in layout o n ms h first =
     let cost : length (figs_bytes (figs_of here)) ≤ room layout n =
     rw (figs_cost here) (fib_fits layout ms n h.entries) in
     record {
-      written = each_append IsWritten (ensemble_figs o) (figs_of here) (ensemble_written o h.ensemble_within)
+      written = AllByRecursion-append IsWritten (ensemble_figs o) (figs_of here) (ensemble_written o h.ensemble_within)
           (written_figs here (sendable_where (λ m. m == n) ms (packing layout ms) h.entries));
-      ours = each_append IsOurs (ensemble_figs o) (figs_of here) (ensemble_ours o) (ours_figs here);
+      ours = AllByRecursion-append IsOurs (ensemble_figs o) (figs_of here) (ensemble_ours o) (ours_figs here);
       short = rw (length-figs_bytes (ensemble_figs o) (figs_of here))
           (fib_room layout o n (length (figs_bytes (ensemble_figs o))) (length (figs_bytes (figs_of here)))
           (ensemble_low o) (ensemble_none o) first cost);
@@ -154,7 +154,7 @@ page_fits layout o k ms h =
     fits_in layout o (first_fib layout k) ms h (λ _. first_of_page layout k) in
     let other : (n : ℕ) → Fits (figs_of (fib_entries layout n ms)) =
     λ n. fits_in layout None n ms plain (λ e. absurd (cc e)) in
-    each_append Fits (used_figs layout (packing layout ms) o k ms) (reserved_figs layout)
+    AllByRecursion-append Fits (used_figs layout (packing layout ms) o k ms) (reserved_figs layout)
     (first, each_of Fits (λ n. figs_of (fib_entries layout n ms)) other (later_fibs layout k))
     (each_replicate Fits [] (record { written = tt; ours = tt; short = omega arith }) (reserved_fibs layout))
 
@@ -326,12 +326,6 @@ of_page : (layout : FrameLayout) (o : Option EnsembleInformation) (k : ℕ) (ms 
 of_page layout o k ms m h inside =
     row_sent (page_figs layout o k ms) m (page_fits layout o k ms h)
     (subst (λ (xs : List Marked). Contains xs m) (sym (page_says layout o k ms)) inside)
-
--- entries of a page are of FIG 0/1 to 0/3, and ensemble information is not
-each_contains : {A : Type 0} (P : A → Type 0) (xs : List A) (x : A) → AllByRecursion P xs → Contains xs x → P x
-each_contains P [] x h inside = absurd (omega (arith, inside.1))
-each_contains P (y ∷ xs) x h (zero, lt, is) = subst P is h.0
-each_contains P (y ∷ xs) x h (suc i, lt, is) = each_contains P xs x h.1 (i, omega (arith, lt), is)
 
 organized : (layout : FrameLayout) (k : ℕ) (ms : List Marked) (m : Marked) → AreSendable ms
     → Contains (page_entries layout k ms) m → 1 ≤ ext_of m.entry

@@ -9,11 +9,7 @@ use Rattle.fib_carousel.proofs.Words.{service_entry, sid_size, sub_entries, sub_
 use Rattle.mux_eep.specs.declared.sizes.EepSet.{EepSet}
 use Rattle.mux_eep.specs.declared.sizes.EepSet.TheVariants.{A, B}
 use Rattle.mux_types.specs.declared.parts.Component.TheVariants.{Sound, Stream, Packet as InPackets}
-
-pub each_append : {A : Type 0} (P : A → Type 0) (xs ys : List A) → AllByRecursion P xs → AllByRecursion P ys
-    → AllByRecursion P (xs ++ ys)
-each_append P [] ys p q = q
-each_append P (x ∷ xs) ys p q = (p.0, each_append P xs ys p.1 q)
+use Rattle.fib_carousel.proofs.Words.{AllByRecursion-append}
 
 pub each_map : {A B : Type 0} (f : A → B) (Q : A → Type 0) (P : B → Type 0) (xs : List A) → ((x : A) → Q x → P (f x))
     → AllByRecursion Q xs → AllByRecursion P (map f xs)
@@ -98,11 +94,12 @@ sendable_facts c next h =
     let packets : AllByRecursion Fine (map packet_entry c.packets) =
     each_map packet_entry IsAddressed Fine c.packets (sendable_packet next) h.packets_addressed in
     each_map (marked next) Fine IsSendable (sub_entries c ++ service_entries c) (λ e p. p)
-    (each_append Fine (sub_entries c) (service_entries c) subs
-    (each_append Fine (map service_entry c.services) (map packet_entry c.packets) services packets))
+    (AllByRecursion-append Fine (sub_entries c) (service_entries c) subs
+    (AllByRecursion-append Fine (map service_entry c.services) (map packet_entry c.packets) services packets))
 
 pub sendable_page_set : (c : Configuration) (o : Option Configuration) → IsConfiguration c → IfSome o IsConfiguration
     → AreSendable (page_set c o)
 sendable_page_set c None h n = sendable_facts c false h
 sendable_page_set c (Some d) h n =
-    each_append IsSendable (facts_of c false) (facts_of d true) (sendable_facts c false h) (sendable_facts d true n)
+    AllByRecursion-append IsSendable (facts_of c false) (facts_of d true) (sendable_facts c false h)
+    (sendable_facts d true n)

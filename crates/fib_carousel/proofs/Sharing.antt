@@ -2,7 +2,7 @@
 use Rattle.fib_carousel.proofs.Words.{[], ◌&&◌, ◌+◌, ◌==◌, ◌∙◌, ◌∷◌, ◌≡◌, Bool, Entry, Head, List, Marked, None, Some}
 use Rattle.fib_carousel.proofs.Words.{Written, ap, arith, entry_length, eqb-true, false, figs_bytes, figs_of, figs_size}
 use Rattle.fib_carousel.proofs.Words.{head_of, if◌then◌else◌, length, length-append, refl, run_of, same_flag, same_head}
-use Rattle.fib_carousel.proofs.Words.{size_of, sym, true, with_entry_first, ℕ}
+use Rattle.fib_carousel.proofs.Words.{size_of, sym, true, with_entry_first, ℕ, and_parts}
 
 -- only equal heads are the same
 same_flag_is : (a b : Bool) → same_flag a b ≡ true → a ≡ b
@@ -10,10 +10,6 @@ same_flag_is true true h = refl
 same_flag_is true false h = absurd (cc h)
 same_flag_is false true h = absurd (cc h)
 same_flag_is false false h = refl
-
-both_true : (a b : Bool) → (a && b) ≡ true → (a ≡ true) × (b ≡ true)
-both_true true b h = (refl, h)
-both_true false b h = absurd (cc h)
 
 pub same_fields : (g h : Head) → g.next ≡ h.next → g.oe ≡ h.oe → g.long ≡ h.long → g.ext ≡ h.ext → g ≡ h
 same_fields g h next oe long ext =
@@ -24,10 +20,10 @@ same_fields g h next oe long ext =
 
 pub same_head_is : (g h : Head) → same_head g h ≡ true → g ≡ h
 same_head_is g h s =
-    let three = both_true (same_flag g.next h.next && same_flag g.oe h.oe && same_flag g.long h.long) (g.ext == h.ext)
+    let three = and_parts (same_flag g.next h.next && same_flag g.oe h.oe && same_flag g.long h.long) (g.ext == h.ext)
     s in
-    let two = both_true (same_flag g.next h.next && same_flag g.oe h.oe) (same_flag g.long h.long) three.0 in
-    let one = both_true (same_flag g.next h.next) (same_flag g.oe h.oe) two.0 in
+    let two = and_parts (same_flag g.next h.next && same_flag g.oe h.oe) (same_flag g.long h.long) three.0 in
+    let one = and_parts (same_flag g.next h.next) (same_flag g.oe h.oe) two.0 in
     same_fields g h (same_flag_is g.next h.next one.0) (same_flag_is g.oe h.oe one.1) (same_flag_is g.long h.long two.1)
     (eqb-true g.ext h.ext three.1)
 

@@ -9,12 +9,12 @@ use Rattle.fib_carousel.proofs.Words.{get_or-drop, get_or-take, head_byte, head_
 use Rattle.fib_carousel.proofs.Words.{length-drop, length-set, length-take-le, map, marked_bytes, piece, placed, refl}
 use Rattle.fib_carousel.proofs.Words.{room, same_head, set-append_seam, shape_of, size_of, slice_get, slice_get-get_or}
 use Rattle.fib_carousel.proofs.Words.{slice_index_or, slice_set, state_at, step, subst, suc, sym, take, take-add, true}
-use Rattle.fib_carousel.proofs.Words.{zero, ℕ}
+use Rattle.fib_carousel.proofs.Words.{zero, ℕ, cut}
 use Rattle.fib_carousel.proofs.Least.{placed_cases, room_high}
 use Rattle.fib_carousel.proofs.Sharing.{same_head_is, figs_cost, written_of}
 use Rattle.fib_carousel.proofs.Sent.{same_head_own}
 use Rattle.fib_carousel.proofs.Runs.{placed_step, step_stays}
-use Rattle.fib_carousel.proofs.Walk.{Passed, Walked, walked_in, drop_here, rest_in}
+use Rattle.fib_carousel.proofs.Walk.{Passed, Walked, walked_in, rest_in}
 use Rattle.fib_carousel.proofs.Filling.{IsFilled, FilledTo, Entered, figs_added, added, added_same, figs_bytes_last}
 use Rattle.fib_carousel.proofs.Filling.{put_step, same_there, figs_size_part}
 
@@ -121,7 +121,7 @@ walked_run layout ms n from c q s (suc k) d g w =
     let one : Passed layout ms e.index e.state d.state = record {
       entry = there.entry;
       here = here;
-      row = drop_here ms e.index there.entry here;
+      row = cut ms e.index there.entry here;
       next = next;
     } in
     walked_in layout ms n from e d one (omega (arith, g.index)) g.fib

@@ -1,19 +1,14 @@
 -- Walking the list entry by entry.
 use Rattle.fib_carousel.proofs.Words.{[], ◌*◌, ◌++◌, ◌+◌, ◌-◌, ◌<◌, ◌∙◌, ◌∷◌, ◌≡◌, ◌≤◌, ◌⊎◌, EntryShape, FrameLayout}
 use Rattle.fib_carousel.proofs.Words.{HasPassed, IsAtFib, IsShapeAt, List, Marked, PackState, Position, Some, ap}
-use Rattle.fib_carousel.proofs.Words.{append-nil, append_assoc, arith, drop, drop_all, drop_more, entries_in_fib}
-use Rattle.fib_carousel.proofs.Words.{fib_entries, get_or, get_or-drop, get_or_from_slice_get, head_of, inl, inr}
-use Rattle.fib_carousel.proofs.Words.{last_number, length, length-drop, numbers_from, packing, placed, refl, rounds}
-use Rattle.fib_carousel.proofs.Words.{size_of, slice_get, slice_get_within, start, subst, sym, take, take_more, ℕ}
+use Rattle.fib_carousel.proofs.Words.{append-nil, append_assoc, arith, drop, drop_all, entries_in_fib, fib_entries}
+use Rattle.fib_carousel.proofs.Words.{get_or, get_or-drop, get_or_from_slice_get, head_of, inl, inr, cut, last_number}
+use Rattle.fib_carousel.proofs.Words.{length, length-drop, numbers_from, packing, placed, refl, rounds, size_of}
+use Rattle.fib_carousel.proofs.Words.{slice_get, slice_get_within, start, subst, sym, take, take_more, ℕ}
 use Rattle.fib_carousel.proofs.Steps.{in_fib_same, in_fib_other, in_fib_past}
 use Rattle.fib_carousel.proofs.Least.{placed_cases, placed_above, numbers_rise}
 use Rattle.fib_carousel.proofs.Pieces.{last_rises}
 use Rattle.fib_carousel.proofs.Widths.{few_pages}
-
--- the list from an index on begins with the entry there
-pub drop_here : {A : Type 0} (xs : List A) (i : ℕ) (x : A) → slice_get xs i ≡ Some x → drop i xs ≡ x ∷ drop (i + 1) xs
-drop_here xs i x h = drop_more xs i x (slice_get_within xs i x h)
-    ∙ ap (λ y. y ∷ drop (i + 1) xs) (get_or_from_slice_get xs i x x h)
 
 -- a piece of the list, and the entry after it
 pub take_here : {A : Type 0} (xs : List A) (from at : ℕ) (x : A) → from ≤ at → slice_get xs at ≡ Some x
@@ -43,14 +38,14 @@ pub passed : (layout : FrameLayout) (ms : List Marked) (at : ℕ) (shape : Entry
 passed layout ms at shape p q s t = record {
   entry = s.entry;
   here = s.here;
-  row = drop_here ms at s.entry s.here;
+  row = cut ms at s.entry s.here;
   next = t s.entry s.head s.size;
 }
 
 pub passed_entry : (layout : FrameLayout) (ms : List Marked) (at : ℕ) (shape : EntryShape) (p : PackState)
     (s : IsShapeAt ms at shape) → Passed layout ms at p (placed layout s.entry p)
 passed_entry layout ms at shape p s =
-    record { entry = s.entry; here = s.here; row = drop_here ms at s.entry s.here; next = refl }
+    record { entry = s.entry; here = s.here; row = cut ms at s.entry s.here; next = refl }
 
 pub passed_above : (layout : FrameLayout) (ms : List Marked) (at : ℕ) (p q : PackState) → Passed layout ms at p q
     → p.fib ≤ q.fib

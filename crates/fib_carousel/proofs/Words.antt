@@ -20,6 +20,7 @@ pub use Rattle.fib_carousel.specs.declared.pack_state.Position.{Position}
 pub use Rattle.fib_carousel.specs.declared.page_writer.OpenFig.{OpenFig}
 pub use Rattle.fib_codec.proofs.Finished.{fib_is, length-filled, valid_is}
 pub use Rattle.fib_codec.proofs.Lengths.{AllByRecursion-at, components_len, entry_length, flat_map-append}
+pub use Rattle.fib_codec.proofs.Lengths.{AllByRecursion-append}
 pub use Rattle.fib_codec.specs.Heard.{IsEnsembleHeardInRow, IsHeardInRow, IsInFib, fib_at, marked_of}
 pub use Rattle.fib_codec.specs.Layouts.{empty_fib, frame_fibs, reserved_fibs, used_fibs}
 pub use Rattle.fib_codec.specs.Ranges.{IsComponentEntry, IsEnsembleInformation}
@@ -33,6 +34,8 @@ pub use Rattle.fib_codec.specs.declared.head.Head.{Head}
 pub use Rattle.fib_codec.specs.declared.modes.Mode.TheVariants.{I, II, III, IV}
 pub use Rattle.mux_config.specs.Configuration.{Configuration, IsAddressed, IsComponent, IsConfiguration, IsPlaced}
 pub use Rattle.mux_config.specs.Configuration.{IsService, component_limit}
+pub use Rattle.mux_types.proofs.Elements.{each_contains}
+pub use Rattle.mux_types.proofs.Walking.{cut}
 pub use Rattle.mux_types.specs.Entries.{EnsembleInformation}
 pub use Rattle.mux_types.specs.Facts.{Marked, component_entries, component_entry, facts_of, marked, option_of}
 pub use Rattle.mux_types.specs.Facts.{packet_entry, service_entries, service_entry, sub_entries, sub_entry}
@@ -53,7 +56,7 @@ pub use Rattle.std.proofs.Math.Nat.{add-mod_right, div-mul-le_self, le-div_iff_m
 pub use Rattle.std.proofs.Math.Nat.{mul-le-mul_left}
 pub use Rattle.std.proofs.Math.Seq.{drop-append-add, get_or-append_right, get_or-append_seam, set-append_seam, take-add}
 pub use Rattle.std.proofs.Math.Seq.{take-append-add}
-pub use Rattle.std.proofs.lemmas.Bool.{cases_lt, eqb-true, le-leb, lt-leb, ne_eqb}
+pub use Rattle.std.proofs.lemmas.Bool.{cases_lt, eqb-true, le-leb, lt-leb, ne_eqb, and_parts}
 pub use Rattle.std.proofs.lemmas.List.{drop-append-le, drop-drop, drop-map, drop_all, drop_at, drop_more, ext_get_or}
 pub use Rattle.std.proofs.lemmas.List.{get_or-drop, get_or-take, get_or_append_left, length-append, length-drop}
 pub use Rattle.std.proofs.lemmas.List.{length-map, length-replicate, length-set, length-take-le, map-append}
