@@ -28,10 +28,8 @@ pub full_opens : (layout : FrameLayout) (m : Marked) (p : PackState) (number : �
     → placed layout m p ≡ opened m number
 full_opens layout m p number full some next fits =
     let here : 2 + size_of m ≤ room layout (p.fib + 1) = subst (λ k. 2 + size_of m ≤ room layout k) (sym next) fits in
-    full_leaves layout m p full some
-    ∙ ap (λ b. if b then opened m (p.fib + 1) else opened m (p.fib + 2))
-    (le-leb (2 + size_of m) (room layout (p.fib + 1)) here)
-    ∙ ap (opened m) next
+    full_leaves _ m p full some ∙ ap (λ b. if b then opened m (p.fib + 1) else opened m (p.fib + 2))
+    (le-leb (2 + size_of m) (room layout (p.fib + 1)) here) ∙ ap (opened m) next
 
 -- the state after it, if the room is known
 pub closed_within : (layout : FrameLayout) (s : EntryShape) (number known : ℕ) (p : PackState) (r : Option PackState)
@@ -44,13 +42,11 @@ closed_within layout s number known p (Some q) full some next is h =
     let used : q.used ≡ 2 + s.size = ap (λ (r : PackState). r.used) h.1 in
     record {
       is = λ m head size.
-          let some' : 1 ≤ size_of m = omega (arith, some, size) in
-          let fits : 2 + size_of m ≤ room layout number = omega (arith, h.0, is, size) in
           h.1
           ∙ ap (λ k. state_at s number (2 + k)) size
           ∙ ap (λ (g : Head). let t : PackState = record { fib = number; used = 2 + size_of m; head = Some g } in t)
           head
-          ∙ sym (full_opens layout m p number full some' next fits);
+          ∙ sym (full_opens layout m p number full (omega (arith, some, size)) next (omega (arith, h.0, is, size)));
       used = omega (arith, used, h.0, is, room_high layout number);
       low = omega (arith, fib);
       near = omega (arith, fib, next);
@@ -95,13 +91,10 @@ each_left P (m ∷ ms) (suc i) h = each_left P ms i h.1
 pub past_full : (layout : FrameLayout) (ms : List Marked) (n : ℕ) (c : Position) → AreSendable ms → c.state.fib ≡ n
     → room layout n < c.state.used + 3 → NextIsAfter layout ms n c
 past_full layout ms n c sendable here full m rest h =
-    let left : AreSendable (m ∷ rest) =
-    subst (λ (xs : List Marked). AreSendable xs) h (each_left IsSendable ms c.index sendable) in
-    let long : 3 ≤ size_of m = shortest m left.0 in
-    let tight : room layout c.state.fib < c.state.used + 3 =
-    subst (λ k. room layout k < c.state.used + 3) (sym here) full in
+    let left = subst (λ (xs : List Marked). AreSendable xs) h (each_left IsSendable ms c.index sendable) in
+    let tight = subst (λ k. room layout k < c.state.used + 3) (sym here) full in
     elim (placed_cases layout m c.state) [
-      | inl s ↦ absurd (omega (arith, s.fits, tight, long, cost_low c.state.head m))
+      | inl s ↦ absurd (omega (arith, s.fits, tight, shortest m left.0, cost_low c.state.head m))
       | inr s ↦ omega (arith, ap (λ (q : PackState). q.fib) s.is, s.above, here)
     ]
 
@@ -112,9 +105,8 @@ placed_closed layout m p n low past =
     elim (placed_cases layout m p) [
       | inl s ↦ absurd (omega (arith, ap (λ (q : PackState). q.fib) s.is, low, past))
       | inr s ↦
-          let over : room layout p.fib < 30 + (2 + size_of m) = omega (arith, room_high layout p.fib) in
           rw (
-            lt-leb (30 + (2 + size_of m)) (room layout p.fib) over,
+            lt-leb (30 + (2 + size_of m)) (room layout p.fib) (omega (arith, room_high layout p.fib)),
             lt-leb (p.used + cost p.head m) (room layout p.fib) s.full,
           ) refl
     ]
@@ -161,11 +153,8 @@ some_left : (layout : FrameLayout) (n : ℕ) (p : PackState) (es : List Marked) 
 some_left layout n p [] top past last = inl refl
 some_left layout n p (e ∷ es) top past last =
     let q : PackState = placed layout e p in
-    let over : n < q.fib = past e es refl in
-    let is : last_number q.fib (numbers_from layout q es) ≡ top = last in
-    let above : q.fib ≤ last_number q.fib (numbers_from layout q es) =
-    last_rises q.fib (numbers_from layout q es) (numbers_rise layout q es q.fib (omega arith)) in
-    inr (omega (arith, above, over, is))
+    let above = last_rises q.fib (numbers_from layout q es) (numbers_rise layout q es q.fib (omega arith)) in
+    inr (omega (arith, above, past e es refl, last))
 
 pub walked_past : (layout : FrameLayout) (ms : List Marked) (n from : ℕ) (c : Position) → NextIsAfter layout ms n c
     → Walked layout ms n from c → take (c.index - from) (drop from ms) ≡ fib_entries layout n ms
@@ -180,8 +169,7 @@ passed_past layout ms n from c past w = record {
   left =
       elim (some_left layout n c.state (drop c.index ms) (last_number 0 (packing layout ms)) past w.later.last) [
         | inl e ↦
-            let none : length (drop c.index ms) ≡ 0 = ap length e in
-            inl (omega (arith, none, length-drop c.index ms, w.later.index))
+            inl (omega (arith, ap length e, length-drop c.index ms, w.later.index))
         | inr lt ↦ inr lt
       ];
 }

@@ -30,23 +30,18 @@ pub bytes_more : (old now after : List ℕ) (cs : List Component) (i : ℕ) (d :
 bytes_more old now after cs i d entry lt there is before written =
     let Lexeme : ComponentEntry → List ℕ = λ e. big_bytes 2 (component_u16 e) in
     let so_far : List ComponentEntry = component_entries (take i cs) in
-    let same : entry ≡ component_entry (i == 0) (get_or cs i d) = is ∙ ap (component_entry (i == 0)) there in
     written
     ∙ ap (λ xs. xs ++ Lexeme entry) before
     ∙ append_assoc old (components_bytes so_far) (Lexeme entry)
     ∙ ap (λ t. old ++ (components_bytes so_far ++ t)) (sym (append-nil (Lexeme entry)))
     ∙ ap (λ t. old ++ t) (sym (flat_map-append Lexeme so_far (entry ∷ [])))
-    ∙ ap (λ (e : ComponentEntry). old ++ components_bytes (so_far ++ e ∷ [])) same
+    ∙ ap (λ (e : ComponentEntry). old ++ components_bytes (so_far ++ e ∷ [])) (is ∙ ap (component_entry (i == 0)) there)
     ∙ ap (λ es. old ++ components_bytes es) (sym (entries_more cs i d lt))
 
 -- room for one more
 pub room_for_more : (old now : List ℕ) (cs : List Component) (i : ℕ) → i < length cs → length old + 2 * length cs ≤ 30
     → now ≡ old ++ components_bytes (component_entries (take i cs)) → length now + 2 ≤ 30
 room_for_more old now cs i lt room before =
-    let long : length now ≡ length old + length (components_bytes (component_entries (take i cs))) =
-    ap length before ∙ length-append old (components_bytes (component_entries (take i cs))) in
-    let words : length (components_bytes (component_entries (take i cs))) ≡ 2 * length (component_entries (take i cs)) =
-    components_len (component_entries (take i cs)) in
-    let count : length (component_entries (take i cs)) ≡ i =
-    length-component_entries (take i cs) ∙ length-take-le i cs (omega (arith, lt)) in
-    omega (arith, long, words, count, lt, room)
+    let long = ap length before ∙ length-append old (components_bytes (component_entries (take i cs))) in
+    let words = components_len (component_entries (take i cs)) in
+    omega (arith, long, words, length-component_entries (take i cs) ∙ length-take-le i cs (omega (arith, lt)), lt, room)

@@ -74,8 +74,7 @@ one_fig h e =
     ∙ ap (λ n. (1 + n) ∷ head_byte h ∷ entry_bytes e) (entry_length e)
 
 more_entries : (es : List Entry) (e : Entry) → entries_bytes (es ++ e ∷ []) ≡ entries_bytes es ++ entry_bytes e
-more_entries es e = flat_map-append entry_bytes es (e ∷ [])
-    ∙ ap (λ t. entries_bytes es ++ t) (append-nil (entry_bytes e))
+more_entries es e = flat_map-append _ es _ ∙ ap (λ t. entries_bytes es ++ t) (append-nil (entry_bytes e))
 
 -- the last of the FIGs of these entries has this head, and its first byte is at this offset
 pub record IsLast (old : List ℕ) (here : List Marked) (fig : OpenFig) : Type 0 where
@@ -117,24 +116,19 @@ apart_bytes : (here : List Marked) (m : Marked) → Apart here m
     → figs_bytes (figs_of (here ++ m ∷ [])) ≡ figs_bytes (figs_of here)
     ++ (1 + size_of m) ∷ head_byte (head_of m) ∷ entry_bytes m.entry
 apart_bytes here m a =
-    ap figs_bytes a.figs
-    ∙ figs_bytes_last (figs_of here) (written_of (head_of m) (m.entry ∷ []))
-    ∙ ap (λ t. figs_bytes (figs_of here) ++ t) (one_fig (head_of m) m.entry)
+    ap figs_bytes a.figs ∙ figs_bytes_last _ _ ∙ ap (λ t. figs_bytes (figs_of here) ++ t) (one_fig (head_of m) m.entry)
 
 apart_room : (old here-bytes : List ℕ) (here : List Marked) (m : Marked) (size : ℕ) → here-bytes ≡ old
     ++ figs_bytes (figs_of here) → Apart here m → size ≡ size_of m
     → length old + figs_size None (here ++ m ∷ []) ≤ 30 → length here-bytes + 2 + size ≤ 30
 apart_room old bytes here m size is a sized room =
-    let whole : length (figs_bytes (figs_of (here ++ m ∷ []))) ≡ figs_size None (here ++ m ∷ []) =
-    figs_cost (here ++ m ∷ []) in
+    let whole = figs_cost (here ++ m ∷ []) in
     let parts : length (figs_bytes (figs_of (here ++ m ∷ []))) ≡ length (figs_bytes (figs_of here))
     + length ((1 + size_of m) ∷ head_byte (head_of m) ∷ entry_bytes m.entry) =
     ap length (apart_bytes here m a) ∙ length-append (figs_bytes (figs_of here))
     ((1 + size_of m) ∷ head_byte (head_of m) ∷ entry_bytes m.entry) in
     let entry : length (entry_bytes m.entry) ≡ size_of m = entry_length m.entry in
-    let long : length bytes ≡ length old + length (figs_bytes (figs_of here)) =
-    ap length is ∙ length-append old (figs_bytes (figs_of here)) in
-    omega (arith, whole, parts, entry, long, sized, room)
+    omega (arith, whole, parts, entry, ap length is ∙ length-append old (figs_bytes (figs_of here)), sized, room)
 
 begun_on : (old bytes mid after : List ℕ) (here : List Marked) (m : Marked) (s : EntryShape) (fig : OpenFig)
     → bytes ≡ old ++ figs_bytes (figs_of here) → Apart here m
@@ -175,8 +169,7 @@ joins : (old bytes : List ℕ) (here : List Marked) (m : Marked) (fig : OpenFig)
 joins old bytes here m fig is last same = record {
   before = last.before;
   entries = last.entries;
-  figs = figs_added here m ∙ ap (λ fs. added fs m) last.figs
-      ∙ added_same last.before (written_of fig.head last.entries) m same;
+  figs = figs_added here m ∙ ap (λ fs. added fs m) last.figs ∙ added_same _ _ m same;
   place = last.place;
   is =
       is
@@ -215,26 +208,21 @@ joins_room : (old bytes : List ℕ) (here : List Marked) (m : Marked) (fig : Ope
     → length old + figs_size None (here ++ m ∷ []) ≤ 30 → JoinsRoom bytes fig size
 joins_room old bytes here m fig size j sized room =
     let b = entries_bytes j.entries in
-    let whole : length (figs_bytes (figs_of (here ++ m ∷ []))) ≡ figs_size None (here ++ m ∷ []) =
-    figs_cost (here ++ m ∷ []) in
+    let whole = figs_cost (here ++ m ∷ []) in
     let parts : length (figs_bytes (figs_of (here ++ m ∷ []))) ≡ length (figs_bytes j.before)
     + length (fig_bytes fig.head (j.entries ++ m.entry ∷ [])) =
     ap (λ fs. length (figs_bytes fs)) j.figs ∙ ap length
     (figs_bytes_last j.before (written_of fig.head (j.entries ++ m.entry ∷ [])))
     ∙ length-append (figs_bytes j.before) (fig_bytes fig.head (j.entries ++ m.entry ∷ [])) in
-    let last : length (entries_bytes (j.entries ++ m.entry ∷ [])) ≡ length b + length (entry_bytes m.entry) =
-    ap length (more_entries j.entries m.entry) ∙ length-append b (entry_bytes m.entry) in
+    let last = ap length (more_entries j.entries m.entry) ∙ length-append b (entry_bytes m.entry) in
     let entry : length (entry_bytes m.entry) ≡ size_of m = entry_length m.entry in
-    let front : length (old ++ figs_bytes j.before) ≡ length old + length (figs_bytes j.before) =
-    length-append old (figs_bytes j.before) in
-    let long : length bytes ≡ length (old ++ figs_bytes j.before) + length (fig_bytes fig.head j.entries) =
-    ap length j.is ∙ length-append (old ++ figs_bytes j.before) (fig_bytes fig.head j.entries) in
+    let long = ap length j.is ∙ length-append (old ++ figs_bytes j.before) (fig_bytes fig.head j.entries) in
     let byte : slice_index_or bytes fig.place 0 ≡ 1 + length b = joins_byte old bytes here m fig j in
     let place : fig.place ≡ length (old ++ figs_bytes j.before) = j.place in
     record {
       place = omega (arith, place, long);
       byte = omega (arith, byte, whole, parts, last, entry, sized, room);
-      whole = omega (arith, long, front, whole, parts, last, entry, sized, room);
+      whole = omega (arith, long, length-append old (figs_bytes j.before), whole, parts, last, entry, sized, room);
     }
 
 joined_on : (old bytes mid after : List ℕ) (here : List Marked) (m : Marked) (s : EntryShape) (f fig : OpenFig)
@@ -302,10 +290,8 @@ put_begun : (old bytes mid : List ℕ) (here : List Marked) (m : Marked) (s : En
     → Begins s bytes fig mid → Put old mid here m fig
 put_begun old bytes mid here m s fig is a headed sized room b =
     let fits : length bytes + 2 + s.size ≤ 30 = apart_room old bytes here m s.size is a sized room in
-    let long : length mid ≡ length bytes + 2 = ap length b.bytes
-    ∙ length-append bytes ((1 + s.size) ∷ head_byte s.head ∷ []) in
     record {
-      room = omega (arith, fits, long, sized);
+      room = omega (arith, fits, ap length b.bytes ∙ length-append bytes ((1 + s.size) ∷ head_byte s.head ∷ []), sized);
       filled = λ after put. begun_on old bytes mid after here m s fig is a headed sized b put;
     }
 
@@ -313,11 +299,9 @@ put_joined : (old bytes mid : List ℕ) (here : List Marked) (m : Marked) (s : E
     → Joins old here m f bytes → s.size ≡ size_of m
     → length old + figs_size None (here ++ m ∷ []) ≤ 30 → Lengthens f s bytes fig mid → Put old mid here m fig
 put_joined old bytes mid here m s f fig j sized room l =
-    let fits : length bytes + s.size ≤ 30 = (joins_room old bytes here m f s.size j sized room).whole in
-    let long : length mid ≡ length bytes = ap length l.bytes
-    ∙ length-set bytes f.place (slice_index_or bytes f.place 0 + s.size) in
+    let long = ap length l.bytes ∙ length-set bytes f.place (slice_index_or bytes f.place 0 + s.size) in
     record {
-      room = omega (arith, fits, long, sized);
+      room = omega (arith, (joins_room old bytes here m f s.size j sized room).whole, long, sized);
       filled = λ after put. joined_on old bytes mid after here m s f fig j sized l put;
     }
 
@@ -387,11 +371,9 @@ room_next layout ms n from top c q s into w room =
     let piece = take (c.index - from) (drop from ms) in
     let rest = rest_in layout n ms (c.index + 1) q in
     let whole : (piece ++ s.entry ∷ []) ++ rest ≡ fib_entries layout n ms =
-    append_assoc piece (s.entry ∷ []) rest ∙ ap (λ xs. piece ++ xs)
-    (sym (rest_takes layout n ms c.index c.state q s into)) ∙ w.here in
+    append_assoc piece (s.entry ∷ []) rest ∙ ap (λ xs. piece ++ xs) (sym (rest_takes _ n ms _ _ q s into)) ∙ w.here in
     let part : figs_size None (piece ++ s.entry ∷ []) ≤ figs_size None (fib_entries layout n ms) =
-    subst (λ (xs : List Marked). figs_size None (piece ++ s.entry ∷ []) ≤ figs_size None xs) whole
-    (figs_size_part None (piece ++ s.entry ∷ []) rest) in
+    rw (← whole) (figs_size_part None (piece ++ s.entry ∷ []) rest) in
     omega (arith, part, room)
 
 pub same_there : (ms : List Marked) (i : ℕ) (a b : Marked) → slice_get ms i ≡ Some a → slice_get ms i ≡ Some b → a ≡ b
@@ -423,8 +405,7 @@ pub put_step : (layout : FrameLayout) (ms : List Marked) (n : ℕ) (old bytes mi
     → Put old mid (take (c.index - w.from) (drop w.from ms)) e.step.entry fig
 put_step layout ms n old bytes mid c d last fig shape s e w g =
     let same : s.entry ≡ e.step.entry = same_there ms c.index s.entry e.step.entry s.here e.step.here in
-    put_next old bytes mid (take (c.index - w.from) (drop w.from ms)) e.step.entry shape last fig w.filled
-    (s.head ∙ ap head_of same) (s.size ∙ ap size_of same)
+    put_next old bytes mid _ _ shape last fig w.filled (s.head ∙ ap head_of same) (s.size ∙ ap size_of same)
     (room_next layout ms n w.from (length old) c d.state e.step e.into w.walked e.room) g
 
 -- the end of the walk

@@ -31,13 +31,9 @@ filled_behind xs ys some fits =
     let part : filled ys ≡ ys ++ 255 ∷ replicate (29 - length ys) 0 = filled_part ys (omega (arith, some, fits)) in
     elim (cases_lt (length xs + length ys) 30) [
       | inl lt ↦
-          let more : 30 - length xs ≡ length ys + suc (29 - (length xs + length ys)) = omega (arith, lt) in
-          let fewer : 29 - (length xs + length ys) ≤ 29 - length ys = omega arith in
-          let zeros : take (29 - (length xs + length ys)) (replicate (29 - length ys) 0)
-          ≡ replicate (29 - (length xs + length ys)) 0 =
-          take-replicate {X = ℕ} (29 - (length xs + length ys)) (29 - length ys) 0 fewer in
+          let zeros = take-replicate {X = ℕ} (29 - (length xs + length ys)) (29 - length ys) 0 (omega arith) in
           ap (λ t. xs ++ take (30 - length xs) t) part
-          ∙ ap (λ n. xs ++ take n (ys ++ 255 ∷ replicate (29 - length ys) 0)) more
+          ∙ ap (λ n. xs ++ take n (ys ++ 255 ∷ replicate (29 - length ys) 0)) (omega (arith, lt))
           ∙ ap (λ t. xs ++ t) (take-append-add ys (255 ∷ replicate (29 - length ys) 0)
           (suc (29 - (length xs + length ys))))
           ∙ ap (λ t. xs ++ (ys ++ 255 ∷ t)) zeros
@@ -55,9 +51,7 @@ filled_behind xs ys some fits =
 pub fig_length : (e : EnsembleInformation) (len : ℕ) → len ≡ entry_size (EnsembleOf e)
     → 2 + len ≡ length (figs_bytes (ensemble_figs (Some e)))
 fig_length e len h =
-    let all : length (figs_bytes (ensemble_figs (Some e))) ≡ 2 + entry_size (EnsembleOf e) + 0 =
-    figs_cost (marked false (EnsembleOf e) ∷ []) in
-    omega (arith, h, all)
+    omega (arith, h, figs_cost (marked false (EnsembleOf e) ∷ []))
 
 -- the first FIB of a kept page, with FIG 0/0
 pub with_fig : (e : EnsembleInformation) (figs : List Written) (first : List ℕ) → first ≡ fib_bytes figs

@@ -4,16 +4,16 @@ use Rattle.fib_carousel.proofs.Words.{AllByRecursion, AreFibs, AreSendable, Bool
 use Rattle.fib_carousel.proofs.Words.{Contains-append_cases, Contains-append_left, Contains-append_right}
 use Rattle.fib_carousel.proofs.Words.{EnsembleInformation, FrameLayout, Head, IfSome, IsConfiguration}
 use Rattle.fib_carousel.proofs.Words.{IsEnsembleHeardInRow, IsEnsembleInformation, IsHeardInRow, IsInFib, IsPacking}
-use Rattle.fib_carousel.proofs.Words.{IsPageable, IsSendable, IsSome, IsWritten, List, Marked, None, Option}
-use Rattle.fib_carousel.proofs.Words.{PagesKeepReserve, Some, Written, ap, append-nil, append_assoc, arith, drop}
-use Rattle.fib_carousel.proofs.Words.{drop-drop, drop_all, drop_at, empty_fib, ensemble_figs, entries_where, ext_of}
-use Rattle.fib_carousel.proofs.Words.{false, fib_at, fib_bytes, fib_entries, fib_is, fig_bytes, figs_by, figs_bytes}
-use Rattle.fib_carousel.proofs.Words.{figs_of, filled, first_fib, flat_map, frame_fibs, head_of, if◌then◌else◌, inl}
-use Rattle.fib_carousel.proofs.Words.{inr, later_fibs, length, length-append, length-filled, length-map}
-use Rattle.fib_carousel.proofs.Words.{length-replicate, map, marked, marked_of, occurrence_bytes, packing, page_bytes}
-use Rattle.fib_carousel.proofs.Words.{page_entries, page_figs, page_set, refl, replicate, reserved_fibs, reserved_figs}
-use Rattle.fib_carousel.proofs.Words.{room, same_head, subst, suc, sym, take, take_at, true, used_fibs, used_figs}
-use Rattle.fib_carousel.proofs.Words.{valid_is, with_entry_first, zero, ℕ, each_contains, AllByRecursion-append}
+use Rattle.fib_carousel.proofs.Words.{IsPageable, IsSome, IsWritten, List, Marked, None, Option, PagesKeepReserve, Some}
+use Rattle.fib_carousel.proofs.Words.{Written, ap, append-nil, append_assoc, arith, drop, drop-drop, drop_all, drop_at}
+use Rattle.fib_carousel.proofs.Words.{empty_fib, ensemble_figs, entries_where, ext_of, false, fib_at, fib_bytes}
+use Rattle.fib_carousel.proofs.Words.{fib_entries, fib_is, fig_bytes, figs_by, figs_bytes, figs_of, filled, first_fib}
+use Rattle.fib_carousel.proofs.Words.{flat_map, frame_fibs, head_of, if◌then◌else◌, inl, inr, later_fibs, length}
+use Rattle.fib_carousel.proofs.Words.{length-append, length-filled, length-map, length-replicate, map, marked}
+use Rattle.fib_carousel.proofs.Words.{marked_of, occurrence_bytes, packing, page_bytes, page_entries, page_figs}
+use Rattle.fib_carousel.proofs.Words.{page_set, refl, replicate, reserved_fibs, reserved_figs, same_head, subst, suc}
+use Rattle.fib_carousel.proofs.Words.{sym, take, take_at, true, used_fibs, used_figs, valid_is, with_entry_first, zero}
+use Rattle.fib_carousel.proofs.Words.{ℕ, each_contains, AllByRecursion-append}
 use Rattle.std.proofs.lemmas.Grind.{flat_map-append}
 use Rattle.fib_codec.specs.Grammar.{Fig, Open, Other, IsFig, AreFigs, IsValid, IsOurs, fig_of}
 use Rattle.fib_codec.proofs.Sent.{heard_is_written}
@@ -36,14 +36,12 @@ joined_says m (f ∷ fs) ours = by (same_head (head_of m) f.head) refl
     by : (b : Bool) → same_head (head_of m) f.head ≡ b
         → marked_of (with_entry_first m (f ∷ fs)) ≡ m ∷ marked_of (f ∷ fs)
     by true e =
-        let same : head_of m ≡ f.head = same_head_is (head_of m) f.head e in
-        let next : f.head.next ≡ m.next = ap (λ (g : Head). g.next) (sym same) in
+        let next : f.head.next ≡ m.next = ap (λ (g : Head). g.next) (sym (same_head_is (head_of m) f.head e)) in
         let whole : marked_of (written_of f.head (m.entry ∷ f.entries) ∷ fs) ≡ m ∷ marked_of (f ∷ fs) =
         rw (ours.0) (ap (λ (b : Bool). marked b m.entry ∷ (map (marked f.head.next) f.entries ++ marked_of fs)) next) in
         rw e whole
     by false e =
-        let whole : marked_of (written_of (head_of m) (m.entry ∷ []) ∷ f ∷ fs) ≡ m ∷ marked_of (f ∷ fs) = refl in
-        rw e whole
+        rw e refl
 
 ours_joined : (m : Marked) (fs : List Written) → AllByRecursion IsOurs fs
     → AllByRecursion IsOurs (with_entry_first m fs)
@@ -121,15 +119,13 @@ fits_in : (layout : FrameLayout) (o : Option EnsembleInformation) (n : ℕ) (ms 
     → (IsSome o → n % used_fibs layout ≡ 0) → Fits (ensemble_figs o ++ figs_of (fib_entries layout n ms))
 fits_in layout o n ms h first =
     let here : List Marked = fib_entries layout n ms in
-    let cost : length (figs_bytes (figs_of here)) ≤ room layout n =
-    rw (figs_cost here) (fib_fits layout ms n h.entries) in
     record {
       written = AllByRecursion-append IsWritten (ensemble_figs o) (figs_of here) (ensemble_written o h.ensemble_within)
           (written_figs here (sendable_where (λ m. m == n) ms (packing layout ms) h.entries));
       ours = AllByRecursion-append IsOurs (ensemble_figs o) (figs_of here) (ensemble_ours o) (ours_figs here);
       short = rw (length-figs_bytes (ensemble_figs o) (figs_of here))
           (fib_room layout o n (length (figs_bytes (ensemble_figs o))) (length (figs_bytes (figs_of here)))
-          (ensemble_low o) (ensemble_none o) first cost);
+          (ensemble_low o) (ensemble_none o) first (rw (figs_cost here) (fib_fits layout ms n h.entries)));
     }
 
 -- the FIBs of a page
@@ -149,11 +145,9 @@ each_front P (x ∷ xs) ys h = (h.0, each_front P xs ys h.1)
 pub page_fits : (layout : FrameLayout) (o : Option EnsembleInformation) (k : ℕ) (ms : List Marked) → IsPageable o ms
     → AllByRecursion Fits (page_figs layout o k ms)
 page_fits layout o k ms h =
-    let plain : IsPageable None ms = record { entries = h.entries; ensemble_within = tt } in
-    let first : Fits (ensemble_figs o ++ figs_of (fib_entries layout (first_fib layout k) ms)) =
-    fits_in layout o (first_fib layout k) ms h (λ _. first_of_page layout k) in
+    let first = fits_in layout o (first_fib layout k) ms h (λ _. first_of_page layout k) in
     let other : (n : ℕ) → Fits (figs_of (fib_entries layout n ms)) =
-    λ n. fits_in layout None n ms plain (λ e. absurd (cc e)) in
+    λ n. fits_in layout None n ms (record { entries = h.entries; ensemble_within = tt }) (λ e. absurd (cc e)) in
     AllByRecursion-append Fits (used_figs layout (packing layout ms) o k ms) (reserved_figs layout)
     (first, each_of Fits (λ n. figs_of (fib_entries layout n ms)) other (later_fibs layout k))
     (each_replicate Fits [] (record { written = tt; ours = tt; short = omega arith }) (reserved_fibs layout))
@@ -236,8 +230,7 @@ fib_front figs rest f = take_at (fib_bytes figs) rest 32 (length-fib_bytes figs 
 fib_later : (figs : List Written) (rest : List ℕ) (place : ℕ) → Fits figs
     → fib_at (fib_bytes figs ++ rest) (suc place) ≡ fib_at rest place
 fib_later figs rest place f =
-    let count : 32 * suc place ≡ 32 + 32 * place = omega arith in
-    ap (λ n. take 32 (drop n (fib_bytes figs ++ rest))) count
+    ap (λ n. take 32 (drop n (fib_bytes figs ++ rest))) (omega arith)
     ∙ ap (λ xs. take 32 xs) (sym (drop-drop (32 * place) 32 (fib_bytes figs ++ rest)))
     ∙ ap (λ xs. take 32 (drop (32 * place) xs)) (drop_at (fib_bytes figs) rest 32 (length-fib_bytes figs f))
 
@@ -301,7 +294,6 @@ page_says : (layout : FrameLayout) (o : Option EnsembleInformation) (k : ℕ) (m
     → flat_map marked_of (page_figs layout o k ms) ≡ ensemble_marked o ++ page_entries layout k ms
 page_says layout o k ms =
     let first : List Marked = fib_entries layout (first_fib layout k) ms in
-    let later : List Marked = flat_map (λ n. fib_entries layout n ms) (later_fibs layout k) in
     let used : List (List Written) = used_figs layout (packing layout ms) o k ms in
     flat_map-append marked_of used (reserved_figs layout)
     ∙ ap (λ xs. flat_map marked_of used ++ xs) (reserved_say (reserved_fibs layout))
@@ -309,7 +301,7 @@ page_says layout o k ms =
     ∙ ap (λ xs. xs ++ flat_map marked_of (map (λ n. figs_of (fib_entries layout n ms)) (later_fibs layout k)))
     (first_says o first)
     ∙ ap (λ xs. (ensemble_marked o ++ first) ++ xs) (later_say layout ms (later_fibs layout k))
-    ∙ append_assoc (ensemble_marked o) first later
+    ∙ append_assoc (ensemble_marked o) first (flat_map (λ n. fib_entries layout n ms) (later_fibs layout k))
     ∙ ap (λ xs. ensemble_marked o ++ xs) (sym (page_is_fibs layout ms k))
 
 in_page : (layout : FrameLayout) (o : Option EnsembleInformation) (k : ℕ) (ms : List Marked) (m : Marked)
@@ -330,9 +322,7 @@ of_page layout o k ms m h inside =
 organized : (layout : FrameLayout) (k : ℕ) (ms : List Marked) (m : Marked) → AreSendable ms
     → Contains (page_entries layout k ms) m → 1 ≤ ext_of m.entry
 organized layout k ms m h inside =
-    let s : IsSendable m = each_contains IsSendable (page_entries layout k ms) m
-    (sendable_where (λ n. n / used_fibs layout == k) ms (packing layout ms) h) inside in
-    s.organization
+    (each_contains _ _ m (sendable_where (λ n. n / used_fibs layout == k) ms _ h) inside).organization
 
 ensemble_is : (o : Option EnsembleInformation) (m : Marked) → Contains (ensemble_marked o) m → (e : EnsembleInformation)
     × (o ≡ Some e) × (m ≡ marked false (EnsembleOf e))
@@ -346,14 +336,11 @@ pages_are_heard layout o k ms h m = (
   λ heard.
       elim (in_page layout o k ms m h (heard.0, heard.1.inside)) [
         | inl first ↦
-            let e = ensemble_is o m first in
-            let none : ext_of m.entry ≡ 0 = ap (λ (n : Marked). ext_of n.entry) e.2 in
-            absurd (omega (arith, none, heard.1.organization))
+            absurd (omega (arith, ap (λ (n : Marked). ext_of n.entry) (ensemble_is o m first).2, heard.1.organization))
         | inr here ↦ here
       ],
   λ here.
-      let found = of_page layout o k ms m h
-      (Contains-append_right (ensemble_marked o) (page_entries layout k ms) m here) in
+      let found = of_page _ o k ms m h (Contains-append_right (ensemble_marked o) (page_entries layout k ms) m here) in
       (found.0, record { organization = organized layout k ms m h.entries here; inside = found.1 }),
 )
 
@@ -365,18 +352,15 @@ ensemble_is_heard layout o k ms h next e = (
       elim (in_page layout o k ms (marked next (EnsembleOf e)) h (heard.0, heard.1)) [
         | inl first ↦
             let found = ensemble_is o (marked next (EnsembleOf e)) first in
-            let flag : next ≡ false = ap (λ (n : Marked). n.next) found.2 in
-            let entry : EnsembleOf e ≡ EnsembleOf found.0 = ap (λ (n : Marked). n.entry) found.2 in
-            let same : e ≡ found.0 = cc entry in
-            (flag, found.1 ∙ ap (λ (x : EnsembleInformation). Some x) (sym same))
+            let same : e ≡ found.0 = cc (ap (λ (n : Marked). n.entry) found.2) in
+            ((ap (λ (n : Marked). n.next) found.2), found.1 ∙ ap (λ (x : EnsembleInformation). Some x) (sym same))
         | inr here ↦ absurd (omega (arith, organized layout k ms (marked next (EnsembleOf e)) h.entries here))
       ],
   λ told.
       let marks : ensemble_marked o ≡ marked next (EnsembleOf e) ∷ [] =
       ap (λ (x : Option EnsembleInformation). ensemble_marked x) told.1
       ∙ ap (λ (b : Bool). marked b (EnsembleOf e) ∷ []) (sym told.0) in
-      let inside : Contains (ensemble_marked o) (marked next (EnsembleOf e)) =
-      subst (λ (xs : List Marked). Contains xs (marked next (EnsembleOf e))) (sym marks) (0, omega arith, refl) in
+      let inside : Contains (ensemble_marked o) (marked next (EnsembleOf e)) = rw marks (0, omega arith, refl) in
       let found = of_page layout o k ms (marked next (EnsembleOf e)) h
       (Contains-append_left (ensemble_marked o) (page_entries layout k ms) (marked next (EnsembleOf e)) inside) in
       (found.0, found.1),
@@ -406,8 +390,7 @@ fib_in_rest : (all : List (List Written)) (rest : List ℕ) (place : ℕ) → Al
     → fib_at (flat_map fib_bytes all ++ rest) (length all + place) ≡ fib_at rest place
 fib_in_rest [] rest place f = let same : 0 + place ≡ place = omega arith in ap (λ n. fib_at rest n) same
 fib_in_rest (figs ∷ all) rest place f =
-    let count : suc (length all) + place ≡ suc (length all + place) = omega arith in
-    ap (λ n. fib_at ((fib_bytes figs ++ flat_map fib_bytes all) ++ rest) n) count
+    ap (λ n. fib_at ((fib_bytes figs ++ flat_map fib_bytes all) ++ rest) n) (omega arith)
     ∙ ap (λ xs. fib_at xs (suc (length all + place))) (append_assoc (fib_bytes figs) (flat_map fib_bytes all) rest)
     ∙ fib_later figs (flat_map fib_bytes all ++ rest) (length all + place) f.0
     ∙ fib_in_rest all rest place f.1
@@ -424,9 +407,8 @@ empty_at (suc count) (suc place) few =
 pub pages_keep_reserve : PagesKeepReserve
 pages_keep_reserve layout o k ms h n from to =
     let used : List (List Written) = used_figs layout (packing layout ms) o k ms in
-    let long : length used ≡ used_fibs layout = length-used_figs layout o k ms in
     let all : AllByRecursion Fits used = each_front Fits used (reserved_figs layout) (page_fits layout o k ms h) in
-    let at : n ≡ length used + (n - used_fibs layout) = omega (arith, long, from) in
+    let at : n ≡ length used + (n - used_fibs layout) = omega (arith, length-used_figs layout o k ms, from) in
     ap (λ xs. fib_at xs n) (flat_map-append fib_bytes used (reserved_figs layout))
     ∙ ap (λ i. fib_at (flat_map fib_bytes used ++ flat_map fib_bytes (reserved_figs layout)) i) at
     ∙ fib_in_rest used (flat_map fib_bytes (reserved_figs layout)) (n - used_fibs layout) all

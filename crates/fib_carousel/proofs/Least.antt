@@ -76,9 +76,7 @@ placed_cases layout e p =
                       elim (cases_lt k (p.fib + 2)) [
                         | inl lt ↦
                             let same : k ≡ p.fib + 1 = omega (arith, h, lt) in
-                            let f' : 2 + size_of e ≤ room layout (p.fib + 1) =
-                            subst (λ (j : ℕ). 2 + size_of e ≤ room layout j) same f in
-                            absurd (omega (arith, tight, f'))
+                            absurd (omega (arith, tight, subst (λ (j : ℕ). 2 + size_of e ≤ room layout j) same f))
                         | inr ge ↦ ge
                       ];
                 })
@@ -138,7 +136,6 @@ pub behind_extended : (layout : FrameLayout) (e : Marked) (p q : PackState) → 
     → q.used + cost q.head e ≤ room layout q.fib → Behind (placed layout e p) (extended e q)
 behind_extended layout e p q b f =
     let same : cost p.head e ≡ cost q.head e = ap (λ x. cost x e) b.0 in
-    let low : size_of e ≤ cost q.head e = cost_low q.head e in
     elim (placed_cases layout e p) [
       | inl c ↦ subst (λ (r : PackState). Behind r (extended e q)) (sym c.is) (
         refl,
@@ -151,15 +148,13 @@ behind_extended layout e p q b f =
         refl,
         elim b.1 [
           | inl a ↦
-              let le : c.to ≤ q.fib = c.first q.fib a.0 (omega (arith, f, a.1, low)) in
+              let le : c.to ≤ q.fib = c.first q.fib a.0 (omega (arith, f, a.1, cost_low q.head e)) in
               elim (cases_lt c.to q.fib) [
                 | inl lt ↦ inl (lt, omega (arith, a.1))
-                | inr ge ↦ inr (omega (arith, le, ge), omega (arith, a.1, low))
+                | inr ge ↦ inr (omega (arith, le, ge), omega (arith, a.1, cost_low q.head e))
               ]
           | inr a ↦
-              let f' : q.used + cost q.head e ≤ room layout p.fib =
-              subst (λ k. q.used + cost q.head e ≤ room layout k) (sym a.0) f in
-              absurd (omega (arith, c.full, a.1, same, f'))
+              absurd (omega (arith, c.full, a.1, same, subst (λ k. q.used + cost q.head e ≤ room layout k) (sym a.0) f))
         ],
       )
     ]
@@ -172,10 +167,9 @@ behind_opened layout e p q m b up f =
       | inl c ↦ subst (λ (r : PackState). Behind r (opened e m)) (sym c.is) (refl, inl (below, omega arith))
       | inr c ↦ subst (λ (r : PackState). Behind r (opened e m)) (sym c.is) (
         refl,
-        let le : c.to ≤ m = c.first m below f in
             elim (cases_lt c.to m) [
               | inl lt ↦ inl (lt, omega arith)
-              | inr ge ↦ inr (omega (arith, le, ge), omega arith)
+              | inr ge ↦ inr (omega (arith, c.first m below f, ge), omega arith)
             ],
       )
     ]
@@ -197,9 +191,7 @@ greedy_behind layout p q (e ∷ es) [] b g = g
 greedy_behind layout p q (e ∷ es) (m ∷ ms) b g =
     elim g [
       | inl s ↦
-          let fits : q.used + cost q.head e ≤ room layout q.fib =
-          subst (λ k. q.used + cost q.head e ≤ room layout k) s.0 s.1 in
-          let next = behind_extended layout e p q b fits in (
+          let next = behind_extended layout e p q b (subst (λ k. q.used + cost q.head e ≤ room layout k) s.0 s.1) in (
             omega (arith, behind_fib _ _ next, s.0),
             greedy_behind layout (placed layout e p) (extended e q) es ms next
                 s.2,
@@ -217,8 +209,7 @@ at_most_at (n ∷ ns) (m ∷ ms) a (suc i) = at_most_at ns ms a.1 i
 
 pub packing_at_most : (layout : FrameLayout) (es : List Marked) (ms : List ℕ) → IsDivision layout es ms
     → AtMost (packing layout es) ms
-packing_at_most layout es ms d =
-    greedy_behind layout start start es ms (refl, inr (refl, omega arith)) (goes_all layout es ms d)
+packing_at_most layout es ms d = greedy_behind _ start start es ms (refl, inr (refl, omega arith)) (goes_all _ es ms d)
 
 pub greedy_is_packing : (layout : FrameLayout) (es : List Marked) → AreSmall es
     → IsPacking layout es (packing layout es)
@@ -241,11 +232,10 @@ Begun p = (p.head ≡ None) ⊎ (2 ≤ p.used)
 extended_small : (layout : FrameLayout) (e : Marked) (p : PackState) (m : ℕ) → Begun p
     → p.used + cost p.head e ≤ room layout m → size_of e ≤ 28
 extended_small layout e p m b f =
-    let low : size_of e ≤ cost p.head e = cost_low p.head e in
     let high : room layout m ≤ 30 = room_high layout m in
     elim b [
       | inl h ↦ let whole : cost p.head e ≡ 2 + size_of e = ap (λ x. cost x e) h in omega (arith, whole, f, high)
-      | inr u ↦ omega (arith, low, f, u, high)
+      | inr u ↦ omega (arith, cost_low p.head e, f, u, high)
     ]
 
 small_from : (layout : FrameLayout) (p : PackState) (es : List Marked) (ms : List ℕ) → Begun p → Goes layout p es ms
@@ -283,13 +273,11 @@ pub no_fewer : (layout : FrameLayout) (es : List Marked) (ms : List ℕ) → IsD
     → (last_number 0 (packing layout es) ≤ last_number 0 ms)
     × (rounds_of layout (packing layout es) ≤ rounds_of layout ms)
 no_fewer layout es ms d =
-    let last : last_number 0 (packing layout es) ≤ last_number 0 ms =
-    last_at_most 0 0 (packing layout es) ms (omega arith) (length-numbers_from layout start es ∙ sym d.each)
-    (packing_at_most layout es ms d) in
+    let last : last_number 0 (packing layout es) ≤ last_number 0 ms = last_at_most 0 0 (packing layout es) ms
+    (omega arith) (length-numbers_from _ start es ∙ sym d.each) (packing_at_most _ es ms d) in
     (last, omega (arith, later_page layout (last_number 0 (packing layout es)) (last_number 0 ms) last))
 
 -- so whatever is true of the greedy numbers is true of the packing
 pub of_packing : (layout : FrameLayout) {A : Type 0} (F : List ℕ → A) (es : List Marked) (ns : List ℕ)
     → IsPacking layout es ns → F (packing layout es) ≡ F ns
-of_packing layout F es ns p = ap F (packing_is_one layout es (packing layout es) ns
-    (greedy_is_packing layout es (small_of layout es ns p.division)) p)
+of_packing layout F es ns p = ap F (packing_is_one _ es _ ns (greedy_is_packing _ es (small_of _ es ns p.division)) p)

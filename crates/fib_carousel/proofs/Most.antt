@@ -110,8 +110,7 @@ Comes layout a b s f i h q = (q.fib ≡ f) ⊎ Further layout a b s f i h q
 -- after an entry with its head an entry costs its size
 cost_alike : (h : Option Head) (k : Head) (m : Marked) → h ≡ Some k → head_of m ≡ k → cost h m ≡ size_of m
 cost_alike h k m e own =
-    let same : cost (Some k) m ≡ size_of m =
-    subst (λ (g : Head). cost (Some g) m ≡ size_of m) own (rw (same_head_own (head_of m)) refl) in
+    let same = subst (λ (g : Head). cost (Some g) m ≡ size_of m) own (rw (same_head_own (head_of m)) refl) in
     ap (λ (g : Option Head). cost g m) e ∙ same
 
 -- a step within a FIB
@@ -128,8 +127,7 @@ further_stays layout a b s f i h m q kind c = record {
         | inr open_ ↦
             elim kind.1 [
               | inl own ↦
-                  let price : cost q.head m ≡ size_of m = cost_alike q.head h m open_.0 own in
-                  inr (ap (λ (g : Head). Some g) own, omega (arith, open_.1, price, kind.0))
+                  inr (ap (λ (g : Head). Some g) own, omega (arith, open_.1, cost_alike q.head h m open_.0 own, kind.0))
               | inr few ↦ inl (omega (arith, cap_small layout a b q.fib few))
             ]
       ];
@@ -146,14 +144,11 @@ passed_over layout a b s h m q holds kind c =
           let two : c.to ≡ suc (suc q.fib) = omega (arith, ge, c.near) in
           elim (cases_lt 0 (cap (used_fibs layout) a b (suc q.fib))) [
             | inl some_left ↦
-                let product : s * 1 ≤ s * cap (used_fibs layout) a b (suc q.fib) = mul-le-mul_left s some_left in
                 let fits : 2 + size_of m ≤ room layout (suc q.fib) =
-                omega (arith, holds (suc q.fib) some_left, kind.0, product) in
+                omega (arith, holds (suc q.fib) some_left, kind.0, mul-le-mul_left s some_left) in
                 absurd (omega (arith, c.first (suc q.fib) (omega arith) fits, two))
             | inr none_left ↦
-                let none : total (used_fibs layout) a b (suc (suc q.fib)) ≡ total (used_fibs layout) a b (suc q.fib) =
-                omega (arith, none_left) in
-                ap (λ k. total (used_fibs layout) a b k) two ∙ none
+                ap (λ k. total (used_fibs layout) a b k) two ∙ (omega (arith, none_left))
           ]
     ]
 
@@ -171,8 +166,7 @@ left_full layout a b s f i h m q holds kind c d =
                 elim (cases_lt d.count (cap (used_fibs layout) a b q.fib)) [
                   | inl lt ↦
                       let product : s * suc d.count ≤ s * cap (used_fibs layout) a b q.fib = mul-le-mul_left s lt in
-                      let some_left : 1 ≤ cap (used_fibs layout) a b q.fib = omega (arith, lt) in
-                      absurd (omega (arith, holds q.fib some_left, product, c.full, price, kind.0, open_.1))
+                      absurd (omega (arith, holds q.fib (omega (arith, lt)), product, c.full, price, kind.0, open_.1))
                   | inr ge ↦ ge
                 ]
             | inr few ↦ omega (arith, cap_small layout a b q.fib few, d.some)
@@ -183,8 +177,7 @@ further_leaves : (layout : FrameLayout) (a b s f i : ℕ) (h : Head) (m : Marked
     → IsOfKind a b s h m → Comes layout a b s f i h q → (c : Leaves layout m q)
     → Further layout a b s f (suc i) h (opened m c.to)
 further_leaves layout a b s f i h m q holds kind comes c =
-    let passed : total (used_fibs layout) a b c.to ≡ total (used_fibs layout) a b q.fib
-    + cap (used_fibs layout) a b q.fib = passed_over layout a b s h m q holds kind c in
+    let passed = passed_over layout a b s h m q holds kind c in
     record {
       above = elim comes [ inl e ↦ omega (arith, e, c.above) | inr d ↦ omega (arith, d.above, c.above) ];
       count = 1;
@@ -227,8 +220,7 @@ comes_all : (layout : FrameLayout) (a b s f i : ℕ) (h : Head) (ms : List Marke
 comes_all layout a b s f i h [] q holds kinds comes = let same : i + 0 ≡ i = omega arith in
     subst (λ n. Comes layout a b s f n h q) (sym same) comes
 comes_all layout a b s f i h (m ∷ ms) q holds kinds comes =
-    let same : i + suc (length ms) ≡ suc i + length ms = omega arith in
-    subst (λ n. Comes layout a b s f n h (behind layout (placed layout m q) ms)) (sym same)
+    subst (λ n. Comes layout a b s f n h (behind layout (placed layout m q) ms)) (sym (omega arith))
     (comes_all layout a b s f (suc i) h ms (placed layout m q) holds kinds.1
     (comes_step layout a b s f i h m q holds kinds.0 comes))
 
@@ -406,20 +398,16 @@ facts_phase : (layout : FrameLayout) (c : Configuration) (next : Bool) (p : Pack
 facts_phase layout c next p h =
     let first : PackState = behind layout p (subs_entries c next) in
     let second : PackState = behind layout first (services_only c next) in
-    let one : first.fib ≤ p.fib + subs_most (used_fibs layout) = subs_phase layout c next p h in
     let two : second.fib ≤ first.fib + services_most (used_fibs layout) =
     services_phase layout c next first (services_most (used_fibs layout)) (services_enough layout first.fib) h in
-    let three : (behind layout second (packets_only c next)).fib ≤ second.fib + packets_most (used_fibs layout) =
-    packets_phase layout c next second h in
     subst (λ (q : PackState). q.fib ≤ p.fib + facts_most (used_fibs layout)) (sym (facts_walk layout c next p))
-    (omega (arith, one, two, three))
+    (omega (arith, subs_phase layout c next p h, two, packets_phase layout c next second h))
 
 -- with four FIBs to a page one FIB fewer from the start
 facts_first : (c : Configuration) → IsConfiguration c → (behind (Whole III) start (facts_of c false)).fib ≤ 109
 facts_first c h =
     let first : PackState = behind (Whole III) start (subs_entries c false) in
     let second : PackState = behind (Whole III) first (services_only c false) in
-    let one : first.fib ≤ 0 + 10 = subs_phase (Whole III) c false start h in
     let two : second.fib ≤ 95 =
     elim (cases_lt first.fib 10) [
       | inl lt ↦ omega (
@@ -429,7 +417,7 @@ facts_first c h =
             h,
       )
       | inr ge ↦
-          let at : first.fib ≡ 10 = omega (arith, ge, one) in
+          let at : first.fib ≡ 10 = omega (arith, ge, subs_phase (Whole III) c false start h) in
           omega (
             arith,
             at,
@@ -437,8 +425,7 @@ facts_first c h =
                 (subst (λ f. Suffices (Whole III) 0 1 85 f) (sym at) services_behind_ten) h,
           )
     ] in
-    let three : (behind (Whole III) second (packets_only c false)).fib ≤ second.fib + 14 =
-    packets_phase (Whole III) c false second h in
+    let three = packets_phase (Whole III) c false second h in
     subst (λ (q : PackState). q.fib ≤ 109) (sym (facts_walk (Whole III) c false start)) (omega (arith, two, three))
 
 last_behind : (layout : FrameLayout) (p : PackState) (ms : List Marked)

@@ -4,7 +4,7 @@ use Rattle.fib_carousel.proofs.Words.{Contains-append_cases, FrameLayout, List, 
 use Rattle.fib_carousel.proofs.Words.{entries_in_fib, entries_where, eq-eqb, false, fib_entries, fibs_of_page}
 use Rattle.fib_carousel.proofs.Words.{first_fib, flat_map, if◌then◌else◌, inl, inr, last_number, le-leb, le-ltb, length}
 use Rattle.fib_carousel.proofs.Words.{lt-leb, lt-ltb, nat_le, nat_lt, ne_eqb, packing, page_entries, pages_below}
-use Rattle.fib_carousel.proofs.Words.{range_with_len, refl, rounds, start, subst, suc, sym, true, used_fibs, zero, ℕ}
+use Rattle.fib_carousel.proofs.Words.{range_with_len, refl, rounds, start, suc, sym, true, used_fibs, zero, ℕ}
 use Rattle.fib_carousel.proofs.Widths.{some_fibs, no_page, next_page, in_its_page, before_its_page, behind_its_page}
 use Rattle.fib_carousel.proofs.Widths.{later_page, within_its_page}
 use Rattle.fib_carousel.proofs.Least.{numbers_rise, length-numbers_from}
@@ -29,8 +29,7 @@ none_up_to : (test : ℕ → Bool) (top : ℕ) → ((m : ℕ) → m ≤ top → 
 none_up_to test top f k [] ns r l = refl
 none_up_to test top f k (e ∷ es) [] r l = refl
 none_up_to test top f k (e ∷ es) (n ∷ ns) r l =
-    let more : n ≤ last_number n ns = last_rises n ns r.1 in
-    rw (f n (omega (arith, more, l))) (none_up_to test top f n es ns r.1 l)
+    rw (f n (omega (arith, last_rises n ns r.1, l))) (none_up_to test top f n es ns r.1 l)
 
 all_up_to : (test : ℕ → Bool) (top : ℕ) → ((m : ℕ) → m ≤ top → test m ≡ true) → (k : ℕ) (es : List Marked) (ns : List ℕ)
     → NeverFalls k ns → last_number k ns ≤ top → length ns ≡ length es → entries_where test es ns ≡ es
@@ -51,13 +50,11 @@ pub join_where : (first second both : ℕ → Bool) (at : ℕ) → Splits first 
 join_where first second both at s k [] ns r = refl
 join_where first second both at s k (e ∷ es) [] r = refl
 join_where first second both at s k (e ∷ es) (n ∷ ns) r =
-    let again : entries_where first es ns ++ entries_where second es ns ≡ entries_where both es ns =
-    join_where first second both at s n es ns r.1 in
+    let again = join_where first second both at s n es ns r.1 in
     elim (cases_lt n at) [
       | inl lt ↦ rw ((s.low n lt).0, (s.low n lt).1) (by (both n) again)
       | inr ge ↦
-          let none : entries_where first es ns ≡ [] =
-          none_where first n (λ m l. (s.high m (omega (arith, ge, l))).0) es ns r.1 in
+          let none = none_where first n (λ m l. (s.high m (omega (arith, ge, l))).0) es ns r.1 in
           rw ((s.high n ge).0, (s.high n ge).1, none)
           (ap (λ xs. if both n then e ∷ xs else xs)
           (ap (λ ys. ys ++ entries_where second es ns) (sym none) ∙ again))
@@ -96,9 +93,8 @@ page_splits layout k =
 below_is_where : (layout : FrameLayout) (k : ℕ) (es : List Marked)
     → pages_below layout k es ≡ entries_where (λ m. nat_lt m (first_fib layout k)) es (packing layout es)
 below_is_where layout zero es =
-    let none : first_fib layout 0 ≡ 0 = no_page layout in
     sym (none_where (λ m. nat_lt m (first_fib layout 0)) 0
-    (λ m h. le-ltb m (first_fib layout 0) (omega (arith, h, none))) es (packing layout es)
+    (λ m h. le-ltb m (first_fib layout 0) (omega (arith, h, no_page layout))) es (packing layout es)
     (packing_rises layout es))
 below_is_where layout (suc k) es =
     ap (λ xs. xs ++ page_entries layout k es) (below_is_where layout k es)
@@ -134,8 +130,7 @@ in_some_page layout (suc k) es e h =
 
 pub each_in_a_page : (layout : FrameLayout) (es : List Marked) (e : Marked) → Contains es e → (k : ℕ)
     × (k < rounds layout es) × Contains (page_entries layout k es) e
-each_in_a_page layout es e h =
-    in_some_page layout (rounds layout es) es e (subst (λ xs. Contains xs e) (sym (pages_are_all layout es)) h)
+each_in_a_page layout es e h = in_some_page layout (rounds layout es) es e (rw (pages_are_all layout es) h)
 
 -- the numbers of some successive FIBs, from n on
 abbrev in_span : ℕ → ℕ → ℕ → Bool

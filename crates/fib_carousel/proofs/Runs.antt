@@ -36,11 +36,10 @@ step_stays layout s fib used fits = rw (same_head_own s.head, le-leb (used + s.s
 step_leaves : (layout : FrameLayout) (s : EntryShape) (fib used : ℕ) → s.size ≤ 21 → room layout fib < used + s.size
     → step layout s (state_at s fib used) ≡ state_at s (fib + 1) (2 + s.size)
 step_leaves layout s fib used small full =
-    let next : 2 + s.size ≤ room layout (fib + 1) = omega (arith, small, room_low layout (fib + 1)) in
     rw (
       same_head_own s.head,
       lt-leb (used + s.size) (room layout fib) full,
-      le-leb (2 + s.size) (room layout (fib + 1)) next,
+      le-leb (2 + s.size) (room layout (fib + 1)) (omega (arith, small, room_low layout (fib + 1))),
     ) refl
 
 steps_add : (layout : FrameLayout) (s : EntryShape) (m n : ℕ) (p : PackState)
@@ -57,9 +56,8 @@ run_fits layout s fib used (suc n) fits =
     let more : suc n * s.size ≡ s.size + n * s.size = omega arith in
     let first : used + s.size ≤ room layout fib = omega (arith, fits, more) in
     let others : used + s.size + n * s.size ≤ room layout fib = omega (arith, fits, more) in
-    let whole : used + s.size + n * s.size ≡ used + suc n * s.size = omega (arith, more) in
     ap (steps layout s n) (step_stays layout s fib used first) ∙ run_fits layout s fib (used + s.size) n others
-    ∙ ap (state_at s fib) whole
+    ∙ ap (state_at s fib) (omega (arith, more))
 
 -- as many entries as fit, and the next one in the next FIB
 pub run_leaves : (layout : FrameLayout) (s : EntryShape) (fib used fit left : ℕ) → s.size ≤ 21
@@ -89,8 +87,7 @@ pub run_done : (layout : FrameLayout) (s : EntryShape) (p : PackState) (n fit : 
     × (steps layout s n p ≡ record { fib = p.fib; used = p.used + n * s.size; head = p.head })
 run_done layout s p n fit h some is few =
     let low : n ≤ (room layout p.fib - p.used) / s.size = omega (arith, is, few) in
-    let within : n * s.size ≤ room layout p.fib - p.used = (le-div_iff_mul-le some).0 low in
-    let fits : p.used + n * s.size ≤ room layout p.fib = omega (arith, within, h.used) in (
+    let fits : p.used + n * s.size ≤ room layout p.fib = omega (arith, (le-div_iff_mul-le some).0 low, h.used) in (
       fits,
       ap (λ (q : PackState). steps layout s n q) (as_state layout s p h) ∙ run_fits layout s p.fib p.used n fits
           ∙ ap (λ (g : Option Head). let q : PackState = record { fib = p.fib; used = p.used + n * s.size; head = g } in

@@ -4,7 +4,7 @@ use Rattle.fib_carousel.proofs.Words.{Bool, Configuration, Entry, EntryShape, Is
 use Rattle.fib_carousel.proofs.Words.{IsShapeAt, List, Marked, Packet, PutsRun, Service, Some, Sub, TakesRuns, ap}
 use Rattle.fib_carousel.proofs.Words.{append-nil, append_assoc, arith, config_entries, drop, drop-append-add}
 use Rattle.fib_carousel.proofs.Words.{drop-append-le, drop-map, entries_bytes, entry_bytes, entry_size, facts_of, false}
-use Rattle.fib_carousel.proofs.Words.{get_or_from_slice_get, head_of, is_long_entry, length, length-append, length-drop}
+use Rattle.fib_carousel.proofs.Words.{get_or_from_slice_get, is_long_entry, length, length-append, length-drop}
 use Rattle.fib_carousel.proofs.Words.{length-map, length-take-le, map, marked, marked_bytes, packet_entry, packet_shape}
 use Rattle.fib_carousel.proofs.Words.{piece, refl, service_entry, shape_of, size_of, slice_get, slice_get_within}
 use Rattle.fib_carousel.proofs.Words.{sub_entry, sub_shape, subst, suc, sym, take, take-append-le, take-map, ℕ}
@@ -70,13 +70,12 @@ packets_piece c next i n =
 pub facts_length : (c : Configuration) (next : Bool) → length (facts_of c next) ≡ length c.subs
     + (length c.services + length c.packets)
 facts_length c next =
-    let subs : List Entry = map sub_entry c.subs in
     let services : List Entry = map service_entry c.services in
     let packets : List Entry = map packet_entry c.packets in
     omega (
       arith,
       length-map (config_entries c) (marked next),
-      length-append subs (services ++ packets),
+      length-append (map sub_entry c.subs) (services ++ packets),
       length-append services packets,
       length-map c.subs sub_entry,
       length-map c.services service_entry,
@@ -101,26 +100,23 @@ pub subs_run : (c : Configuration) (next : Bool) (i n : ℕ) → i + n ≤ lengt
     → IsRun (facts_of c next) i n (sub_shape next)
 subs_run c next i n h = record {
   inside = omega (arith, h, facts_length c next);
-  alike = subst (λ (ms : List Marked). AreAlike (sub_shape next) ms) (sym (subs_piece c next i n h))
-      (subs_alike next (take n (drop i c.subs)));
+  alike = rw (subs_piece c next i n h) (subs_alike next (take n (drop i c.subs)));
 }
 
 pub packets_run : (c : Configuration) (next : Bool) (i n : ℕ) → i + n ≤ length c.packets
     → IsRun (facts_of c next) (length c.subs + (length c.services + i)) n (packet_shape next)
 packets_run c next i n h = record {
   inside = omega (arith, h, facts_length c next);
-  alike = subst (λ (ms : List Marked). AreAlike (packet_shape next) ms) (sym (packets_piece c next i n))
-      (packets_alike next (take n (drop i c.packets)));
+  alike = rw (packets_piece c next i n) (packets_alike next (take n (drop i c.packets)));
 }
 
 -- ---- runs put into a FIB
 pub first_size : (ms : List Marked) (i n : ℕ) (s : EntryShape) (room : ℕ) (d : Marked) → IsRun ms i n s → 1 ≤ n
     → ((m : Marked) → slice_get ms i ≡ Some m → size_of m ≤ room) → s.size ≤ room
 first_size ms i n s room d r some fits =
-    let at : i + 0 ≡ i = omega arith in
     let first = in_run ms i n s d r 0 (omega (arith, some)) in
     let size : size_of first.entry ≡ s.size = ap (λ (t : EntryShape). t.size) first.shape in
-    omega (arith, size, fits first.entry (ap (λ j. slice_get ms j) (sym at) ∙ first.here))
+    omega (arith, size, fits first.entry (ap (λ j. slice_get ms j) (sym (omega arith)) ∙ first.here))
 
 pub run_put : (ms : List Marked) (i n room : ℕ) (old new : List ℕ) (s : EntryShape) → IsRun ms i n s → 1 ≤ n
     → n * s.size ≤ room → new ≡ old ++ marked_bytes (piece ms i n)
@@ -182,9 +178,7 @@ service_formed c i x is here =
 pub service_shaped : (next : Bool) (x : Service) (s : EntryShape) → s.head.next ≡ next → s.head.oe ≡ false
     → s.head.long ≡ is_long_entry (service_entry x) → s.head.ext ≡ 2 → s.size ≡ entry_size (service_entry x)
     → shape_of (marked next (service_entry x)) ≡ s
-service_shaped next x s n oe long ext size =
-    sym (same_shape s (shape_of (marked next (service_entry x)))
-    (same_fields s.head (head_of (marked next (service_entry x))) n oe long ext) size)
+service_shaped next x s n oe long ext size = sym (same_shape s _ (same_fields _ _ n oe long ext) size)
 
 pub services_run : (c : Configuration) (next : Bool) (i n : ℕ) (s : EntryShape) → i + n ≤ length c.services
     → AreAlike s (marked_all next service_entry (take n (drop i c.services)))
@@ -236,10 +230,8 @@ next_service c next from place room left x s old now le here is alike bytes coun
     let more = alike_more next s c.services from place x le here is alike in
     let n : place + 1 - from ≡ suc (place - from) = omega (arith, le) in
     let times : (place + 1 - from) * s.size ≡ (place - from) * s.size + s.size = ap (λ k. k * s.size) n ∙ omega arith in
-    let within : from + (place + 1 - from) ≤ length c.services = omega (arith, le, there) in
-    let all : length old + (place + 1 - from) * s.size ≤ 30 =
-    takes (place + 1 - from) s (services_run c next from (place + 1 - from) s within more)
-    (omega (arith, times, counts, fits)) in
+    let all : length old + (place + 1 - from) * s.size ≤ 30 = takes (place + 1 - from) s
+    (services_run c next from _ s (omega (arith, le, there)) more) (omega (arith, times, counts, fits)) in
     let part : List Service = take (place - from) (drop from c.services) in
     let count : length (marked_all next service_entry part) ≡ place - from =
     length-map (map service_entry part) (marked next) ∙ length-map part service_entry
@@ -290,19 +282,17 @@ pub subs_done : (c : Configuration) (next : Bool) (index i n room : ℕ) (old ne
     ++ entries_bytes (map sub_entry (take (i + n - i) (drop i c.subs)))
     → (t : EntryShape) → IsShapeAt (facts_of c next) index t → PutsRun (facts_of c next) index t room n old new
 subs_done c next index i n room old new at there some fits bytes =
-    let count : i + n - i ≡ n = omega arith in
     subst (λ j. (t : EntryShape) → IsShapeAt (facts_of c next) j t → PutsRun (facts_of c next) j t room n old new) at
     (subs_put c next i n room old new there some fits (bytes
-    ∙ ap (λ k. old ++ entries_bytes (map sub_entry (take k (drop i c.subs)))) count))
+    ∙ ap (λ k. old ++ entries_bytes (map sub_entry (take k (drop i c.subs)))) (omega arith)))
 
 pub packets_done : (c : Configuration) (next : Bool) (index i n room : ℕ) (old new : List ℕ)
     → index ≡ length c.subs + (length c.services + i) → i + n ≤ length c.packets → 1 ≤ n → n * 5 ≤ room
     → new ≡ old ++ entries_bytes (map packet_entry (take (i + n - i) (drop i c.packets)))
     → (t : EntryShape) → IsShapeAt (facts_of c next) index t → PutsRun (facts_of c next) index t room n old new
 packets_done c next index i n room old new at there some fits bytes =
-    let count : i + n - i ≡ n = omega arith in
     packets_put c next i n room index old new at there some fits
-    (bytes ∙ ap (λ k. old ++ entries_bytes (map packet_entry (take k (drop i c.packets)))) count)
+    (bytes ∙ ap (λ k. old ++ entries_bytes (map packet_entry (take k (drop i c.packets)))) (omega arith))
 
 -- there is room for the first entry, and for as many as fit
 pub subs_room : (c : Configuration) (next : Bool) (index i room : ℕ) (old : List ℕ) → i ≡ index → i < length c.subs
@@ -310,16 +300,12 @@ pub subs_room : (c : Configuration) (next : Bool) (index i room : ℕ) (old : Li
     → TakesRuns (facts_of c next) index room old
     → (4 ≤ room) × ((n : ℕ) → i + n ≤ length c.subs → n * 4 ≤ room → length old + (i + n - i) * 4 ≤ 30)
 subs_room c next index i room old at there first takes =
-    let first' : (m : Marked) → slice_get (facts_of c next) i ≡ Some m → size_of m ≤ room =
-    λ m h. first m (ap (λ j. slice_get (facts_of c next) j) (sym at) ∙ h) in
-    let takes' : TakesRuns (facts_of c next) i room old =
-    subst (λ j. TakesRuns (facts_of c next) j room old) (sym at) takes in
+    let takes' = subst (λ j. TakesRuns (facts_of c next) j room old) (sym at) takes in
     let d : Marked = some_of (facts_of c next) (omega (arith, there, facts_length c next)) in (
       first_size (facts_of c next) i 1 (sub_shape next) room d (subs_run c next i 1 (omega (arith, there)))
-          (omega arith) first',
+          (omega arith) (λ m h. first m (ap (λ j. slice_get (facts_of c next) j) (sym at) ∙ h)),
       λ n h fits.
-          let all : length old + n * 4 ≤ 30 = takes' n (sub_shape next) (subs_run c next i n h) fits in
-          omega (arith, all),
+          omega (arith, takes' n (sub_shape next) (subs_run c next i n h) fits),
     )
 
 pub packets_room : (c : Configuration) (next : Bool) (index i room : ℕ) (old : List ℕ)
@@ -329,16 +315,12 @@ pub packets_room : (c : Configuration) (next : Bool) (index i room : ℕ) (old :
     → (5 ≤ room) × ((n : ℕ) → i + n ≤ length c.packets → n * 5 ≤ room → length old + (i + n - i) * 5 ≤ 30)
 packets_room c next index i room old at there first takes =
     let place : ℕ = length c.subs + (length c.services + i) in
-    let first' : (m : Marked) → slice_get (facts_of c next) place ≡ Some m → size_of m ≤ room =
-    λ m h. first m (ap (λ j. slice_get (facts_of c next) j) at ∙ h) in
-    let takes' : TakesRuns (facts_of c next) place room old =
-    subst (λ j. TakesRuns (facts_of c next) j room old) at takes in
+    let takes' = subst (λ j. TakesRuns (facts_of c next) j room old) at takes in
     let d : Marked = some_of (facts_of c next) (omega (arith, there, facts_length c next)) in (
       first_size (facts_of c next) place 1 (packet_shape next) room d (packets_run c next i 1 (omega (arith, there)))
-          (omega arith) first',
+          (omega arith) (λ m h. first m (ap (λ j. slice_get (facts_of c next) j) at ∙ h)),
       λ n h fits.
-          let all : length old + n * 5 ≤ 30 = takes' n (packet_shape next) (packets_run c next i n h) fits in
-          omega (arith, all),
+          omega (arith, takes' n (packet_shape next) (packets_run c next i n h) fits),
     )
 
 -- the index of an entry after those of the sub-channels, and of one after those of the services too

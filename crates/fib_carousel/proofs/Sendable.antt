@@ -57,17 +57,16 @@ service_small (Long k) n h = (omega (arith, h), omega (arith, h))
 
 sendable_service : (next : Bool) (s : Service) → IsService s → IsSendable (marked next (service_entry s))
 sendable_service next s p =
-    let count : length (component_entries s.components) ≡ length s.components = length-component_entries s.components in
     let small = service_small s.sid (length s.components) p.few in
     record {
       organization = omega arith;
       within = record {
         sid = p.named;
         ca_id = omega arith;
-        few = omega (arith, count, small.0);
+        few = omega (arith, length-component_entries s.components, small.0);
         components = sendable_components s.components p.within;
       };
-      small = omega (arith, count, small.1);
+      small = omega (arith, length-component_entries s.components, small.1);
     }
 
 sendable_packet : (next : Bool) (p : Packet) → IsAddressed p → IsSendable (marked next (packet_entry p))
@@ -87,19 +86,13 @@ sendable_packet next p h = record {
 pub sendable_facts : (c : Configuration) (next : Bool) → IsConfiguration c → AreSendable (facts_of c next)
 sendable_facts c next h =
     let Fine : Entry → Type 0 = λ e. IsSendable (marked next e) in
-    let subs : AllByRecursion Fine (sub_entries c) =
-    each_map sub_entry IsPlaced Fine c.subs (sendable_sub next) h.subs_placed in
-    let services : AllByRecursion Fine (map service_entry c.services) =
-    each_map service_entry IsService Fine c.services (sendable_service next) h.services_formed in
-    let packets : AllByRecursion Fine (map packet_entry c.packets) =
-    each_map packet_entry IsAddressed Fine c.packets (sendable_packet next) h.packets_addressed in
+    let subs = each_map sub_entry IsPlaced Fine c.subs (sendable_sub next) h.subs_placed in
+    let services = each_map service_entry IsService Fine c.services (sendable_service next) h.services_formed in
+    let packets = each_map packet_entry IsAddressed Fine c.packets (sendable_packet next) h.packets_addressed in
     each_map (marked next) Fine IsSendable (sub_entries c ++ service_entries c) (λ e p. p)
-    (AllByRecursion-append Fine (sub_entries c) (service_entries c) subs
-    (AllByRecursion-append Fine (map service_entry c.services) (map packet_entry c.packets) services packets))
+    (AllByRecursion-append Fine _ _ subs (AllByRecursion-append Fine _ _ services packets))
 
 pub sendable_page_set : (c : Configuration) (o : Option Configuration) → IsConfiguration c → IfSome o IsConfiguration
     → AreSendable (page_set c o)
 sendable_page_set c None h n = sendable_facts c false h
-sendable_page_set c (Some d) h n =
-    AllByRecursion-append IsSendable (facts_of c false) (facts_of d true) (sendable_facts c false h)
-    (sendable_facts d true n)
+sendable_page_set c (Some d) h n = AllByRecursion-append _ _ _ (sendable_facts c false h) (sendable_facts d true n)

@@ -1,8 +1,8 @@
 -- The entries of a FIB sent as FIGs.
 use Rattle.fib_carousel.proofs.Words.{[], ◌%◌, ◌+◌, ◌∷◌, ◌≡◌, ◌≤◌, AllByRecursion, AreSendable, AreSmall, Bool}
 use Rattle.fib_carousel.proofs.Words.{EnsembleInformation, Entry, FrameLayout, Head, IsSendable, IsSome, IsUnder}
-use Rattle.fib_carousel.proofs.Words.{IsWritten, List, Marked, None, Option, Some, Written, ap, arith, eq-eqb, ext_of}
-use Rattle.fib_carousel.proofs.Words.{false, fib_entries, figs_of, figs_size, head_of, inl, inr, refl, room, same_flag}
+use Rattle.fib_carousel.proofs.Words.{IsWritten, List, Marked, None, Option, Some, Written, ap, arith, eq-eqb, false}
+use Rattle.fib_carousel.proofs.Words.{fib_entries, figs_of, figs_size, head_of, inl, inr, refl, room, same_flag}
 use Rattle.fib_carousel.proofs.Words.{same_head, subst, true, used_fibs, with_entry_first, ℕ}
 use Rattle.mux_types.specs.declared.entry.Entry.TheVariants.{Ensemble as EnsembleOf, Sub as SubOf, Short as ShortOf}
 use Rattle.mux_types.specs.declared.entry.Entry.TheVariants.{Service as ServiceOf, Packet as PacketOf}
@@ -52,20 +52,17 @@ written_joined m (f ∷ fs) h w = by (same_head (head_of m) f.head) refl
     by true e =
         let same : head_of m ≡ f.head = same_head_is (head_of m) f.head e in
         let under : IsUnder f.head m.entry = subst (λ (g : Head). IsUnder g m.entry) same (under_own m) in
-        let ext : ext_of m.entry ≡ f.head.ext = ap (λ (g : Head). g.ext) same in
         let first : IsWritten (written_of f.head (m.entry ∷ f.entries)) = record {
           formed = record {
             some = omega arith;
             under = (under, w.0.formed.under);
-            alone = λ z. absurd (omega (arith, z, ext, h.organization));
+            alone = λ z. absurd (omega (arith, z, ap (λ (g : Head). g.ext) same, h.organization));
           };
           within = (h.within, w.0.within);
         } in
-        let all : AllByRecursion IsWritten (written_of f.head (m.entry ∷ f.entries) ∷ fs) = (first, w.1) in
-        rw e all
+        rw e (first, w.1)
     by false e =
-        let all : AllByRecursion IsWritten (written_of (head_of m) (m.entry ∷ []) ∷ f ∷ fs) = (written_one m h, w) in
-        rw e all
+        rw e (written_one m h, w)
 
 pub written_figs : (ms : List Marked) → AreSendable ms → AllByRecursion IsWritten (figs_of ms)
 written_figs [] h = tt

@@ -1,5 +1,5 @@
 -- Successive entries with the same head in one FIG, from the front.
-use Rattle.fib_carousel.proofs.Words.{[], ◌&&◌, ◌+◌, ◌==◌, ◌∙◌, ◌∷◌, ◌≡◌, Bool, Entry, Head, List, Marked, None, Some}
+use Rattle.fib_carousel.proofs.Words.{[], ◌&&◌, ◌+◌, ◌==◌, ◌∙◌, ◌∷◌, ◌≡◌, Bool, Entry, Head, List, Marked, None}
 use Rattle.fib_carousel.proofs.Words.{Written, ap, arith, entry_length, eqb-true, false, figs_bytes, figs_of, figs_size}
 use Rattle.fib_carousel.proofs.Words.{head_of, if◌then◌else◌, length, length-append, refl, run_of, same_flag, same_head}
 use Rattle.fib_carousel.proofs.Words.{size_of, sym, true, with_entry_first, ℕ, and_parts}
@@ -57,11 +57,7 @@ figs_front m (n ∷ ns) =
         (sym (same_head_is (head_of m) (head_of n) h)) in
         rw h whole
     front false h again =
-        let whole : written_of (head_of m) (m.entry ∷ []) ∷ written_of (head_of n) (n.entry ∷ run_of (head_of n) ns)
-        ∷ figs_of (after_run (head_of n) ns)
-        ≡ written_of (head_of m) (m.entry ∷ []) ∷ figs_of (n ∷ ns) =
-        ap (λ fs. written_of (head_of m) (m.entry ∷ []) ∷ fs) (sym again) in
-        rw h whole
+        rw h (ap (λ fs. written_of (head_of m) (m.entry ∷ []) ∷ fs) (sym again))
 
 -- the FIGs take the bytes that their entries cost
 joined_length : (b : Bool) (m : Marked) (h : Head) (es : List Entry) (fs : List Written)
@@ -80,13 +76,6 @@ pub figs_cost : (ms : List Marked) → length (figs_bytes (figs_of ms)) ≡ figs
 figs_cost [] = refl
 figs_cost (m ∷ []) = simp length-append (omega (arith, entry_length m.entry))
 figs_cost (m ∷ (n ∷ ns)) =
-    let again : length (figs_bytes (figs_of (n ∷ ns))) ≡ 2 + size_of n + figs_size (Some (head_of n)) ns =
-    figs_cost (n ∷ ns) in
-    let first : length (figs_bytes (written_of (head_of n) (n.entry ∷ run_of (head_of n) ns)
-    ∷ figs_of (after_run (head_of n) ns))) ≡ 2 + size_of n + figs_size (Some (head_of n)) ns =
-    ap (λ fs. length (figs_bytes fs)) (sym (figs_front n ns)) ∙ again in
-    ap (λ fs. length (figs_bytes (with_entry_first m fs))) (figs_front n ns)
-    ∙ joined_length (same_head (head_of m) (head_of n)) m (head_of n) (n.entry ∷ run_of (head_of n) ns)
-    (figs_of (after_run (head_of n) ns))
-    ∙ ap (λ k. (if same_head (head_of m) (head_of n) then size_of m else 2 + size_of m) + k) first
-    ∙ shared_cost (same_head (head_of m) (head_of n)) (size_of m) (size_of n) (figs_size (Some (head_of n)) ns)
+    let first = ap (λ fs. length (figs_bytes fs)) (sym (figs_front n ns)) ∙ (figs_cost (n ∷ ns)) in
+    ap (λ fs. length (figs_bytes (with_entry_first m fs))) (figs_front n ns) ∙ joined_length _ m _ _ _ ∙ ap
+    (λ k. (if same_head (head_of m) (head_of n) then size_of m else 2 + size_of m) + k) first ∙ shared_cost _ _ _ _

@@ -18,16 +18,14 @@ marked_at c next place e h = slice_get-map (marked next) (config_entries c) plac
 front_get : {A : Type 0} (xs ys : List A) (i : ℕ) (x : A) → slice_get xs i ≡ Some x → slice_get (xs ++ ys) i ≡ Some x
 front_get xs ys i x h =
     let within : i < length xs = slice_get_within xs i x h in
-    let both : length (xs ++ ys) ≡ length xs + length ys = length-append xs ys in
-    slice_get_read (xs ++ ys) (length (xs ++ ys)) i x refl (omega (arith, within, both))
+    slice_get_read (xs ++ ys) (length (xs ++ ys)) i x refl (omega (arith, within, length-append xs ys))
     (sym (get_or_append_left xs ys x i within ∙ get_or_from_slice_get xs i x x h))
 
 behind_get : {A : Type 0} (xs ys : List A) (i : ℕ) (x : A) → length xs ≤ i → slice_get ys (i - length xs) ≡ Some x
     → slice_get (xs ++ ys) i ≡ Some x
 behind_get xs ys i x le h =
     let within : i - length xs < length ys = slice_get_within ys (i - length xs) x h in
-    let both : length (xs ++ ys) ≡ length xs + length ys = length-append xs ys in
-    slice_get_read (xs ++ ys) (length (xs ++ ys)) i x refl (omega (arith, within, both, le))
+    slice_get_read (xs ++ ys) (length (xs ++ ys)) i x refl (omega (arith, within, length-append xs ys, le))
     (sym (get_or-append_right xs ys i x le ∙ get_or_from_slice_get ys (i - length xs) x x h))
 
 -- ---- runs of the entries of one side
@@ -38,9 +36,7 @@ run_front xs ys i n s r = record {
 }
 
 behind_piece : (xs ys : List Marked) (i n : ℕ) → length xs ≤ i → piece (xs ++ ys) i n ≡ piece ys (i - length xs) n
-behind_piece xs ys i n le =
-    let at : i ≡ length xs + (i - length xs) = omega (arith, le) in
-    ap (λ j. piece (xs ++ ys) j n) at ∙ piece_behind xs ys (i - length xs) n
+behind_piece xs ys i n le = ap (λ j. piece (xs ++ ys) j n) (omega (arith, le)) ∙ piece_behind xs ys _ n
 
 run_behind : (xs ys : List Marked) (i n : ℕ) (s : EntryShape) → length xs ≤ i → IsRun ys (i - length xs) n s
     → IsRun (xs ++ ys) i n s
@@ -81,9 +77,7 @@ pub next_side : (c d : Configuration) (next : Option Configuration) (count i : �
     → count ≡ length (config_entries c) → count ≤ i → OneSide (page_set c next) (facts_of d true) i (i - count)
 next_side c d next count i is same le =
     let long : length (facts_of c false) ≡ count = length-map (config_entries c) (marked false) ∙ sym same in
-    subst (λ (o : Option Configuration). OneSide (page_set c o) (facts_of d true) i (i - count)) (sym is)
-    (subst (λ k. OneSide (facts_of c false ++ facts_of d true) (facts_of d true) i (i - k)) long
-    (behind_side (facts_of c false) (facts_of d true) i (omega (arith, long, le))))
+    rw is (rw (← long) (behind_side (facts_of c false) (facts_of d true) i (omega (arith, long, le))))
 
 pub side_takes : (all side : List Marked) (i j room : ℕ) (old : List ℕ) → OneSide all side i j
     → TakesRuns all i room old → TakesRuns side j room old
@@ -94,8 +88,7 @@ pub side_puts : (all side : List Marked) (i j room n : ℕ) (old new : List ℕ)
     → (s : EntryShape) → IsShapeAt all i s → PutsRun all i s room n old new
 side_puts all side i j room n old new o there puts s at =
     let here : slice_get side j ≡ Some (get_or side j at.entry) = slice_get-get_or side j at.entry there in
-    let same : at.entry ≡ get_or side j at.entry =
-    same_there all i at.entry (get_or side j at.entry) at.here (o.get (get_or side j at.entry) here) in
+    let same = same_there all i at.entry (get_or side j at.entry) at.here (o.get (get_or side j at.entry) here) in
     let p = puts s (record {
       entry = get_or side j at.entry;
       here = here;
@@ -113,7 +106,5 @@ pub next_within : (c d : Configuration) (next : Option Configuration) (count i :
     → count ≡ length (config_entries c) → count ≤ i → i < length (page_set c next)
     → i - count < length (facts_of d true)
 next_within c d next count i is same le inside =
-    let long : length (facts_of c false) ≡ count = length-map (config_entries c) (marked false) ∙ sym same in
-    let all : length (page_set c next) ≡ length (facts_of c false) + length (facts_of d true) =
-    ap (λ o. length (page_set c o)) is ∙ length-append (facts_of c false) (facts_of d true) in
-    omega (arith, inside, all, long, le)
+    let all = ap (λ o. length (page_set c o)) is ∙ length-append (facts_of c false) (facts_of d true) in
+    omega (arith, inside, all, length-map (config_entries c) (marked false) ∙ sym same, le)

@@ -88,26 +88,19 @@ divides_from layout p (e ∷ es) [] u g = absurd g
 divides_from layout p (e ∷ es) (m ∷ ms) u g =
     elim g [
       | inl s ↦
-          let fits : p.used + cost p.head e ≤ room layout p.fib =
-          subst (λ k. p.used + cost p.head e ≤ room layout k) s.0 s.1 in
+          let fits = subst (λ k. p.used + cost p.head e ≤ room layout k) s.0 s.1 in
           let d : Divides layout (extended e p) es ms = divides_from layout (extended e p) es ms fits s.2 in
-          let tail : p.used + cost p.head e + figs_size (Some (head_of e)) (entries_in_fib p.fib es ms)
-          ≤ room layout p.fib = d.here in
-          let whole : p.used + (cost p.head e + figs_size (Some (head_of e)) (entries_in_fib p.fib es ms))
-          ≤ room layout p.fib = omega (arith, tail) in
+          let tail = d.here in
           record {
             each = omega (arith, d.each);
             rising = (omega (arith, s.0), subst (λ k. NeverFalls k ms) (sym s.0) d.rising);
-            here = subst (λ xs. p.used + figs_size p.head xs ≤ room layout p.fib)
-                (sym (in_fib_same p.fib m e es ms s.0)) whole;
-            later = λ n h. subst (λ xs. figs_size None xs ≤ room layout n)
-                (sym (in_fib_other n m e es ms (λ q. omega (arith, h, q, s.0)))) (d.later n h);
+            here = rw (in_fib_same p.fib m e es ms s.0) (omega (arith, tail));
+            later = λ n h. rw (in_fib_other n m e es ms (λ q. omega (arith, h, q, s.0))) (d.later n h);
           }
       | inr s ↦
           let d : Divides layout (opened e m) es ms = divides_from layout (opened e m) es ms s.1 s.2 in
           let tail : 2 + size_of e + figs_size (Some (head_of e)) (entries_in_fib m es ms) ≤ room layout m = d.here in
-          let none : figs_size p.head (entries_in_fib p.fib es ms) ≡ 0 =
-          figs_size_past p.head p.fib m es ms s.0 d.rising in
+          let none = figs_size_past p.head p.fib m es ms s.0 d.rising in
           let none_first : figs_size p.head (entries_in_fib p.fib (e ∷ es) (m ∷ ms)) ≡ 0 =
           ap (λ xs. figs_size p.head xs) (in_fib_other p.fib m e es ms (λ q. omega (arith, q, s.0))) ∙ none in
           record {
@@ -155,9 +148,7 @@ division_from layout es ms g =
           elim (cases_lt 0 n) [
             | inl lt ↦ d.later n lt
             | inr ge ↦
-                let first : 0 + figs_size None (entries_in_fib 0 es ms) ≤ room layout 0 = d.here in
-                let first_fits : figs_size None (entries_in_fib 0 es ms) ≤ room layout 0 = omega (arith, first) in
-                let at : 0 ≡ n = omega (arith, ge) in
-                subst (λ k. figs_size None (entries_in_fib k es ms) ≤ room layout k) at first_fits
+                let first_fits : figs_size None (entries_in_fib 0 es ms) ≤ room layout 0 = omega (arith, d.here) in
+                subst (λ k. figs_size None (entries_in_fib k es ms) ≤ room layout k) (omega (arith, ge)) first_fits
           ];
     }

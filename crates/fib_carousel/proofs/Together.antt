@@ -32,14 +32,11 @@ pub record InRun (ms : List Marked) (at : ℕ) (s : EntryShape) : Type 0 where
 pub in_run : (ms : List Marked) (i n : ℕ) (s : EntryShape) (d : Marked) → IsRun ms i n s → (j : ℕ) → j < n
     → InRun ms (i + j) s
 in_run ms i n s d r j lt =
-    let long : length (drop i ms) ≡ length ms - i = length-drop i ms in
-    let count : length (piece ms i n) ≡ n = length-take-le n (drop i ms) (omega (arith, long, r.inside)) in
-    let is : get_or (piece ms i n) j d ≡ get_or ms (i + j) d =
-    get_or-take n (drop i ms) j d lt ∙ get_or-drop i ms j d in
+    let count : length (piece ms i n) ≡ n = length-take-le n (drop i ms) (omega (arith, length-drop i ms, r.inside)) in
     record {
       entry = get_or ms (i + j) d;
       here = slice_get-get_or ms (i + j) d (omega (arith, r.inside, lt));
-      shape = subst (λ (m : Marked). shape_of m ≡ s) is
+      shape = subst (λ (m : Marked). shape_of m ≡ s) (get_or-take n (drop i ms) j d lt ∙ get_or-drop i ms j d)
           (AllByRecursion-at (λ m. shape_of m ≡ s) (piece ms i n) j d r.alike (omega (arith, count, lt)));
     }
 
@@ -181,14 +178,11 @@ behind_all old after here rest fig s more f headed alike sized =
     ap (λ xs. slice_index_or xs fig.place 0) is
     ∙ ap (λ n. slice_index_or (front ++ (1 + length own) ∷ head_byte fig.head ∷ (own ++ b)) n 0) last.place
     ∙ get_or-append_seam front (1 + length own) (head_byte fig.head ∷ (own ++ b)) 0 in
-    let long : length b ≡ more = run_length s rest alike ∙ sym sized in
     let whole : entries_bytes es ≡ own ++ b = flat_map-append entry_bytes last.entries tail in
     let count : slice_index_or bytes fig.place 0 + more ≡ 1 + length (entries_bytes es) =
-    omega (arith, byte, long, ap length whole, length-append own b) in
-    let total : length bytes ≡ length front + length ((1 + length own) ∷ head_byte fig.head ∷ (own ++ b)) =
-    ap length is ∙ length-append front ((1 + length own) ∷ head_byte fig.head ∷ (own ++ b)) in
-    let figs : figs_of (here ++ rest) ≡ last.before ++ written_of fig.head es ∷ [] =
-    figs_run here rest last.before fig.head last.entries s headed alike last.figs in
+    omega (arith, byte, run_length s rest alike ∙ sym sized, ap length whole, length-append own b) in
+    let total = ap length is ∙ length-append front ((1 + length own) ∷ head_byte fig.head ∷ (own ++ b)) in
+    let figs = figs_run here rest last.before fig.head last.entries s headed alike last.figs in
     record {
       place = omega (arith, last.place, total);
       filled = record {
@@ -205,7 +199,7 @@ behind_all old after here rest fig s more f headed alike sized =
             ∙ ap (λ fs. old ++ figs_bytes fs) (sym figs);
         end = record { before = last.before; entries = es; figs = figs; place = last.place };
       };
-      byte = omega (arith, byte, long, total, length-append own b);
+      byte = omega (arith, byte, run_length s rest alike ∙ sym sized, total, length-append own b);
     }
 
 -- ---- a run put into FIB n
@@ -230,8 +224,7 @@ pub run_shape : (ms : List Marked) (i n : ℕ) (shape s : EntryShape) → IsShap
 run_shape ms i n shape s sh r some =
     let first : InRun ms (i + 0) s = in_run ms i n s sh.entry r 0 (omega (arith, some)) in
     let at : i + 0 ≡ i = omega arith in
-    let same : sh.entry ≡ first.entry =
-    same_there ms i sh.entry first.entry sh.here (ap (λ j. slice_get ms j) (sym at) ∙ first.here) in
+    let same = same_there ms i sh.entry first.entry sh.here (ap (λ j. slice_get ms j) (sym at) ∙ first.here) in
     same_shape shape (shape_of sh.entry) sh.head sh.size ∙ ap shape_of same ∙ first.shape
 
 -- the FIB after a run
@@ -255,14 +248,11 @@ run_in layout ms n old bytes mid c e d last fig shape sh en w g k go =
     let rest : List Marked = take k (drop (c.index + 1) ms) in
     let cut : piece ms c.index (suc k) ≡ m ∷ rest = ap (λ xs. take (suc k) xs) en.step.row in
     let after : List ℕ = mid ++ entry_bytes m.entry in
-    let one : IsFilled old (here ++ m ∷ []) (Some fig) after =
-    (put_step layout ms n old bytes mid c e last fig shape sh en w g).filled after refl in
+    let one = (put_step layout ms n old bytes mid c e last fig shape sh en w g).filled after refl in
     let alike : AreAlike shape (m ∷ rest) = subst (λ (xs : List Marked). AreAlike shape xs) cut go.run.alike in
-    let count : length rest ≡ k =
-    length-take-le k (drop (c.index + 1) ms) (omega (arith, length-drop (c.index + 1) ms, go.run.inside)) in
-    let sized : k * shape.size ≡ length rest * shape.size = ap (λ j. j * shape.size) (sym count) in
+    let count = length-take-le k (drop (c.index + 1) ms) (omega (arith, length-drop (c.index + 1) ms, go.run.inside)) in
     let b = behind_all old after (here ++ m ∷ []) rest fig shape (k * shape.size) one
-    (grown_head last shape bytes mid fig g) alike.1 sized in
+    (grown_head last shape bytes mid fig g) alike.1 (ap (λ j. j * shape.size) (sym count)) in
     let with_entry_first : after ++ marked_bytes rest ≡ mid ++ marked_bytes (piece ms c.index (suc k)) =
     append_assoc mid (entry_bytes m.entry) (marked_bytes rest) ∙ ap (λ xs. mid ++ marked_bytes xs) (sym cut) in
     let walked : Walked layout ms n w.from d = walked_run layout ms n w.from c e.state shape k d go w.walked in
@@ -277,9 +267,7 @@ run_in layout ms n old bytes mid c e d last fig shape sh en w g k go =
     subst (λ (xs : List Marked). IsFilled old xs (Some fig)
     (slice_set (after ++ marked_bytes rest) fig.place
     (slice_index_or (after ++ marked_bytes rest) fig.place 0 + k * shape.size))) grown b.filled in
-    let cost : length (figs_bytes (figs_of (take (d.index - w.from) (drop w.from ms))))
-    ≡ figs_size None (take (d.index - w.from) (drop w.from ms)) =
-    figs_cost (take (d.index - w.from) (drop w.from ms)) in
+    let cost = figs_cost (take (d.index - w.from) (drop w.from ms)) in
     let part : figs_size None (take (d.index - w.from) (drop w.from ms)) ≤ figs_size None (fib_entries layout n ms) =
     subst (λ (xs : List Marked). figs_size None (take (d.index - w.from) (drop w.from ms)) ≤ figs_size None xs)
     walked.here
@@ -300,11 +288,9 @@ run_in layout ms n old bytes mid c e d last fig shape sh en w g k go =
     pieces : (ms : List Marked) (from at n : ℕ) → from ≤ at
         → take (at + n - from) (drop from ms) ≡ take (at - from) (drop from ms) ++ take n (drop at ms)
     pieces ms from at n le =
-        let count : at + n - from ≡ at - from + n = omega (arith, le) in
-        let whole : from + (at - from) ≡ at = omega (arith, le) in
-        ap (λ j. take j (drop from ms)) count ∙ take-add (at - from) n (drop from ms)
+        ap (λ j. take j (drop from ms)) (omega (arith, le)) ∙ take-add (at - from) n (drop from ms)
         ∙ ap (λ xs. take (at - from) (drop from ms) ++ take n xs)
-        (drop-drop (at - from) from ms ∙ ap (λ i. drop i ms) whole)
+        (drop-drop (at - from) from ms ∙ ap (λ i. drop i ms) (omega (arith, le)))
 
 -- so a FIB takes each run that fits in the room
 pub takes_runs : (layout : FrameLayout) (ms : List Marked) (n : ℕ) (old bytes mid : List ℕ) (c e : Position)
@@ -314,13 +300,10 @@ pub takes_runs : (layout : FrameLayout) (ms : List Marked) (n : ℕ) (old bytes 
     → e.state.used ≤ room layout n → (free : ℕ) → free ≡ shape.size + (room layout n - e.state.used)
     → TakesRuns ms c.index free mid
 takes_runs layout ms n old bytes mid c e last fig shape sh en w g headed within free is zero s r fits =
-    let room : length mid + size_of en.step.entry ≤ 30 =
-    (put_step layout ms n old bytes mid c e last fig shape sh en w g).room in
-    omega (arith, room)
+    omega (arith, (put_step layout ms n old bytes mid c e last fig shape sh en w g).room)
 takes_runs layout ms n old bytes mid c e last fig shape sh en w g headed within free is (suc k) s r fits =
     let own : shape ≡ s = run_shape ms c.index (suc k) shape s sh r (omega arith) in
     let r' : IsRun ms c.index (suc k) shape = subst (λ (t : EntryShape). IsRun ms c.index (suc k) t) (sym own) r in
-    let fits' : (suc k) * shape.size ≤ free = subst (λ (t : EntryShape). (suc k) * t.size ≤ free) (sym own) fits in
     let more : (suc k) * shape.size ≡ shape.size + k * shape.size = omega arith in
     let d : Position = record { index = c.index + 1 + k; state = state_at shape n (e.state.used + k * shape.size) } in
     let go : Goes layout ms n c e.state shape k d = record {
@@ -328,7 +311,7 @@ takes_runs layout ms n old bytes mid c e last fig shape sh en w g headed within 
       fib = refl;
       used = refl;
       head = refl;
-      fits = omega (arith, fits', more, is, within);
+      fits = omega (arith, subst (λ (t : EntryShape). (suc k) * t.size ≤ free) (sym own) fits, more, is, within);
       run = r';
       first = en.step;
       into = en.into;
@@ -339,8 +322,7 @@ takes_runs layout ms n old bytes mid c e last fig shape sh en w g headed within 
     let long : length (mid ++ marked_bytes (piece ms c.index (suc k))) ≡ length mid + (suc k) * shape.size =
     length-append mid (marked_bytes (piece ms c.index (suc k)))
     ∙ ap (λ j. length mid + j) (piece_bytes ms c.index (suc k) shape r') in
-    let low : length mid + (suc k) * shape.size ≤ 30 = omega (arith, long, done.low) in
-    subst (λ (t : EntryShape). length mid + suc k * t.size ≤ 30) own low
+    subst (λ (t : EntryShape). length mid + suc k * t.size ≤ 30) own (omega (arith, long, done.low))
 
 -- ---- the run that a FIB takes
 times_less : (n s : ℕ) → 1 ≤ n → n * s ≡ s + (n - 1) * s
@@ -359,14 +341,13 @@ pub first_of_run : (layout : FrameLayout) (ms : List Marked) (at : ℕ) (p q : P
     → IsShapeAt ms at shape → shape.size ≤ 28 → Passed layout ms at p q → IsFirst layout q shape
 first_of_run layout ms at p q shape sh small s =
     let same : sh.entry ≡ s.entry = same_there ms at sh.entry s.entry sh.here s.here in
-    let size : size_of s.entry ≡ shape.size = ap size_of (sym same) ∙ sym sh.size in
     let head : head_of s.entry ≡ shape.head = ap head_of (sym same) ∙ sym sh.head in
     subst (λ (r : PackState). IsFirst layout r shape) (sym s.next)
     (elim (placed_cases layout s.entry p) [
       | inl c ↦ subst (λ (r : PackState). IsFirst layout r shape) (sym c.is)
           (record { within = c.fits; head = ap Some head })
       | inr c ↦ subst (λ (r : PackState). IsFirst layout r shape) (sym c.is)
-          (record { within = c.fits (omega (arith, size, small)); head = ap Some head })
+          (record { within = c.fits (omega (arith, ap size_of (sym same) ∙ sym sh.size, small)); head = ap Some head })
     ])
 
 -- the room for a run, and what is put there
@@ -424,7 +405,5 @@ all_in layout ms n old bytes mid new c e d last fig shape sh en w g free count r
       own = r.first.head;
       near = en.near;
     } in
-    let same : mid ++ marked_bytes (piece ms c.index (suc k)) ≡ new =
-    ap (λ j. mid ++ marked_bytes (piece ms c.index j)) whole ∙ sym p.bytes in
-    subst (λ (bs : List ℕ). RunIn layout ms n old d fig bs (k * shape.size)) same
-    (run_in layout ms n old bytes mid c e d last fig shape sh en w g k go)
+    let same = ap (λ j. mid ++ marked_bytes (piece ms c.index j)) whole ∙ sym p.bytes in
+    rw (← same) (run_in layout ms n old bytes mid c e d last fig shape sh en w g k go)

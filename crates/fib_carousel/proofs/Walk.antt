@@ -15,12 +15,10 @@ pub take_here : {A : Type 0} (xs : List A) (from at : ℕ) (x : A) → from ≤ 
     → take (at + 1 - from) (drop from xs) ≡ take (at - from) (drop from xs) ++ x ∷ []
 take_here xs from at x le h =
     let within : at < length xs = slice_get_within xs at x h in
-    let count : at + 1 - from ≡ at - from + 1 = omega (arith, le) in
     let inside : at - from < length (drop from xs) = rw (length-drop from xs) (omega (arith, le, within)) in
     let whole : from + (at - from) ≡ at = omega (arith, le) in
-    let there : get_or (drop from xs) (at - from) x ≡ x =
-    get_or-drop from xs (at - from) x ∙ ap (λ i. get_or xs i x) whole ∙ get_or_from_slice_get xs at x x h in
-    ap (λ n. take n (drop from xs)) count ∙ take_more (drop from xs) (at - from) x inside
+    let there = get_or-drop from xs (at - from) x ∙ ap (λ i. get_or xs i x) whole ∙ get_or_from_slice_get xs at x x h in
+    ap (λ n. take n (drop from xs)) (omega (arith, le)) ∙ take_more (drop from xs) (at - from) x inside
     ∙ ap (λ y. take (at - from) (drop from xs) ++ y ∷ []) there
 
 -- what a step of the walk establishes: the entry passed, and where it was placed
@@ -56,8 +54,7 @@ pub last_step : (layout : FrameLayout) (ms : List Marked) (at : ℕ) (p q : Pack
     → last_number p.fib (numbers_from layout p (drop at ms)) ≡ top
     → last_number q.fib (numbers_from layout q (drop (at + 1) ms)) ≡ top
 last_step layout ms at p q top s h =
-    let along : last_number p.fib (numbers_from layout p (s.entry ∷ drop (at + 1) ms)) ≡ top =
-    subst (λ xs. last_number p.fib (numbers_from layout p xs) ≡ top) s.row h in
+    let along = subst (λ xs. last_number p.fib (numbers_from layout p xs) ≡ top) s.row h in
     subst (λ (r : PackState). last_number r.fib (numbers_from layout r (drop (at + 1) ms)) ≡ top) (sym s.next) along
 
 -- the entries that the rest of the list has in FIB n
@@ -74,13 +71,11 @@ rest_step layout n ms at p q s =
 
 pub rest_takes : (layout : FrameLayout) (n : ℕ) (ms : List Marked) (at : ℕ) (p q : PackState)
     (s : Passed layout ms at p q) → q.fib ≡ n → rest_in layout n ms at p ≡ s.entry ∷ rest_in layout n ms (at + 1) q
-rest_takes layout n ms at p q s h = rest_step layout n ms at p q s
-    ∙ in_fib_same n q.fib s.entry (drop (at + 1) ms) (numbers_from layout q (drop (at + 1) ms)) h
+rest_takes layout n ms at p q s h = rest_step _ n ms at p q s ∙ in_fib_same n q.fib _ _ _ h
 
 pub rest_passes : (layout : FrameLayout) (n : ℕ) (ms : List Marked) (at : ℕ) (p q : PackState) → Passed layout ms at p q
     → (q.fib ≡ n → ⊥) → rest_in layout n ms at p ≡ rest_in layout n ms (at + 1) q
-rest_passes layout n ms at p q s h = rest_step layout n ms at p q s
-    ∙ in_fib_other n q.fib s.entry (drop (at + 1) ms) (numbers_from layout q (drop (at + 1) ms)) h
+rest_passes layout n ms at p q s h = rest_step _ n ms at p q s ∙ in_fib_other n q.fib _ _ _ h
 
 pub rest_over : (layout : FrameLayout) (n : ℕ) (ms : List Marked) (at : ℕ) (p q : PackState) → Passed layout ms at p q
     → n < q.fib → rest_in layout n ms at p ≡ []
@@ -133,10 +128,8 @@ later_step layout ms n c d s at below used near inside l = record {
   used = used;
   fib = omega (arith, near, at, l.fib);
   below = omega (arith, below);
-  rest = λ m le.
-      ap (λ i. rest_in layout m ms i d.state) at
-      ∙ sym (rest_passes layout m ms c.index c.state d.state s (λ e. omega (arith, e, le, below)))
-      ∙ l.rest m le;
+  rest = λ m le. ap (λ i. rest_in layout m ms i d.state) at ∙ sym
+  (rest_passes _ m ms _ _ _ s (λ e. omega (arith, e, le, below))) ∙ l.rest m le;
   last =
       ap (λ i. last_number d.state.fib (numbers_from layout d.state (drop i ms))) at
       ∙ last_step layout ms c.index c.state d.state (last_number 0 (packing layout ms)) s l.last;
@@ -147,8 +140,7 @@ pub walked_in : (layout : FrameLayout) (ms : List Marked) (n from : ℕ) (c d : 
     → Passed layout ms c.index c.state d.state → d.index ≡ c.index + 1 → d.state.fib ≡ n → d.state.used ≤ 30
     → d.state.fib ≤ c.state.fib + 2 → c.index < length ms → Walked layout ms n from c → Walked layout ms n from d
 walked_in layout ms n from c d s at here used near inside w =
-    let piece : take (c.index + 1 - from) (drop from ms) ≡ take (c.index - from) (drop from ms) ++ s.entry ∷ [] =
-    take_here ms from c.index s.entry w.order s.here in
+    let piece = take_here ms from c.index s.entry w.order s.here in
     record {
       later = later_step layout ms n c d s at (omega (arith, here)) used near inside w.later;
       order = omega (arith, at, w.order);
@@ -195,15 +187,11 @@ nothing_behind xs ys zs e f = sym (append-nil xs) ∙ ap (λ y. xs ++ y) (sym e)
 pub walked_over : (layout : FrameLayout) (ms : List Marked) (n from : ℕ) (c : Position) (q : PackState)
     → Passed layout ms c.index c.state q → n < q.fib → Walked layout ms n from c
     → take (c.index - from) (drop from ms) ≡ fib_entries layout n ms
-walked_over layout ms n from c q s h w =
-    nothing_behind (take (c.index - from) (drop from ms)) (rest_in layout n ms c.index c.state)
-    (fib_entries layout n ms) (rest_over layout n ms c.index c.state q s h) w.here
+walked_over layout ms n from c q s h w = nothing_behind _ _ _ (rest_over _ n ms _ _ q s h) w.here
 
 pub walked_end : (layout : FrameLayout) (ms : List Marked) (n from : ℕ) (c : Position) → length ms ≤ c.index
     → Walked layout ms n from c → take (c.index - from) (drop from ms) ≡ fib_entries layout n ms
-walked_end layout ms n from c h w =
-    nothing_behind (take (c.index - from) (drop from ms)) (rest_in layout n ms c.index c.state)
-    (fib_entries layout n ms) (rest_end layout n ms c.index c.state h) w.here
+walked_end layout ms n from c h w = nothing_behind _ _ _ (rest_end _ n ms _ _ h) w.here
 
 -- so the position has passed FIB n
 pub passed_by : (layout : FrameLayout) (ms : List Marked) (n from : ℕ) (c : Position) (q : PackState)
@@ -222,14 +210,9 @@ last_bound : (layout : FrameLayout) (p : PackState) (ms : List Marked)
     → last_number p.fib (numbers_from layout p ms) ≤ p.fib + 2 * length ms
 last_bound layout p [] = omega arith
 last_bound layout p (m ∷ ms) =
-    let more : last_number (placed layout m p).fib (numbers_from layout (placed layout m p) ms)
-    ≤ (placed layout m p).fib + 2 * length ms = last_bound layout (placed layout m p) ms in
     let near : (placed layout m p).fib ≤ p.fib + 2 =
-    elim (placed_cases layout m p) [
-      | inl c ↦ subst (λ (q : PackState). q.fib ≤ p.fib + 2) (sym c.is) (omega arith)
-      | inr c ↦ subst (λ (q : PackState). q.fib ≤ p.fib + 2) (sym c.is) (omega (arith, c.near))
-    ] in
-    omega (arith, more, near)
+    elim (placed_cases layout m p) [ | inl c ↦ rw c.is (omega arith) | inr c ↦ rw c.is (omega (arith, c.near)) ] in
+    omega (arith, last_bound layout (placed layout m p) ms, near)
 
 pub rounds_bound : (layout : FrameLayout) (ms : List Marked) → rounds layout ms ≤ length ms + 1
 rounds_bound layout ms =

@@ -1,6 +1,6 @@
 -- The number of FIBs of a page: two to four.
 use Rattle.fib_carousel.proofs.Words.{◌%◌, ◌*◌, ◌+◌, ◌/◌, ◌<◌, ◌≡◌, ◌≤◌, FrameLayout, I, II, III, IV, ReserveOne}
-use Rattle.fib_carousel.proofs.Words.{ReserveTwo, Whole, arith, subst, suc, sym, used_fibs, ℕ}
+use Rattle.fib_carousel.proofs.Words.{ReserveTwo, Whole, arith, suc, used_fibs, ℕ}
 
 -- what holds of each width holds of each layout
 pub by_width : (P : ℕ → Type 0) → P 2 → P 3 → P 4 → (layout : FrameLayout) → P (used_fibs layout)
@@ -67,5 +67,4 @@ few_pages layout n count =
     (λ h. omega (arith, h)) layout
 
 pub few_fibs : (layout : FrameLayout) (w k : ℕ) → w ≡ used_fibs layout → w * k ≤ 4 * k
-few_fibs layout w k e = subst (λ n. n * k ≤ 4 * k) (sym e)
-    (by_width (λ n. n * k ≤ 4 * k) (omega arith) (omega arith) (omega arith) layout)
+few_fibs layout w k e = rw e (by_width (λ n. n * k ≤ 4 * k) (omega arith) (omega arith) (omega arith) layout)
