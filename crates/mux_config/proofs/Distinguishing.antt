@@ -18,10 +18,8 @@ pub lists_told : {T U : Type 0} (f : T → U) (P : T → Type 0) → ((a b : T) 
     → (xs ys : List T) → AllByRecursion P xs → AllByRecursion P ys → map f xs ≡ map f ys → xs ≡ ys
 lists_told f P told [] [] h k e = refl
 lists_told f P told (x ∷ xs) (y ∷ ys) h k e =
-    let first : f x ≡ f y = cc in
-    let rest : map f xs ≡ map f ys = cc in
-    let head : x ≡ y = told x y h.0 k.0 first in
-    let tail : xs ≡ ys = lists_told f P told xs ys h.1 k.1 rest in
+    let head : x ≡ y = told x y h.0 k.0 cc in
+    let tail : xs ≡ ys = lists_told f P told xs ys h.1 k.1 cc in
     cc
 lists_told f P told _ _ h k e = absurd (cc)
 
@@ -135,19 +133,16 @@ components_told [] [] e = refl
 components_told [] (n ∷ ns) e = absurd (cc)
 components_told (m ∷ ms) [] e = absurd (cc)
 components_told (m ∷ ms) (n ∷ ns) e =
-    let first : component_entry true m ≡ component_entry true n = cc in
-    let rest : map (component_entry false) ms ≡ map (component_entry false) ns = cc in
-    let head : m ≡ n = component_told true m n first in
+    let head : m ≡ n = component_told true m n cc in
     let tail : ms ≡ ns = lists_told (component_entry false) (λ (x : Component). Unit {0})
-    (λ x y _ _. component_told false x y) ms ns (each_holds ms) (each_holds ns) rest in
+    (λ x y _ _. component_told false x y) ms ns (each_holds ms) (each_holds ns) cc in
     cc
 
 pub service_told : (a b : Service) → service_entry a ≡ service_entry b → a ≡ b
 service_told a b e =
     let same : service_value a ≡ service_value b = ap (service_of (service_value a)) e in
     let sid : a.sid ≡ b.sid = ap (λ (x : ServiceEntry). x.sid) same in
-    let components : a.components ≡ b.components =
-    components_told a.components b.components (ap (λ (x : ServiceEntry). x.components) same) in
+    let components = components_told a.components b.components (ap (λ (x : ServiceEntry). x.components) same) in
     λ i. record { sid = sid i; components = components i }
 
 pub packet_told : (a b : Packet) → packet_entry a ≡ packet_entry b → a ≡ b

@@ -20,8 +20,7 @@ member_told : {T U : Type 0} (f : T → U) (P : T → Type 0) → ((a b : T) →
     → ((z : U) → Contains (map f xs) z → Contains (map f ys) z) → (x : T) → Contains xs x → Contains ys x
 member_told f P told xs ys h k inside x there =
     let found = mapped_to f ys (f x) (inside (f x) (mapped_from f xs x there)) in
-    subst (Contains ys) (told found.0 x (each_contains P ys found.0 k found.1) (each_contains P xs x h there) found.2)
-    found.1
+    rw (← told found.0 x (each_contains P ys found.0 k found.1) (each_contains P xs x h there) found.2) found.1
 
 members_told : {T U : Type 0} (f : T → U) (P : T → Type 0) → ((a b : T) → P a → P b → f a ≡ f b → a ≡ b)
     → (xs ys : List T) → AllByRecursion P xs → AllByRecursion P ys → HaveSameMembers (map f xs) (map f ys)
@@ -100,8 +99,7 @@ pub fact_sets_tell : OneRate → FactSetsIdentify
 fact_sets_tell rates c d next h k same =
     let plain = members_told (marked next) (λ (x : Entry). Unit {0}) (λ x y _ _ e. ap (λ (m : Marked). m.entry) e)
     (sub_entries c ++ service_entries c) (sub_entries d ++ service_entries d) (each_holds _) (each_holds _) same in
-    let parts = parts_of_sets is_sub (sub_entries c) (service_entries c) (sub_entries d) (service_entries d)
-    (subs_first c) (subs_first d) (services_second c) (services_second d) plain in
+    let parts = parts_of_sets _ _ _ _ _ (subs_first c) (subs_first d) (services_second c) (services_second d) plain in
     let subs : c.subs ≡ d.subs = subs_of_sets rates c d h k parts.0 in
     let rest = services_of_sets c d h k parts.1 in
     let services : c.services ≡ d.services = rest.0 in

@@ -67,8 +67,7 @@ with_first_by a b bs fault false is less e more =
 with_first : (a : Sub) (bs : List Sub) (fault : ConfigFault) → IsAscending sub_key bs → overlap_with a bs ≡ Some fault
     → IsFirstWith a bs fault
 with_first a [] fault order e = absurd (cc)
-with_first a (b ∷ bs) fault order e =
-    with_first_by a b bs fault (overlaps a b) refl order.0 e (with_first a bs fault order.1)
+with_first a (b ∷ bs) fault order e = with_first_by a b bs fault _ refl order.0 e (with_first a bs fault order.1)
 
 abbrev IsPair : List Sub → ConfigFault → Type 0
 IsPair xs fault = (i j : ℕ) × (fault ≡ Overlap i j) × IsFirstIn xs i j
@@ -159,8 +158,7 @@ pair_by a bs fault order placed (Some x) is e more =
 pair_told : (xs : List Sub) (fault : ConfigFault) → IsAscending sub_key xs → AllByRecursion IsPlaced xs
     → first_overlap xs ≡ Some fault → IsPair xs fault
 pair_told [] fault order placed e = absurd (cc)
-pair_told (a ∷ bs) fault order placed e =
-    pair_by a bs fault order placed (overlap_with a bs) refl e (pair_told bs fault order.1 placed.1)
+pair_told (a ∷ bs) fault order placed e = pair_by a bs fault order placed _ refl e (pair_told bs fault order.1 placed.1)
 
 -- ---- the fault that is reported
 
@@ -198,16 +196,14 @@ twice_by c fault config apart carried true is e =
       carried,
       λ addressed. false≢true (sym (twice_none c.packets config.packets_ascend addressed) ∙ is),
     )
-twice_by c fault config apart carried false is e =
-    empty_by c fault apart carried (twice_told c.packets is) (list_any is_empty_service c.services) refl e
+twice_by c fault config apart carried false is e = empty_by c fault apart carried (twice_told _ is) _ refl e
 
 orphan_by : (c : Configuration) (fault : ConfigFault) → IsConfiguration c → AreApart c → (t : Bool) → has_orphan c ≡ t
     → cond t (Some Orphan) (cond (has_address_twice c.packets) (Some AddressUsed)
     (cond (list_any is_empty_service c.services) (Some EmptyService) None)) ≡ Some fault → IsFault c fault
 orphan_by c fault config apart true is e =
     subst (IsFault c) (some_told Orphan fault e) (apart, λ carried. false≢true (sym (orphans_found c carried) ∙ is))
-orphan_by c fault config apart false is e =
-    twice_by c fault config apart (orphans_told c is) (has_address_twice c.packets) refl e
+orphan_by c fault config apart false is e = twice_by c fault config apart (orphans_told c is) _ refl e
 
 first_by : (c : Configuration) (fault : ConfigFault) → IsConfiguration c → (one : Option ConfigFault)
     → first_overlap c.subs ≡ one → first_of_two one (other_fault c) ≡ Some fault → IsFault c fault
@@ -228,8 +224,7 @@ fault_told c fault config e = first_by c fault config (first_overlap c.subs) ref
 -- two that share one are not apart
 not_apart : (c : Configuration) (i j : ℕ) → IsFirstOverlap c i j → AreApart c → ⊥
 not_apart c i j o apart =
-    let same : o.first.id ≡ o.second.id =
-    apart o.first o.second o.unit o.has_first o.has_second o.of_first o.of_second in
+    let same = apart o.first o.second o.unit o.has_first o.has_second o.of_first o.of_second in
     omega (arith, same, o.is_first, o.is_second, o.ordered)
 
 one_pair : (c : Configuration) (i j k l : ℕ) → IsFirstOverlap c i j → IsFirstOverlap c k l → Overlap i j ≡ Overlap k l
@@ -278,9 +273,7 @@ answer_by : (c : Configuration) (fault : ConfigFault) → IsConfiguration c → 
     → first_fault c ≡ o → sound_unless o ≡ Err fault
 answer_by c fault config h None is = absurd (not_sound c fault h (sound_told c is))
 answer_by c fault config h (Some x) is =
-    let told : IsFault c x = fault_told c x config (ap sound_unless is) in
-    let same : x ≡ fault = one_fault c x fault told h in
-    ap Err same
+    ap Err (one_fault c x fault (fault_told c x config (ap sound_unless is)) h)
 
 pub faults_tell : FaultIsUnique
 faults_tell c fault config = (fault_told c fault config, λ h. answer_by c fault config h (first_fault c) refl)

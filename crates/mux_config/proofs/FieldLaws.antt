@@ -92,13 +92,11 @@ number_front : (w : Width) (limit : ℕ) (wide : IsWide w limit) (bytes : List �
     → number_at w bytes ≡ Ok x
     → Front bytes (to_be_bytes w x.0) x.1 × (x.0 < limit)
 number_front w limit wide bytes x fits e =
-    let g = guard_ok (ltb (length bytes) (byte_len w)) Short
-    (Ok (from_be_bytes w (take (byte_len w) bytes), drop (byte_len w) bytes)) x e in
+    let g = guard_ok _ Short _ x e in
     let long : byte_len w ≤ length bytes = ltb-false _ _ g.0 in
     let made : ℕ × List ℕ = (from_be_bytes w (take (byte_len w) bytes), drop (byte_len w) bytes) in
     let front : to_be_bytes w (from_be_bytes w (take (byte_len w) bytes)) ≡ take (byte_len w) bytes =
-    wide.back (take (byte_len w) bytes) (omega (arith, length-take (byte_len w) bytes))
-    (IsBytes-take (byte_len w) bytes fits) in
+    wide.back (take (byte_len w) bytes) (omega (arith, length-take (byte_len w) bytes)) (IsBytes-take _ bytes fits) in
     subst (λ (y : ℕ × List ℕ). Front bytes (to_be_bytes w y.0) y.1 × (y.0 < limit)) (ok_is made x g.1) (
       record {
         parts = rw front (sym (take-append-drop (byte_len w) bytes));
@@ -137,9 +135,7 @@ long_again n rest lt = number_again w32 4294967296 wide32 n rest lt
 pub byte_front : (bytes : List ℕ) (x : ℕ × List ℕ) → IsBytes bytes → byte_at bytes ≡ Ok x → Front bytes (x.0 ∷ []) x.1
 byte_front [] x fits e = absurd cc
 byte_front (b ∷ bytes) x fits e =
-    let made : ℕ × List ℕ = (b, bytes) in
-    subst (λ (y : ℕ × List ℕ). Front (b ∷ bytes) (y.0 ∷ []) y.1) (ok_is made x e)
-    (record { parts = refl; rest_fits = IsBytes-rest b bytes fits })
+    rw (← ok_is (b, bytes) x e) (record { parts = refl; rest_fits = IsBytes-rest b bytes fits })
 
 -- ---- numbers within a range
 
@@ -209,9 +205,7 @@ protection_front total bytes x fits e =
     let f = byte_within_front total 0 1 bytes a.0 fits a.1 in
     let b = bind_ok (byte_within total 1 4 a.0.1) _ x a.2 in
     let g = byte_within_front total 1 4 a.0.1 b.0 f.0.rest_fits b.1 in
-    let made : Profile × List ℕ = (record { set = set_of a.0.0; level = b.0.0 }, b.0.1) in
-    subst (λ (y : Profile × List ℕ). Front bytes (protection_bytes y.0) y.1 × (1 ≤ y.0.level) × (y.0.level ≤ 4))
-    (ok_is made x b.2)
+    rw (← ok_is (record { set = set_of a.0.0; level = b.0.0 }, b.0.1) x b.2)
     (rw (set_is a.0.0 f.2) (front_then bytes (a.0.0 ∷ []) a.0.1 (b.0.0 ∷ []) b.0.1 f.0 g.0), g.1, g.2)
 
 set_again : (total : ℕ) (s : EepSet) (rest : List ℕ) → byte_within total 0 1 (set_byte s ∷ rest) ≡ Ok (set_byte s, rest)
@@ -235,15 +229,11 @@ sid_kind_front : (k : ℕ) (bytes : List ℕ) (x : Sid × List ℕ) → k ≤ 1 
 sid_kind_front zero bytes x small fits e =
     let b = bind_ok (number_at w16 bytes) (λ n. Ok (ShortSid n.0, n.1)) x e in
     let f = word_front bytes b.0 fits b.1 in
-    let made : Sid × List ℕ = (ShortSid b.0.0, b.0.1) in
-    subst (λ (y : Sid × List ℕ). (text : List ℕ) × Front bytes text y.1 × (sid_field y.0 ≡ 0 ∷ text) × IsSid y.0)
-    (ok_is made x b.2) (u16_bytes b.0.0, f.0, refl, f.1)
+    rw (← ok_is (ShortSid b.0.0, b.0.1) x b.2) (u16_bytes b.0.0, f.0, refl, f.1)
 sid_kind_front (suc zero) bytes x small fits e =
     let b = bind_ok (number_at w32 bytes) (λ n. Ok (LongSid n.0, n.1)) x e in
     let f = long_front bytes b.0 fits b.1 in
-    let made : Sid × List ℕ = (LongSid b.0.0, b.0.1) in
-    subst (λ (y : Sid × List ℕ). (text : List ℕ) × Front bytes text y.1 × (sid_field y.0 ≡ 1 ∷ text) × IsSid y.0)
-    (ok_is made x b.2) (to_be_bytes w32 b.0.0, f.0, refl, f.1)
+    rw (← ok_is (LongSid b.0.0, b.0.1) x b.2) (to_be_bytes w32 b.0.0, f.0, refl, f.1)
 sid_kind_front (suc (suc k)) bytes x small fits e = absurd (omega (arith, small))
 
 pub sid_front : (total : ℕ) (bytes : List ℕ) (x : Sid × List ℕ) → IsBytes bytes → sid_at total bytes ≡ Ok x
@@ -274,30 +264,19 @@ component_of_front total at zero bytes x fits e =
     let f = byte_within_front total 0 63 bytes a.0 fits a.1 in
     let b = bind_ok (byte_within total 0 63 a.0.1) _ x a.2 in
     let g = byte_within_front total 0 63 a.0.1 b.0 f.0.rest_fits b.1 in
-    let made : Component × List ℕ = (Sound a.0.0 b.0.0, b.0.1) in
-    subst (IsRest 0 bytes) (ok_is made x b.2) (
-      a.0.0 ∷ b.0.0 ∷ [],
-      front_then bytes (a.0.0 ∷ []) a.0.1 (b.0.0 ∷ []) b.0.1 f.0 g.0,
-      refl,
-      (omega (arith, f.2), omega (arith, g.2)),
-    )
+    subst (IsRest 0 bytes) (ok_is (Sound a.0.0 b.0.0, b.0.1) x b.2)
+    ( a.0.0 ∷ b.0.0 ∷ [], front_then bytes _ a.0.1 _ b.0.1 f.0 g.0, refl, (omega (arith, f.2), omega (arith, g.2)), )
 component_of_front total at (suc zero) bytes x fits e =
     let a = bind_ok (byte_within total 0 63 bytes) _ x e in
     let f = byte_within_front total 0 63 bytes a.0 fits a.1 in
     let b = bind_ok (byte_within total 0 63 a.0.1) _ x a.2 in
     let g = byte_within_front total 0 63 a.0.1 b.0 f.0.rest_fits b.1 in
-    let made : Component × List ℕ = (Stream a.0.0 b.0.0, b.0.1) in
-    subst (IsRest 1 bytes) (ok_is made x b.2) (
-      a.0.0 ∷ b.0.0 ∷ [],
-      front_then bytes (a.0.0 ∷ []) a.0.1 (b.0.0 ∷ []) b.0.1 f.0 g.0,
-      refl,
-      (omega (arith, f.2), omega (arith, g.2)),
-    )
+    subst (IsRest 1 bytes) (ok_is (Stream a.0.0 b.0.0, b.0.1) x b.2)
+    ( a.0.0 ∷ b.0.0 ∷ [], front_then bytes _ a.0.1 _ b.0.1 f.0 g.0, refl, (omega (arith, f.2), omega (arith, g.2)), )
 component_of_front total at (suc (suc (suc zero))) bytes x fits e =
     let a = bind_ok (u16_in_range total 0 4095 bytes) _ x e in
     let f = word_within_front total 0 4095 bytes a.0 fits a.1 in
-    let made : Component × List ℕ = (InPackets a.0.0, a.0.1) in
-    subst (IsRest 3 bytes) (ok_is made x a.2) (u16_bytes a.0.0, f.0, refl, omega (arith, f.2))
+    subst (IsRest 3 bytes) (ok_is (InPackets a.0.0, a.0.1) x a.2) (u16_bytes a.0.0, f.0, refl, omega (arith, f.2))
 component_of_front total at _ bytes x fits e = absurd cc
 
 pub component_front : (total : ℕ) (bytes : List ℕ) (x : Component × List ℕ) → IsBytes bytes

@@ -96,8 +96,7 @@ key_by key k x y rest false here e later = later e
 
 pub entry_key : {T : Type 0} (key : T → ℕ) (k : ℕ) (xs : List T) (y : T) → entry_at key k xs ≡ Some y → key y ≡ k
 entry_key key k [] y e = some_none y (sym e)
-entry_key key k (x ∷ xs) y e =
-    key_by key k x y (entry_at key k xs) (key x == k) (eqb-true (key x) k) e (entry_key key k xs y)
+entry_key key k (x ∷ xs) y e = key_by key k x y _ _ (eqb-true (key x) k) e (entry_key key k xs y)
 
 holds_by : {T : Type 0} (P : T → Type 0) (x y : T) (rest : Option T) (t : Bool) → P x → cond t (Some x) rest ≡ Some y
     → (rest ≡ Some y → P y) → P y
@@ -118,8 +117,7 @@ unchanged key k change y [] same above = refl
 unchanged key k change y (x ∷ xs) same above =
     let one : key x == key y ≡ false = ne_eqb (key x) (key y) (λ e. let h = above.0 in omega (arith, h)) in
     let two : key x == k ≡ false = ne_eqb (key x) k (λ e. let h = above.0 in omega (arith, h)) in
-    let tail = unchanged key k change y xs same above.1 in
-    rw (one, two) (ap (λ zs. x ∷ zs) tail)
+    rw (one, two) (ap (λ zs. x ∷ zs) (unchanged key k change y xs same above.1))
 
 -- the changed member in place of the one with its key
 pub changed_here : {T : Type 0} (key : T → ℕ) (k : ℕ) (change : T → T) (xs : List T) (x : T) → IsAscending key xs
@@ -129,18 +127,15 @@ changed_here key k change [] x up e same = some_none x (sym e)
 changed_here key k change (y ∷ ys) x up e same =
     elim (cases_eq (key y) k) [
       | inl here ↦
-          let one : key y == key (change x) ≡ true = eq-eqb (key y) (key (change x)) (here ∙ sym same) in
           let two : key y == k ≡ true = eq-eqb (key y) k here in
           let tail = unchanged key k change (change x) ys same
           (each_weaker (λ z. key y < key z) (λ z. k < key z) (λ z h. omega (arith, h, here)) ys up.0) in
-          rw (one, two) (cc)
+          rw ((eq-eqb (key y) (key (change x)) (here ∙ sym same)), two) (cc)
       | inr other ↦
-          let one : key y == key (change x) ≡ false = ne_eqb (key y) (key (change x)) (λ h. other (h ∙ same)) in
           let two : key y == k ≡ false = ne_eqb (key y) k other in
-          let later : entry_at key k ys ≡ Some x = sym (ap (λ (t : Bool). cond t (Some y) (entry_at key k ys)) two)
-          ∙ e in
+          let later = sym (ap (λ (t : Bool). cond t (Some y) (entry_at key k ys)) two) ∙ e in
           let tail = changed_here key k change ys x up.1 later same in
-          rw (one, two) (ap (λ zs. y ∷ zs) tail)
+          rw ((ne_eqb (key y) (key (change x)) (λ h. other (h ∙ same))), two) (ap (λ zs. y ∷ zs) tail)
     ]
 
 -- ---- lengths
@@ -292,13 +287,12 @@ pub placed : (s : Sub) → s.id < 64 → 1 ≤ s.protection.level → s.protecti
     → IsPlaced s
 placed s named from to e =
     let rate = passed (has_bad_rate s) BadRate (cond (is_past_end s) (Some PastEnd) None) e in
-    let end = passed (is_past_end s) PastEnd None rate.1 in
     record {
       named = named;
       from_one = from;
       to_four = to;
       sized = sized s.protection s.kbits rate.0;
-      ends = ltb-false 864 (s.start + size_of_sub s) end.0;
+      ends = ltb-false 864 (s.start + size_of_sub s) (passed (is_past_end s) PastEnd None rate.1).0;
     }
 
 each_named : (xs : List Sub) → AllByRecursion IsPlaced xs → AllByRecursion (λ s. sub_key s < 64) xs
@@ -332,8 +326,7 @@ add_sub_keeps s c named from to h e =
     (sub_room c s h named absent))
 
 pub drop_sub_keeps : (id : ℕ) (c : Configuration) → IsConfiguration c → IsConfiguration (sub_dropped id c)
-drop_sub_keeps id c h = subs_keep c (without_entry sub_key id c.subs) h
-    (set_without IsPlaced sub_key id c.subs (subs_set c h))
+drop_sub_keeps id c h = subs_keep c _ h (set_without _ _ id _ (subs_set c h))
 
 pub moved_placed : (start : ℕ) (s : Sub) → IsPlaced s → is_past_end (at_start start s) ≡ false
     → IsPlaced (at_start start s)
@@ -389,8 +382,7 @@ add_service_keeps sid c named h e =
     (record { named = named; within = tt; carriers = tt; few = omega arith }) (leb-false 64 (length c.services) two.0))
 
 pub drop_service_keeps : (sid : Sid) (c : Configuration) → IsConfiguration c → IsConfiguration (service_dropped sid c)
-drop_service_keeps sid c h = services_keep c (without_entry service_key (sid_key sid) c.services) h
-    (set_without IsService service_key (sid_key sid) c.services (services_set c h))
+drop_service_keeps sid c h = services_keep c _ h (set_without _ _ _ _ (services_set c h))
 
 -- ---- components
 
@@ -399,8 +391,7 @@ same_itself (BySub n) = eq-eqb n n refl
 same_itself (ByPacket n) = eq-eqb n n refl
 
 pub names_told : (carrier : Carrier) (m : Component) → names carrier m ≡ false → carrier_of m ≢ carrier
-names_told carrier m e same = false≢true (sym e ∙ subst (λ (a : Carrier). is_same_carrier a carrier ≡ true) (sym same)
-    (same_itself carrier))
+names_told carrier m e same = false≢true (sym e ∙ rw same (same_itself carrier))
 
 different_by : (test : Component → Bool) (m : Component) (ms : List Component) (t : Bool)
     → AllByRecursion (λ d. carrier_of m ≢ carrier_of d) (filter test ms) → AreDifferent (filter test ms)
@@ -453,9 +444,7 @@ add_component_keeps sid m c within h e =
     let s = found.0 in
     let was : IsService s = entry_holds IsService service_key (sid_key sid) c.services s h.services_formed found.1 in
     let fits = component_fits m s within was found.2 in
-    services_keep c (changed_at service_key (sid_key sid) (with_component m) c.services) h
-    (set_changed IsService service_key (sid_key sid) (with_component m) c.services s (services_set c h) found.1
-    (entry_key service_key (sid_key sid) c.services s found.1) fits.1)
+    services_keep c _ h (set_changed _ _ _ _ _ s (services_set c h) found.1 (entry_key _ _ _ s found.1) fits.1)
 
 pub drop_component_keeps : (sid : Sid) (carrier : Carrier) (c : Configuration) → IsConfiguration c
     → drop_component_fault sid carrier c ≡ None → IsConfiguration (component_dropped sid carrier c)
@@ -528,16 +517,14 @@ add_packet_keeps p c named typed carried h e =
     let one = passed (has_entry packet_key p.scid c.packets) IdUsed
     (cond (has_bad_address p) (Some BadAddress) (cond (leb 64 (length c.packets)) (Some TableFull) None)) e in
     let two = passed (has_bad_address p) BadAddress (cond (leb 64 (length c.packets)) (Some TableFull) None) one.1 in
-    let three = passed (leb 64 (length c.packets)) TableFull None two.1 in
     let address = either_number p two.0 in
     packets_keep c (with_entry packet_key p c.packets) h
     (set_with IsAddressed packet_key p c.packets (packets_set c h) (absent_told packet_key p.scid c.packets one.0)
     (record { named = named; typed = typed; carried = carried; from_one = address.0; to_last = address.1 })
-    (leb-false 64 (length c.packets) three.0))
+    (leb-false 64 (length c.packets) (passed (leb 64 (length c.packets)) TableFull None two.1).0))
 
 pub drop_packet_keeps : (scid : ℕ) (c : Configuration) → IsConfiguration c → IsConfiguration (packet_dropped scid c)
-drop_packet_keeps scid c h = packets_keep c (without_entry packet_key scid c.packets) h
-    (set_without IsAddressed packet_key scid c.packets (packets_set c h))
+drop_packet_keeps scid c h = packets_keep c _ h (set_without _ _ scid _ (packets_set c h))
 
 -- ---- all ten
 

@@ -82,14 +82,13 @@ sub_front total low bytes x fits e =
     let fp = protection_front total b.0.1 p.0 fb.0.rest_fits p.1 in
     let fk = word_front p.0.1 k.0 fp.0.rest_fits k.1 in
     let s = size_ok p.0.0 k.0.0 z.0 (size_is_ok _ _ z.0 z.1) in
-    let up : low ≤ a.0.0 = ltb-false _ _ r.0 in
     let ends : b.0.0 + z.0 ≤ 864 = ltb-false _ _ t.0 in
     let made : Sub × List ℕ = (record { id = a.0.0; start = b.0.0; protection = p.0.0; kbits = k.0.0 }, k.0.1) in
     subst (IsSubRead low bytes) (ok_is made x t.1) (
       front_then bytes ((a.0.0 ∷ []) ++ u16_bytes b.0.0 ++ protection_bytes p.0.0) p.0.1 (u16_bytes k.0.0) k.0.1
           (front_then bytes ((a.0.0 ∷ []) ++ u16_bytes b.0.0) b.0.1 (protection_bytes p.0.0) p.0.1
           (front_then bytes (a.0.0 ∷ []) a.0.1 (u16_bytes b.0.0) b.0.1 fa.0 fb.0) fp.0) fk.0,
-      up,
+      (ltb-false _ _ r.0),
       record {
         named = omega (arith, fa.2);
         from_one = fp.1;
@@ -165,8 +164,7 @@ pub components_front : (total : ℕ) (before : List Component) (count : ℕ) (by
     → components_at total before count bytes ≡ Ok x → IsComponentsRead before count bytes x
 unfolding components_at
 components_front total before zero bytes x fits different within e =
-    let made : List Component × List ℕ = (before, bytes) in
-    subst (IsComponentsRead before 0 bytes) (ok_is made x e) (
+    subst (IsComponentsRead before 0 bytes) (ok_is (before, bytes) x e) (
       [],
       record { parts = refl; rest_fits = fits },
       sym (append-nil (flat_map component_bytes before)),
@@ -200,9 +198,7 @@ unfolding components_at
 components_again total before [] rest different within =
     ap (λ (cs : List Component). Ok (cs, rest)) (sym (append-nil before))
 components_again total before (c ∷ cs) rest different within =
-    let regrouped : flat_map component_bytes (c ∷ cs) ++ rest ≡ component_bytes c
-    ++ (flat_map component_bytes cs ++ rest) =
-    append_assoc (component_bytes c) (flat_map component_bytes cs) rest in
+    let regrouped = append_assoc (component_bytes c) (flat_map component_bytes cs) rest in
     let moved : before ++ c ∷ [] ++ cs ≡ before ++ c ∷ cs = append_assoc before (c ∷ []) cs in
     let ih = components_again total (before ++ c ∷ []) cs rest (rw moved different) within.1 in
     ap (components_at total before (suc (length cs))) regrouped
@@ -225,14 +221,11 @@ service_front total low bytes x fits e =
     let fa = sid_front total bytes a.0 fits a.1 in
     let fn = byte_within_front total 0 (component_limit a.0.0) a.0.1 n.0 fa.0.rest_fits n.1 in
     let fm = components_front total [] n.0.0 n.0.1 m.0 fn.0.rest_fits tt tt m.1 in
-    let up : low ≤ sid_key a.0.0 = ltb-false _ _ r.0 in
     let count : length m.0.0 ≡ n.0.0 = omega (arith, fm.3) in
     let both = front_then a.0.1 (n.0.0 ∷ []) n.0.1 fm.0 m.0.1 fn.0 fm.1 in
-    let whole = front_then bytes (sid_field a.0.0) a.0.1 (n.0.0 ∷ fm.0) m.0.1 fa.0 both in
-    let made : Service × List ℕ = (record { sid = a.0.0; components = m.0.0 }, m.0.1) in
-    subst (IsServiceRead low bytes) (ok_is made x m.2) (
-      rw (count, fm.2) whole,
-      up,
+    subst (IsServiceRead low bytes) (ok_is (record { sid = a.0.0; components = m.0.0 }, m.0.1) x m.2) (
+      rw (count, fm.2) (front_then bytes (sid_field a.0.0) a.0.1 (n.0.0 ∷ fm.0) m.0.1 fa.0 both),
+      (ltb-false _ _ r.0),
       record {
         named = fa.1;
         within = fm.5;
@@ -245,14 +238,11 @@ pub service_again : (total low : ℕ) (s : Service) (rest : List ℕ) → IsServ
     → read_service total low (service_record s ++ rest) ≡ Ok (s, rest)
 unfolding read_service
 service_again total low s rest h up =
-    let ordered : ltb (sid_key s.sid) low ≡ false = le-ltb _ _ up in
-    let regrouped : service_record s ++ rest ≡ sid_field s.sid
-    ++ (length s.components ∷ (flat_map component_bytes s.components ++ rest)) =
-    append_assoc (sid_field s.sid) (length s.components ∷ flat_map component_bytes s.components) rest in
+    let regrouped = append_assoc (sid_field s.sid) (length s.components ∷ flat_map component_bytes s.components) rest in
     ap (read_service total low) regrouped
     ∙ rw (
       sid_again total s.sid (length s.components ∷ (flat_map component_bytes s.components ++ rest)) h.named,
-      ordered,
+      (le-ltb _ _ up),
       byte_within_again total 0 (component_limit s.sid) (length s.components)
           (flat_map component_bytes s.components ++ rest) (omega arith) h.few,
       components_again total [] s.components rest h.carriers h.within,
@@ -300,11 +290,10 @@ pub packet_again : (total low : ℕ) (p : Packet) (rest : List ℕ) → IsAddres
     → read_packet total low (packet_record p ++ rest) ≡ Ok (p, rest)
 unfolding read_packet
 packet_again total low p rest h up =
-    let ordered : ltb p.scid low ≡ false = le-ltb _ _ up in
     rw (
       word_within_again total 0 4095 p.scid (flag_byte p.dg ∷ p.ty ∷ p.sub ∷ u16_bytes p.address ++ rest) (omega arith)
           (omega (arith, h.named)) (omega arith),
-      ordered,
+      (le-ltb _ _ up),
       flag_again total p.dg (p.ty ∷ p.sub ∷ u16_bytes p.address ++ rest),
       byte_within_again total 0 63 p.ty (p.sub ∷ u16_bytes p.address ++ rest) (omega arith) (omega (arith, h.typed)),
       byte_within_again total 0 63 p.sub (u16_bytes p.address ++ rest) (omega arith) (omega (arith, h.carried)),

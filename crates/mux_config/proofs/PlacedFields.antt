@@ -66,8 +66,7 @@ placed_byte_within total low high (b ∷ rest) left =
 pub placed_word_within : (total low high : ℕ) (bytes : List ℕ) → length bytes ≤ total
     → Placed total (u16_in_range total low high bytes)
 placed_word_within total low high bytes left =
-    placed_word total bytes (judged (place total bytes) low high) left
-    (λ within n rest after. placed_judged total (place total bytes) low high n rest within after)
+    placed_word total bytes _ left (λ within n rest after. placed_judged total _ low high n rest within after)
 
 pub placed_flag : (total : ℕ) (bytes : List ℕ) → length bytes ≤ total → Placed total (flag_at total bytes)
 placed_flag total bytes left = placed_bind total _ _ (placed_byte_within total 0 1 bytes left) (λ n rest after. after)
@@ -105,5 +104,4 @@ placed_component_of total at _ bytes within left =
 pub placed_component : (total : ℕ) (bytes : List ℕ) → length bytes ≤ total → Placed total (component_at total bytes)
 unfolding component_at
 placed_component total [] left = tt
-placed_component total (b ∷ rest) left =
-    placed_component_of total (place total (b ∷ rest)) b rest (omega (arith, left)) (omega (arith, left))
+placed_component total (b ∷ rest) left = placed_component_of total _ b rest (omega (arith, left)) (omega (arith, left))

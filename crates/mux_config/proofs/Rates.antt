@@ -23,9 +23,7 @@ steps_told B one other h k e = omega arith
 pub one_rate : OneRate
 one_rate p one other size h k =
     let units = units_of_step p.set p.level in
-    let m = one / rate_step p.set in
-    let n = other / rate_step p.set in
     let same : units * (one / rate_step p.set) ≡ units * (other / rate_step p.set) = sym h.from_table ∙ k.from_table in
     steps_told p.set one other h.multiple k.multiple
-    (sym (mul-div_cancel_left m (units_positive p.set p.level)) ∙ ap (λ (x : ℕ). x / units) same
-    ∙ mul-div_cancel_left n (units_positive p.set p.level))
+    (sym (mul-div_cancel_left (one / rate_step p.set) (units_positive p.set p.level)) ∙ ap (λ (x : ℕ). x / units) same
+    ∙ mul-div_cancel_left (other / rate_step p.set) (units_positive p.set p.level))

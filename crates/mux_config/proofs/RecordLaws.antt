@@ -70,13 +70,10 @@ module _ {T : Type 0} (key : T → ℕ) (text : T → List ℕ) (P : T → Type 
   unfolding members_at
   members_again law low before [] rest up above all = ap (λ (ys : List T). Ok (ys, rest)) (sym (append-nil before))
   members_again law low before (y ∷ ys) rest up above all =
-      let regrouped : flat_map text (y ∷ ys) ++ rest ≡ text y ++ (flat_map text ys ++ rest) =
-      append_assoc (text y) (flat_map text ys) rest in
       let moved : before ++ y ∷ [] ++ ys ≡ before ++ y ∷ ys = append_assoc before (y ∷ []) ys in
-      let later : AllByRecursion (λ z. key y + 1 ≤ key z) ys =
-      each_weaker (λ z. key y < key z) (λ z. key y + 1 ≤ key z) (λ z h. omega (arith, h)) ys up.0 in
+      let later = each_weaker (λ z. key y < key z) (λ z. key y + 1 ≤ key z) (λ z h. omega (arith, h)) ys up.0 in
       let ih = members_again law (key y + 1) (before ++ y ∷ []) ys rest up.1 later all.1 in
-      ap (members_at key member_at low before (suc (length ys))) regrouped
+      ap (members_at key member_at low before (suc (length ys))) (append_assoc (text y) (flat_map text ys) rest)
       ∙ rw (law low y (flat_map text ys ++ rest) all.0 above.0) (ih ∙ ap (λ (zs : List T). Ok (zs, rest)) moved)
 
 any_low : {T : Type 0} (key : T → ℕ) (xs : List T) → AllByRecursion (λ y. 0 ≤ key y) xs
@@ -140,10 +137,8 @@ record_again total c rest h =
     let subs = flat_map sub_record c.subs in
     let services = flat_map service_record c.services in
     let packets = flat_map packet_record c.packets in
-    let regrouped : subs ++ services ++ packets ++ rest ≡ subs ++ (services ++ (packets ++ rest)) =
-    append_assoc (subs ++ services) packets rest ∙ append_assoc subs services (packets ++ rest) in
-    let counts : List ℕ = length c.subs ∷ length c.services ∷ length c.packets ∷ [] in
-    ap (λ (t : List ℕ). record_at total (counts ++ t)) regrouped
+    let regrouped = append_assoc (subs ++ services) packets rest ∙ append_assoc subs services (packets ++ rest) in
+    ap (λ (t : List ℕ). record_at total ((length c.subs ∷ length c.services ∷ length c.packets ∷ []) ++ t)) regrouped
     ∙ rw (
       byte_within_again total 0 64 (length c.subs) (length c.services ∷ length c.packets
           ∷ (subs ++ (services ++ (packets ++ rest)))) (omega arith) h.subs_few,
@@ -179,15 +174,13 @@ pub read_so : (bytes : List ℕ) (r : Result (Configuration × ℕ) RecordFault)
     → IfErr r (λ e. config_at bytes ≡ Err e) → (c : Configuration) (rest : List ℕ) → IsConfiguration c
     → bytes ≡ config_bytes c ++ rest → r ≡ Ok (c, length (config_bytes c))
 read_so bytes (Ok f) read whole fault c rest h e =
-    let again : config_at bytes ≡ given (c, rest) = ap config_at e
-    ∙ record_again (length (config_bytes c ++ rest)) c rest h in
+    let again = ap config_at e ∙ record_again (length (config_bytes c ++ rest)) c rest h in
     let same : given (f.0, drop f.1 bytes) ≡ given (c, rest) = sym read ∙ again in
     let found : f.0 ≡ c = ap (λ (x : Configuration × List ℕ). x.0) (ok_is (f.0, drop f.1 bytes) (c, rest) same) in
     let size : f.1 ≡ length (config_bytes c) = whole ∙ ap (λ (d : Configuration). length (config_bytes d)) found in
     ap (λ (d : Configuration). answer (d, f.1)) found ∙ ap (λ (n : ℕ). answer (c, n)) size
 read_so bytes (Err e) read whole fault c rest h same =
-    let again : config_at bytes ≡ given (c, rest) = ap config_at same
-    ∙ record_again (length (config_bytes c ++ rest)) c rest h in
+    let again = ap config_at same ∙ record_again (length (config_bytes c ++ rest)) c rest h in
     absurd cc
 
 -- a reading that consumed the whole encoding leaves what follows it
@@ -196,8 +189,7 @@ pub left : (bytes : List ℕ) (x : Configuration × List ℕ) → IsBytes bytes 
     × IsConfiguration x.0
 left bytes x fits e =
     let front = record_front (length bytes) bytes x fits e in
-    let both : length bytes ≡ length (config_bytes x.0) + length x.1 =
-    ap length front.0.parts ∙ length-append (config_bytes x.0) x.1 in
+    let both = ap length front.0.parts ∙ length-append (config_bytes x.0) x.1 in
     let size : length bytes - length x.1 ≡ length (config_bytes x.0) = omega (arith, both) in (
       size,
       ap (λ (n : ℕ). drop n bytes) size ∙ ap (drop (length (config_bytes x.0))) front.0.parts
@@ -240,5 +232,4 @@ read_in_turn bytes b0 b1 b2 b3 b4 b5 b6 t0 t1 t2 t3 t4 t5 m n k c start all s1 s
 -- what is written is read again, whatever follows it
 pub written_again : (bytes : List ℕ) (c : Configuration) (rest : List ℕ) → IsConfiguration c → bytes ≡ config_bytes c
     → config_at (bytes ++ rest) ≡ Ok (c, rest)
-written_again bytes c rest h e = ap (λ (b : List ℕ). config_at (b ++ rest)) e
-    ∙ record_again (length (config_bytes c ++ rest)) c rest h
+written_again bytes c rest h e = ap (λ (b : List ℕ). config_at (b ++ rest)) e ∙ record_again _ c rest h

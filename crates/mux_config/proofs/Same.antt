@@ -132,8 +132,7 @@ subs_same : (xs ys : List Sub) → is_same_list is_same_sub xs ys ≡ true → x
 subs_same xs ys e = list_same is_same_sub sub_same xs ys e
 
 subs_itself : (xs ys : List Sub) → xs ≡ ys → is_same_list is_same_sub xs ys ≡ true
-subs_itself xs ys e = subst (λ (zs : List Sub). is_same_list is_same_sub xs zs ≡ true) e
-    (list_itself is_same_sub sub_itself xs)
+subs_itself xs ys e = rw (← e) (list_itself is_same_sub sub_itself xs)
 
 services_same : (c d : Configuration) → has_same_services c d ≡ true → (c.services ≡ d.services)
     × (c.packets ≡ d.packets)
@@ -163,17 +162,15 @@ flag_told false false P same itself =
 
 pub change_told : OneRate → ChangeIsUnique
 change_told rates c d change h k =
-    let subs = flag_told change.subs (has_same_subs c d) (HaveSameMembers (sub_entries c) (sub_entries d))
-    (λ e. same_members (ap (map sub_entry) (subs_same c.subs d.subs e)))
-    (λ e. subs_itself c.subs d.subs (subs_of_sets rates c d h k e)) in
+    let subs = flag_told _ _ _ (λ e. same_members (ap (map sub_entry) (subs_same c.subs d.subs e)))
+    (λ e. subs_itself _ _ (subs_of_sets rates c d h k e)) in
     let services = flag_told change.services (has_same_services c d)
     (HaveSameMembers (service_entries c) (service_entries d))
     (λ e. let parts = services_same c d e in let equal : service_entries c ≡ service_entries d = cc in
     same_members equal)
     (λ e. let parts = services_of_sets c d h k e in services_itself c d parts.0 parts.1) in (
       λ is. let one : change.subs ≡ not (has_same_subs c d) = subs.0 is.subs in
-          let two : change.services ≡ not (has_same_services c d) = services.0 is.services in
-          λ i. record { subs = one i; services = two i },
+          λ i. record { subs = one i; services = (services.0 is.services) i },
       λ e. record {
         subs = subs.1 (ap (λ (x : Change). x.subs) e);
         services = services.1 (ap (λ (x : Change). x.services) e);

@@ -82,24 +82,18 @@ some_steps B kbits h e = omega arith
 
 sized : (s : Sub) → IsPlaced s → 0 < size_of_sub s
 sized s h =
-    let steps : 0 < s.kbits / rate_step s.protection.set =
-    some_steps s.protection.set s.kbits h.sized.positive h.sized.multiple in
-    let units : 0 < units_of_step s.protection.set s.protection.level =
-    units_positive s.protection.set s.protection.level in
+    let steps = some_steps s.protection.set s.kbits h.sized.positive h.sized.multiple in
     let more = le-mul_of_pos_right (units_of_step s.protection.set s.protection.level) steps in
-    omega (arith, units, more)
+    omega (arith, units_positive s.protection.set s.protection.level, more)
 
 pub overlaps_told : (a b : Sub) → IsPlaced a → IsPlaced b → overlaps a b ≡ true → (unit : ℕ) × IsUnitOf a unit
     × IsUnitOf b unit
 overlaps_told a b h k e =
     let parts = and_parts (ltb a.start (b.start + size_of_sub b)) (ltb b.start (a.start + size_of_sub a)) e in
-    let one : a.start < b.start + size_of_sub b = ltb-true _ _ parts.0 in
-    let two : b.start < a.start + size_of_sub a = ltb-true _ _ parts.1 in
-    let n = sized b k in
     elim (cases_lt a.start b.start) [
-      | inl lt ↦ (b.start, (omega arith, two), (omega arith, omega (arith, n)))
+      | inl lt ↦ (b.start, (omega arith, (ltb-true _ _ parts.1)), (omega arith, omega (arith, sized b k)))
       | inr ge ↦
-          (a.start, (omega arith, omega (arith, sized a h)), (ge, one))
+          (a.start, (omega arith, omega (arith, sized a h)), (ge, (ltb-true _ _ parts.0)))
     ]
 
 pub overlaps_found : (a b : Sub) (unit : ℕ) → IsUnitOf a unit → IsUnitOf b unit → overlaps a b ≡ true
@@ -367,8 +361,7 @@ first_any_by (Some fault) other t u e f = ap (λ (b : Bool). b || u) e
 
 pub first_any : (xs : List Sub) → is_some (first_overlap xs) ≡ is_crowded xs
 first_any [] = refl
-first_any (a ∷ bs) = first_any_by (overlap_with a bs) (first_overlap bs) (list_any (overlaps a) bs) (is_crowded bs)
-    (with_any a bs) (first_any bs)
+first_any (a ∷ bs) = first_any_by _ _ _ _ (with_any a bs) (first_any bs)
 
 -- a look-up finds a member exactly if there is one
 has_found_by : {T : Type 0} (t : Bool) (x : T) (rest : Option T) (u : Bool) → is_some rest ≡ u

@@ -89,9 +89,7 @@ goes_record total bytes more =
     (λ low b. goes_packet total low b more) 0 [] packet_count after_service_set) (λ packets rest. refl))))))
 
 pub goes_config : (bytes more : List ℕ) → Goes more (config_at bytes) (config_at (bytes ++ more))
-goes_config bytes more =
-    subst (λ (n : ℕ). Goes more (config_at bytes) (record_at n (bytes ++ more))) (sym (length-append bytes more))
-    (goes_record (length bytes) bytes more)
+goes_config bytes more = rw (length-append bytes more) (goes_record (length bytes) bytes more)
 
 -- ---- the laws of faults
 

@@ -50,8 +50,7 @@ number_by : (w : Width) (bytes more : List ℕ) (t : Bool) → ltb (length bytes
 number_by w bytes more true e = tt
 number_by w bytes more false e =
     let enough : byte_len w ≤ length bytes = ltb-false _ _ e in
-    let still : ltb (length (bytes ++ more)) (byte_len w) ≡ false =
-    le-ltb _ _ (omega (arith, enough, length-append bytes more)) in
+    let still = le-ltb _ _ (omega (arith, enough, length-append bytes more)) in
     ap (λ (t : Bool). cond t (Err Short)
     (Ok (from_be_bytes w (take (byte_len w) (bytes ++ more)), drop (byte_len w) (bytes ++ more)))) still
     ∙ ap (λ (xs : List ℕ). Ok (from_be_bytes w xs, drop (byte_len w) (bytes ++ more)))
@@ -115,8 +114,7 @@ unfolding component_of
 goes_component_of total at by (suc (suc zero)) bytes more e = goes_fault _ more (Field at) (Field by) (ap Field e)
 goes_component_of total at by (suc (suc (suc zero))) bytes more e =
     goes_bind more _ _ _ _ (goes_word_within total 0 4095 bytes more) (λ scid rest. refl)
-goes_component_of total at by (suc (suc (suc (suc k)))) bytes more e =
-    goes_fault _ more (Field at) (Field by) (ap Field e)
+goes_component_of total at by (suc (suc (suc (suc k)))) bytes more e = goes_fault _ more _ _ (ap Field e)
 goes_component_of total at by _ bytes more e =
     goes_bind more _ _ _ _ (goes_byte_within total 0 63 bytes more) (λ ty rest.
     goes_bind more _ _ _ _ (goes_byte_within total 0 63 rest more) (λ sub last. refl))
