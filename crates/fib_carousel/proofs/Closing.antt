@@ -2,11 +2,10 @@
 use Rattle.fib_carousel.proofs.Words.{[], ◌+◌, ◌-◌, ◌<◌, ◌∙◌, ◌∷◌, ◌≡◌, ◌≤◌, ◌⊎◌, AllByRecursion, AreSendable, Entry}
 use Rattle.fib_carousel.proofs.Words.{EntryShape, FrameLayout, HasPassed, Head, IfSome, IsAtFib, IsSendable}
 use Rattle.fib_carousel.proofs.Words.{IsThenWithin, List, Long, Marked, NextIsAfter, None, Option, PackState, Position}
-use Rattle.fib_carousel.proofs.Words.{Short, Sid, Some, ap, arith, closed, cost, drop, entries_in_fib}
-use Rattle.fib_carousel.proofs.Words.{entry_size, ext_of, fib_entries, get_or, if◌then◌else◌, inl, inr, is_some}
-use Rattle.fib_carousel.proofs.Words.{last_number, le-leb, length, length-drop, lt-leb, nat_le, numbers_from, opened}
-use Rattle.fib_carousel.proofs.Words.{packing, placed, refl, room, sid_size, size_of, state_at, subst, suc, sym, take}
-use Rattle.fib_carousel.proofs.Words.{zero, ℕ}
+use Rattle.fib_carousel.proofs.Words.{Short, Sid, Some, ap, arith, closed, cost, drop, entries_in_fib, entry_size}
+use Rattle.fib_carousel.proofs.Words.{ext_of, fib_entries, get_or, if◌then◌else◌, inl, inr, is_some, last_number}
+use Rattle.fib_carousel.proofs.Words.{le-leb, length, length-drop, lt-leb, nat_le, numbers_from, opened, packing}
+use Rattle.fib_carousel.proofs.Words.{placed, refl, room, sid_size, size_of, state_at, subst, suc, sym, take, zero, ℕ}
 use Rattle.mux_types.specs.declared.entry.Entry.TheVariants.{Ensemble as EnsembleOf, Sub as SubOf, Short as ShortOf}
 use Rattle.mux_types.specs.declared.entry.Entry.TheVariants.{Service as ServiceOf, Packet as PacketOf}
 use Rattle.fib_carousel.proofs.Steps.{in_fib_other, in_fib_past}

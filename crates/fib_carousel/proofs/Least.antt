@@ -167,10 +167,10 @@ behind_opened layout e p q m b up f =
       | inl c ↦ subst (λ (r : PackState). Behind r (opened e m)) (sym c.is) (refl, inl (below, omega arith))
       | inr c ↦ subst (λ (r : PackState). Behind r (opened e m)) (sym c.is) (
         refl,
-            elim (cases_lt c.to m) [
-              | inl lt ↦ inl (lt, omega arith)
-              | inr ge ↦ inr (omega (arith, c.first m below f, ge), omega arith)
-            ],
+        elim (cases_lt c.to m) [
+          | inl lt ↦ inl (lt, omega arith)
+          | inr ge ↦ inr (omega (arith, c.first m below f, ge), omega arith)
+        ],
       )
     ]
 

@@ -129,7 +129,7 @@ later_step layout ms n c d s at below used near inside l = record {
   fib = omega (arith, near, at, l.fib);
   below = omega (arith, below);
   rest = λ m le. ap (λ i. rest_in layout m ms i d.state) at ∙ sym
-  (rest_passes _ m ms _ _ _ s (λ e. omega (arith, e, le, below))) ∙ l.rest m le;
+      (rest_passes _ m ms _ _ _ s (λ e. omega (arith, e, le, below))) ∙ l.rest m le;
   last =
       ap (λ i. last_number d.state.fib (numbers_from layout d.state (drop i ms))) at
       ∙ last_step layout ms c.index c.state d.state (last_number 0 (packing layout ms)) s l.last;
@@ -211,7 +211,7 @@ last_bound : (layout : FrameLayout) (p : PackState) (ms : List Marked)
 last_bound layout p [] = omega arith
 last_bound layout p (m ∷ ms) =
     let near : (placed layout m p).fib ≤ p.fib + 2 =
-    elim (placed_cases layout m p) [ | inl c ↦ rw c.is (omega arith) | inr c ↦ rw c.is (omega (arith, c.near)) ] in
+    elim (placed_cases layout m p) [ inl c ↦ rw c.is (omega arith) | inr c ↦ rw c.is (omega (arith, c.near)) ] in
     omega (arith, last_bound layout (placed layout m p) ms, near)
 
 pub rounds_bound : (layout : FrameLayout) (ms : List Marked) → rounds layout ms ≤ length ms + 1

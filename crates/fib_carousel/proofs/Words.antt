@@ -57,7 +57,7 @@ pub use Rattle.std.proofs.Math.Nat.{mul-le-mul_left}
 pub use Rattle.std.proofs.Math.Seq.{drop-append-add, get_or-append_right, get_or-append_seam, set-append_seam, take-add}
 pub use Rattle.std.proofs.Math.Seq.{take-append-add}
 pub use Rattle.std.proofs.lemmas.Bool.{cases_lt, eqb-true, le-leb, lt-leb, ne_eqb, and_parts}
-pub use Rattle.std.proofs.lemmas.List.{drop-append-le, drop-drop, drop-map, drop_all, drop_at, drop_more, ext_get_or}
+pub use Rattle.std.proofs.lemmas.List.{drop-append-le, drop-drop, drop-map, drop_all, drop_at, ext_get_or}
 pub use Rattle.std.proofs.lemmas.List.{get_or-drop, get_or-take, get_or_append_left, length-append, length-drop}
 pub use Rattle.std.proofs.lemmas.List.{length-map, length-replicate, length-set, length-take-le, map-append}
 pub use Rattle.std.proofs.lemmas.List.{take-append-le, take-map, take-replicate, take_at, take_more}

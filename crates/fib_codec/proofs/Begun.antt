@@ -17,7 +17,7 @@ marked : (size : ℕ) (bytes : List ℕ) → length bytes ≡ 32 → size ≤ 30
 marked size bytes whole within rest = record {
   within = within;
   whole = length-set bytes size 255 ∙ whole;
-  rest = drop-set bytes size 255 (omega (arith, within, whole)) ∙ ap (λ t. 255 ∷ t) rest;
+  rest = rw (← rest) (drop-set bytes size 255 (omega (arith, within, whole)));
 }
 
 -- one byte more
@@ -27,8 +27,8 @@ begun_more size bytes byte is fits =
     let count : size + 1 + 1 ≡ size + suc 1 = omega arith in
     let less : 31 - size - 1 ≡ 31 - (size + 1) = omega arith in
     marked (size + 1) (slice_set bytes size byte) (length-set bytes size byte ∙ is.whole) (omega (arith, fits))
-    (drop-set-lt (size + 1 + 1) bytes size byte (omega arith) ∙ ap (λ n. drop n bytes) count
-    ∙ zeros_after size 1 bytes is ∙ ap (λ n. replicate n 0) less)
+    (rw (← less) (drop-set-lt (size + 1 + 1) bytes size byte (omega arith) ∙ ap (λ n. drop n bytes) count
+    ∙ zeros_after size 1 bytes is))
 
 -- two bytes more
 pub begun_two : (size : ℕ) (bytes : List ℕ) (a b : ℕ) → IsBegun size bytes → size < 29
@@ -38,9 +38,9 @@ begun_two size bytes a b is fits =
     let count : size + 2 + 1 ≡ size + suc 2 = omega arith in
     let less : 31 - size - 2 ≡ 31 - (size + 2) = omega arith in
     marked (size + 2) (slice_set one (size + 1) b) (length-set one (size + 1) b ∙ length-set bytes size a ∙ is.whole)
-    (omega (arith, fits))
-    (drop-set-lt (size + 2 + 1) one (size + 1) b (omega arith) ∙ drop-set-lt (size + 2 + 1) bytes size a (omega arith)
-    ∙ ap (λ n. drop n bytes) count ∙ zeros_after size 2 bytes is ∙ ap (λ n. replicate n 0) less)
+    (omega (arith, fits)) (rw (← less) (drop-set-lt (size + 2 + 1) one (size + 1) b (omega arith)
+    ∙ drop-set-lt (size + 2 + 1) bytes size a (omega arith) ∙ ap (λ n. drop n bytes) count
+    ∙ zeros_after size 2 bytes is))
 
 -- the first thirty bytes are the data bytes, padded
 pub begun_is_filled : (size : ℕ) (bytes : List ℕ) → IsBegun size bytes → take 30 bytes ≡ filled (take size bytes)

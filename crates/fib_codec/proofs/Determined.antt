@@ -104,10 +104,10 @@ sid_told : (s t : Sid) (xs ys : List ℕ) → IsSid s → IsSid t → is_long_si
     → (s ≡ t) × (xs ≡ ys)
 sid_told (Short n) (Short m) xs ys h k e same =
     let both = word_front n m xs ys h k same in
-    (ap (λ v. Short v) both.0, both.1)
+    (rw (both.0) refl, both.1)
 sid_told (Long n) (Long m) xs ys h k e same =
     let both = long_front n m xs ys h k same in
-    (ap (λ v. Long v) both.0, both.1)
+    (rw (both.0) refl, both.1)
 sid_told (Short n) (Long m) xs ys h k e same = cc
 sid_told (Long n) (Short m) xs ys h k e same = cc
 
@@ -223,7 +223,7 @@ packet_told p q h k same =
     (ca_org_bytes q.ca_org)
     (omega (arith, h.sub, h.address)) (omega (arith, k.sub, k.address)) tail in
     let ca_org : p.ca_org ≡ q.ca_org = same_ca_org p.ca_org q.ca_org h.ca_org k.ca_org back.1 in
-    let flag : bit_of (is_some p.ca_org) ≡ bit_of (is_some q.ca_org) = ap (λ o. bit_of (is_some o)) ca_org in
+    let flag : bit_of (is_some p.ca_org) ≡ bit_of (is_some q.ca_org) = rw (ca_org) refl in
     let scid : p.scid ≡ q.scid = omega (arith, front.0, flag, h.rfa, k.rfa, a, b) in
     let rfa : p.rfa ≡ q.rfa = omega (arith, front.0, flag, h.rfa, k.rfa, a, b) in
     let d = bit_small p.rfu in
@@ -250,28 +250,28 @@ packet_told p q h k same =
 
 pub entry_told : (e f : Entry) → IsWithin e → IsWithin f → ext_of e ≡ ext_of f → is_long_entry e ≡ is_long_entry f
     → entry_bytes e ≡ entry_bytes f → e ≡ f
-entry_told (EnsembleOf e) (EnsembleOf f) h k ext long same = ap (λ v. EnsembleOf v) (ensemble_told e f h k same)
+entry_told (EnsembleOf e) (EnsembleOf f) h k ext long same = rw (ensemble_told e f h k same) refl
 entry_told (EnsembleOf e) (SubOf t) h k ext long same = absurd (omega arith)
 entry_told (EnsembleOf e) (ShortOf t) h k ext long same = absurd (omega arith)
 entry_told (EnsembleOf e) (ServiceOf t) h k ext long same = absurd (omega arith)
 entry_told (EnsembleOf e) (PacketOf q) h k ext long same = absurd (omega arith)
 entry_told (SubOf s) (EnsembleOf f) h k ext long same = absurd (omega arith)
-entry_told (SubOf s) (SubOf t) h k ext long same = ap (λ v. SubOf v) (sub_told s t h k same)
+entry_told (SubOf s) (SubOf t) h k ext long same = rw (sub_told s t h k same) refl
 entry_told (SubOf s) (ShortOf t) h k ext long same = cc
 entry_told (SubOf s) (ServiceOf t) h k ext long same = absurd (omega arith)
 entry_told (SubOf s) (PacketOf q) h k ext long same = absurd (omega arith)
 entry_told (ShortOf s) (EnsembleOf f) h k ext long same = absurd (omega arith)
 entry_told (ShortOf s) (SubOf t) h k ext long same = cc
-entry_told (ShortOf s) (ShortOf t) h k ext long same = ap (λ v. ShortOf v) (short_told s t h k same)
+entry_told (ShortOf s) (ShortOf t) h k ext long same = rw (short_told s t h k same) refl
 entry_told (ShortOf s) (ServiceOf t) h k ext long same = absurd (omega arith)
 entry_told (ShortOf s) (PacketOf q) h k ext long same = absurd (omega arith)
 entry_told (ServiceOf s) (EnsembleOf f) h k ext long same = absurd (omega arith)
 entry_told (ServiceOf s) (SubOf t) h k ext long same = absurd (omega arith)
 entry_told (ServiceOf s) (ShortOf t) h k ext long same = absurd (omega arith)
-entry_told (ServiceOf s) (ServiceOf t) h k ext long same = ap (λ v. ServiceOf v) (service_told s t h k long same)
+entry_told (ServiceOf s) (ServiceOf t) h k ext long same = rw (service_told s t h k long same) refl
 entry_told (ServiceOf s) (PacketOf q) h k ext long same = absurd (omega arith)
 entry_told (PacketOf p) (EnsembleOf f) h k ext long same = absurd (omega arith)
 entry_told (PacketOf p) (SubOf t) h k ext long same = absurd (omega arith)
 entry_told (PacketOf p) (ShortOf t) h k ext long same = absurd (omega arith)
 entry_told (PacketOf p) (ServiceOf t) h k ext long same = absurd (omega arith)
-entry_told (PacketOf p) (PacketOf q) h k ext long same = ap (λ v. PacketOf v) (packet_told p q h k same)
+entry_told (PacketOf p) (PacketOf q) h k ext long same = rw (packet_told p q h k same) refl

@@ -68,7 +68,7 @@ plus-push_zero (b ∷ m) [] h =
     let bit : b < 2 = h.0 in
     let same : (b + 0) % 2 ≡ b = omega arith in
     rw (same, plus-nil m) refl
-plus-push_zero (b ∷ m) (x ∷ xs) h = ap (λ t. (b + x) % 2 ∷ t) (plus-push_zero m xs h.1)
+plus-push_zero (b ∷ m) (x ∷ xs) h = rw (plus-push_zero m xs h.1) refl
 
 pub plus-plus : (m xs ys : List ℕ) → length xs ≡ length ys → plus (plus m xs) ys ≡ plus m (plus xs ys)
 plus-plus [] xs ys h = refl
@@ -84,7 +84,7 @@ pub plus-append : (xs ys m l : List ℕ) → length xs ≡ length ys → plus (x
 plus-append [] [] m l h = refl
 plus-append [] (y ∷ ys) m l h = cc
 plus-append (x ∷ xs) [] m l h = cc
-plus-append (x ∷ xs) (y ∷ ys) m l h = ap (λ t. (x + y) % 2 ∷ t) (plus-append xs ys m l (omega arith))
+plus-append (x ∷ xs) (y ∷ ys) m l h = rw (plus-append xs ys m l (omega arith)) refl
 
 pub AreBits-append : (xs ys : List ℕ) → AreBits xs → AreBits ys → AreBits (xs ++ ys)
 AreBits-append [] ys h k = k
@@ -118,11 +118,10 @@ no_place r b m n are bit same =
     let zero_on_top : (b + bit_at r 15) % 2 ≡ 0 = omega arith in
     let moved : low_bits 16 (r * 2 % 65536) ≡ low_bits 15 r ++ 0 ∷ [] =
     bits_of-word 16 (r * 2) (omega arith) ∙ bits_of-moved 15 r in
-    let left : plus (b ∷ m) (low_bits 16 r) ≡ 0 ∷ plus m (low_bits 15 r) =
-    ap (λ t. plus (b ∷ m) t) (bits_of-suc 15 r) ∙ ap (λ t. t ∷ plus m (low_bits 15 r)) zero_on_top in
+    let left : plus (b ∷ m) (low_bits 16 r) ≡ 0 ∷ plus m (low_bits 15 r) = rw (bits_of-suc 15 r, zero_on_top) refl in
     let right : plus m (low_bits 16 (r * 2 % 65536)) ≡ plus m (low_bits 15 r) =
-    ap (plus m) moved ∙ plus-push_zero m (low_bits 15 r) are in
-    ap (divided (suc n)) left ∙ divided-suc n 0 (plus m (low_bits 15 r)) ∙ ap (divided n) (sym right)
+    rw (moved) (plus-push_zero m (low_bits 15 r) are) in
+    rw (left) (rw (right) (divided-suc n 0 (plus m (low_bits 15 r))))
 
 -- it is 1
 a_place : (r b : ℕ) (m : List ℕ) (n : ℕ) → AreBits m → b < 2 → (bit_at r 15 ≡ b → ⊥)
@@ -131,14 +130,13 @@ a_place r b m n are bit differ =
     let one_on_top : (b + bit_at r 15) % 2 ≡ 1 = omega (arith, bit_at-lt r 15) in
     let moved : low_bits 16 (r * 2 % 65536) ≡ low_bits 15 r ++ 0 ∷ [] =
     bits_of-word 16 (r * 2) (omega arith) ∙ bits_of-moved 15 r in
-    let left : plus (b ∷ m) (low_bits 16 r) ≡ 1 ∷ plus m (low_bits 15 r) =
-    ap (λ t. plus (b ∷ m) t) (bits_of-suc 15 r) ∙ ap (λ t. t ∷ plus m (low_bits 15 r)) one_on_top in
+    let left : plus (b ∷ m) (low_bits 16 r) ≡ 1 ∷ plus m (low_bits 15 r) = rw (bits_of-suc 15 r, one_on_top) refl in
     let long : length (low_bits 16 (r * 2 % 65536)) ≡ length generator = length-bits_of 16 (r * 2 % 65536) in
     let right : plus m (low_bits 16 (bit_xor (r * 2 % 65536) 4129)) ≡ plus (plus m (low_bits 15 r)) generator =
     ap (plus m) (bits_of-xor 16 (r * 2 % 65536) 4129 ∙ ap (plus (low_bits 16 (r * 2 % 65536))) generator_is)
     ∙ sym (plus-plus m (low_bits 16 (r * 2 % 65536)) generator long)
     ∙ ap (λ t. plus t generator) (ap (plus m) moved ∙ plus-push_zero m (low_bits 15 r) are) in
-    ap (divided (suc n)) left ∙ divided-suc n 1 (plus m (low_bits 15 r)) ∙ ap (divided n) (sym right)
+    rw (left) (rw (right) (divided-suc n 1 (plus m (low_bits 15 r))))
 
 pub place_divides : (r b : ℕ) (m : List ℕ) (n : ℕ) → AreBits m → b < 2
     → divided (suc n) (plus (b ∷ m) (low_bits 16 r)) ≡ divided n (plus m (low_bits 16 (next r b)))
@@ -175,13 +173,9 @@ steps zero k r m n are =
     rw (none, count, after-zero k r) refl
 steps (suc w) k r m n are =
     let count : suc w + n ≡ suc (w + n) = omega arith in
-    let cut : low_bits (suc w) k ++ m ≡ bit_at k w ∷ (low_bits w k ++ m) = ap (λ t. t ++ m) (bits_of-suc w k) in
-    ap (λ c. divided c (plus (low_bits (suc w) k ++ m) (low_bits 16 r))) count
-    ∙ ap (λ t. divided (suc (w + n)) (plus t (low_bits 16 r))) cut
-    ∙ place_divides r (bit_at k w) (low_bits w k ++ m) (w + n) (AreBits-append (low_bits w k) m (bits_of_are w k) are)
-    (bit_at-lt k w)
-    ∙ steps w k (next r (bit_at k w)) m n are
-    ∙ ap (λ s. divided n (plus m (low_bits 16 s))) (sym (after-suc w k r))
+    let cut : low_bits (suc w) k ++ m ≡ bit_at k w ∷ (low_bits w k ++ m) = rw (bits_of-suc w k) refl in
+    rw (count, cut) (rw (after-suc w k r) (place_divides r (bit_at k w) (low_bits w k ++ m) (w + n)
+    (AreBits-append (low_bits w k) m (bits_of_are w k) are) (bit_at-lt k w) ∙ steps w k (next r (bit_at k w)) m n are))
 
 -- ---- the whole message
 pub taken : (bytes : List ℕ) (r : ℕ) (m : List ℕ) (n : ℕ) → AreBits m
@@ -189,16 +183,13 @@ pub taken : (bytes : List ℕ) (r : ℕ) (m : List ℕ) (n : ℕ) → AreBits m
     ≡ divided n (plus m (low_bits 16 (after_all bytes r)))
 taken [] r m n are =
     let count : 8 * 0 + n ≡ n = omega arith in
-    ap (λ c. divided c (plus m (low_bits 16 r))) count
+    rw (count) refl
 taken (b ∷ bs) r m n are =
     let rest = bits_of_bytes bs ++ m in
     let rest_are : AreBits rest = AreBits-append (bits_of_bytes bs) m (AreBits-bytes bs) are in
     let count : 8 * suc (length bs) + n ≡ 8 + (8 * length bs + n) = omega arith in
-    ap (λ c. divided c (plus (bits_of_bytes (b ∷ bs) ++ m) (low_bits 16 r))) count
-    ∙ ap (λ t. divided (8 + (8 * length bs + n)) (plus t (low_bits 16 r)))
-    (append_assoc (low_bits 8 b) (bits_of_bytes bs) m)
-    ∙ steps 8 b r rest (8 * length bs + n) rest_are
-    ∙ taken bs (after 8 b r) m n are
+    rw (count, append_assoc (low_bits 8 b) (bits_of_bytes bs) m)
+    (steps 8 b r rest (8 * length bs + n) rest_are ∙ taken bs (after 8 b r) m n are)
 
 all_ones : (w : ℕ) → w < 16 → bit_at 65535 w ≡ 1
 all_ones w h = bit_at_ones 16 w h
@@ -210,7 +201,7 @@ turned zero r h = refl
 turned (suc w) r h =
     let one : bit_at 65535 w ≡ 1 = all_ones w (omega arith) in
     let same : 1 - bit_at r w ≡ (bit_at r w + bit_at 65535 w) % 2 = omega (arith, bit_at-lt r w) in
-    rw (bit_at_xor r 65535 w, turned w r (omega arith)) (ap (λ t. t ∷ low_bits w (bit_xor r 65535)) same)
+    rw (bit_at_xor r 65535 w, turned w r (omega arith)) (rw (same) refl)
 
 pub zeros_first : (m : List ℕ) → AreBits m → plus (replicate (length m) 0) m ≡ m
 zeros_first [] h = refl
@@ -237,8 +228,6 @@ word_checks bytes r is =
     let message = bits_of_bytes bytes ++ replicate 16 0 in
     let count : 8 * length bytes ≡ 8 * length bytes + 0 = omega arith in
     let whole : divided (8 * length bytes) (dividend bytes) ≡ low_bits 16 r =
-    ap (λ t. divided (8 * length bytes) (plus message t)) (sym all_ones_start)
-    ∙ ap (λ c. divided c (plus message (low_bits 16 65535))) count
-    ∙ taken bytes 65535 (replicate 16 0) 0 (AreBits-replicate 16)
-    ∙ word_left (after_all bytes 65535) ∙ ap (low_bits 16) (sym is) in
-    sym (turned 16 r (omega arith)) ∙ ap (map (λ b. 1 - b)) (sym whole)
+    rw (← all_ones_start, count) (rw (is) (taken bytes 65535 (replicate 16 0) 0 (AreBits-replicate 16)
+    ∙ word_left (after_all bytes 65535))) in
+    rw (whole) (sym (turned 16 r (omega arith)))

@@ -82,12 +82,12 @@ service_is s h =
     service_at s.sid x s.components count
 
 pub entry_is : (head : Head) (e : Entry) → IsUnder head e → IsWithin e → IsEntry head.ext head.long (entry_bytes e)
-entry_is head (EnsembleOf e) under h = ensemble_is e h ∙ ap (λ k. entry_len k head.long (ensemble_bytes e)) (sym under)
-entry_is head (SubOf s) under h = sub_is s h ∙ ap (λ k. entry_len k head.long (sub_bytes s)) (sym under)
-entry_is head (ShortOf s) under h = short_is s h ∙ ap (λ k. entry_len k head.long (short_bytes s)) (sym under)
+entry_is head (EnsembleOf e) under h = rw (under) (ensemble_is e h)
+entry_is head (SubOf s) under h = rw (under) (sub_is s h)
+entry_is head (ShortOf s) under h = rw (under) (short_is s h)
 entry_is head (ServiceOf s) under h =
     service_is s h ∙ ap₂ (λ k long. entry_len k long (service_bytes s)) (sym under.0) (sym under.1)
-entry_is head (PacketOf p) under h = packet_is p h ∙ ap (λ k. entry_len k head.long (packet_bytes p)) (sym under)
+entry_is head (PacketOf p) under h = rw (under) (packet_is p h)
 
 -- ---- each FIG is one in the grammar
 entries_are : (head : Head) (es : List Entry) → AllByRecursion (IsUnder head) es → AllByRecursion IsWithin es
@@ -129,12 +129,12 @@ head_ext h small = omega arith
 pub head_long : (h : Head) → h.ext < 4 → is_long (head_byte h) ≡ h.long
 head_long h small =
     let bit : head_byte h / 32 % 2 ≡ bit_of h.long = omega (arith, bit_small h.long) in
-    ap (λ n. eqb n 1) bit ∙ bit_is h.long
+    rw (bit) (bit_is h.long)
 
 pub head_next : (h : Head) → h.ext < 4 → is_next (head_byte h) ≡ h.next
 head_next h small =
     let bit : head_byte h / 128 ≡ bit_of h.next = omega (arith, bit_small h.oe, bit_small h.long) in
-    ap (λ n. eqb n 1) bit ∙ bit_is h.next
+    rw (bit) (bit_is h.next)
 
 oe_bit : (h : Head) → h.ext < 4 → head_byte h / 64 % 2 ≡ bit_of h.oe
 oe_bit h small = omega (arith, bit_small h.oe, bit_small h.long)
@@ -222,13 +222,13 @@ fib_is figs written short =
 
 spelled_again : (es : List Entry) → flat_map (λ (e : List ℕ). e) (map entry_bytes es) ≡ entries_bytes es
 spelled_again [] = refl
-spelled_again (e ∷ es) = ap (λ t. entry_bytes e ++ t) (spelled_again es)
+spelled_again (e ∷ es) = rw (spelled_again es) refl
 
 again : (oe : Bool) (w : Written)
     → fig_spelled (cond oe (Other (fig_bytes w.head w.entries)) (Open (head_byte w.head) (map entry_bytes w.entries)))
     ≡ fig_bytes w.head w.entries
 again true w = refl
-again false w = ap (λ t. (1 + length t) ∷ head_byte w.head ∷ t) (spelled_again w.entries)
+again false w = rw (spelled_again w.entries) refl
 
 fig_again : (w : Written) → fig_spelled (fig_of w) ≡ fig_bytes w.head w.entries
 fig_again w = again w.head.oe w
@@ -254,5 +254,5 @@ valid_is figs written short ours =
     record {
       fib = fib_is figs written short;
       looked_into = are_open figs ours;
-      rest_filled = take_at bytes _ 30 (length-filled (figs_bytes figs) short) ∙ ap filled (sym (figs_again figs));
+      rest_filled = rw (figs_again figs) (take_at bytes _ 30 (length-filled (figs_bytes figs) short));
     }

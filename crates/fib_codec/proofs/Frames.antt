@@ -17,10 +17,11 @@ over xs at fib = take at xs ++ (fib ++ drop (at + 32) xs)
 over_front : (front rest fib : List ℕ) (at : ℕ) → at + 32 ≤ length front
     → over (front ++ rest) at fib ≡ over front at fib ++ rest
 over_front front rest fib at fits =
-    ap (λ t. t ++ (fib ++ drop (at + 32) (front ++ rest))) (take-append-le at front rest (omega (arith, fits)))
-    ∙ ap (λ t. take at front ++ (fib ++ t)) (drop-append-le (at + 32) front rest fits)
-    ∙ ap (λ t. take at front ++ t) (sym (append_assoc fib (drop (at + 32) front) rest))
-    ∙ sym (append_assoc (take at front) (fib ++ drop (at + 32) front) rest)
+    rw (
+      take-append-le at front rest (omega (arith, fits)),
+      drop-append-le (at + 32) front rest fits,
+      ← append_assoc fib (drop (at + 32) front) rest,
+    ) (sym (append_assoc (take at front) (fib ++ drop (at + 32) front) rest))
 
 over_length : (xs fib : List ℕ) (at : ℕ) → at + 32 ≤ length xs → length fib ≡ 32
     → length (over xs at fib) ≡ length xs
@@ -70,8 +71,8 @@ written_over size at bytes fib is fits whole =
 pub written_fib : (size index : ℕ) (bytes fib new : List ℕ) → IsOver size (32 * index) bytes fib
     → new ≡ over bytes (32 * index) fib → take size new ≡ with_fib index fib (take size bytes)
 written_fib size index bytes fib new is same =
-    ap (take size) same ∙ is.frame
-    ∙ sym (append_assoc (take (32 * index) (take size bytes)) fib (drop (32 * index + 32) (take size bytes)))
+    rw (same) (is.frame ∙ sym (append_assoc (take (32 * index) (take size bytes)) fib
+    (drop (32 * index + 32) (take size bytes))))
 
 -- the bytes up to a FIB that was written, and that FIB
 pub front_of : (index : ℕ) (old fib new : List ℕ) → length fib ≡ 32 → 32 * index + 32 ≤ length old

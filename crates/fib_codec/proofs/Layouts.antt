@@ -1,7 +1,5 @@
 -- The layouts of a frame, and examples of frames that keep their reserve and of one that does not.
-use Rattle.fib_codec.proofs.Words.{◌++◌, ◌∷◌, ◌≡◌, I, II, III, IV, List, ap, arith, fib_at, refl, replicate, subst, sym}
-use Rattle.fib_codec.proofs.Words.{ℕ}
-use Rattle.fib_codec.specs.declared.modes.Mode.{Mode}
+use Rattle.fib_codec.proofs.Words.{◌++◌, ◌∷◌, ◌≡◌, I, II, III, IV, List, arith, refl, replicate, ℕ}
 use Rattle.fib_codec.specs.declared.frame_layout.FrameLayout.TheVariants.{Whole, ReserveOne, ReserveTwo}
 use Rattle.fib_codec.specs.Layouts.{empty_fib, KeepsReserve, LayoutsDivide, LayoutIsOne}
 
@@ -17,11 +15,11 @@ layouts_divide (ReserveOne IV) = (refl, omega arith)
 layouts_divide ReserveTwo = (refl, omega arith)
 
 pub layout_is_one : LayoutIsOne
-layout_is_one (Whole m) (Whole n) mode reserve = ap (λ (x : Mode). Whole x) mode
+layout_is_one (Whole m) (Whole n) mode reserve = rw (mode) refl
 layout_is_one (Whole m) (ReserveOne n) mode reserve = absurd (omega (arith, reserve))
 layout_is_one (Whole m) ReserveTwo mode reserve = absurd (omega (arith, reserve))
 layout_is_one (ReserveOne m) (Whole n) mode reserve = absurd (omega (arith, reserve))
-layout_is_one (ReserveOne m) (ReserveOne n) mode reserve = ap (λ (x : Mode). ReserveOne x) mode
+layout_is_one (ReserveOne m) (ReserveOne n) mode reserve = rw (mode) refl
 layout_is_one (ReserveOne m) ReserveTwo mode reserve = absurd (omega (arith, reserve))
 layout_is_one ReserveTwo (Whole n) mode reserve = absurd (omega (arith, reserve))
 layout_is_one ReserveTwo (ReserveOne n) mode reserve = absurd (omega (arith, reserve))
@@ -31,7 +29,7 @@ layout_is_one ReserveTwo ReserveTwo mode reserve = refl
 keeps_last : KeepsReserve (ReserveOne II) (replicate 64 0 ++ empty_fib)
 keeps_last n low high =
     let last : n ≡ 2 = omega (arith, low, high) in
-    subst (λ k. fib_at (replicate 64 0 ++ empty_fib) k ≡ empty_fib) (sym last) refl
+    rw (last) refl
 
 keeps_nothing : KeepsReserve (Whole II) (replicate 96 0)
 keeps_nothing n low high = absurd (omega (arith, low, high))

@@ -25,7 +25,7 @@ components_len [] = refl
 components_len (c ∷ cs) = omega (arith, components_len cs)
 
 sid_head : (s : Sid) (rest : List ℕ) → length (sid_bytes s ++ rest) ≡ sid_size s + length rest
-sid_head s rest = length-append (sid_bytes s) rest ∙ ap (λ n. n + length rest) (sid_len s)
+sid_head s rest = rw (← sid_len s) (length-append (sid_bytes s) rest)
 
 pub entry_length : (e : Entry) → length (entry_bytes e) ≡ entry_size e
 entry_length (EnsembleOf e) = omega (arith, occurrence_len e.occurrence)
@@ -45,8 +45,7 @@ AllByRecursion-append P (x ∷ xs) ys h k = (h.0, AllByRecursion-append P xs ys 
 pub flat_map-append : {X A : Type 0} (f : X → List A) (xs ys : List X) → flat_map f (xs ++ ys) ≡ flat_map f xs
     ++ flat_map f ys
 flat_map-append f [] ys = refl
-flat_map-append f (x ∷ xs) ys =
-    ap (λ t. f x ++ t) (flat_map-append f xs ys) ∙ sym (append_assoc (f x) (flat_map f xs) (flat_map f ys))
+flat_map-append f (x ∷ xs) ys = rw (flat_map-append f xs ys) (sym (append_assoc (f x) (flat_map f xs) (flat_map f ys)))
 
 -- one more encoding after those of the values before
 pub spelled_more : {T : Type 0} (f : T → List ℕ) (old : List ℕ) (xs : List T) (i : ℕ) (d : T) → i < length xs
@@ -64,7 +63,7 @@ pub component_fits : (now old : List ℕ) (cs : List ComponentEntry) (i : ℕ) �
     → now ≡ old ++ components_bytes (take i cs) → length now + 2 ≤ 30
 component_fits now old cs i room h written =
     let long : length now ≡ length old + length (components_bytes (take i cs)) =
-    ap length written ∙ length-append old (components_bytes (take i cs)) in
+    rw (written) (length-append old (components_bytes (take i cs))) in
     let taken : length (take i cs) ≡ i = length-take-le i cs (omega arith) in
     omega (arith, long, taken, components_len (take i cs))
 
@@ -78,9 +77,8 @@ AllByRecursion-at P (x ∷ xs) (suc i) d h lt = AllByRecursion-at P xs i d h.1 (
 pub entries_more : (xs : List Entry) (i : ℕ) (d : Entry) → i < length xs
     → length (entries_bytes (take (i + 1) xs)) ≡ length (entries_bytes (take i xs)) + entry_size (get_or xs i d)
 entries_more xs i d h =
-    ap length (sym (spelled_more entry_bytes [] xs i d h))
-    ∙ length-append (entries_bytes (take i xs)) (entry_bytes (get_or xs i d))
-    ∙ ap (λ n. length (entries_bytes (take i xs)) + n) (entry_length (get_or xs i d))
+    rw (← spelled_more entry_bytes [] xs i d h) (rw (← entry_length (get_or xs i d))
+    (length-append (entries_bytes (take i xs)) (entry_bytes (get_or xs i d))))
 
 pub entries_part : (xs : List Entry) (i : ℕ) → length (entries_bytes (take i xs)) ≤ length (entries_bytes xs)
 entries_part xs i =
@@ -97,7 +95,7 @@ pub entry_fits : (now old : List ℕ) (xs : List Entry) (i : ℕ) (d : Entry) �
 entry_fits now old xs i d room h written is =
     let same : entry_size d ≡ entry_size (get_or xs i d) = ap entry_size is in
     let long : length now ≡ length old + length (entries_bytes (take i xs)) =
-    ap length written ∙ length-append old (entries_bytes (take i xs)) in
+    rw (written) (length-append old (entries_bytes (take i xs))) in
     omega (arith, long, entries_more xs i d h, entries_part xs (i + 1))
 
 -- no room for one more entry, and so none for all of them

@@ -43,7 +43,7 @@ front_divides : (k n : ℕ) (m : List ℕ) → AreBits m
 front_divides k n m are =
     let front = low_bits 8 k ++ m in
     let front_are : AreBits front = AreBits-append (low_bits 8 k) m (bits_of_are 8 k) are in
-    ap (divided (8 + n)) (sym (ap (plus front) zeros_are ∙ plus-zeros front 16 front_are)) ∙ steps 8 k 0 m n are
+    rw (← ap (plus front) zeros_are ∙ plus-zeros front 16 front_are) (steps 8 k 0 m n are)
 
 -- a u16 is its high byte and its low byte
 split_at : (w r : ℕ) → low_bits (w + 8) r ≡ low_bits w (r / 256) ++ low_bits 8 r
@@ -54,11 +54,8 @@ split_at zero r =
 split_at (suc w) r =
     let count : suc w + 8 ≡ suc (w + 8) = omega arith in
     let turn : w + 8 ≡ 8 + w = omega arith in
-    let top : bit_at r (w + 8) ≡ bit_at (r / 256) w =
-    ap (λ k. r / 2 ^ k % 2) turn ∙ ap (λ n. n % 2) (sym (shr-shr r 8 w)) in
-    ap (λ k. low_bits k r) count ∙ bits_of-suc (w + 8) r
-    ∙ ap (λ b. b ∷ low_bits (w + 8) r) top ∙ ap (λ bs. bit_at (r / 256) w ∷ bs) (split_at w r)
-    ∙ ap (λ bs. bs ++ low_bits 8 r) (sym (bits_of-suc w (r / 256)))
+    let top : bit_at r (w + 8) ≡ bit_at (r / 256) w = rw (turn, ← shr-shr r 8 w) refl in
+    rw (count) (rw (bits_of-suc w (r / 256), ← split_at w r, ← top) (bits_of-suc (w + 8) r))
 
 pub split : (r : ℕ) → low_bits 16 r ≡ low_bits 8 (r / 256) ++ low_bits 8 r
 split r = split_at 8 r
@@ -82,7 +79,7 @@ moved_up r =
 plus-push_zeros : (m xs : List ℕ) (n : ℕ) → AreBits m → plus m (xs ++ replicate n 0) ≡ plus m xs
 plus-push_zeros [] xs n h = refl
 plus-push_zeros (b ∷ m) [] n h = plus-zeros (b ∷ m) n h
-plus-push_zeros (b ∷ m) (x ∷ xs) n h = ap (λ t. (b + x) % 2 ∷ t) (plus-push_zeros m xs n h.1)
+plus-push_zeros (b ∷ m) (x ∷ xs) n h = rw (plus-push_zeros m xs n h.1) refl
 
 plus-bits : (xs ys : List ℕ) → AreBits xs → AreBits (plus xs ys)
 plus-bits [] ys h = tt
@@ -113,14 +110,11 @@ by_table r byte t given m n are =
     let long : length (low_bits 16 moved) ≡ length (low_bits 16 t) =
     length-bits_of 16 moved ∙ sym (length-bits_of 16 t) in
     let added : plus m (low_bits 16 moved) ≡ plus m (low_bits 8 r) =
-    ap (plus m) (moved_up r) ∙ plus-push_zeros m (low_bits 8 r) 8 are in
+    rw (moved_up r) (plus-push_zeros m (low_bits 8 r) 8 are) in
     let sum : plus m (low_bits 16 (bit_xor moved t)) ≡ plus (plus m (low_bits 8 r)) (low_bits 16 t) =
-    ap (plus m) (bits_of-xor 16 moved t) ∙ sym (plus-plus m (low_bits 16 moved) (low_bits 16 t) long)
-    ∙ ap (λ xs. plus xs (low_bits 16 t)) added in
-    ap (divided (8 + n)) (front_turned r byte m)
-    ∙ front_divides (bit_xor (r / 256) byte) n (plus m (low_bits 8 r)) (plus-bits m (low_bits 8 r) are)
-    ∙ ap (λ k. divided n (plus (plus m (low_bits 8 r)) (low_bits 16 k))) (sym given)
-    ∙ ap (divided n) (sym sum)
+    rw (bits_of-xor 16 moved t) (rw (← added) (sym (plus-plus m (low_bits 16 moved) (low_bits 16 t) long))) in
+    rw (front_turned r byte m) (rw (sum, given) (front_divides (bit_xor (r / 256) byte) n (plus m (low_bits 8 r))
+    (plus-bits m (low_bits 8 r) are)))
 
 -- ---- the division is linear
 -- two lists can be added in either order
@@ -174,9 +168,7 @@ leading (suc (suc x)) y xs ys p q h are bre = absurd (omega arith)
 
 divided-plus : (n : ℕ) (xs ys : List ℕ) → length xs ≡ length ys → AreBits xs → AreBits ys
     → divided n (plus xs ys) ≡ plus (divided n xs) (divided n ys)
-divided-plus zero xs ys h are bre =
-    divided-zero (plus xs ys) ∙ ap (λ t. plus t ys) (sym (divided-zero xs))
-    ∙ ap (plus (divided 0 xs)) (sym (divided-zero ys))
+divided-plus zero xs ys h are bre = rw (divided-zero ys, divided-zero xs) (divided-zero (plus xs ys))
 divided-plus (suc n) [] ys h are bre = divided-nil (suc n)
     ∙ ap (λ t. plus t (divided (suc n) ys)) (sym (divided-nil (suc n)))
 divided-plus (suc n) (x ∷ xs) [] h are bre = cc
@@ -184,12 +176,10 @@ divided-plus (suc n) (x ∷ xs) (y ∷ ys) h are bre =
     let same : length xs ≡ length ys = omega arith in
     let after_one : length (without_leading x xs) ≡ length (without_leading y ys) =
     length-without x xs ∙ same ∙ sym (length-without y ys) in
-    divided-suc n ((x + y) % 2) (plus xs ys)
+    rw (divided-suc n y ys, divided-suc n x xs) (divided-suc n ((x + y) % 2) (plus xs ys)
     ∙ ap (divided n) (leading x y xs ys are.0 bre.0 same are.1 bre.1)
     ∙ divided-plus n (without_leading x xs) (without_leading y ys) after_one (without_bits x xs are.1)
-    (without_bits y ys bre.1)
-    ∙ ap (λ t. plus t (divided n (without_leading y ys))) (sym (divided-suc n x xs))
-    ∙ ap (plus (divided (suc n) (x ∷ xs))) (sym (divided-suc n y ys))
+    (without_bits y ys bre.1))
 
 -- ---- two bytes
 -- the register after a byte, as the remainder of that byte and the register
@@ -203,7 +193,7 @@ as_rest k r = steps 8 k r (replicate 16 0) 0 (AreBits-replicate 16) ∙ word_lef
 onto_zeros : (front xs : List ℕ) → length front ≡ 24 → AreBits front
     → plus front xs ≡ plus front (plus (low_bits 8 0 ++ replicate 16 0) xs)
 onto_zeros front xs long are =
-    let zeros : low_bits 8 0 ++ replicate 16 0 ≡ replicate 24 0 = ap (λ t. t ++ replicate 16 0) no_bits in
+    let zeros : low_bits 8 0 ++ replicate 16 0 ≡ replicate 24 0 = rw (no_bits) refl in
     ap (λ t. plus t xs) (sym (plus-zeros front 24 are))
     ∙ plus_inside front (replicate 24 0) xs long
     ∙ ap (λ t. plus front (plus t xs)) (sym zeros)
@@ -221,15 +211,13 @@ apart_bits k xs ys =
     let long : length front ≡ 24 = length-plus message xs ∙ word_long k in
     let same : length front ≡ length (plus zeros ys) = long ∙ sym (word_long 0) ∙ sym (length-plus zeros ys) in
     let are : AreBits front = plus-bits message xs (word_bits k) in
-    ap (divided 8) (onto_zeros front ys long are)
-    ∙ divided-plus 8 front (plus zeros ys) same are (plus-bits zeros ys (word_bits 0))
+    rw (onto_zeros front ys long are) (divided-plus 8 front (plus zeros ys) same are (plus-bits zeros ys (word_bits 0)))
 
 -- a byte and a register act independently
 parts_of : (k r : ℕ) → low_bits 16 (after 8 k r) ≡ low_bits 16 (bit_xor (after 8 k 0) (after 8 0 r))
 parts_of k r =
     let message = low_bits 8 k ++ replicate 16 0 in
-    let empty : plus message (low_bits 16 0) ≡ message =
-    ap (plus message) zeros_are ∙ plus-zeros message 16 (word_bits k) in
+    let empty : plus message (low_bits 16 0) ≡ message = rw (zeros_are) (plus-zeros message 16 (word_bits k)) in
     sym (as_rest k r) ∙ ap (λ t. divided 8 (plus t (low_bits 16 r))) (sym empty)
     ∙ apart_bits k (low_bits 16 0) (low_bits 16 r)
     ∙ ap (λ t. plus t (divided 8 (plus (low_bits 8 0 ++ replicate 16 0) (low_bits 16 r)))) (as_rest k 0)
@@ -267,13 +255,11 @@ turned_bits r a b =
     ∙ plus-append (low_bits 8 b) (low_bits 8 (r % 256)) zeros [] long
     ∙ ap (λ t. plus (low_bits 8 b) (low_bits 8 (r % 256)) ++ t) (plus-nil zeros)
     ∙ ap (λ t. t ++ zeros) (sym (bits_of-xor 8 b (r % 256)) ∙ ap (low_bits 8) (xor_comm b (r % 256))) in
-    sym (word_left (after 8 b (after 8 a r)))
-    ∙ sym (steps 8 b (after 8 a r) zeros 0 are)
+    sym (word_left (after 8 b (after 8 a r))) ∙ sym (steps 8 b (after 8 a r) zeros 0 are)
     ∙ sym (steps 8 a r (low_bits 8 b ++ zeros) (8 + 0) (word_bits b))
-    ∙ ap (divided (8 + (8 + 0))) (front_turned r a (low_bits 8 b ++ zeros) ∙ ap (λ t. low_bits 8 first ++ t) behind)
+    ∙ ap (divided (8 + (8 + 0))) (rw (← behind) (front_turned r a (low_bits 8 b ++ zeros)))
     ∙ front_divides first (8 + 0) (low_bits 8 second ++ zeros) (word_bits second)
-    ∙ steps 8 second (after 8 first 0) zeros 0 are
-    ∙ word_left (after 8 second (after 8 first 0))
+    ∙ steps 8 second (after 8 first 0) zeros 0 are ∙ word_left (after 8 second (after 8 first 0))
 
 -- ---- the same for registers as numbers
 next_below : (r b : ℕ) → next r b < 65536

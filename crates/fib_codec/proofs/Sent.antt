@@ -91,8 +91,7 @@ said_in_list head [] bytes m small under within in_list said = absurd (contains_
 said_in_list head (e ∷ es) bytes m small under within in_list said =
     elim (contains_cases (entry_bytes e) (map entry_bytes es) bytes in_list) [
       | inl here ↦
-          let said_here : IsSaid (head_byte head) (entry_bytes e) m =
-          subst (λ (xs : List ℕ). IsSaid (head_byte head) xs m) (sym here) said in
+          let said_here : IsSaid (head_byte head) (entry_bytes e) m = rw (here) said in
           let same : marked head.next e ≡ m = said_written head e m small under.0 within.0 said_here in
           subst (λ (n : Marked). Contains (map (marked head.next) (e ∷ es)) n) same
           (contains_first (marked head.next e) (map (marked head.next) es))

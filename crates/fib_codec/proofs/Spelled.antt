@@ -213,7 +213,7 @@ short_sub head a b c e p q r =
     let first : big_bytes 2 (place / 1024 * 1024 + place % 1024) ≡ a ∷ b ∷ [] = u16_bytes _ a b there p q in
     let switch : bit_of (eqb (c / 64) 1) ≡ c / 64 = flag_of (c / 64) (omega arith) in
     let last : c / 64 * 64 + c % 64 ≡ c = omega arith in
-    (ShortOf entry, e, within, ap₂ (λ xs x. xs ++ x ∷ []) first (ap (λ x. x * 64 + c % 64) switch ∙ last))
+    (ShortOf entry, e, within, ap₂ (λ xs x. xs ++ x ∷ []) first (rw (switch) last))
 
 not_long : (c : ℕ) → c < 256 → eqb (c / 128) 1 ≡ false → c < 128
 not_long c p h = elim (one_of_four (c / 128) (omega arith)) [
@@ -310,7 +310,7 @@ count_byte : (f : ℕ) → f < 256 → bit_of (eqb (f / 128) 1) * 128 + f / 16 %
 count_byte f h =
     let rfa : bit_of (eqb (f / 128) 1) ≡ f / 128 = flag_of (f / 128) (omega arith) in
     let whole : f / 128 * 128 + f / 16 % 8 * 16 + f % 16 ≡ f = omega arith in
-    ap (λ x. x * 128 + f / 16 % 8 * 16 + f % 16) rfa ∙ whole
+    rw (rfa) whole
 
 service_from : (head : Head) (sid : Sid) (front : List ℕ) (f : ℕ) (bytes : List ℕ) → head.ext ≡ 2
     → head.long ≡ is_long_sid sid
@@ -322,7 +322,7 @@ service_from head sid front f bytes e long small same byte all whole =
     let within : IsServiceEntry entry =
     record { sid = small; ca_id = omega arith; few = omega (arith, parts.1.0); components = parts.1.1 } in
     let flags : bit_of (eqb (f / 128) 1) * 128 + f / 16 % 8 * 16 + length parts.0 ≡ f =
-    ap (λ n. bit_of (eqb (f / 128) 1) * 128 + f / 16 % 8 * 16 + n) parts.1.0 ∙ count_byte f byte in
+    rw (parts.1.0) (count_byte f byte) in
     (ServiceOf entry, (e, long), within, ap₂ (λ xs ys. xs ++ ys) same (ap₂ (λ x ys. x ∷ ys) flags parts.1.2))
 
 service_spelled : (head : Head) (long : Bool) (bytes : List ℕ) → head.long ≡ long → head.ext ≡ 2
@@ -382,8 +382,7 @@ packet_from head a b c f g org e p q r s t small has =
       address = omega arith;
       ca_org = small;
     } in
-    let word : (a * 256 + b) / 16 * 16 + b / 2 % 8 * 2 + bit_of (is_some org) ≡ a * 256 + b =
-    ap (λ x. (a * 256 + b) / 16 * 16 + b / 2 % 8 * 2 + x) has ∙ front.1 in
+    let word : (a * 256 + b) / 16 * 16 + b / 2 % 8 * 2 + bit_of (is_some org) ≡ a * 256 + b = rw (has) front.1 in
     let first : big_bytes 2 ((a * 256 + b) / 16 * 16 + b / 2 % 8 * 2 + bit_of (is_some org)) ≡ a ∷ b ∷ [] =
     u16_bytes _ a b word p q in
     let second : big_bytes 2 (place / 1024 * 1024 + place % 1024) ≡ f ∷ g ∷ [] =

@@ -35,10 +35,10 @@ at_place : (ts : List ℕ) (k i : ℕ) → is_table ts k ≡ true → i < length
 at_place [] k i h lt = absurd (omega arith)
 at_place (t ∷ ts) k zero h lt =
     let here : k + 0 ≡ k = omega arith in
-    eqb-true _ _ (and_parts _ _ h).0 ∙ ap (λ n. after 8 n 0) (sym here)
+    rw (here) (eqb-true _ _ (and_parts _ _ h).0)
 at_place (t ∷ ts) k (suc i) h lt =
     let there : suc k + i ≡ k + suc i = omega arith in
-    at_place ts (suc k) i (and_parts _ _ h).1 (omega arith) ∙ ap (λ n. after 8 n 0) there
+    rw (← there) (at_place ts (suc k) i (and_parts _ _ h).1 (omega arith))
 
 at_next_place : (ps ts : List ℕ) (i : ℕ) → is_next_table ps ts ≡ true → i < length ps → i < length ts
     → get_or ts i 0 ≡ after 8 0 (get_or ps i 0)
@@ -53,19 +53,19 @@ in_first_table k h =
     at_place SLICE_0 0 k first_table h ∙ ap (λ n. after 8 n 0) start
 
 pub in_second_table : (k : ℕ) → k < 256 → get_or SLICE_1 k 0 ≡ later 1 (after 8 k 0)
-in_second_table k h = at_next_place SLICE_0 SLICE_1 k second_table h h ∙ ap (after 8 0) (in_first_table k h)
+in_second_table k h = rw (← in_first_table k h) (at_next_place SLICE_0 SLICE_1 k second_table h h)
 
 pub in_third_table : (k : ℕ) → k < 256 → get_or SLICE_2 k 0 ≡ later 2 (after 8 k 0)
-in_third_table k h = at_next_place SLICE_1 SLICE_2 k third_table h h ∙ ap (after 8 0) (in_second_table k h)
+in_third_table k h = rw (← in_second_table k h) (at_next_place SLICE_1 SLICE_2 k third_table h h)
 
 pub in_fourth_table : (k : ℕ) → k < 256 → get_or SLICE_3 k 0 ≡ later 3 (after 8 k 0)
-in_fourth_table k h = at_next_place SLICE_2 SLICE_3 k fourth_table h h ∙ ap (after 8 0) (in_third_table k h)
+in_fourth_table k h = rw (← in_third_table k h) (at_next_place SLICE_2 SLICE_3 k fourth_table h h)
 
 pub in_fifth_table : (k : ℕ) → k < 256 → get_or SLICE_4 k 0 ≡ later 4 (after 8 k 0)
-in_fifth_table k h = at_next_place SLICE_3 SLICE_4 k fifth_table h h ∙ ap (after 8 0) (in_fourth_table k h)
+in_fifth_table k h = rw (← in_fourth_table k h) (at_next_place SLICE_3 SLICE_4 k fifth_table h h)
 
 pub in_sixth_table : (k : ℕ) → k < 256 → get_or SLICE_5 k 0 ≡ later 5 (after 8 k 0)
-in_sixth_table k h = at_next_place SLICE_4 SLICE_5 k sixth_table h h ∙ ap (after 8 0) (in_fifth_table k h)
+in_sixth_table k h = rw (← in_fifth_table k h) (at_next_place SLICE_4 SLICE_5 k sixth_table h h)
 
 -- ---- six bytes
 pub six_bytes : (r a b c d e f t0 t1 t2 t3 t4 t5 : ℕ)
@@ -82,7 +82,7 @@ six_bytes r a b c d e f t0 t1 t2 t3 t4 t5 h0 h1 h2 h3 h4 h5 =
     let w = after 8 e 0 in
     let both = after 8 b (after 8 a r) in
     let third : after 8 c both ≡ bit_xor x (bit_xor (z p) (z q)) =
-    apart c both ∙ ap (bit_xor x) (ap z (two_bytes r a b) ∙ zeros_apart p q) in
+    rw (← ap z (two_bytes r a b) ∙ zeros_apart p q) (apart c both) in
     let fourth : after 8 d (after 8 c both) ≡ bit_xor y (bit_xor (z x) (bit_xor (z (z p)) (z (z q)))) =
     apart d (after 8 c both)
     ∙ ap (bit_xor y) (ap z third ∙ zeros_apart x (bit_xor (z p) (z q))

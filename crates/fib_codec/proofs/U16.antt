@@ -44,32 +44,31 @@ word_spelled : (w x : ℕ) → number_of_bits (low_bits w x) ≡ x % 2 ^ w
 word_spelled zero x =
     let none : low_bits 0 x ≡ [] = bits_of-zero x in
     let rest : x % 2 ^ 0 ≡ 0 = omega arith in
-    ap number_of_bits none ∙ sym rest
+    rw (none) (sym rest)
 word_spelled (suc w) x =
     let count : 1 + w ≡ suc w = omega arith in
     let one : x / 2 ^ w % 2 ^ 1 ≡ bit_at x w = refl in
-    ap number_of_bits (bits_of-suc w x)
-    ∙ ap₂ (λ k n. bit_at x w * 2 ^ k + n) (length-bits_of w x) (word_spelled w x)
-    ∙ sym (ap (λ n. x % 2 ^ n) (sym count) ∙ mod-pow-add x 1 w)
+    rw (bits_of-suc w x) (ap₂ (λ k n. bit_at x w * 2 ^ k + n) (length-bits_of w x) (word_spelled w x)
+    ∙ sym (rw (← count) (mod-pow-add x 1 w)))
 
 pub word_checked : (bytes : List ℕ) (word : ℕ) → word < 65536 → low_bits 16 word ≡ check_bits bytes
     → word ≡ crc_value bytes
 word_checked bytes word fits h =
     let small : word % 2 ^ 16 ≡ word = omega arith in
-    sym small ∙ sym (word_spelled 16 word) ∙ ap number_of_bits h
+    rw (← h) (sym small ∙ sym (word_spelled 16 word))
 
 -- ---- the CRC is a u16
 length-divided : (n : ℕ) (xs : List ℕ) → length (divided n xs) ≡ length xs - n
 length-divided zero xs =
     let all : length xs ≡ length xs - 0 = omega arith in
-    ap length (divided-zero xs) ∙ all
+    rw (divided-zero xs) all
 length-divided (suc n) [] =
     let none : 0 ≡ 0 - suc n = omega arith in
-    ap length (divided-nil (suc n)) ∙ none
+    rw (divided-nil (suc n)) none
 length-divided (suc n) (b ∷ bits) =
     let less : length bits - n ≡ suc (length bits) - suc n = omega arith in
-    ap length (divided-suc n b bits) ∙ length-divided n (without_leading b bits)
-    ∙ ap (λ k. k - n) (length-without b bits) ∙ less
+    rw (divided-suc n b bits) (length-divided n (without_leading b bits) ∙ ap (λ k. k - n) (length-without b bits)
+    ∙ less)
 
 turned_bits : (xs : List ℕ) → AreBits (map (λ b. 1 - b) xs)
 turned_bits [] = tt
@@ -85,8 +84,8 @@ check_len : (bytes : List ℕ) → length (check_bits bytes) ≡ 16
 check_len bytes =
     let bits = bits_of_bytes bytes ++ replicate 16 0 in
     let whole : length (dividend bytes) ≡ 8 * length bytes + 16 =
-    length-plus bits (replicate 16 1) ∙ length-append (bits_of_bytes bytes) (replicate 16 0)
-    ∙ ap (λ n. n + 16) (length-bits_of_bytes bytes) in
+    rw (← length-bits_of_bytes bytes) (length-plus bits (replicate 16 1)
+    ∙ length-append (bits_of_bytes bytes) (replicate 16 0)) in
     let left : 8 * length bytes + 16 - 8 * length bytes ≡ 16 = omega arith in
     length-map (divided (8 * length bytes) (dividend bytes)) (λ (b : ℕ). 1 - b)
     ∙ length-divided (8 * length bytes) (dividend bytes) ∙ ap (λ n. n - 8 * length bytes) whole ∙ left
@@ -124,8 +123,7 @@ spelled_bits (b ∷ bits) are =
 
 pub check_word_bits : (bytes : List ℕ) → low_bits 16 (crc_value bytes) ≡ check_bits bytes
 check_word_bits bytes =
-    ap (λ w. low_bits w (crc_value bytes)) (sym (check_len bytes))
-    ∙ spelled_bits (check_bits bytes) (turned_bits (divided (8 * length bytes) (dividend bytes)))
+    rw (← check_len bytes) (spelled_bits (check_bits bytes) (turned_bits (divided (8 * length bytes) (dividend bytes))))
 
 pub check_word_below : (bytes : List ℕ) → crc_value bytes < 65536
 check_word_below bytes =
@@ -139,9 +137,8 @@ checked_is bytes h =
     let word = crc_value bytes in
     let high : word / 256 % 256 ≡ word / 256 = omega (arith, check_word_below bytes) in
     let whole : word / 256 % 256 * 256 + word % 256 ≡ word = omega (arith, check_word_below bytes) in
-    ap bits_of_bytes (drop_at bytes (big_bytes 2 word) 30 h)
-    ∙ sent_bits (word / 256 % 256) (word % 256) (omega arith)
-    ∙ ap (low_bits 16) whole ∙ check_word_bits bytes ∙ ap check_bits (sym (take_at bytes (big_bytes 2 word) 30 h))
+    rw (drop_at bytes (big_bytes 2 word) 30 h) (rw (take_at bytes (big_bytes 2 word) 30 h)
+    (sent_bits (word / 256 % 256) (word % 256) (omega arith) ∙ ap (low_bits 16) whole ∙ check_word_bits bytes))
 
 -- the CRC written over the last two of thirty-two bytes
 pub sealed_row : (row buf : List ℕ) (word : ℕ) → length row ≡ 32 → word < 65536
@@ -151,12 +148,11 @@ pub sealed_row : (row buf : List ℕ) (word : ℕ) → length row ≡ 32 → wor
 sealed_row row buf word whole fits bits written =
     let tail = take 2 (drop 30 row) in
     let none : drop 2 tail ≡ [] = drop_all 2 tail (omega (arith, length-take 2 (drop 30 row))) in
-    let two : buf ≡ big_bytes 2 word = written ∙ ap (λ t. word / 256 % 256 ∷ word % 256 ∷ t) none in
+    let two : buf ≡ big_bytes 2 word = rw (← none) written in
     let short : length (drop 30 row) ≤ 2 = omega (arith, length-drop 30 row, whole) in
     let behind : drop 2 (drop 30 row) ≡ [] = drop_all 2 (drop 30 row) short in
-    ap₂ (λ xs ys. take 30 row ++ (xs ++ ys)) two behind
-    ∙ ap (λ t. take 30 row ++ t) (append-nil (big_bytes 2 word))
-    ∙ ap (λ w. take 30 row ++ big_bytes 2 w) (word_checked (take 30 row) word fits bits)
+    rw (← word_checked (take 30 row) word fits bits, ← append-nil (big_bytes 2 word))
+    (ap₂ (λ xs ys. take 30 row ++ (xs ++ ys)) two behind)
 
 -- the same over all bytes after thirty
 pub sealed_end : (row buf : List ℕ) (word : ℕ) → length row ≡ 32 → word < 65536
@@ -167,7 +163,7 @@ sealed_end row buf word whole fits bits written =
     let two : length row - 30 ≡ 2 = omega (arith, whole) in
     let put : buf ≡ word / 256 % 256 ∷ word % 256 ∷ drop 2 (take 2 (drop 30 row)) =
     written ∙ ap (λ n. word / 256 % 256 ∷ word % 256 ∷ drop 2 (take n (drop 30 row))) two in
-    ap (λ n. put_mid 30 n row buf) two ∙ sealed_row row buf word whole fits bits put
+    rw (two) (sealed_row row buf word whole fits bits put)
 
 -- thirty-two bytes written over a piece of a longer list
 pub piece_into : (offset : ℕ) (bytes piece is : List ℕ) → piece ≡ is
@@ -175,7 +171,7 @@ pub piece_into : (offset : ℕ) (bytes piece is : List ℕ) → piece ≡ is
 piece_into offset bytes piece is same =
     let count : offset + 32 - offset ≡ 32 = omega arith in
     let behind : drop (offset + 32 - offset) (drop offset bytes) ≡ drop (offset + 32) bytes =
-    ap (λ n. drop n (drop offset bytes)) count ∙ drop-drop 32 offset bytes in
+    rw (count) (drop-drop 32 offset bytes) in
     ap₂ (λ xs ys. take offset bytes ++ (xs ++ ys)) same behind
 
 -- the same if they get their CRC there
@@ -185,10 +181,9 @@ pub sealed_into : (offset word : ℕ) (bytes row copied buf : List ℕ) → leng
     → put_mid offset (offset + 32 - offset) bytes (put_mid 30 (length copied - 30) copied buf)
     ≡ take offset bytes ++ (checked (take 30 row) ++ drop (offset + 32) bytes)
 sealed_into offset word bytes row copied buf whole same fits bits written =
-    let long : length copied ≡ 32 = ap length same ∙ whole in
-    let own : low_bits 16 word ≡ check_bits (take 30 copied) = bits ∙ ap (λ xs. check_bits (take 30 xs)) (sym same) in
-    piece_into offset bytes _ (checked (take 30 row)) (sealed_end copied buf word long fits own written
-    ∙ ap (λ xs. checked (take 30 xs)) same)
+    let long : length copied ≡ 32 = rw (same) whole in
+    let own : low_bits 16 word ≡ check_bits (take 30 copied) = rw (same) bits in
+    piece_into offset bytes _ (checked (take 30 row)) (rw (← same) (sealed_end copied buf word long fits own written))
 
 -- a FIG and the front of other bytes, thirty in all
 pub joined_len : (fig plain : List ℕ) → length fig ≤ 30 → length plain ≡ 32
@@ -204,8 +199,10 @@ pub joined_into : (offset : ℕ) (bytes fig plain joined rest sealed : List ℕ)
     ++ (checked (fig ++ take (30 - length fig) plain) ++ drop (offset + 32) bytes)
 joined_into offset bytes fig plain joined rest sealed few whole is seals =
     let thirty : List ℕ = fig ++ take (30 - length fig) plain in
-    piece_into offset bytes sealed (checked thirty)
-    (seals ∙ ap (λ xs. checked (take 30 xs)) is ∙ ap checked (take_at thirty rest 30 (joined_len fig plain few whole)))
+    piece_into offset bytes sealed (checked thirty) (rw (
+      ← take_at thirty rest 30 (joined_len fig plain few whole),
+      ← is,
+    ) seals)
 
 pub checked_len : (bytes : List ℕ) → length bytes ≡ 30 → length (checked bytes) ≡ 32
 checked_len bytes h = length-append bytes (big_bytes 2 (crc_value bytes)) ∙ omega (arith, h)

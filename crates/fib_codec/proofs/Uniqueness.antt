@@ -1,5 +1,5 @@
 -- Bytes are at most one list of entries, and at most one list of FIGs: the length of each is in its first bytes.
-use Rattle.fib_codec.proofs.Words.{[], ◌%◌, ◌*◌, ◌++◌, ◌+◌, ◌/◌, ◌∙◌, ◌∷◌, ◌≡◌, ◌≢◌, ◌≤◌, AreEntries, AreFigs, Bool}
+use Rattle.fib_codec.proofs.Words.{[], ◌%◌, ◌++◌, ◌+◌, ◌/◌, ◌∙◌, ◌∷◌, ◌≡◌, ◌≢◌, ◌≤◌, AreEntries, AreFigs, Bool}
 use Rattle.fib_codec.proofs.Words.{Fig, IsEntry, IsFig, IsOther, List, OneList, Open, Other, and_from, ap, ap₂, arith}
 use Rattle.fib_codec.proofs.Words.{cond, cond_both, ensemble_len, entry_len, eqb, false, get_or, get_or_append_left}
 use Rattle.fib_codec.proofs.Words.{inl, inr, is_long, length, length-append, lt-ltb, ltb, packet_len, refl, service_len}
@@ -30,20 +30,18 @@ packet_least bytes = cond_both (eqb (get_or bytes 1 0 % 2) 1) 7 5 (λ n. 5 ≤ n
 
 -- what follows an entry does not decide its length
 ensemble_front : (e rest : List ℕ) → ensemble_len e ≤ length e → ensemble_len (e ++ rest) ≡ ensemble_len e
-ensemble_front e rest h =
-    ap (λ x. cond (eqb (x / 64) 0) 4 5) (get_or_append_left e rest 0 2 (omega (arith, ensemble_least e)))
+ensemble_front e rest h = rw (get_or_append_left e rest 0 2 (omega (arith, ensemble_least e))) refl
 
 sub_front : (e rest : List ℕ) → sub_len e ≤ length e → sub_len (e ++ rest) ≡ sub_len e
-sub_front e rest h = ap (λ x. cond (eqb (x / 128) 1) 4 3) (get_or_append_left e rest 0 2 (omega (arith, sub_least e)))
+sub_front e rest h = rw (get_or_append_left e rest 0 2 (omega (arith, sub_least e))) refl
 
 service_front : (long : Bool) (e rest : List ℕ) → service_len long e ≤ length e
     → service_len long (e ++ rest) ≡ service_len long e
-service_front true e rest h = ap (λ x. 5 + 2 * (x % 16)) (get_or_append_left e rest 0 4 (omega arith))
-service_front false e rest h = ap (λ x. 3 + 2 * (x % 16)) (get_or_append_left e rest 0 2 (omega arith))
+service_front true e rest h = rw (get_or_append_left e rest 0 4 (omega arith)) refl
+service_front false e rest h = rw (get_or_append_left e rest 0 2 (omega arith)) refl
 
 packet_front : (e rest : List ℕ) → packet_len e ≤ length e → packet_len (e ++ rest) ≡ packet_len e
-packet_front e rest h = ap (λ x. cond (eqb (x % 2) 1) 7 5)
-    (get_or_append_left e rest 0 1 (omega (arith, packet_least e)))
+packet_front e rest h = rw (get_or_append_left e rest 0 1 (omega (arith, packet_least e))) refl
 
 -- the length of an entry by the three tests on its extension
 chosen_front : (first second third long : Bool) (e rest : List ℕ)
@@ -138,7 +136,7 @@ pub one_fig : (bytes : List ℕ) (f g : Fig) → IsFig bytes f → IsFig bytes g
 one_fig bytes (Open second es) (Open other gs) h k = open_open bytes second other es gs h k
 one_fig bytes (Open second es) (Other given) h k = absurd (open_other bytes second es h k.1)
 one_fig bytes (Other given) (Open second es) h k = absurd (open_other bytes second es k h.1)
-one_fig bytes (Other given) (Other too) h k = ap (λ b. Other b) (h.0 ∙ sym k.0)
+one_fig bytes (Other given) (Other too) h k = rw (h.0 ∙ sym k.0) refl
 
 nothing_begins : (bytes front rest : List ℕ) → HasHeader front → bytes ≡ front ++ rest → bytes ≡ [] → ⊥
 nothing_begins bytes front rest (h, after, d, marker, long) e none =

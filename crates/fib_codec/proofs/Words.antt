@@ -5,7 +5,7 @@ pub use Rattle.fib_codec.specs.Crc.{generator, low_bits, number_of_bits, plus, w
 pub use Rattle.fib_codec.specs.Grammar.{AreEntries, AreFigs, Fig, IsBody, IsCounted, IsEntry, IsFib, IsFig, IsOpen}
 pub use Rattle.fib_codec.specs.Grammar.{IsOther, IsOurs, IsValid, OneList, Open, Other, ensemble_len, entry_len, fig_of}
 pub use Rattle.fib_codec.specs.Grammar.{fig_spelled, is_long, is_next, is_open, packet_len, service_len, sub_len}
-pub use Rattle.fib_codec.specs.Heard.{HeardIsWritten, IsInFib, IsInFig, IsSaid, fib_at, marked_by, marked_of}
+pub use Rattle.fib_codec.specs.Heard.{HeardIsWritten, IsInFib, IsInFig, IsSaid, marked_by, marked_of}
 pub use Rattle.fib_codec.specs.Modes.{IsInFrame, StepsDivide, with_fib}
 pub use Rattle.fib_codec.specs.Ranges.{IsComponentEntry, IsEnsembleInformation, IsPacketEntry, IsServiceEntry}
 pub use Rattle.fib_codec.specs.Ranges.{IsShortEntry, IsSubEntry, IsWithin}

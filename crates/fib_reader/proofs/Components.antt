@@ -14,7 +14,7 @@ use Rattle.mux_types.specs.declared.parts.Carrier.TheVariants.{Sub as BySub, Pac
 entries_more : (xs : List Component) (c : Component) → map (component_entry false) (xs ++ c ∷ [])
     ≡ map (component_entry false) xs ++ component_entry false c ∷ []
 entries_more [] c = refl
-entries_more (x ∷ xs) c = ap (λ t. component_entry false x ∷ t) (entries_more xs c)
+entries_more (x ∷ xs) c = rw (entries_more xs c) refl
 
 pub component_entries-more :
     (cs : List Component) (c : Component)
@@ -106,13 +106,11 @@ from_entry primary (Packet scid) = refl
 
 from_others : (cs : List Component) → map component_from (map (component_entry false) cs) ≡ cs
 from_others [] = refl
-from_others (c ∷ cs) = ap (λ x. x ∷ map component_from (map (component_entry false) cs)) (from_entry false c)
-    ∙ ap (λ t. c ∷ t) (from_others cs)
+from_others (c ∷ cs) = rw (from_entry false c, from_others cs) refl
 
 from_entries : (cs : List Component) → map component_from (component_entries cs) ≡ cs
 from_entries [] = refl
-from_entries (c ∷ cs) = ap (λ x. x ∷ map component_from (map (component_entry false) cs)) (from_entry true c)
-    ∙ ap (λ t. c ∷ t) (from_others cs)
+from_entries (c ∷ cs) = rw (from_entry true c, from_others cs) refl
 
 take_from : (i : ℕ) (es : List ComponentEntry) → map component_from (take i es) ≡ take i (map component_from es)
 take_from i es = sym (take-map component_from i es)
@@ -138,7 +136,7 @@ at_place (c ∷ cs) zero e d inside = refl
 at_place (c ∷ cs) (suc j) e d inside =
     let other : (suc j == 0) ≡ false = ne_eqb (suc j) 0 (λ e. omega arith) in
     let there : j < length cs = omega arith in
-    get_or-map (component_entry false) cs j d e there ∙ ap (λ b. component_entry b (get_or cs j d)) (sym other)
+    rw (other) (get_or-map (component_entry false) cs j d e there)
 
 pub entry_at_place :
     (all : List Component) (entries : List ComponentEntry) (i : ℕ) (e : ComponentEntry) (d : Component)
@@ -160,6 +158,5 @@ named_twice cs all entries i e c part inside is says named different whole =
     let same : get_or all i c ≡ c =
     sym (from_entry (i == 0) (get_or all i c)) ∙ ap component_from
     (entry_at_place all entries i e c whole inside is ∙ sym says) ∙ from_entry (i == 0) c in
-    not_named_before all i c different (omega arith)
-    (ap (λ x. list_any (names (carrier_of x)) (take i all)) same ∙ ap (list_any (names (carrier_of c))) (sym front)
-    ∙ named)
+    not_named_before all i c different (omega arith) (rw (same)
+    (ap (list_any (names (carrier_of c))) (sym front) ∙ named))

@@ -28,9 +28,9 @@ one_entry_on ext long e rest place is h = record {
   front = e ++ h.front;
   left = h.left;
   entries = e ∷ h.entries;
-  split = ap (λ x. e ++ x) h.split ∙ sym (append_assoc e h.front h.left);
+  split = rw (h.split) (sym (append_assoc e h.front h.left));
   whole = (h.front, refl, is, h.whole);
-  place_is = length-append e h.front ∙ ap (λ n. length e + n) h.place_is;
+  place_is = rw (← h.place_is) (length-append e h.front);
   some = h.some;
   none = h.none;
 }
@@ -103,8 +103,8 @@ same_counts :
     → (get_or bytes 2 0 ≡ get_or e 2 0) × (get_or bytes 3 0 ≡ get_or e 3 0)
 same_counts long bytes e rest split is =
     let some : 4 ≤ ensemble_len e = four (get_or e 2 0 / 64 == 0) in (
-      ap (λ x. get_or x 2 0) split ∙ get_or_append_left e rest 0 2 (omega arith),
-      ap (λ x. get_or x 3 0) split ∙ get_or_append_left e rest 0 3 (omega arith),
+      rw (split) (get_or_append_left e rest 0 2 (omega arith)),
+      rw (split) (get_or_append_left e rest 0 3 (omega arith)),
     )
 
 uncounted : (long : Bool) (bytes : List ℕ) → (IsCounted bytes → ⊥) → BeginsNone 0 long bytes
@@ -221,9 +221,7 @@ entries_given (suc n) ext long place (b ∷ bs) front left [] other enough split
     let short : length (b ∷ bs) < entry_len ext long (b ∷ bs) =
     begins_none_short ext long (b ∷ bs) other (subst (BeginsNone ext long) (sym same) none) in
     let here : place ≡ place + length front = (let no_front : length front ≡ 0 = ap length whole in omega arith) in
-    ap (λ t. cond t (Some place)
-    (entries_fault n ext long (place + entry_len ext long (b ∷ bs)) (drop (entry_len ext long (b ∷ bs)) (b ∷ bs))))
-    (lt-ltb _ _ short) ∙ ap Some here
+    rw (lt-ltb _ _ short) (ap Some here)
 entries_given n ext long place [] front left (e ∷ es) other enough split whole some none =
     let big : 3 ≤ entry_len ext long e = some_bytes ext long e in
     let is = whole.2 in
@@ -240,16 +238,13 @@ entries_given (suc n) ext long place (b ∷ bs) front left (e ∷ es) other enou
     let big : 3 ≤ entry_len ext long e = some_bytes ext long e in
     let size : length (b ∷ bs) ≡ length e + length (rest ++ left) = ap length all ∙ length-append e (rest ++ left) in
     let there : drop (entry_len ext long (b ∷ bs)) (b ∷ bs) ≡ rest ++ left =
-    ap (λ k. drop k (b ∷ bs)) same ∙ ap (drop (length e)) all ∙ drop-append_seam e (rest ++ left) in
+    rw (same) (ap (drop (length e)) all ∙ drop-append_seam e (rest ++ left)) in
     let lengths : length front ≡ length e + length rest = ap length whole.1 ∙ length-append e rest in
     let place_is : place + entry_len ext long (b ∷ bs) + length rest ≡ place + length front = omega arith in
-    ap (λ t. cond t (Some place)
-    (entries_fault n ext long (place + entry_len ext long (b ∷ bs)) (drop (entry_len ext long (b ∷ bs)) (b ∷ bs))))
-    (le-ltb (length (b ∷ bs)) (entry_len ext long (b ∷ bs)) (omega arith))
-    ∙ ap (entries_fault n ext long (place + entry_len ext long (b ∷ bs))) there
+    rw (le-ltb (length (b ∷ bs)) (entry_len ext long (b ∷ bs)) (omega arith))
+    (ap (entries_fault n ext long (place + entry_len ext long (b ∷ bs))) there
     ∙ entries_given n ext long (place + entry_len ext long (b ∷ bs)) (rest ++ left) rest left es other (omega arith)
-    refl whole.3 some none
-    ∙ ap Some place_is
+    refl whole.3 some none ∙ ap Some place_is)
 
 one_fails :
     (a b c : Bool) (s x : Option ℕ) → (a ≡ false → b ≡ false → c ≡ false → ⊥) → cond a s (cond b s (cond c s x)) ≡ s

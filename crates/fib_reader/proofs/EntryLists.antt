@@ -22,7 +22,7 @@ enough_entries (suc m) (suc n) ext long (b ∷ bs) p q =
     let len : ℕ = entry_len ext long (b ∷ bs) in
     let big : 3 ≤ len = some_bytes ext long (b ∷ bs) in
     let fewer : length (drop len (b ∷ bs)) ≡ suc (length bs) - len = length-drop len (b ∷ bs) in
-    ap (λ es. take len (b ∷ bs) ∷ es) (enough_entries m n ext long (drop len (b ∷ bs)) (omega arith) (omega arith))
+    rw (enough_entries m n ext long (drop len (b ∷ bs)) (omega arith) (omega arith)) refl
 
 first_entry :
     (ext : ℕ) (long : Bool) (b : ℕ) (bs : List ℕ)
@@ -33,8 +33,8 @@ first_entry ext long b bs =
     let len : ℕ = entry_len ext long (b ∷ bs) in
     let big : 3 ≤ len = some_bytes ext long (b ∷ bs) in
     let fewer : length (drop len (b ∷ bs)) ≡ suc (length bs) - len = length-drop len (b ∷ bs) in
-    ap (λ es. take len (b ∷ bs) ∷ es)
-    (enough_entries (length bs) (length (drop len (b ∷ bs))) ext long (drop len (b ∷ bs)) (omega arith) (omega arith))
+    rw (enough_entries (length bs) (length (drop len (b ∷ bs))) ext long (drop len (b ∷ bs)) (omega arith)
+    (omega arith)) refl
 
 pub first_of_entries :
     (ext : ℕ) (long : Bool) (bytes : List ℕ) → 0 < length bytes
@@ -64,10 +64,8 @@ same_entries ext long bytes (e ∷ es) h =
     ≡ take (entry_len ext long (e ++ rest)) (e ++ rest)
     ∷ entries_of ext long (drop (entry_len ext long (e ++ rest)) (e ++ rest)) =
     first_of_entries ext long (e ++ rest) (omega arith) in
-    let cut : take (entry_len ext long (e ++ rest)) (e ++ rest) ≡ e =
-    ap (λ n. take n (e ++ rest)) len ∙ take-append_seam e rest in
-    let left : drop (entry_len ext long (e ++ rest)) (e ++ rest) ≡ rest =
-    ap (λ n. drop n (e ++ rest)) len ∙ drop-append_seam e rest in
+    let cut : take (entry_len ext long (e ++ rest)) (e ++ rest) ≡ e = rw (len) (take-append_seam e rest) in
+    let left : drop (entry_len ext long (e ++ rest)) (e ++ rest) ≡ rest = rw (len) (drop-append_seam e rest) in
     ap (entries_of ext long) split ∙ first
     ∙ ap (λ x. x ∷ entries_of ext long (drop (entry_len ext long (e ++ rest)) (e ++ rest))) cut
     ∙ ap (λ x. e ∷ entries_of ext long x) left ∙ ap (λ x. e ∷ x) (same_entries ext long rest es h.3)
@@ -109,12 +107,10 @@ complete_entries (suc n) ext long place (b ∷ bs) (e ∷ es) h =
     ap (entry_len ext long) split ∙ entry_len_more ext long e rest (omega arith) ∙ sym whole in
     let size : length (b ∷ bs) ≡ length e + length rest = ap length split ∙ length-append e rest in
     let left : drop (entry_len ext long (b ∷ bs)) (b ∷ bs) ≡ rest =
-    ap (λ k. drop k (b ∷ bs)) same ∙ ap (drop (length e)) split ∙ drop-append_seam e rest in
-    ap (λ t. cond t (Some place)
-    (entries_fault n ext long (place + entry_len ext long (b ∷ bs)) (drop (entry_len ext long (b ∷ bs)) (b ∷ bs))))
-    (le-ltb (length (b ∷ bs)) (entry_len ext long (b ∷ bs)) (omega arith))
-    ∙ ap (entries_fault n ext long (place + entry_len ext long (b ∷ bs))) left
-    ∙ complete_entries n ext long (place + entry_len ext long (b ∷ bs)) rest es h.3
+    rw (same) (ap (drop (length e)) split ∙ drop-append_seam e rest) in
+    rw (le-ltb (length (b ∷ bs)) (entry_len ext long (b ∷ bs)) (omega arith))
+    (ap (entries_fault n ext long (place + entry_len ext long (b ∷ bs))) left
+    ∙ complete_entries n ext long (place + entry_len ext long (b ∷ bs)) rest es h.3)
 
 pub raws_of_nothing : (ext : ℕ) (long : Bool) → raws_of ext long [] ≡ []
 unfolding entries_within

@@ -88,7 +88,7 @@ next_fig at rest fault h some header fine =
     let here = fig_here h.left at rest fault h.enough some h.same in
     let len : ℕ = get_or rest 0 0 % 32 in
     let fewer : length (drop len (drop 1 rest)) ≡ length rest - 1 - len =
-    length-drop len (drop 1 rest) ∙ ap (λ n. n - len) (length-drop 1 rest) in
+    rw (← length-drop 1 rest) (length-drop len (drop 1 rest)) in
     let enough = h.enough in
     let is_suc = here.1 in
     let from_here : or_else (fig_fault at (get_or rest 0 0) (drop 1 rest))

@@ -38,9 +38,9 @@ stands_on :
 stands_on one rest more place header f is h = record {
   front = one ++ h.front;
   figs = f ∷ h.figs;
-  split = ap (λ x. one ++ x) h.split ∙ sym (append_assoc one h.front (header ∷ more));
+  split = rw (h.split) (sym (append_assoc one h.front (header ∷ more)));
   whole = (one, h.front, refl, is, h.whole);
-  place_is = length-append one h.front ∙ ap (λ n. length one + n) h.place_is;
+  place_is = rw (← h.place_is) (length-append one h.front);
   no_marker = h.no_marker;
 }
 
@@ -212,21 +212,15 @@ past_fig n place (b ∷ bs) one rest f split fig =
     let header : b ≡ at.header = (cc) in
     let others : bs ≡ at.after ++ rest = (cc) in
     let no_marker : b ≢ 255 = λ e. at.no_marker (sym header ∙ e) in
-    let fine : fig_fault place b bs ≡ None =
-    ap (λ x. fig_fault place x bs) header ∙ ap (fig_fault place at.header) others
-    ∙ complete_fig place at.header at.after rest one f at.split fig in
-    let left : drop (b % 32) bs ≡ rest =
-    ap (λ x. drop (x % 32) bs) header ∙ ap (drop (at.header % 32)) others
-    ∙ ap (λ k. drop k (at.after ++ rest)) (sym at.len) ∙ drop-append_seam at.after rest in
+    let fine : fig_fault place b bs ≡ None = rw (header) (ap (fig_fault place at.header) others
+    ∙ complete_fig place at.header at.after rest one f at.split fig) in
+    let left : drop (b % 32) bs ≡ rest = rw (header) (ap (drop (at.header % 32)) others
+    ∙ ap (λ k. drop k (at.after ++ rest)) (sym at.len) ∙ drop-append_seam at.after rest) in
     let size : length one ≡ suc (length at.after) = ap length at.split in
     let len = at.len in
-    let rem : b % 32 ≡ at.header % 32 = ap (λ x. x % 32) header in
+    let rem : b % 32 ≡ at.header % 32 = rw (header) refl in
     let far : place + 1 + b % 32 ≡ place + length one = omega arith in
-    ap (λ t. cond t None (or_else (fig_fault place b bs) (figs_fault n (place + 1 + b % 32) (drop (b % 32) bs))))
-    (ne_eqb b 255 no_marker)
-    ∙ ap (λ x. or_else x (figs_fault n (place + 1 + b % 32) (drop (b % 32) bs))) fine
-    ∙ ap (figs_fault n (place + 1 + b % 32)) left
-    ∙ ap (λ p. figs_fault n p rest) far
+    rw (ne_eqb b 255 no_marker, fine) (rw (← far) (ap (figs_fault n (place + 1 + b % 32)) left))
 
 -- the walk has reached what follows whole FIGs
 record ComesTo (n place : ℕ) (bytes front rest : List ℕ) : Type 0 where
@@ -271,10 +265,7 @@ at_header :
     → figs_fault n place (h ∷ rest) ≡ Some e
 unfolding figs_fault
 at_header zero place h rest e no_marker is enough = absurd (omega arith)
-at_header (suc n) place h rest e no_marker is enough =
-    ap (λ t. cond t None (or_else (fig_fault place h rest) (figs_fault n (place + 1 + h % 32) (drop (h % 32) rest))))
-    (ne_eqb h 255 no_marker)
-    ∙ ap (λ x. or_else x (figs_fault n (place + 1 + h % 32) (drop (h % 32) rest))) is
+at_header (suc n) place h rest e no_marker is enough = rw (ne_eqb h 255 no_marker, is) refl
 
 found_where_it_stands :
     (bytes : List ℕ) (place h : ℕ) (rest : List ℕ) (e : FibFault) → LeadsToHeader bytes place h rest
@@ -293,11 +284,10 @@ overrun_given place h rest few =
     cond (nat_lt 31 h) None (cond (h == 0) (Some (Entry place)) (cond (is_open (get_or rest 0 0))
     (entry_at_fault (body_fault (get_or rest 0 0 % 32) (is_long (get_or rest 0 0)) (place + 2)
     (take (h - 1) (drop 1 rest)))) None)) in
-    ap (λ t. cond t (Some (Overrun place)) inner) (lt-ltb _ _ few)
+    rw (lt-ltb _ _ few) refl
 
 bare_given : (place : ℕ) (rest : List ℕ) → fig_fault place 0 rest ≡ Some (Entry place)
-bare_given place rest = ap (λ t. cond t (Some (Overrun place)) (Some (Entry place)))
-    (le-ltb (length rest) 0 (omega arith))
+bare_given place rest = rw (le-ltb (length rest) 0 (omega arith)) refl
 
 body_of_fig_given :
     (place second : ℕ) (body after : List ℕ) (within : ℕ) → length body < 31 → is_open second ≡ true
@@ -306,8 +296,7 @@ body_of_fig_given :
 body_of_fig_given place second body after within few is fault =
     let size : length (body ++ after) ≡ length body + length after = length-append body after in
     let one_less : 1 + length body - 1 ≡ length body = omega arith in
-    let cut : take (1 + length body - 1) (body ++ after) ≡ body =
-    ap (λ n. take n (body ++ after)) one_less ∙ take-append_seam body after in
+    let cut : take (1 + length body - 1) (body ++ after) ≡ body = rw (one_less) (take-append_seam body after) in
     past_tests place (1 + length body) (second ∷ (body ++ after)) (omega arith) (omega arith) (omega arith)
     ∙ ap (λ t. cond t (entry_at_fault
     (body_fault (second % 32) (is_long second) (place + 2) (take (1 + length body - 1) (body ++ after)))) None) is
@@ -386,7 +375,7 @@ same_or_not (x ∷ xs) (y ∷ ys) = heads (x == y) refl (same_or_not xs ys)
     heads true is rest =
         let head : x ≡ y = eqb-true x y is in
         elim rest [
-          | inl tails ↦ inl (ap (λ z. z ∷ xs) head ∙ ap (λ zs. y ∷ zs) tails)
+          | inl tails ↦ inl (rw (head, tails) refl)
           | inr apart ↦ inr (λ e. apart (cc))
         ]
 

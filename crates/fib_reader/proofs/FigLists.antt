@@ -93,8 +93,7 @@ enough_pieces (suc m) zero (b ∷ bs) p q = absurd (omega arith)
 enough_pieces (suc m) (suc n) [] p q = refl
 enough_pieces (suc m) (suc n) (b ∷ bs) p q =
     let fewer : length (drop (b % 32) bs) ≡ length bs - b % 32 = length-drop (b % 32) bs in
-    ap (λ ps. cond (b == 255) [] ((b ∷ take (b % 32) bs) ∷ ps))
-    (enough_pieces m n (drop (b % 32) bs) (omega arith) (omega arith))
+    rw (enough_pieces m n (drop (b % 32) bs) (omega arith) (omega arith)) refl
 
 pieces_of-cons :
     (h : ℕ) (bs : List ℕ)
@@ -102,8 +101,7 @@ pieces_of-cons :
 unfolding pieces_within
 pieces_of-cons h bs =
     let fewer : length (drop (h % 32) bs) ≡ length bs - h % 32 = length-drop (h % 32) bs in
-    ap (λ ps. cond (h == 255) [] ((h ∷ take (h % 32) bs) ∷ ps))
-    (enough_pieces (length bs) (length (drop (h % 32) bs)) (drop (h % 32) bs) (omega arith) (omega arith))
+    rw (enough_pieces (length bs) (length (drop (h % 32) bs)) (drop (h % 32) bs) (omega arith) (omega arith)) refl
 
 pub no_pieces : pieces_of [] ≡ []
 unfolding pieces_within
@@ -132,12 +130,10 @@ same_figs bytes (f ∷ fs) h =
     let rest : List ℕ = h.1 in
     let at = fig_header front f h.3 in
     let split : bytes ≡ at.header ∷ (at.after ++ rest) = h.2 ∙ ap (λ x. x ++ rest) at.split in
-    let cut : take (at.header % 32) (at.after ++ rest) ≡ at.after =
-    ap (λ n. take n (at.after ++ rest)) (sym at.len) ∙ take-append_seam at.after rest in
-    let left : drop (at.header % 32) (at.after ++ rest) ≡ rest =
-    ap (λ n. drop n (at.after ++ rest)) (sym at.len) ∙ drop-append_seam at.after rest in
+    let cut : take (at.header % 32) (at.after ++ rest) ≡ at.after = rw (← at.len) (take-append_seam at.after rest) in
+    let left : drop (at.header % 32) (at.after ++ rest) ≡ rest = rw (← at.len) (drop-append_seam at.after rest) in
     let one : fig_of_bytes (at.header ∷ take (at.header % 32) (at.after ++ rest)) ≡ f =
-    ap (λ x. fig_of_bytes (at.header ∷ x)) cut ∙ ap fig_of_bytes (sym at.split) ∙ same_fig front f h.3 in
+    rw (cut) (ap fig_of_bytes (sym at.split) ∙ same_fig front f h.3) in
     let more : figs_of_bytes (drop (at.header % 32) (at.after ++ rest)) ≡ fs =
     ap figs_of_bytes left ∙ same_figs rest fs h.4 in
     ap figs_of_bytes split ∙ ap (map fig_of_bytes) (first_piece at.header (at.after ++ rest) at.no_marker)
@@ -160,7 +156,7 @@ sound_ensemble long place bytes none =
     let all : length bytes ≤ len = ltb-false _ _ four.0 in
     let are : AreEntries 0 long bytes (bytes ∷ []) = ([], sym (append-nil bytes), omega arith, refl) in
     let same : entries_of 0 long bytes ≡ bytes ∷ [] = same_entries 0 long bytes (bytes ∷ []) are in (
-      subst (λ (es : List (List ℕ)). AreEntries 0 long bytes es) (sym same) are,
+      rw (same) are,
       λ zero_ext. (bytes, same, (omega arith, omega arith)),
     )
 
@@ -171,8 +167,7 @@ sound_body true ext long place bytes is none =
     let zero_ext : ext ≡ 0 = eqb-true ext 0 is in
     let fine : ensemble_fault place bytes ≡ None =
     sym (ap (λ t. cond t (ensemble_fault place bytes) (entries_fault (length bytes) ext long place bytes)) is) ∙ none in
-    subst (λ (n : ℕ). IsBody n long bytes (entries_of n long bytes)) (sym zero_ext)
-    (sound_ensemble long place bytes fine)
+    rw (zero_ext) (sound_ensemble long place bytes fine)
 sound_body false ext long place bytes is none =
     let fine : entries_fault (length bytes) ext long place bytes ≡ None =
     sym (ap (λ t. cond t (ensemble_fault place bytes) (entries_fault (length bytes) ext long place bytes)) is)
@@ -197,7 +192,7 @@ piece_low :
 piece_low true place h s body low len is fine =
     subst (IsFig (h ∷ s ∷ body)) (sym (fig_of-looked_into h s body (omega arith) is)) (
       body,
-      ap (λ n. n ∷ s ∷ body) len,
+      rw (len) refl,
       omega arith,
       is,
       sound_body (s % 32 == 0) (s % 32) (is_long s) (place + 2) body refl (fine refl),
@@ -221,7 +216,7 @@ sound_low place h (s ∷ bs) low fits none =
     let some = through (h == 0) (Entry place) _ none in
     let positive : h ≢ 0 = eqb-false h 0 some.0 in
     let len : h % 32 ≡ suc (h - 1) = omega arith in
-    let cut : take (h % 32) (s ∷ bs) ≡ s ∷ take (h - 1) bs = ap (λ n. take n (s ∷ bs)) len in
+    let cut : take (h % 32) (s ∷ bs) ≡ s ∷ take (h - 1) bs = rw (len) refl in
     let size : length (take (h - 1) bs) ≡ h - 1 = length-take-le (h - 1) bs (omega arith) in
     subst (λ (x : List ℕ). IsWholeFig (h ∷ x)) (sym cut)
     (piece_low (is_open s) place h s (take (h - 1) bs) low (omega arith) refl
@@ -259,9 +254,7 @@ sound_at :
     → AllByRecursion IsWholeFig (pieces_of (h ∷ bs)) × AreFigs (h ∷ bs) (figs_of_bytes (h ∷ bs))
 sound_at true n place h bs is none more =
     let marker : h ≡ 255 = eqb-true h 255 is in
-    subst (λ (ps : List (List ℕ)). AllByRecursion IsWholeFig ps × AreFigs (h ∷ bs) (map fig_of_bytes ps))
-    (sym (pieces_at_marker h bs marker))
-    (tt, inr (bs, ap (λ x. x ∷ bs) marker))
+    rw (pieces_at_marker h bs marker) (tt, inr (bs, rw (marker) refl))
 sound_at false n place h bs is none more =
     let no_marker : h ≢ 255 = eqb-false h 255 is in
     let both = no_first (fig_fault place h bs) _ none in
@@ -277,9 +270,7 @@ pub sound_figs :
     (n place : ℕ) (bytes : List ℕ) → length bytes ≤ n → figs_fault n place bytes ≡ None
     → AllByRecursion IsWholeFig (pieces_of bytes) × AreFigs bytes (figs_of_bytes bytes)
 unfolding figs_fault
-sound_figs n place [] enough none =
-    subst (λ (ps : List (List ℕ)). AllByRecursion IsWholeFig ps × AreFigs [] (map fig_of_bytes ps)) (sym no_pieces)
-    (tt, inl refl)
+sound_figs n place [] enough none = rw (no_pieces) (tt, inl refl)
 sound_figs zero place (h ∷ bs) enough none = absurd (omega arith)
 sound_figs (suc n) place (h ∷ bs) enough none =
     let fewer : length (drop (h % 32) bs) ≡ length bs - h % 32 = length-drop (h % 32) bs in
@@ -302,16 +293,12 @@ complete_ensemble long place bytes es are e one counted =
     let low : get_or bytes 3 0 ≤ 249 =
     (let there = counted.1 in let moved : get_or bytes 3 0 ≡ get_or e 3 0 = ap (λ x. get_or x 3 0) same in
     omega arith) in
-    ap (λ t. cond t (Some place) (cond (nat_lt 19 (get_or bytes 2 0 % 32)) (Some place)
-    (cond (nat_lt 249 (get_or bytes 3 0)) (Some place) (cond (nat_lt len (length bytes)) (Some (place + len)) None))))
-    (le-ltb (length bytes) len (omega arith))
-    ∙ ap (λ t. cond t (Some place)
-    (cond (nat_lt 249 (get_or bytes 3 0)) (Some place)
-    (cond (nat_lt len (length bytes)) (Some (place + len)) None)))
-    (le-ltb 19 (get_or bytes 2 0 % 32) high)
-    ∙ ap (λ t. cond t (Some place) (cond (nat_lt len (length bytes)) (Some (place + len)) None))
-    (le-ltb 249 (get_or bytes 3 0) low)
-    ∙ ap (λ t. cond t (Some (place + len)) None) (le-ltb len (length bytes) (omega arith))
+    rw (
+      le-ltb (length bytes) len (omega arith),
+      le-ltb 19 (get_or bytes 2 0 % 32) high,
+      le-ltb 249 (get_or bytes 3 0) low,
+      le-ltb len (length bytes) (omega arith),
+    ) refl
 
 complete_body :
     (b : Bool) (ext : ℕ) (long : Bool) (place : ℕ) (bytes : List ℕ) (es : List (List ℕ)) → (ext == 0) ≡ b
@@ -319,12 +306,9 @@ complete_body :
 complete_body true ext long place bytes es is body =
     let zero_ext : ext ≡ 0 = eqb-true ext 0 is in
     let alone = body.1 zero_ext in
-    ap (λ t. cond t (ensemble_fault place bytes) (entries_fault (length bytes) ext long place bytes)) is
-    ∙ complete_ensemble long place bytes es (subst (λ (n : ℕ). AreEntries n long bytes es) zero_ext body.0) alone.0
-    alone.1 alone.2
+    rw (is) (complete_ensemble long place bytes es (rw (← zero_ext) body.0) alone.0 alone.1 alone.2)
 complete_body false ext long place bytes es is body =
-    ap (λ t. cond t (ensemble_fault place bytes) (entries_fault (length bytes) ext long place bytes)) is
-    ∙ complete_entries (length bytes) ext long place bytes es body.0
+    rw (is) (complete_entries (length bytes) ext long place bytes es body.0)
 
 -- the tests of a FIG's header, after which its second byte is examined
 pub past_tests :
@@ -337,10 +321,7 @@ past_tests place h bs fits low positive =
     let inner : Option FibFault = cond (is_open (get_or bs 0 0))
     (entry_at_fault (body_fault (get_or bs 0 0 % 32) (is_long (get_or bs 0 0)) (place + 2) (take (h - 1) (drop 1 bs))))
     None in
-    ap (λ t. cond t (Some (Overrun place)) (cond (nat_lt 31 h) None (cond (h == 0) (Some (Entry place)) inner)))
-    (le-ltb _ _ fits)
-    ∙ ap (λ t. cond t None (cond (h == 0) (Some (Entry place)) inner)) (le-ltb _ _ low)
-    ∙ ap (λ t. cond t (Some (Entry place)) inner) (ne_eqb _ _ positive)
+    rw (le-ltb _ _ fits, le-ltb _ _ low, ne_eqb _ _ positive) refl
 
 not_looked_into :
     (place h : ℕ) (bs : List ℕ) → h % 32 ≤ length bs → 31 < h → fig_fault place h bs ≡ None
@@ -348,8 +329,7 @@ not_looked_into place h bs fits high =
     let inner : Option FibFault = cond (h == 0) (Some (Entry place)) (cond (is_open (get_or bs 0 0))
     (entry_at_fault (body_fault (get_or bs 0 0 % 32) (is_long (get_or bs 0 0)) (place + 2) (take (h - 1) (drop 1 bs))))
     None) in
-    ap (λ t. cond t (Some (Overrun place)) (cond (nat_lt 31 h) None inner)) (le-ltb _ _ fits)
-    ∙ ap (λ t. cond t None inner) (lt-ltb _ _ high)
+    rw (le-ltb _ _ fits, lt-ltb _ _ high) refl
 
 complete_open :
     (place second : ℕ) (body rest : List ℕ) (es : List (List ℕ)) → length body < 31 → is_open second ≡ true
@@ -357,8 +337,7 @@ complete_open :
 complete_open place second body rest es few is fine =
     let size : length (body ++ rest) ≡ length body + length rest = length-append body rest in
     let one_less : 1 + length body - 1 ≡ length body = omega arith in
-    let cut : take (1 + length body - 1) (body ++ rest) ≡ body =
-    ap (λ n. take n (body ++ rest)) one_less ∙ take-append_seam body rest in
+    let cut : take (1 + length body - 1) (body ++ rest) ≡ body = rw (one_less) (take-append_seam body rest) in
     past_tests place (1 + length body) (second ∷ (body ++ rest)) (omega arith) (omega arith) (omega arith)
     ∙ ap (λ t. cond t (entry_at_fault
     (body_fault (second % 32) (is_long second) (place + 2) (take (1 + length body - 1) (body ++ rest)))) None) is
@@ -390,8 +369,7 @@ complete_fig place h after rest front (Open second es) is fig =
     let same : h ∷ after ≡ (1 + length fig.0) ∷ second ∷ fig.0 = sym is ∙ fig.1 in
     let header : h ≡ 1 + length fig.0 = (cc) in
     let others : after ≡ second ∷ fig.0 = (cc) in
-    ap (λ x. fig_fault place x (after ++ rest)) header ∙ ap (λ x. fig_fault place (1 + length fig.0) (x ++ rest)) others
-    ∙ complete_open place second fig.0 rest es fig.2 fig.3 fig.4
+    rw (header, others) (complete_open place second fig.0 rest es fig.2 fig.3 fig.4)
 complete_fig place h after rest front (Other given) is fig =
     complete_other place h after rest (subst IsOther is fig.1)
 
@@ -416,17 +394,12 @@ complete_figs (suc n) place (b ∷ bs) (f ∷ fs) h =
     let header : b ≡ at.header = (cc) in
     let others : bs ≡ at.after ++ rest = (cc) in
     let no_marker : b ≢ 255 = λ e. at.no_marker (sym header ∙ e) in
-    let fine : fig_fault place b bs ≡ None =
-    ap (λ x. fig_fault place x bs) header ∙ ap (fig_fault place at.header) others
-    ∙ complete_fig place at.header at.after rest h.0 f at.split h.3 in
-    let left : drop (b % 32) bs ≡ rest =
-    ap (λ x. drop (x % 32) bs) header ∙ ap (drop (at.header % 32)) others
-    ∙ ap (λ k. drop k (at.after ++ rest)) (sym at.len) ∙ drop-append_seam at.after rest in
-    ap (λ t. cond t None (or_else (fig_fault place b bs) (figs_fault n (place + 1 + b % 32) (drop (b % 32) bs))))
-    (ne_eqb b 255 no_marker)
-    ∙ ap (λ x. or_else x (figs_fault n (place + 1 + b % 32) (drop (b % 32) bs))) fine
-    ∙ ap (figs_fault n (place + 1 + b % 32)) left
-    ∙ complete_figs n (place + 1 + b % 32) rest fs h.4
+    let fine : fig_fault place b bs ≡ None = rw (header) (ap (fig_fault place at.header) others
+    ∙ complete_fig place at.header at.after rest h.0 f at.split h.3) in
+    let left : drop (b % 32) bs ≡ rest = rw (header) (ap (drop (at.header % 32)) others
+    ∙ ap (λ k. drop k (at.after ++ rest)) (sym at.len) ∙ drop-append_seam at.after rest) in
+    rw (ne_eqb b 255 no_marker, fine) (ap (figs_fault n (place + 1 + b % 32)) left
+    ∙ complete_figs n (place + 1 + b % 32) rest fs h.4)
 
 -- ---- what one FIG of the walk is
 
@@ -434,11 +407,10 @@ spelled_entries :
     (ext : ℕ) (long : Bool) (bytes : List ℕ) (es : List (List ℕ)) → AreEntries ext long bytes es
     → bytes ≡ flat_map (λ e. e) es
 spelled_entries ext long bytes [] h = h
-spelled_entries ext long bytes (e ∷ es) h = h.1 ∙ ap (λ x. e ++ x) (spelled_entries ext long h.0 es h.3)
+spelled_entries ext long bytes (e ∷ es) h = rw (← spelled_entries ext long h.0 es h.3) h.1
 
 pub spelled_fig : (bytes : List ℕ) (f : Fig) → IsFig bytes f → bytes ≡ fig_spelled f
-spelled_fig bytes (Open second es) h =
-    h.1 ∙ ap (λ x. (1 + length x) ∷ second ∷ x) (spelled_entries (second % 32) (is_long second) h.0 es h.4.0)
+spelled_fig bytes (Open second es) h = rw (← spelled_entries (second % 32) (is_long second) h.0 es h.4.0) h.1
 spelled_fig bytes (Other given) h = sym h.0
 
 -- the P/D flag matters in FIG 0/2 alone
@@ -501,8 +473,7 @@ pub first_of_pieces :
 first_of_pieces [] some no_marker = absurd (omega arith)
 first_of_pieces (b ∷ bs) some no_marker =
     let one : suc (b % 32) ≡ 1 + b % 32 = omega arith in
-    first_piece b bs no_marker
-    ∙ ap (λ n. take n (b ∷ bs) ∷ pieces_of (drop n (b ∷ bs))) one
+    rw (← one) (first_piece b bs no_marker)
 
 -- ---- a checked FIB
 

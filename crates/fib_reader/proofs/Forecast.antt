@@ -1,11 +1,10 @@
 -- A pass over FIGs predicts that they contain nothing new, or that there is room for it.
-use Rattle.fib_reader.proofs.Words.{[], ◌+◌, ◌<◌, ◌==◌, ◌||◌, ◌∙◌, ◌∷◌, ◌≡◌, ◌≢◌, ◌≤◌, Bool, Fig}
-use Rattle.fib_reader.proofs.Words.{HasGrown, HasGrownBy, Head, IfSome, LeavesRoom, List, Listening, None}
-use Rattle.fib_reader.proofs.Words.{Open, Option, Other, Pictured, Raw, Some, ap, arith, at_ensemble, cond}
-use Rattle.fib_reader.proofs.Words.{ensemble_in, entries_in, eq-eqb, eqb-true, false, has_entry, has_room, head_in}
-use Rattle.fib_reader.proofs.Words.{hear_entries, hear_entry, hear_fig, identifier_of, into, is_known, is_next, kept}
-use Rattle.fib_reader.proofs.Words.{length, length-map, length_with, nat_lt, ne_eqb, or_right, picture_of, pictured}
-use Rattle.fib_reader.proofs.Words.{refl, subst, suc, sym, true, where_heard, with_entry, with_entry_changed}
+use Rattle.fib_reader.proofs.Words.{[], ◌+◌, ◌<◌, ◌==◌, ◌||◌, ◌∙◌, ◌∷◌, ◌≡◌, ◌≢◌, ◌≤◌, Bool, Fig, HasGrown, HasGrownBy}
+use Rattle.fib_reader.proofs.Words.{Head, IfSome, LeavesRoom, List, Listening, None, Open, Option, Other, Pictured, Raw}
+use Rattle.fib_reader.proofs.Words.{Some, ap, arith, cond, entries_in, eq-eqb, eqb-true, false, has_entry, has_room}
+use Rattle.fib_reader.proofs.Words.{head_in, hear_entries, hear_entry, hear_fig, identifier_of, into, is_known, is_next}
+use Rattle.fib_reader.proofs.Words.{kept, length, length-map, length_with, nat_lt, ne_eqb, or_right, picture_of}
+use Rattle.fib_reader.proofs.Words.{pictured, refl, subst, suc, sym, true, where_heard, with_entry, with_entry_changed}
 use Rattle.fib_reader.proofs.Words.{ℕ}
 use Rattle.fib_reader.proofs.Keeping.{room_for_known, room_for_new}
 
@@ -51,12 +50,8 @@ length_changed raw raws = length-map raws (λ x. cond (identifier_of x == identi
 
 length_kept : (b : Bool) (raw : Raw) (raws : List Raw) → is_known raw raws ≡ b
     → length (kept raw raws) ≡ cond b (length raws) (suc (length raws))
-length_kept true raw raws is =
-    ap (λ t. length (cond t (with_entry_changed identifier_of raw raws) (with_entry identifier_of raw raws))) is
-    ∙ length_changed raw raws
-length_kept false raw raws is =
-    ap (λ t. length (cond t (with_entry_changed identifier_of raw raws) (with_entry identifier_of raw raws))) is
-    ∙ length_with identifier_of raw raws
+length_kept true raw raws is = rw (is) (length_changed raw raws)
+length_kept false raw raws is = rw (is) (length_with identifier_of raw raws)
 
 -- ---- one entry
 
@@ -179,10 +174,7 @@ takes_if_packet old raw others (Some all) is not known new = takes_packet old ra
 
 heard_tuned : (next : Bool) (raw : Raw) (l : Listening) → raw.ext ≢ 0 → l.tuned ≡ true
     → hear_entry next raw l ≡ into next l (pictured raw (picture_of next l))
-heard_tuned next raw l other tuned =
-    ap (λ b. cond b (Some (at_ensemble (ensemble_in raw) l))
-    (cond l.tuned (into next l (pictured raw (picture_of next l))) (Some l))) (ne_eqb raw.ext 0 other)
-    ∙ ap (λ b. cond b (into next l (pictured raw (picture_of next l))) (Some l)) tuned
+heard_tuned next raw l other tuned = rw (ne_eqb raw.ext 0 other, tuned) refl
 
 leaves_next :
     (old : Listening) (others all : ℕ) (raw : Raw) → raw.ext ≢ 0 → old.tuned ≡ true → Takes old.next raw others all
@@ -236,7 +228,7 @@ pub leaves_both :
 leaves_both old few some many one more first second l grown =
     let a = first l grown in
     let b = second a.0 a.2 in
-    (b.0, ap (λ o. where_heard o more) a.1 ∙ b.1, b.2)
+    (b.0, rw (a.1) b.1, b.2)
 
 pub leaves_nothing : (old : Listening) (few : ℕ) → LeavesRoom old few few (λ l. Some l)
 leaves_nothing old few l grown = (l, refl, grown)

@@ -108,8 +108,7 @@ keys_below :
     → AllByRecursion (λ raw. identifier_of raw < n) (map f table)
     → AllByRecursion (λ y. key y < n) table
 keys_below key f P [] n same all below = tt
-keys_below key f P (y ∷ ys) n same all below =
-    (subst (λ (k : ℕ). k < n) (same y all.0) below.0, keys_below key f P ys n same all.1 below.1)
+keys_below key f P (y ∷ ys) n same all below = (rw (← same y all.0) below.0, keys_below key f P ys n same all.1 below.1)
 
 pub above_all :
     {T : Type 0} (key : T → ℕ) (f : T → Raw) (P : T → Type 0) (table : List T) (kept : List Raw) (i : ℕ) (x : T)
@@ -122,8 +121,7 @@ above_all key f P table kept i x raw same all one so_far inside is says up =
     subst (AllByRecursion (λ r. identifier_of r < identifier_of (get_or kept i raw))) (sym so_far)
     (ascending_front kept i raw up inside) in
     let top : identifier_of (get_or kept i raw) ≡ key x = ap identifier_of (sym (says ∙ is)) ∙ same x one in
-    keys_below key f P table (key x) same all
-    (subst (λ (n : ℕ). AllByRecursion (λ r. identifier_of r < n) (map f table)) top front)
+    keys_below key f P table (key x) same all (rw (← top) front)
 
 -- if members describe all entries, one describes each
 member_at :

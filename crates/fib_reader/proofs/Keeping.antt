@@ -11,13 +11,11 @@ use Rattle.fib_reader.proofs.Words.{with_entry, with_entry_changed, zero, ℕ}
 -- the list after a known entry is kept, and after a new one is
 pub kept-known : (raw : Raw) (raws : List Raw) → is_known raw raws ≡ true
     → kept raw raws ≡ with_entry_changed identifier_of raw raws
-kept-known raw raws known =
-    ap (λ b. cond b (with_entry_changed identifier_of raw raws) (with_entry identifier_of raw raws)) known
+kept-known raw raws known = rw (known) refl
 
 pub kept-new : (raw : Raw) (raws : List Raw) → is_known raw raws ≡ false
     → kept raw raws ≡ with_entry identifier_of raw raws
-kept-new raw raws known =
-    ap (λ b. cond b (with_entry_changed identifier_of raw raws) (with_entry identifier_of raw raws)) known
+kept-new raw raws known = rw (known) refl
 
 pub room_for_known : (raw : Raw) (raws : List Raw) → is_known raw raws ≡ true → has_room raw raws ≡ true
 room_for_known raw raws known = ap (λ b. b || nat_lt (length raws) 64) known
@@ -74,8 +72,7 @@ room_for_subs raw raws up all one =
 pub known_if_found :
     {T : Type 0} (key : T → ℕ) (k i : ℕ) (xs : List T) (o : Option (Bor T)) (b : Bool) → b ≡ is_some o → i ≡ k
     → option_copied o ≡ entry_at key i xs → b ≡ has_entry key k xs
-known_if_found key k i xs o b some same told = some ∙ is_found_lent (λ r. r.now) key i xs o told
-    ∙ ap (λ n. has_entry key n xs) same
+known_if_found key k i xs o b some same told = rw (← same) (some ∙ is_found_lent (λ r. r.now) key i xs o told)
 
 -- an entry with equal parts
 pub raw_again :
@@ -93,8 +90,7 @@ pub raw_same :
 raw_same raw ext long bytes e l b = rw (e, l, b) refl
 
 pub copied_front : (n : ℕ) (xs ys zs : List ℕ) → length zs ≡ n → xs ≡ zs → take n (xs ++ ys) ≡ zs
-copied_front n xs ys zs len same =
-    ap (λ x. take n (x ++ ys)) same ∙ ap (λ k. take k (zs ++ ys)) (sym len) ∙ take-append_seam zs ys
+copied_front n xs ys zs len same = rw (same, ← len) (take-append_seam zs ys)
 
 pub each_after :
     (P : Raw → Type 0) (raw : Raw) (old new : List Raw) (b : Bool) → P raw → AllByRecursion P old
@@ -111,9 +107,7 @@ unchanged_above : (raw : Raw) (raws : List Raw) → AllByRecursion (λ x. identi
 unchanged_above raw [] above = refl
 unchanged_above raw (x ∷ xs) above =
     let other : identifier_of x ≢ identifier_of raw = (let lt = above.0 in λ e. omega arith) in
-    ap (λ b. cond b raw x ∷ with_entry_changed identifier_of raw xs)
-    (ne_eqb (identifier_of x) (identifier_of raw) other)
-    ∙ ap (λ t. x ∷ t) (unchanged_above raw xs above.1)
+    rw (ne_eqb (identifier_of x) (identifier_of raw) other, unchanged_above raw xs above.1) refl
 
 changed_for_same :
     (raw : Raw) (raws : List Raw) → IsAscending identifier_of raws

@@ -1,7 +1,6 @@
 -- Which FIBs are known after one more was put into its slot, and after some were forgotten.
-use Rattle.fib_reader.proofs.Words.{◌<◌, ◌≡◌, All, Basis, Bool, Current, KnownFibs, List}
-use Rattle.fib_reader.proofs.Words.{Pictures, Remembers, false, get_or, get_or-replicate}
-use Rattle.fib_reader.proofs.Words.{refl, sym, true, ℕ}
+use Rattle.fib_reader.proofs.Words.{◌<◌, ◌≡◌, All, Basis, Bool, Current, KnownFibs, List, Pictures, Remembers, false}
+use Rattle.fib_reader.proofs.Words.{get_or, get_or-replicate, refl, sym, true, ℕ}
 use Rattle.std.proofs.Math.ListN.{replicate, set}
 
 unset : (n place : ℕ) (flags : List Bool) → flags ≡ replicate n false → place < n → get_or flags place false ≡ true → ⊥

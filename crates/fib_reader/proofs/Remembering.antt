@@ -55,7 +55,7 @@ lasts_next true raw old l is other known (tuned, current, next) =
 
 lasts_all : (next : Bool) (raw : Raw) (old l : Listening) → hear_entry next raw old ≡ Some old → Agrees All old l
     → hear_entry next raw l ≡ Some l
-lasts_all next raw old l known same = subst (λ (x : Listening). hear_entry next raw x ≡ Some x) (sym same) known
+lasts_all next raw old l known same = rw (same) known
 
 differ : (n : ℕ) → n ≡ 0 → (n == 0) ≡ false → ⊥
 differ n e f = absurd (cc)
@@ -82,13 +82,11 @@ pub fig_lasts : (old l : Listening) (fig : Fig) (head : Head) → head_in fig �
     → AllByRecursion (λ raw. hear_entry head.next raw old ≡ Some old) (entries_in fig)
     → Agrees (basis_of head.next head.ext) old l → hear_fig fig l ≡ Some l
 fig_lasts old l (Open second es) head is known agrees =
-    let as_next : head.next ≡ is_next second = sym (ap (λ (h : Head). h.next) (some_is _ head is)) in
-    let as_ext : head.ext ≡ second % 32 = sym (ap (λ (h : Head). h.ext) (some_is _ head is)) in
+    let as_next : head.next ≡ is_next second = rw (← some_is _ head is) refl in
+    let as_ext : head.ext ≡ second % 32 = rw (← some_is _ head is) refl in
     let there = subst (λ (b : Bool). AllByRecursion (λ raw. hear_entry b raw old ≡ Some old)
     (entries_in (Open second es))) as_next known in
-    let agree : Agrees (basis_of (is_next second) (second % 32)) old l =
-    subst (λ (n : ℕ). Agrees (basis_of (is_next second) n) old l) as_ext
-    (subst (λ (b : Bool). Agrees (basis_of b head.ext) old l) as_next agrees) in
+    let agree : Agrees (basis_of (is_next second) (second % 32)) old l = rw (← as_ext) (rw (← as_next) agrees) in
     entries_last (second % 32) (is_long second) (is_next second) old l es there agree
 fig_lasts old l (Other given) head is known agrees = absurd (none_is head is)
 
@@ -123,7 +121,7 @@ keeps_into : (old new : Listening) (o : Option Pictured) → into true old o ≡
     × (new.current ≡ old.current)
 keeps_into old new None h = absurd (none_is new h)
 keeps_into old new (Some p) h = let e = some_is _ new h in
-    (ap (λ (x : Listening). x.tuned) (sym e), ap (λ (x : Listening). x.current) (sym e))
+    (rw (← e) refl, rw (← e) refl)
 
 keeps_tuned : (b : Bool) (old new : Listening) (o : Option Pictured) → cond b (into true old o) (Some old) ≡ Some new
     → (new.tuned ≡ old.tuned) × (new.current ≡ old.current)
@@ -154,11 +152,9 @@ keeps_open false ext long es is other = absurd (cc)
 pub keeps_fig : (fig : Fig) (head : Head) → head_in fig ≡ Some head → basis_of head.next head.ext ≡ Pictures
     → KeepsCurrent (hear_fig fig)
 keeps_fig (Open second es) head is of =
-    let as_next : head.next ≡ is_next second = sym (ap (λ (h : Head). h.next) (some_is _ head is)) in
-    let as_ext : head.ext ≡ second % 32 = sym (ap (λ (h : Head). h.ext) (some_is _ head is)) in
-    let there : basis_of (is_next second) (second % 32) ≡ Pictures =
-    subst (λ (n : ℕ). basis_of (is_next second) n ≡ Pictures) as_ext
-    (subst (λ (b : Bool). basis_of b head.ext ≡ Pictures) as_next of) in
+    let as_next : head.next ≡ is_next second = rw (← some_is _ head is) refl in
+    let as_ext : head.ext ≡ second % 32 = rw (← some_is _ head is) refl in
+    let there : basis_of (is_next second) (second % 32) ≡ Pictures = rw (← as_ext) (rw (← as_next) of) in
     let both = is_pictures (second % 32 == 0) (is_next second) there in
     keeps_open (is_next second) (second % 32) (is_long second) es both.1 both.0
 keeps_fig (Other given) head is of = absurd (none_is head is)

@@ -27,7 +27,7 @@ split_off n (x ∷ xs) xs' (y ∷ ys) ys' p q p' q' h =
     let heads : x ≡ y = (cc) in
     let tails : xs ++ xs' ≡ ys ++ ys' = (cc) in
     let more = split_off n xs xs' ys ys' p.1 q.1 p' q' tails in
-    (ap (λ z. z ∷ xs) heads ∙ ap (λ zs. y ∷ zs) more.0, more.1)
+    (rw (heads, more.0) refl, more.1)
 
 each_raw : {T : Type 0} (P : Raw → Type 0) (f : T → Entry) (xs : List T) → ((x : T) → P (raw_entry (f x)))
     → AllByRecursion P (map raw_entry (map f xs))
@@ -51,15 +51,14 @@ pub record ShowsEach (p : Pictured) (c : Configuration) : Type 0 where
 
 twice : {T : Type 0} (f : T → Entry) (xs : List T) → map raw_entry (map f xs) ≡ map (λ x. raw_entry (f x)) xs
 twice f [] = refl
-twice f (x ∷ xs) = ap (λ t. raw_entry (f x) ∷ t) (twice f xs)
+twice f (x ∷ xs) = rw (twice f xs) refl
 
 all_said : (c : Configuration) → map raw_entry (sub_entries c ++ service_entries c)
     ≡ map raw_entry (map sub_entry c.subs)
     ++ (map raw_entry (map service_entry c.services) ++ map raw_entry (map packet_entry c.packets))
 all_said c =
-    map-append raw_entry (map sub_entry c.subs) (map service_entry c.services ++ map packet_entry c.packets)
-    ∙ ap (λ t. map raw_entry (map sub_entry c.subs) ++ t)
-    (map-append raw_entry (map service_entry c.services) (map packet_entry c.packets))
+    rw (← map-append raw_entry (map service_entry c.services) (map packet_entry c.packets))
+    (map-append raw_entry (map sub_entry c.subs) (map service_entry c.services ++ map packet_entry c.packets))
 
 other_than : (m n : ℕ) → m ≢ n → (r : Raw) → r.ext ≡ m → r.ext ≢ n
 other_than m n apart r is same = apart (sym is ∙ same)
@@ -113,8 +112,7 @@ keys_above :
     → AllByRecursion (λ raw. n < identifier_of raw) (map f xs)
     → AllByRecursion (λ y. n < key y) xs
 keys_above key f P [] n same all above = tt
-keys_above key f P (y ∷ ys) n same all above =
-    (subst (λ (k : ℕ). n < k) (same y all.0) above.0, keys_above key f P ys n same all.1 above.1)
+keys_above key f P (y ∷ ys) n same all above = (rw (← same y all.0) above.0, keys_above key f P ys n same all.1 above.1)
 
 members_ascend :
     {T : Type 0} (key : T → ℕ) (f : T → Raw) (P : T → Type 0) (xs : List T)
@@ -185,7 +183,7 @@ same_entries (x ∷ xs) (y ∷ ys) tells p q h =
     let heads : raw_entry x ≡ raw_entry y = (cc) in
     let tails : map raw_entry xs ≡ map raw_entry ys = (cc) in
     let one : x ≡ y = tells x y p.0 q.0 (ap (λ r. r.ext) heads) (ap (λ r. r.long) heads) (ap (λ r. r.bytes) heads) in
-    ap (λ z. z ∷ xs) one ∙ ap (λ zs. y ∷ zs) (same_entries xs ys tells p.1 q.1 tails)
+    rw (one, same_entries xs ys tells p.1 q.1 tails) refl
 
 pub shows_one :
     (p : Pictured) (c d : Configuration) → SpellingIdentifies → FactsIdentify → IsConfiguration c → IsConfiguration d

@@ -6,15 +6,14 @@ use Rattle.fig_merge.proofs.Words.{IsOneFrame, Item, Judge, List, Merging, Momen
 use Rattle.fig_merge.proofs.Words.{Reading, Reads, Some, Step, Take, What, after_fill, after_step, after_take, agreeing}
 use Rattle.fig_merge.proofs.Words.{agrees_with, ap, append_assoc, ap₂, arith, at_ensemble, begins_with_ensemble}
 use Rattle.fig_merge.proofs.Words.{carried_by, carried_in, cond, count_due, count_in, count_of_frame, damaged_in, due}
-use Rattle.fig_merge.proofs.Words.{eid_in, ensemble_in, entries_in, false, false≢true, fib_items, fibs_in, fibs_items}
-use Rattle.fig_merge.proofs.Words.{fig_items, figs_items, filled_fib, first_in, first_in_figs, first_line}
-use Rattle.fig_merge.proofs.Words.{first_of_frame, first_opening, first_or, first_raw, flat_map, frame_findings}
-use Rattle.fig_merge.proofs.Words.{hear_entries, hear_fib, hear_fig, hear_figs, heard_or, hearing_fib, hearing_fibs}
-use Rattle.fig_merge.proofs.Words.{holds_ensemble, is_damaged, is_next, is_there, lacks_opening, length, limited}
-use Rattle.fig_merge.proofs.Words.{list_all, ltb, map, merged, most, not, nothing_taken, one_fib, opening}
-use Rattle.fig_merge.proofs.Words.{opening_in_figs, past_after_frame, placed_count, refl, room_of, said, sent_in, subst}
-use Rattle.fig_merge.proofs.Words.{suc, sym, taken_of, true, turns_in, untuned, waits, when, where_heard, with_carried}
-use Rattle.fig_merge.proofs.Words.{with_fig, with_figs, ℕ}
+use Rattle.fig_merge.proofs.Words.{ensemble_in, entries_in, false, false≢true, fib_items, fibs_in, fibs_items}
+use Rattle.fig_merge.proofs.Words.{figs_items, filled_fib, first_in, first_in_figs, first_line, first_of_frame}
+use Rattle.fig_merge.proofs.Words.{first_opening, first_or, first_raw, flat_map, frame_findings, hear_entries, hear_fib}
+use Rattle.fig_merge.proofs.Words.{hear_fig, hear_figs, heard_or, hearing_fib, hearing_fibs, holds_ensemble, is_damaged}
+use Rattle.fig_merge.proofs.Words.{is_next, is_there, lacks_opening, length, limited, list_all, ltb, map, merged, most}
+use Rattle.fig_merge.proofs.Words.{not, nothing_taken, one_fib, opening, opening_in_figs, past_after_frame}
+use Rattle.fig_merge.proofs.Words.{placed_count, refl, room_of, said, sent_in, subst, suc, sym, taken_of, true}
+use Rattle.fig_merge.proofs.Words.{turns_in, untuned, waits, when, where_heard, with_carried, with_fig, with_figs, ℕ}
 use Rattle.mux_types.specs.Entries.{EnsembleInformation}
 use Rattle.stream_check.specs.Listening.{Listening}
 use Rattle.stream_check.specs.declared.finding.Fault.TheVariants as faults
@@ -66,9 +65,7 @@ heard_alike None carried l = refl
 heard_alike (Some figs) carried l = heard_others figs carried l
 
 pub filled_heard : FilledIsHeardAlike
-filled_heard r bytes m l h =
-    ap (λ (fib : Fib). hear_fib fib l) (filled_read r bytes m h)
-    ∙ heard_alike (r.read bytes) (carried_by (r.read bytes) m) l
+filled_heard r bytes m l h = rw (filled_read r bytes m h) (heard_alike (r.read bytes) (carried_by (r.read bytes) m) l)
 
 -- ---- what the merger has heard
 with_heard : (fig : List ℕ) (m : Merging) → (with_fig fig m).heard ≡ m.heard
@@ -115,7 +112,7 @@ filled_from r (Fill fib ∷ ss) m h =
     let sent = map r.read (sent_in r ss later) in (
       carried_by (r.read fib) m,
       sent,
-      ap (λ (f : Fib). f ∷ sent) (filled_read r fib m h),
+      rw (filled_read r fib m h) refl,
       carried_agree (r.read fib) m,
       subst (λ (l : Listening). AreFilled agreeing l (fibs_in r ss) sent) (fill_heard (r.read fib) m)
           (filled_from r ss later (merging_step r (Fill fib) m h)),
@@ -160,7 +157,7 @@ items_others : (first : Bool) (figs : List Fig) (carried : List (List ℕ))
     → figs_items first (figs ++ map Other carried) ≡ figs_items first figs
 items_others first [] [] = refl
 items_others first [] (c ∷ cs) = items_others false [] cs
-items_others first (f ∷ fs) carried = ap (λ xs. fig_items first f ++ xs) (items_others false fs carried)
+items_others first (f ∷ fs) carried = rw (items_others false fs carried) refl
 
 items_alike : (first : Bool) (fib : Fib) (carried : List (List ℕ))
     → fib_items first (with_carried fib carried) ≡ fib_items first fib
@@ -204,7 +201,7 @@ count_alike step last frame sent a = ap₂ (placed_count step) (due_alike last f
 
 line_alike : (last : Option ℕ) (frame sent : List Fib) → IsAlike frame sent
     → first_line last sent ≡ first_line last frame
-line_alike None frame sent a = ap (λ e. whats.Event (events.Ensemble (eid_in e)) ∷ []) a.first
+line_alike None frame sent a = rw (a.first) refl
 line_alike (Some count) frame sent a = refl
 
 abbrev pub joined : List What → List What → List What
@@ -213,10 +210,9 @@ joined xs ys = xs ++ ys
 pub whole_alike : (size step : ℕ) (last : Option ℕ) (frame sent : List Fib) → IsAlike frame sent
     → frame_findings size step last sent ≡ frame_findings size step last frame
 whole_alike size step last frame sent a =
-    ap₂ joined (line_alike last frame sent a)
-    (ap₂ joined (ap (λ n. when (ltb n size) (faults.ShortFrame n)) a.long)
-    (ap₂ joined (ap (λ n. when (ltb 0 n) (faults.Damaged n)) a.damaged)
-    (ap₂ (λ (n : ℕ) (b : Bool). when (n % step == 0 && b) faults.NoEnsemble) (due_alike last frame sent a) a.lacks)))
+    ap₂ joined (line_alike last frame sent a) (ap₂ joined (rw (a.long) refl)
+    (ap₂ joined (rw (a.damaged) refl) (ap₂ (λ (n : ℕ) (b : Bool). when (n % step == 0 && b) faults.NoEnsemble)
+    (due_alike last frame sent a) a.lacks)))
 
 pub after_alike : (step : ℕ) (past : List Moment) (frame sent : List Fib) → IsAlike frame sent
     → past_after_frame step past sent ≡ past_after_frame step past frame
@@ -262,7 +258,7 @@ silent_fib (Some figs) silent = ap (heard_or untuned) (silent_figs figs (not_the
 silent_fibs : (fibs : List Fib) → AllByRecursion (λ fib. holds_ensemble fib ≡ false) fibs
     → hearing_fibs fibs untuned ≡ untuned
 silent_fibs [] all = refl
-silent_fibs (fib ∷ fibs) all = ap (hearing_fibs fibs) (silent_fib fib all.0) ∙ silent_fibs fibs all.1
+silent_fibs (fib ∷ fibs) all = rw (silent_fib fib all.0) (silent_fibs fibs all.1)
 
 pub hearing_append : (xs ys : List Fib) (l : Listening)
     → hearing_fibs (xs ++ ys) l ≡ hearing_fibs ys (hearing_fibs xs l)
@@ -276,7 +272,7 @@ cut_filled may l (x ∷ xs) ys sent h =
     let more = cut_filled may (hearing_fib x l) xs ys h.1 h.4 in (
       with_carried x h.0 ∷ more.0,
       more.1,
-      h.2 ∙ ap (λ (zs : List Fib). with_carried x h.0 ∷ zs) more.2,
+      rw (← more.2) h.2,
       (h.0, more.0, refl, h.3, more.3),
       more.4,
     )
@@ -294,16 +290,16 @@ cut_frames may l (frame ∷ frames) rest sent h =
       more.1,
       apart.2 ∙ ap (λ (zs : List Fib). apart.0 ++ zs) more.2 ∙ sym (append_assoc apart.0 (flat more.0) more.1),
       (apart.0, more.0, refl, apart.3, more.3),
-      subst (λ (k : Listening). AreFilled may k rest more.1) (sym (hearing_append frame (flat frames) l)) more.4,
+      rw (hearing_append frame (flat frames) l) more.4,
     )
 
 filled_append : (may : Judge) (l : Listening) (xs ys one two : List Fib) → AreFilled may l xs one
     → AreFilled may (hearing_fibs xs l) ys two → AreFilled may l (xs ++ ys) (one ++ two)
-filled_append may l [] ys one two h k = subst (λ (zs : List Fib). AreFilled may l ys (zs ++ two)) (sym h) k
+filled_append may l [] ys one two h k = rw (h) k
 filled_append may l (x ∷ xs) ys one two h k = (
   h.0,
   h.1 ++ two,
-  ap (λ (zs : List Fib). zs ++ two) h.2,
+  rw (h.2) refl,
   h.3,
   filled_append may (hearing_fib x l) xs ys h.1 two h.4 k,
 )
@@ -311,66 +307,55 @@ filled_append may l (x ∷ xs) ys one two h k = (
 filled_flat : (may : Judge) (l : Listening) (frames ones : List (List Fib)) (rest end : List Fib)
     → AreFilledFrames may l frames ones → AreFilled may (hearing_fibs (flat frames) l) rest end
     → AreFilled may l (flat frames ++ rest) (flat ones ++ end)
-filled_flat may l [] ones rest end h k =
-    subst (λ (fs : List (List Fib)). AreFilled may l rest (flat fs ++ end)) (sym h) k
+filled_flat may l [] ones rest end h k = rw (h) k
 filled_flat may l (frame ∷ frames) ones rest end h k =
-    subst (λ (fs : List (List Fib)). AreFilled may l (flat (frame ∷ frames) ++ rest) (flat fs ++ end)) (sym h.2)
-    (subst (λ (xs : List Fib). AreFilled may l xs (flat (h.0 ∷ h.1) ++ end))
-    (sym (append_assoc frame (flat frames) rest))
-    (subst (λ (xs : List Fib). AreFilled may l (frame ++ (flat frames ++ rest)) xs)
-    (sym (append_assoc h.0 (flat h.1) end))
+    rw (h.2) (rw (append_assoc frame (flat frames) rest) (rw (append_assoc h.0 (flat h.1) end)
     (filled_append may l frame (flat frames ++ rest) h.0 (flat h.1 ++ end) h.3
-    (filled_flat may (hearing_fibs frame l) frames h.1 rest end h.4
-    (subst (λ (k : Listening). AreFilled may k rest end) (hearing_append frame (flat frames) l) k)))))
+    (filled_flat may (hearing_fibs frame l) frames h.1 rest end h.4 (rw (← hearing_append frame (flat frames) l) k)))))
 
 none_hold : (may : Judge) (l : Listening) (xs sent : List Fib) → AreFilled may l xs sent
     → AllByRecursion (λ fib. holds_ensemble fib ≡ false) xs
     → AllByRecursion (λ fib. holds_ensemble fib ≡ false) sent
-none_hold may l [] sent h all =
-    subst (λ (xs : List Fib). AllByRecursion (λ fib. holds_ensemble fib ≡ false) xs) (sym h) tt
+none_hold may l [] sent h all = rw (h) tt
 none_hold may l (x ∷ xs) sent h all =
-    subst (λ (ys : List Fib). AllByRecursion (λ fib. holds_ensemble fib ≡ false) ys) (sym h.2)
-    (holds_alike x h.0 ∙ all.0, none_hold may (hearing_fib x l) xs h.1 h.4 all.1)
+    rw (h.2) (holds_alike x h.0 ∙ all.0, none_hold may (hearing_fib x l) xs h.1 h.4 all.1)
 
 none_begin : (may : Judge) (l : Listening) (xs sent : List Fib) → AreFilled may l xs sent
     → AllByRecursion (λ fib. begins_with_ensemble fib ≡ false) xs
     → AllByRecursion (λ fib. begins_with_ensemble fib ≡ false) sent
-none_begin may l [] sent h all =
-    subst (λ (xs : List Fib). AllByRecursion (λ fib. begins_with_ensemble fib ≡ false) xs) (sym h) tt
+none_begin may l [] sent h all = rw (h) tt
 none_begin may l (x ∷ xs) sent h all =
-    subst (λ (ys : List Fib). AllByRecursion (λ fib. begins_with_ensemble fib ≡ false) ys) (sym h.2)
-    (begins_alike x h.0 ∙ all.0, none_begin may (hearing_fib x l) xs h.1 h.4 all.1)
+    rw (h.2) (begins_alike x h.0 ∙ all.0, none_begin may (hearing_fib x l) xs h.1 h.4 all.1)
 
 first_holds : (may : Judge) (l : Listening) (xs sent : List Fib) → AreFilled may l xs sent → HoldsFirst xs
     → HoldsFirst sent
-first_holds may l [] sent h holds = subst (λ (xs : List Fib). HoldsFirst xs) (sym h) tt
-first_holds may l (x ∷ xs) sent h holds = subst (λ (ys : List Fib). HoldsFirst ys) (sym h.2) (holds_alike x h.0 ∙ holds)
+first_holds may l [] sent h holds = rw (h) tt
+first_holds may l (x ∷ xs) sent h holds = rw (h.2) (holds_alike x h.0 ∙ holds)
 
 one_frame : (may : Judge) (l : Listening) (xs sent : List Fib) → AreFilled may l xs sent → IsOneFrame xs
     → IsOneFrame sent
 one_frame may l [] sent h one = absurd one
-one_frame may l (x ∷ xs) sent h one =
-    subst (λ (ys : List Fib). IsOneFrame ys) (sym h.2) (none_begin may (hearing_fib x l) xs h.1 h.4 one)
+one_frame may l (x ∷ xs) sent h one = rw (h.2) (none_begin may (hearing_fib x l) xs h.1 h.4 one)
 
 begins_anew : (may : Judge) (l : Listening) (xs sent : List Fib) → AreFilled may l xs sent → BeginsAnew xs
     → BeginsAnew sent
 begins_anew may l [] sent h begins = absurd begins
-begins_anew may l (x ∷ xs) sent h begins =
-    subst (λ (ys : List Fib). BeginsAnew ys) (sym h.2) (begins_alike x h.0 ∙ begins)
+begins_anew may l (x ∷ xs) sent h begins = rw (h.2) (begins_alike x h.0 ∙ begins)
 
 rest_cut : (may : Judge) (l : Listening) (size : ℕ) (rest end : List Fib) → AreFilled may l rest end
     → AreFrames size [] rest → AreFrames size [] end
-rest_cut may l size [] end h cut = subst (λ (xs : List Fib). AreFrames size [] xs) (sym h) tt
+rest_cut may l size [] end h cut = rw (h) tt
 rest_cut may l size (x ∷ xs) end h cut =
     let long = (frame_alike may (hearing_fib x l) xs h.1 h.4).long in
-    subst (λ (ys : List Fib). AreFrames size [] ys) (sym h.2)
-    (one_frame may l (x ∷ xs) (with_carried x h.0 ∷ h.1) (h.0, h.1, refl, h.3, h.4) cut.0, omega (arith, long, cut.1))
+    rw (h.2) (
+      one_frame may l (x ∷ xs) (with_carried x h.0 ∷ h.1) (h.0, h.1, refl, h.3, h.4) cut.0,
+      omega (arith, long, cut.1),
+    )
 
 frames_cut : (may : Judge) (l : Listening) (size : ℕ) (frames ones : List (List Fib)) (rest end : List Fib)
     → AreFilledFrames may l frames ones → AreFilled may (hearing_fibs (flat frames) l) rest end
     → AreFrames size frames rest → AreFrames size ones end
-frames_cut may l size [] ones rest end h k cut =
-    subst (λ (fs : List (List Fib)). AreFrames size fs end) (sym h) (rest_cut may l size rest end k cut)
+frames_cut may l size [] ones rest end h k cut = rw (h) (rest_cut may l size rest end k cut)
 frames_cut may l size (frame ∷ frames) ones rest end h k cut =
     let long = (frame_alike may l frame h.0 h.3).long in
     let later = hearing_fibs frame l in
@@ -385,8 +370,7 @@ frames_cut may l size (frame ∷ frames) ones rest end h k cut =
 
 pub framed_alike : FilledIsFramedAlike
 framed_alike may size stream sent skipped frames rest h f =
-    let whole : AreFilled may untuned (skipped ++ (flat frames ++ rest)) sent =
-    subst (λ (xs : List Fib). AreFilled may untuned xs sent) f.whole h in
+    let whole : AreFilled may untuned (skipped ++ (flat frames ++ rest)) sent = rw (← f.whole) h in
     let apart = cut_filled may untuned skipped (flat frames ++ rest) sent whole in
     let still = silent_fibs skipped f.before in
     let behind = subst (λ (k : Listening). AreFilled may k (flat frames ++ rest) apart.1) still apart.4 in
@@ -396,7 +380,7 @@ framed_alike may size stream sent skipped frames rest h f =
       frames_sent = more.0;
       rest_sent = more.1;
       framed = record {
-        whole = apart.2 ∙ ap (λ (xs : List Fib). apart.0 ++ xs) more.2;
+        whole = rw (← more.2) apart.2;
         before = none_hold may untuned skipped apart.0 apart.3 f.before;
         begun = subst (λ (xs : List Fib). HoldsFirst xs) more.2
             (first_holds may untuned (flat frames ++ rest) apart.1 behind f.begun);

@@ -66,9 +66,8 @@ turns_then : (r : Reading) (xs ys : List Step) (m : Merging) → all_turns r (xs
     ++ all_turns r ys (after_steps r xs m)
 turns_then r [] ys m = refl
 turns_then r (x ∷ xs) ys m =
-    ap (λ l. turns_at r x m ++ l) (turns_then r xs ys (after_step r x m))
-    ∙ sym (append_assoc (turns_at r x m) (all_turns r xs (after_step r x m))
-    (all_turns r ys (after_steps r xs (after_step r x m))))
+    rw (turns_then r xs ys (after_step r x m)) (sym (append_assoc (turns_at r x m) (all_turns r xs (after_step r x m))
+    (all_turns r ys (after_steps r xs (after_step r x m)))))
 
 -- ---- a FIG that waits behind at most this many others
 record IsBehind (count : ℕ) (fig : List ℕ) (waiting : List (List ℕ)) : Type 0 where
@@ -89,7 +88,7 @@ behind_more : (count : ℕ) (fig : List ℕ) (waiting more : List (List ℕ)) �
 behind_more count fig waiting more b = record {
   before = b.before;
   after = b.after ++ more;
-  waiting_is = ap (λ xs. xs ++ more) b.waiting_is ∙ append_assoc b.before (fig ∷ b.after) more;
+  waiting_is = rw (b.waiting_is) (append_assoc b.before (fig ∷ b.after) more);
   few = b.few;
 }
 
@@ -137,7 +136,7 @@ behind_by ok false room g fig gs after one (inl c) = inl c
 behind_by ok false room g fig gs after one (inr b) = inr (record {
   before = g ∷ b.before;
   after = b.after;
-  waiting_is = ap (λ xs. g ∷ xs) b.waiting_is;
+  waiting_is = rw (b.waiting_is) refl;
   few = omega (arith, b.few);
 })
 
@@ -166,8 +165,7 @@ fewer_fill ok room fig [] after count all few =
     let e : turns_in ok room (fig ∷ after) ≡ fig ∷ turns_in ok (room_after ok room fig) after =
     cond-true (leb (length fig) room) (fig ∷ turns_in ok (room_after ok room fig) after) (turns_in ok room after)
     (le-leb (length fig) room all.0) in
-    let c : Contains (turns_in ok room (fig ∷ after)) fig =
-    subst (λ (xs : List (List ℕ)). Contains xs fig) (sym e)
+    let c : Contains (turns_in ok room (fig ∷ after)) fig = rw (e)
     (front_of fig (turns_in ok (room_after ok room fig) after)) in
     ((λ none. c), inl c)
 fewer_fill ok room fig (g ∷ gs) after count all few =
@@ -196,8 +194,7 @@ waits_step : (r : Reading) (s : Step) (m : Merging) (fig : List ℕ) (count : �
     → Waits count fig (turns_at r s m) (after_step r s m).waiting
 waits_step r (Take fib) m fig count b =
     let l = longer_take (r.read fib) m in
-    inr (subst (λ (xs : List (List ℕ)). IsBehind count fig xs) (sym l.new_is)
-    (behind_more count fig m.waiting l.more b))
+    inr (rw (l.new_is) (behind_more count fig m.waiting l.more b))
 waits_step r (Fill fib) m fig count b = waits_fill (r.read fib) m fig count b
   where
     waits_fill : (fib : Fib) (m : Merging) (fig : List ℕ) (count : ℕ) → IsBehind count fig m.waiting
@@ -206,10 +203,7 @@ waits_step r (Fill fib) m fig count b = waits_fill (r.read fib) m fig count b
         inr (record { before = b.before; after = b.after; waiting_is = b.waiting_is; few = b.few })
     waits_fill (Some figs) m fig count b =
         let all : Waits (length b.before) fig (turns_in (agrees_with figs m.heard) (room_of figs) m.waiting)
-        (left_waiting (agrees_with figs m.heard) (room_of figs) m.waiting) =
-        subst (λ (xs : List (List ℕ)). Waits (length b.before) fig
-        (turns_in (agrees_with figs m.heard) (room_of figs) xs)
-        (left_waiting (agrees_with figs m.heard) (room_of figs) xs)) (sym b.waiting_is)
+        (left_waiting (agrees_with figs m.heard) (room_of figs) m.waiting) = rw (b.waiting_is)
         (behind_fill (agrees_with figs m.heard) (room_of figs) fig b.before b.after) in
         elim all [
           | inl c ↦ inl c
@@ -244,26 +238,21 @@ empty_fill : (fib : Fib) (m : Merging) (fig : List ℕ) (count : ℕ) → fib �
 empty_fill fib m fig count is h b =
     let ok = agrees_with [] m.heard in
     let short : AllByRecursion (λ g. length g ≤ 30) (b.before ++ fig ∷ b.after) =
-    subst (λ (xs : List (List ℕ)). AllByRecursion (λ g. length g ≤ 30) xs) b.waiting_is
-    (all_short m.waiting h.passed_over) in
+    rw (← b.waiting_is) (all_short m.waiting h.passed_over) in
     let fewer : Waits count fig (turns_in ok 30 (b.before ++ fig ∷ b.after))
     (left_waiting ok 30 (b.before ++ fig ∷ b.after)) =
     (fewer_fill ok 30 fig b.before b.after count short b.few).1 in
-    subst (λ (f : Fib). Waits count fig (turns_by f m) (after_fill f m).waiting) (sym is)
-    (subst (λ (xs : List (List ℕ)). Waits count fig (turns_in ok 30 xs) (left_waiting ok 30 xs)) (sym b.waiting_is)
-    fewer)
+    rw (is) (rw (b.waiting_is) fewer)
 
 empty_carries : (fib : Fib) (m : Merging) (fig : List ℕ) → fib ≡ Some [] → IsMerging m → IsBehind 0 fig m.waiting
     → Contains (turns_by fib m) fig
 empty_carries fib m fig is h b =
     let ok = agrees_with [] m.heard in
     let short : AllByRecursion (λ g. length g ≤ 30) (b.before ++ fig ∷ b.after) =
-    subst (λ (xs : List (List ℕ)). AllByRecursion (λ g. length g ≤ 30) xs) b.waiting_is
-    (all_short m.waiting h.passed_over) in
+    rw (← b.waiting_is) (all_short m.waiting h.passed_over) in
     let now : Contains (turns_in ok 30 (b.before ++ fig ∷ b.after)) fig =
     (fewer_fill ok 30 fig b.before b.after 0 short (omega (arith, b.few))).0 (omega (arith, b.few)) in
-    subst (λ (f : Fib). Contains (turns_by f m) fig) (sym is)
-    (subst (λ (xs : List (List ℕ)). Contains (turns_in ok 30 xs) fig) (sym b.waiting_is) now)
+    rw (is) (rw (b.waiting_is) now)
 
 empty_step : (r : Reading) (s : Step) (m : Merging) (fig : List ℕ) (count : ℕ) → FillsEmpty r s → IsMerging m
     → IsBehind (suc count) fig m.waiting
@@ -333,9 +322,8 @@ frames_carry : (r : Reading) (frames : List (List Step)) (m : Merging) (fig : Li
     → IsBehind count fig m.waiting → count < length frames → Contains (all_turns r (joined frames) m) fig
 frames_carry r [] m fig count all h b lt = absurd (omega (arith, lt))
 frames_carry r (frame ∷ frames) m fig zero all h b lt =
-    subst (λ (xs : List (List ℕ)). Contains xs fig) (sym (turns_then r frame (joined frames) m))
-    (Contains-append_left (all_turns r frame m) (all_turns r (joined frames) (after_steps r frame m)) fig
-    (frame_carries r frame m fig all.0 h b))
+    rw (turns_then r frame (joined frames) m) (Contains-append_left (all_turns r frame m)
+    (all_turns r (joined frames) (after_steps r frame m)) fig (frame_carries r frame m fig all.0 h b))
 frames_carry r (frame ∷ frames) m fig (suc count) all h b lt =
     let later = after_steps r frame m in
     subst (λ (xs : List (List ℕ)). Contains xs fig) (sym (turns_then r frame (joined frames) m))

@@ -90,11 +90,11 @@ module _ (ok : List ℕ → Bool) (bytes0 bytes fig : List ℕ) (waiting front r
       → IsPassed ok bytes0 waiting room0 bytes front (fig ∷ rest) room count stale
       → IsPassed ok bytes0 waiting room0 bytes (front ++ fig ∷ []) rest room count stale
   passed_over over h = record {
-    carried = ap (λ xs. bytes ++ concat (carried_of ok xs)) (sym (turns_over ok fig rest room over)) ∙ h.carried;
+    carried = rw (← turns_over ok fig rest room over) h.carried;
     left = append_assoc front (fig ∷ []) (left_waiting ok room rest)
         ∙ ap (λ xs. front ++ xs) (sym (left_over ok fig rest room over)) ∙ h.left;
-    counted = ap (λ xs. count + length (carried_of ok xs)) (sym (turns_over ok fig rest room over)) ∙ h.counted;
-    gone = ap (λ xs. stale + length (stale_of ok xs)) (sym (turns_over ok fig rest room over)) ∙ h.gone;
+    counted = rw (← turns_over ok fig rest room over) h.counted;
+    gone = rw (← turns_over ok fig rest room over) h.gone;
   }
 
   passed_in : leb (length fig) room ≡ true → ok fig ≡ true
@@ -111,7 +111,7 @@ module _ (ok : List ℕ → Bool) (bytes0 bytes fig : List ℕ) (waiting front r
         left = ap (λ n. front ++ left_waiting ok n rest) (sym (room_carried ok fig room is))
             ∙ ap (λ xs. front ++ xs) (sym (left_here ok fig rest room fits)) ∙ h.left;
         counted = omega (arith, longer, all);
-        gone = ap (λ xs. stale + length xs) (sym (none_stale ok fig rest room fits is)) ∙ h.gone;
+        gone = rw (← none_stale ok fig rest room fits is) h.gone;
       }
 
   passed_by : leb (length fig) room ≡ true → ok fig ≡ false
@@ -122,10 +122,10 @@ module _ (ok : List ℕ → Bool) (bytes0 bytes fig : List ℕ) (waiting front r
       ap length (stale_here ok fig rest room fits is) in
       let all = h.gone in
       record {
-        carried = ap (λ xs. bytes ++ concat xs) (sym (none_carried ok fig rest room fits is)) ∙ h.carried;
+        carried = rw (← none_carried ok fig rest room fits is) h.carried;
         left = ap (λ n. front ++ left_waiting ok n rest) (sym (room_stale ok fig room is))
             ∙ ap (λ xs. front ++ xs) (sym (left_here ok fig rest room fits)) ∙ h.left;
-        counted = ap (λ xs. count + length xs) (sym (none_carried ok fig rest room fits is)) ∙ h.counted;
+        counted = rw (← none_carried ok fig rest room fits is) h.counted;
         gone = omega (arith, longer, all);
       }
 
@@ -133,10 +133,10 @@ module _ (ok : List ℕ → Bool) (bytes0 bytes fig : List ℕ) (waiting front r
 take_zeros : (n m : ℕ) → n ≤ m → take {A = ℕ} n (replicate m 0) ≡ replicate n 0
 take_zeros zero m le = refl
 take_zeros (suc n) zero le = absurd (omega (arith, le))
-take_zeros (suc n) (suc m) le = ap (λ xs. 0 ∷ xs) (take_zeros n m (omega (arith, le)))
+take_zeros (suc n) (suc m) le = rw (take_zeros n m (omega (arith, le))) refl
 
 padding_is : (n : ℕ) → n ≤ 29 → take {A = ℕ} (suc n) (255 ∷ replicate 29 0) ≡ 255 ∷ replicate n 0
-padding_is n le = ap (λ xs. 255 ∷ xs) (take_zeros n 29 le)
+padding_is n le = rw (take_zeros n 29 le) refl
 
 padding_fills : (front : List ℕ) → length front ≤ 30 → front
     ++ take (30 - length front) (255 ∷ replicate 29 0) ≡ filled front
@@ -166,8 +166,8 @@ padded bytes padding new used whole within is written =
     let fills : front ++ take (30 - used) (255 ∷ replicate 29 0) ≡ filled front =
     ap (λ n. front ++ take (30 - n) (255 ∷ replicate 29 0)) (sym size)
     ∙ padding_fills front (omega (arith, size, within)) in
-    ap (take 30) (written ∙ sym (append_assoc front end rest)) ∙ take_at (front ++ end) rest 30 all
-    ∙ ap (λ xs. front ++ take (30 - used) xs) is ∙ fills
+    rw (written ∙ sym (append_assoc front end rest)) (take_at (front ++ end) rest 30 all
+    ∙ ap (λ xs. front ++ take (30 - used) xs) is ∙ fills)
 
 -- ---- a step of the pass
 cut_at : (figs : List (List ℕ)) (at : ℕ) (fig : List ℕ) → at < length figs → fig ≡ get_or figs at fig
@@ -178,7 +178,7 @@ cut_at figs at fig lt is =
 
 taken_at : (figs : List (List ℕ)) (at : ℕ) (fig : List ℕ) → at < length figs → fig ≡ get_or figs at fig
     → take (at + 1) figs ≡ take at figs ++ fig ∷ []
-taken_at figs at fig lt is = take_more figs at fig lt ∙ ap (λ x. take at figs ++ x ∷ []) (sym is)
+taken_at figs at fig lt is = rw (is) (take_more figs at fig lt)
 
 pub step_over : (ok : List ℕ → Bool) (bytes0 bytes fig : List ℕ) (waiting figs : List (List ℕ))
     (room0 room at count stale : ℕ) → at < length figs → fig ≡ get_or figs at fig
@@ -186,12 +186,9 @@ pub step_over : (ok : List ℕ → Bool) (bytes0 bytes fig : List ℕ) (waiting 
     → IsPassed ok bytes0 waiting room0 bytes (take (at + 1) figs) (drop (at + 1) figs) room count stale
 step_over ok bytes0 bytes fig waiting figs room0 room at count stale lt is long h =
     let here : IsPassed ok bytes0 waiting room0 bytes (take at figs) (fig ∷ drop (at + 1) figs) room count stale =
-    subst (λ (xs : List (List ℕ)). IsPassed ok bytes0 waiting room0 bytes (take at figs) xs room count stale)
-    (cut_at figs at fig lt is) h in
-    subst (λ (xs : List (List ℕ)). IsPassed ok bytes0 waiting room0 bytes xs (drop (at + 1) figs) room count stale)
-    (sym (taken_at figs at fig lt is))
-    (passed_over ok bytes0 bytes fig waiting (take at figs) (drop (at + 1) figs) room0 room count stale
-    (lt-leb (length fig) room long) here)
+    rw (← cut_at figs at fig lt is) h in
+    rw (taken_at figs at fig lt is) (passed_over ok bytes0 bytes fig waiting (take at figs) (drop (at + 1) figs) room0
+    room count stale (lt-leb (length fig) room long) here)
 
 -- a FIG is removed
 module _ (ok : List ℕ → Bool) (bytes0 bytes fig : List ℕ) (waiting figs new : List (List ℕ))
@@ -234,8 +231,8 @@ written_behind fib new fig used within is =
     let size : length (take used fib) ≡ used = length-take-le used fib (omega (arith, within)) in
     let all : length (take used fib ++ fig) ≡ used + length fig =
     omega (arith, length-append (take used fib) fig, size) in
-    ap (take (used + length fig)) (is ∙ sym (append_assoc (take used fib) fig (drop (used + length fig) fib)))
-    ∙ take_at (take used fib ++ fig) (drop (used + length fig) fib) (used + length fig) all
+    rw (is ∙ sym (append_assoc (take used fib) fig (drop (used + length fig) fib)))
+    (take_at (take used fib ++ fig) (drop (used + length fig) fib) (used + length fig) all)
 
 pub written_length : (fib new fig : List ℕ) (used : ℕ) → used + length fig ≤ length fib
     → new ≡ take used fib ++ (fig ++ drop (used + length fig) fib) → length new ≡ length fib

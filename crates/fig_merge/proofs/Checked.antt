@@ -15,7 +15,7 @@ use Rattle.stream_check.specs.Listening.{Listening}
 use Rattle.stream_check.specs.declared.contradiction.Contradiction.{Contradiction}
 use Rattle.stream_check.specs.declared.finding.Finding.{Finding}
 use Rattle.stream_check.specs.declared.heard_table.Lookup.TheVariants.{Absent, Full}
-use Rattle.stream_check.specs.Contradictions.{new_findings, noted_with}
+use Rattle.stream_check.specs.Contradictions.{noted_with}
 use Rattle.stream_check.specs.Lookup.{lookup, lookup_among, lookup_in}
 use Rattle.stream_check.specs.Rules.{known_of, finds_no_room, has_no_room}
 use Rattle.stream_check.specs.Sent.{Sent, FigSent, fig_sent, figs_sent, fibs_sent, items_in, contradictions_at}
@@ -176,9 +176,9 @@ fibs_hearing step period first [] past l room is = is
 fibs_hearing step period first (None ∷ fibs) past l room is = fibs_hearing step period false fibs past l room is
 fibs_hearing step period first (Some figs ∷ fibs) past l room is =
     let front = front_free step period (figs_items first figs) (fibs_items false fibs) past room in
-    ap listening (said_append (figs_items first figs) (fibs_items false fibs) past)
-    ∙ fibs_hearing step period false fibs (said (figs_items first figs) past) (hearing figs l) front.1
-    (figs_hearing step period first figs past l front.0 is)
+    rw (said_append (figs_items first figs) (fibs_items false fibs) past)
+    (fibs_hearing step period false fibs (said (figs_items first figs) past) (hearing figs l) front.1
+    (figs_hearing step period first figs past l front.0 is))
 
 -- ---- FIGs that agree add nothing
 
@@ -208,10 +208,7 @@ found_quietly step period [] rest past noted all = refl
 found_quietly step period (c ∷ cs) rest past noted all =
     let both = both_true (fig_agrees (listener_after past).current c)
     (list_all (fig_agrees (listener_after past).current) cs) all in
-    ap (λ some. new_findings noted some ++ findings_at_sent step period past (noted_with noted some)
-    (map FigSent cs ++ rest)) (none_at period past c both.0)
-    ∙ ap (λ n. findings_at_sent step period past n (map FigSent cs ++ rest)) (append-nil noted)
-    ∙ found_quietly step period cs rest past noted both.1
+    rw (none_at period past c both.0, append-nil noted) (found_quietly step period cs rest past noted both.1)
 
 pub noted_quietly : (period : ℕ) (carried : List (List ℕ)) (rest : List Sent) (past : List Moment)
     (noted : List Contradiction) → list_all (fig_agrees (listener_after past).current) carried ≡ true
@@ -227,10 +224,9 @@ noted_quietly period (c ∷ cs) rest past noted all =
 others_sent : (first : Bool) (figs : List Fig) (carried : List (List ℕ))
     → figs_sent first (figs ++ map Other carried) ≡ figs_sent first figs ++ map FigSent carried
 others_sent first [] [] = refl
-others_sent first [] (c ∷ cs) = ap (λ ss. FigSent c ∷ ss) (others_sent false [] cs)
+others_sent first [] (c ∷ cs) = rw (others_sent false [] cs) refl
 others_sent first (f ∷ fs) carried =
-    ap (λ ss. fig_sent first f ++ ss) (others_sent false fs carried)
-    ∙ sym (append_assoc (fig_sent first f) (figs_sent false fs) (map FigSent carried))
+    rw (others_sent false fs carried) (sym (append_assoc (fig_sent first f) (figs_sent false fs) (map FigSent carried)))
 
 -- ---- what is sent in the FIBs of a frame
 
@@ -254,11 +250,9 @@ pub found_alike : (step period : ℕ) (first : Bool) (fibs sent : List Fib) (pas
     (noted : List Contradiction) (l : Listening) → AreFilled agreeing l fibs sent → listening past ≡ Some l
     → findings_at_sent step period past noted (fibs_sent first sent)
     ≡ findings_at_sent step period past noted (fibs_sent first fibs)
-found_alike step period first [] sent past noted l h is =
-    ap (λ fs. findings_at_sent step period past noted (fibs_sent first fs)) h
+found_alike step period first [] sent past noted l h is = rw (h) refl
 found_alike step period first (None ∷ fibs) sent past noted l h is =
-    ap (λ fs. findings_at_sent step period past noted (fibs_sent first fs)) h.2
-    ∙ found_alike step period false fibs h.1 past noted l h.4 is
+    rw (h.2) (found_alike step period false fibs h.1 past noted l h.4 is)
 found_alike step period first (Some figs ∷ fibs) sent past noted l h is =
     let own = figs_sent first figs in
     let others = map FigSent h.0 in
@@ -293,11 +287,9 @@ pub noted_alike : (step period : ℕ) (first : Bool) (fibs sent : List Fib) (pas
     (noted : List Contradiction) (l : Listening) → runs_full step period past (fibs_items first fibs) ≡ false
     → AreFilled agreeing l fibs sent → listening past ≡ Some l
     → noted_after period past noted (fibs_sent first sent) ≡ noted_after period past noted (fibs_sent first fibs)
-noted_alike step period first [] sent past noted l room h is =
-    ap (λ fs. noted_after period past noted (fibs_sent first fs)) h
+noted_alike step period first [] sent past noted l room h is = rw (h) refl
 noted_alike step period first (None ∷ fibs) sent past noted l room h is =
-    ap (λ fs. noted_after period past noted (fibs_sent first fs)) h.2
-    ∙ noted_alike step period false fibs h.1 past noted l room h.4 is
+    rw (h.2) (noted_alike step period false fibs h.1 past noted l room h.4 is)
 noted_alike step period first (Some figs ∷ fibs) sent past noted l room h is =
     let own = figs_sent first figs in
     let others = map FigSent h.0 in
@@ -307,17 +299,12 @@ noted_alike step period first (Some figs ∷ fibs) sent past noted l room h is =
     let now = noted_after period past noted own in
     let front = front_free step period (figs_items first figs) (fibs_items false fibs) past room in
     let free = ap (runs_full step period past) (figs_have_items first figs) ∙ front.0 in
-    let behind : runs_full step period then (fibs_items false fibs) ≡ false =
-    ap (λ items. runs_full step period (said items past) (fibs_items false fibs)) (figs_have_items first figs)
-    ∙ front.1 in
+    let behind : runs_full step period then (fibs_items false fibs) ≡ false = rw (figs_have_items first figs) front.1 in
     let agree = agree_then step period first figs h.0 past l free is h.3 in
-    ap (λ fs. noted_after period past noted (fibs_sent first fs)) h.2
-    ∙ ap (λ ss. noted_after period past noted (ss ++ later)) (others_sent first figs h.0)
-    ∙ ap (noted_after period past noted) (append_assoc own others later)
-    ∙ noted_append period own (others ++ later) past noted
-    ∙ noted_quietly period h.0 later then now agree.1
+    rw (h.2, others_sent first figs h.0, append_assoc own others later)
+    (noted_append period own (others ++ later) past noted ∙ noted_quietly period h.0 later then now agree.1
     ∙ noted_alike step period false fibs h.1 then now (hearing figs l) behind h.4 agree.0
-    ∙ sym (noted_append period own rest past noted)
+    ∙ sym (noted_append period own rest past noted))
 
 -- ---- frames
 

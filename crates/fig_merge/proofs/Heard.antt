@@ -4,7 +4,7 @@ use Rattle.fig_merge.proofs.Words.{Contains-append_cases, Contains-append_left, 
 use Rattle.fig_merge.proofs.Words.{FilledIsAsLong, FilledIsFullAlike, IsFib, IsMerging, Judge, List, Listening, Merging}
 use Rattle.fig_merge.proofs.Words.{Moment, None, Other, Reads, Some, agrees_with, ap, ap₂, carried_in, cond, filled_fib}
 use Rattle.fig_merge.proofs.Words.{frames_full, hearing_fibs, inl, inr, length, map, merged, one_fib, past_after_frame}
-use Rattle.fig_merge.proofs.Words.{refl, room_of, runs_full, subst, sym, true, ℕ}
+use Rattle.fig_merge.proofs.Words.{refl, room_of, runs_full, sym, true, ℕ}
 use Rattle.mux_types.proofs.Elements.{each_contains}
 use Rattle.mux_types.specs.Facts.{Marked}
 use Rattle.fib_codec.specs.Heard.{IsInFib, IsInFig}
@@ -29,8 +29,7 @@ in_either bytes m entry (Some figs) is h =
     let new = filled_fib figs m.heard m.waiting in
     let new_is : IsFib new (figs ++ carried) = filled_is bytes figs m.heard m.waiting is h.passed_over in (
       λ there.
-          let here : Contains (figs ++ carried) there.1 =
-          subst (λ (fs : List Fig). Contains fs there.1) (one_fib new there.0 (figs ++ carried) there.2 new_is)
+          let here : Contains (figs ++ carried) there.1 = rw (← one_fib new there.0 (figs ++ carried) there.2 new_is)
           there.3 in
           elim (Contains-append_cases figs carried there.1 here) [
             | inl own ↦ (figs, there.1, is, own, there.4)
@@ -38,8 +37,7 @@ in_either bytes m entry (Some figs) is h =
                 (none_carried (carried_in (agrees_with figs m.heard) (room_of figs) m.waiting) entry) other there.4)
           ],
       λ there.
-          let here : Contains figs there.1 =
-          subst (λ (fs : List Fig). Contains fs there.1) (one_fib bytes there.0 figs there.2 is) there.3 in
+          let here : Contains figs there.1 = rw (← one_fib bytes there.0 figs there.2 is) there.3 in
           (figs ++ carried, there.1, new_is, Contains-append_left figs carried there.1 here, there.4),
     )
 
@@ -69,8 +67,7 @@ full_alike_from may l step period (frame ∷ frames) sent past h =
     let a = frame_alike may l frame h.0 h.3 in
     let rest = ap (λ (p : List Moment). frames_full step period p h.1) (after_alike step past frame h.0 a)
     ∙ full_alike_from may (hearing_fibs frame l) step period frames h.1 (past_after_frame step past frame) h.4 in
-    ap (frames_full step period past) h.2
-    ∙ ap₂ (λ (full others : Bool). cond full true others) (ap (runs_full step period past) (a.items true)) rest
+    rw (h.2) (ap₂ (λ (full others : Bool). cond full true others) (ap (runs_full step period past) (a.items true)) rest)
 
 pub full_alike : FilledIsFullAlike
 full_alike may l step period frames sent h = full_alike_from may l step period frames sent [] h

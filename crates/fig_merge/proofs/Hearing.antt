@@ -34,9 +34,7 @@ pub fill_is : (figs : List Fig) (m : Merging) (k : List ℕ → Bool) (used : �
     → made m waiting carried stale heard ≡ after_fill (Some figs) m
 fill_is figs m k used waiting carried stale more gone heard size same left one other c s hears =
     let ok = agrees_with figs m.heard in
-    let waits_on : waiting ≡ left_waiting ok (room_of figs) m.waiting =
-    left ∙ ap (λ n. left_waiting k (30 - n) m.waiting) size
-    ∙ ap (λ (j : List ℕ → Bool). left_waiting j (room_of figs) m.waiting) same in
+    let waits_on : waiting ≡ left_waiting ok (room_of figs) m.waiting = rw (← same, ← size) left in
     let sent : carried ≡ limited (m.carried + length (carried_in ok (room_of figs) m.waiting)) =
     c ∙ ap (λ n. limited (m.carried + n)) (one ∙ ap (λ n. length (carried_in k (30 - n) m.waiting)) size
     ∙ ap (λ (j : List ℕ → Bool). length (carried_in j (room_of figs) m.waiting)) same) in

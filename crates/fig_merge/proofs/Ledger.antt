@@ -161,8 +161,8 @@ at_limit top n le = cond-false (ltb n top) n (top - 1) (le-ltb n top le)
 
 limit_more : (top n more : ℕ) → 0 < top → limit_of top (limit_of top n + more) ≡ limit_of top (n + more)
 limit_more top n more some = elim (cases_lt n top) [
-  | inl lt ↦ ap (λ k. limit_of top (k + more)) (below_limit top n lt)
-  | inr ge ↦ ap (λ k. limit_of top (k + more)) (at_limit top n ge) ∙ at_end (cases_lt (top - 1 + more) top) ge
+  | inl lt ↦ rw (below_limit top n lt) refl
+  | inr ge ↦ rw (at_limit top n ge) (at_end (cases_lt (top - 1 + more) top) ge)
 ]
   where
     at_end : (top - 1 + more < top) ⊎ (top ≤ top - 1 + more) → top ≤ n
@@ -266,7 +266,7 @@ kept_by false true fig m c d e waits_so full k = record {
 }
 kept_by false false fig m c d e waits_so full k = record {
   carried_is = k.carried_is;
-  dropped_is = ap (λ n. limited (n + 1)) k.dropped_is ∙ more_limited d 1;
+  dropped_is = rw (k.dropped_is) (more_limited d 1);
   stale_is = k.stale_is;
   different = k.different;
   few = k.few;
@@ -281,8 +281,7 @@ kept_figs (fig ∷ figs) m c d e k =
     let all : d + length gone + length (dropped_of figs (with_fig fig m)) ≡ d
     + length (gone ++ dropped_of figs (with_fig fig m)) =
     omega (arith, length-append gone (dropped_of figs (with_fig fig m))) in
-    subst (λ (n : ℕ). IsKept (with_figs figs (with_fig fig m)) c n e) all
-    (kept_figs figs (with_fig fig m) c (d + length gone) e one)
+    rw (← all) (kept_figs figs (with_fig fig m) c (d + length gone) e one)
 
 kept_take : (fib : Fib) (m : Merging) (c d e : ℕ) → IsKept m c d e
     → IsKept (after_take fib m) c (d + length (dropped_of (taken_in fib) m)) e
@@ -300,9 +299,9 @@ kept_take (Some figs) m c d e k = kept_figs (taken_of figs) m c d e k
 counted : (m : Merging) (c d e c2 d2 e2 : ℕ) → c ≡ c2 → d ≡ d2 → e ≡ e2 → IsKept m c d e → IsKept m c2 d2 e2
 counted m c d e c2 d2 e2 one two three k =
     record {
-      carried_is = k.carried_is ∙ ap limited one;
-      dropped_is = k.dropped_is ∙ ap limited two;
-      stale_is = k.stale_is ∙ ap limited three;
+      carried_is = rw (← one) k.carried_is;
+      dropped_is = rw (← two) k.dropped_is;
+      stale_is = rw (← three) k.stale_is;
       different = k.different;
       few = k.few;
     }
@@ -321,9 +320,9 @@ kept_fill (Some figs) m c d e k =
     let count = length (carried_in ok (room_of figs) m.waiting) in
     let more = length (stale_in ok (room_of figs) m.waiting) in
     record {
-      carried_is = ap (λ n. limited (n + count)) k.carried_is ∙ more_limited c count;
+      carried_is = rw (k.carried_is) (more_limited c count);
       dropped_is = k.dropped_is;
-      stale_is = ap (λ n. limited (n + more)) k.stale_is ∙ more_limited e more;
+      stale_is = rw (k.stale_is) (more_limited e more);
       different = different_left ok (room_of figs) m.waiting k.different;
       few = omega (arith, few_left ok (room_of figs) m.waiting, k.few);
     }
@@ -410,8 +409,7 @@ go_case ok false room fig before figs e all one two =
 go_from : (ok : List ℕ → Bool) (room : ℕ) (before waiting : List (List ℕ))
     → AllByRecursion (λ fig. room < length fig) before
     → Go ok room (before ++ waiting) (turns_in ok room waiting) (before ++ left_waiting ok room waiting)
-go_from ok room before [] all =
-    (refl, subst (λ (xs : List (List ℕ)). AllByRecursion (λ fig. room < length fig) xs) (sym (append-nil before)) all)
+go_from ok room before [] all = (refl, rw (append-nil before) all)
 go_from ok room before (fig ∷ figs) all =
     go_case ok (leb (length fig) room) room fig before figs refl all
     (go_from ok (room_after ok room fig) before figs

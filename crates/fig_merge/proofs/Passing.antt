@@ -18,7 +18,7 @@ figs_then bytes tail (f ∷ fs) more h then = (
   fig_spelled f,
   data_of fs ++ tail,
   append_assoc (fig_spelled f) (data_of fs) tail,
-  subst (λ (xs : List ℕ). IsFig xs f) (spelled_fig h.0 f h.3) h.3,
+  rw (← spelled_fig h.0 f h.3) h.3,
   figs_then h.1 tail fs more h.4 then,
 )
 
@@ -97,16 +97,13 @@ fits_by_case : (ok : List ℕ → Bool) (agrees fits : Bool) (room : ℕ) (fig :
     → length (concat (carried_of ok gone)) ≤ room
     → length (concat (carried_of ok (cond fits (fig ∷ there) gone))) ≤ room
 fits_by_case ok true true room fig there gone so is short others =
-    let here : carried_of ok (fig ∷ there) ≡ fig ∷ carried_of ok there =
-    ap (λ b. cond b (fig ∷ carried_of ok there) (carried_of ok there)) so in
+    let here : carried_of ok (fig ∷ there) ≡ fig ∷ carried_of ok there = rw (so) refl in
     let all : length (concat (carried_of ok (fig ∷ there))) ≡ length (fig ++ concat (carried_of ok there)) =
-    ap (λ l. length (concat l)) here in
+    rw (here) refl in
     omega (arith, all, length-append fig (concat (carried_of ok there)), leb-true (length fig) room is, short)
 fits_by_case ok false true room fig there gone so is short others =
-    let here : carried_of ok (fig ∷ there) ≡ carried_of ok there =
-    ap (λ b. cond b (fig ∷ carried_of ok there) (carried_of ok there)) so in
-    let all : length (concat (carried_of ok (fig ∷ there))) ≡ length (concat (carried_of ok there)) =
-    ap (λ l. length (concat l)) here in
+    let here : carried_of ok (fig ∷ there) ≡ carried_of ok there = rw (so) refl in
+    let all : length (concat (carried_of ok (fig ∷ there))) ≡ length (concat (carried_of ok there)) = rw (here) refl in
     omega (arith, all, short)
 fits_by_case ok agrees false room fig there gone so is short others = others
 
@@ -143,9 +140,9 @@ ends_filled figs ok waiting all is bytes h passed =
     let more = carried_in ok (room_of figs) waiting in
     let marker : List ℕ = 255 ∷ replicate (29 - length all) 0 in
     let each = all_carried IsPassedOver ok (room_of figs) waiting passed in
-    let goal : (tail : List ℕ) → AreFigs tail [] → AreFigs (all ++ tail) (figs ++ map Other more) = λ tail ends.
-    subst (λ (xs : List ℕ). AreFigs xs (figs ++ map Other more))
-    (sym (append_assoc (data_of figs) (concat more) tail) ∙ ap (λ (xs : List ℕ). xs ++ tail) (sym is))
+    let goal : (tail : List ℕ) → AreFigs tail [] → AreFigs (all ++ tail) (figs ++ map Other more) =
+    λ tail ends. subst (λ (xs : List ℕ). AreFigs xs (figs ++ map Other more))
+    (rw (is) (sym (append_assoc (data_of figs) (concat more) tail)))
     (figs_then bytes (concat more ++ tail) figs (map Other more) h (others_then more tail each ends)) in
     elim (cases_lt (length all) 30) [
       | inl lt ↦ subst (λ (xs : List ℕ). AreFigs xs (figs ++ map Other more))
@@ -185,7 +182,7 @@ send_one bytes (Other given) h short =
 send_all : (bytes : List ℕ) (figs : List Fig) → AreFigs bytes figs → length bytes ≤ 30 → AllByRecursion IsSendable figs
 send_all bytes [] h short = tt
 send_all bytes (f ∷ fs) h short =
-    let size : length bytes ≡ length h.0 + length h.1 = ap length h.2 ∙ length-append h.0 h.1 in
+    let size : length bytes ≡ length h.0 + length h.1 = rw (h.2) (length-append h.0 h.1) in
     (send_one h.0 f h.3 (omega (arith, size, short)), send_all h.1 fs h.4 (omega (arith, size, short)))
 
 pub sendable : (bytes : List ℕ) (figs : List Fig) → IsFib bytes figs → AllByRecursion IsSendable figs

@@ -41,7 +41,7 @@ pub use Rattle.stream_check.specs.Listening.{hear_figs, identifier_of, into, kep
 pub use Rattle.stream_check.specs.Listening.{where_heard}
 pub use Rattle.stream_check.specs.Raw.{Raw, ensemble_in, entries_in}
 pub use Rattle.stream_check.specs.Reporting.{in_frame, when}
-pub use Rattle.stream_check.specs.Stream.{count_due, count_in, count_of_frame, eid_in, findings_at_sent, findings_from}
+pub use Rattle.stream_check.specs.Stream.{count_due, count_in, count_of_frame, findings_at_sent, findings_from}
 pub use Rattle.stream_check.specs.Stream.{findings_in, first_line, frame_findings, frames_full, last_findings, noted_in}
 pub use Rattle.stream_check.specs.Stream.{past_after_frame, placed_count, runs_full}
 pub use Rattle.stream_check.specs.declared.finding.What.{What}

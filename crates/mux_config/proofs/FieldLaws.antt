@@ -265,14 +265,14 @@ component_of_front total at zero bytes x fits e =
     let b = bind_ok (byte_within total 0 63 a.0.1) _ x a.2 in
     let g = byte_within_front total 0 63 a.0.1 b.0 f.0.rest_fits b.1 in
     subst (IsRest 0 bytes) (ok_is (Sound a.0.0 b.0.0, b.0.1) x b.2)
-    ( a.0.0 ∷ b.0.0 ∷ [], front_then bytes _ a.0.1 _ b.0.1 f.0 g.0, refl, (omega (arith, f.2), omega (arith, g.2)), )
+    (a.0.0 ∷ b.0.0 ∷ [], front_then bytes _ a.0.1 _ b.0.1 f.0 g.0, refl, (omega (arith, f.2), omega (arith, g.2)))
 component_of_front total at (suc zero) bytes x fits e =
     let a = bind_ok (byte_within total 0 63 bytes) _ x e in
     let f = byte_within_front total 0 63 bytes a.0 fits a.1 in
     let b = bind_ok (byte_within total 0 63 a.0.1) _ x a.2 in
     let g = byte_within_front total 0 63 a.0.1 b.0 f.0.rest_fits b.1 in
     subst (IsRest 1 bytes) (ok_is (Stream a.0.0 b.0.0, b.0.1) x b.2)
-    ( a.0.0 ∷ b.0.0 ∷ [], front_then bytes _ a.0.1 _ b.0.1 f.0 g.0, refl, (omega (arith, f.2), omega (arith, g.2)), )
+    (a.0.0 ∷ b.0.0 ∷ [], front_then bytes _ a.0.1 _ b.0.1 f.0 g.0, refl, (omega (arith, f.2), omega (arith, g.2)))
 component_of_front total at (suc (suc (suc zero))) bytes x fits e =
     let a = bind_ok (u16_in_range total 0 4095 bytes) _ x e in
     let f = word_within_front total 0 4095 bytes a.0 fits a.1 in

@@ -55,7 +55,7 @@ pub use Rattle.mux_types.specs.declared.parts.Component.TheVariants.{Sound, Stre
 pub use Rattle.mux_types.specs.declared.parts.Packet.{Packet}
 pub use Rattle.mux_types.specs.declared.parts.Service.{Service}
 pub use Rattle.mux_types.specs.declared.parts.Sub.{Sub}
-pub use Rattle.std.proofs.Common.{[], ◌%◌, ◌&&◌, ◌*◌, ◌++◌, ◌+◌, ◌-◌, ◌/◌, ◌<◌, ◌==◌, ◌||◌, ◌↔◌, ◌∙◌, ◌∷◌, ◌≡◌, ◌≢◌}
+pub use Rattle.std.proofs.Common.{[], ◌%◌, ◌*◌, ◌++◌, ◌+◌, ◌-◌, ◌/◌, ◌<◌, ◌==◌, ◌||◌, ◌↔◌, ◌∙◌, ◌∷◌, ◌≡◌, ◌≢◌}
 pub use Rattle.std.proofs.Common.{◌≤◌, ◌⊎◌, Bool, Contains, Err, IfErr, IfOk, List, None, Ok, Option, Result, Some, ap}
 pub use Rattle.std.proofs.Common.{append_assoc, arith, cond, drop, eqb, false, get_or, inl, inr, is_some, leb, length}
 pub use Rattle.std.proofs.Common.{length-append, ltb, map, not, option_copied, refl, replicate, rules, slice_get}

@@ -1,9 +1,8 @@
 -- The lanes of the unit map: a span is added and removed, and a lane above 1 is found.
-use Rattle.mux_tables.proofs.Words.{[], ◌%◌, ◌*◌, ◌+◌, ◌-◌, ◌/◌, ◌<◌, ◌^◌, ◌∙◌, ◌∷◌, ◌≡◌, ◌≤◌, ◌⊎◌, Block, Bool}
-use Rattle.mux_tables.proofs.Words.{Counts, List, Span, add-one, ap, arith, cases_lt, cond, false, get_or}
-use Rattle.mux_tables.proofs.Words.{inl, inr, le-ltb, length, length-map, lt-ltb}
-use Rattle.mux_tables.proofs.Words.{ltb, map, nat_tests, no_units, range_with_len, refl, share, subst, suc, sym}
-use Rattle.mux_tables.proofs.Words.{true, units_at, zero, ℕ}
+use Rattle.mux_tables.proofs.Words.{[], ◌%◌, ◌*◌, ◌+◌, ◌-◌, ◌/◌, ◌<◌, ◌^◌, ◌∙◌, ◌∷◌, ◌≡◌, ◌≤◌, ◌⊎◌, Block, Bool, Counts}
+use Rattle.mux_tables.proofs.Words.{List, Span, add-one, ap, arith, cases_lt, cond, false, get_or, inl, inr, le-ltb}
+use Rattle.mux_tables.proofs.Words.{length, length-map, lt-ltb, ltb, map, nat_tests, no_units, range_with_len, refl}
+use Rattle.mux_tables.proofs.Words.{share, subst, suc, sym, true, units_at, zero, ℕ}
 use Rattle.std.specs.Simd.Lanes.{zip2, top, mask_l}
 use Rattle.std.specs.Prelude.{replicate}
 use Rattle.std.proofs.lemmas.Simd.{zip2-map, zip2_splat_left, mask_l-mod, get_or-replicate}

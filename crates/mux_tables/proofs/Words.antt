@@ -19,10 +19,9 @@ pub use Rattle.mux_types.proofs.Elements.{contains_cases, contains_first, contai
 pub use Rattle.mux_types.proofs.Tables.{ascends_changed, changed_absent, each_changed, without_absent}
 pub use Rattle.mux_types.specs.declared.parts.Sub.{Sub}
 pub use Rattle.std.proofs.Common.{[], ◌%◌, ◌*◌, ◌+◌, ◌-◌, ◌/◌, ◌<◌, ◌==◌, ◌^◌, ◌↔◌, ◌∙◌, ◌∷◌, ◌≡◌, ◌≢◌, ◌≤◌, ◌⊎◌, Bool}
-pub use Rattle.std.proofs.Common.{Contains, IfSome, IsTrue, List, None, Option, Some, add-one, ap, arith}
-pub use Rattle.std.proofs.Common.{cond, false, filter, get_or, inl, inr}
-pub use Rattle.std.proofs.Common.{length, ltb, map, not, refl, rules, set, slice_get, subst, suc, sym, take, true, zero}
-pub use Rattle.std.proofs.Common.{ℕ}
+pub use Rattle.std.proofs.Common.{Contains, IfSome, IsTrue, List, None, Option, Some, add-one, ap, arith, cond, false}
+pub use Rattle.std.proofs.Common.{filter, get_or, inl, inr, length, ltb, map, not, refl, rules, set, slice_get, subst}
+pub use Rattle.std.proofs.Common.{suc, sym, take, true, zero, ℕ}
 pub use Rattle.std.proofs.lemmas.Bool.{cases_lt, eq-eqb, eqb-true, false≢true, le-ltb, lt-ltb, ne_eqb}
 pub use Rattle.std.proofs.lemmas.Bool.Decides.{nat_tests}
 pub use Rattle.std.proofs.lemmas.List.{length-map}

@@ -7,12 +7,11 @@ use Rattle.plan_code.proofs.Words.{byte_within_front, component, component_again
 use Rattle.plan_code.proofs.Words.{flag_again, flag_front, follows, front_then, goes_bind, goes_byte, goes_byte_within}
 use Rattle.plan_code.proofs.Words.{goes_component, goes_flag, goes_judged, goes_number, goes_protection, goes_sid}
 use Rattle.plan_code.proofs.Words.{guard_ok, judged, kind, le-ltb, length, long_again, long_front, ltb, ltb-false}
-use Rattle.plan_code.proofs.Words.{mapped}
-use Rattle.plan_code.proofs.Words.{nothing, number_at, number_from, ok_is, place, place_same, placed_bind, placed_byte}
-use Rattle.plan_code.proofs.Words.{placed_byte_within, placed_component, placed_flag, placed_judged, placed_number}
-use Rattle.plan_code.proofs.Words.{placed_protection, placed_sid, protection, protection_again, protection_front, refl}
-use Rattle.plan_code.proofs.Words.{sid, sid_again, sid_front, subst, sym, tagged_at, to_be_bytes, u16_from, w16, w32}
-use Rattle.plan_code.proofs.Words.{word_again, word_front, ℕ}
+use Rattle.plan_code.proofs.Words.{mapped, nothing, number_at, number_from, ok_is, place, place_same, placed_bind}
+use Rattle.plan_code.proofs.Words.{placed_byte, placed_byte_within, placed_component, placed_flag, placed_judged}
+use Rattle.plan_code.proofs.Words.{placed_number, placed_protection, placed_sid, protection, protection_again}
+use Rattle.plan_code.proofs.Words.{protection_front, refl, sid, sid_again, sid_front, subst, sym, tagged_at}
+use Rattle.plan_code.proofs.Words.{to_be_bytes, u16_from, w16, w32, word_again, word_front, ℕ}
 use Rattle.mux_eep.specs.Sizes.{Profile}
 use Rattle.mux_config.specs.declared.record.RecordFault.TheVariants.{Field}
 use Rattle.mux_config.specs.FieldReading.{◌>>=◌}

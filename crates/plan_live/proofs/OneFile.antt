@@ -1,12 +1,11 @@
 -- The lines of a live run list their steps one after another, and so does one event file with just these lines.
 use Rattle.plan_live.proofs.Words.{[], ◌++◌, ◌∙◌, ◌∷◌, ◌≡◌, ◌≤◌, ◌⊎◌, AllByRecursion, Appends, AreLinesOf, AreListing}
 use Rattle.plan_live.proofs.Words.{Begins, BytesHaveLines, FitsIntoMemory, GivesLines, HasNoFeed, Holds, HoldsOneList}
-use Rattle.plan_live.proofs.Words.{IfSome}
-use Rattle.plan_live.proofs.Words.{InputIsPlayback, IsAtEnd, IsPlayback, IsStep, LacksLastFeed, LineDoes, LineHolds}
-use Rattle.plan_live.proofs.Words.{LinesDo, LinesListInTurn, List, ListInTurn, LiveIsPlayback, None, Option, Playing}
-use Rattle.plan_live.proofs.Words.{Request, Some, Step, ap, append-nil, append_assoc, arith, events_of, inl, inr}
-use Rattle.plan_live.proofs.Words.{kept_bytes, length, length-append, lines_of, over, refl, step_lexemes, subst, sym}
-use Rattle.plan_live.proofs.Words.{with_feeds, ℕ}
+use Rattle.plan_live.proofs.Words.{IfSome, InputIsPlayback, IsAtEnd, IsPlayback, IsStep, LacksLastFeed, LineDoes}
+use Rattle.plan_live.proofs.Words.{LineHolds, LinesDo, LinesListInTurn, List, ListInTurn, LiveIsPlayback, None, Option}
+use Rattle.plan_live.proofs.Words.{Playing, Request, Some, Step, ap, append-nil, append_assoc, arith, events_of, inl}
+use Rattle.plan_live.proofs.Words.{inr, kept_bytes, length, length-append, lines_of, over, refl, step_lexemes, subst}
+use Rattle.plan_live.proofs.Words.{sym, with_feeds, ℕ}
 use Rattle.plan_session.proofs.JoinedTexts.{holds_joined}
 use Rattle.script_tokens.specs.Lexing.{lexed}
 

@@ -1,9 +1,8 @@
 -- Lines as one event file, by the lines `frames 2` and `@`: each definition where it holds, and where it fails.
 use Rattle.plan_live.proofs.Words.{[], ◌++◌, ◌∙◌, ◌∷◌, ◌≡◌, AreLinesOf, AreListing, Begins, FitsIntoMemory, Frames}
-use Rattle.plan_live.proofs.Words.{HoldsOneList}
-use Rattle.plan_live.proofs.Words.{IsPlayedAs, List, ListInTurn, Request, Some, Step, Streamed, ap, append-nil, arith}
-use Rattle.plan_live.proofs.Words.{events_of, inl, inr, kept_bytes, length, length-replicate, over, played_bytes, refl}
-use Rattle.plan_live.proofs.Words.{replicate, streamed, subst, sym, ℕ}
+use Rattle.plan_live.proofs.Words.{HoldsOneList, IsPlayedAs, List, ListInTurn, Request, Some, Step, Streamed, ap}
+use Rattle.plan_live.proofs.Words.{append-nil, arith, events_of, inl, inr, kept_bytes, length, length-replicate, over}
+use Rattle.plan_live.proofs.Words.{played_bytes, refl, replicate, streamed, subst, sym, ℕ}
 use Rattle.plan_live.proofs.OneFile.{lines_list_in_turn, playback_of}
 use Rattle.plan_live.proofs.Vectors.{fresh, frames, two_frames, two_are_held, only_two, at_sign, no_steps, some_steps}
 

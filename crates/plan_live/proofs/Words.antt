@@ -8,8 +8,7 @@ pub use Rattle.plan_live.specs.Growing.{Grows}
 pub use Rattle.plan_live.specs.Lines.{LineDoes, LineHolds, LinesDo, ListsNone}
 pub use Rattle.plan_live.specs.Living.{AreDone, IsPrompt, Reached, Streamed, Whole, kept_bytes, streamed, streams_at}
 pub use Rattle.plan_live.specs.OneFile.{AreListing, FitsIntoMemory, InputIsPlayback, IsPlayedAs, LinesListInTurn}
-pub use Rattle.plan_live.specs.OneFile.{ListInTurn}
-pub use Rattle.plan_live.specs.OneFile.{LiveIsPlayback, over}
+pub use Rattle.plan_live.specs.OneFile.{ListInTurn, LiveIsPlayback, over}
 pub use Rattle.plan_player.specs.Delivery.{frames_of, next_frame, played_bytes}
 pub use Rattle.plan_player.specs.Playing.{Playing, last_steps, played}
 pub use Rattle.plan_runs.proofs.Samples.{all_open, code, first_state, label}
@@ -21,8 +20,7 @@ pub use Rattle.plan_session.specs.declared.step.Step.{Step}
 pub use Rattle.plan_session.specs.declared.step.Step.TheVariants.{Frames}
 pub use Rattle.std.proofs.Common.{[], ◌++◌, ◌+◌, ◌-◌, ◌<◌, ◌∙◌, ◌∷◌, ◌≡◌, ◌≤◌, ◌⊎◌, Bool, Err, List, None, Ok, Option}
 pub use Rattle.std.proofs.Common.{Result, Some, ap, append-nil, append_assoc, arith, drop, inl, inr, length}
-pub use Rattle.std.proofs.Common.{length-append, refl, replicate, subst, suc, sym, take, true, zero}
-pub use Rattle.std.proofs.Common.{ℕ}
+pub use Rattle.std.proofs.Common.{length-append, refl, replicate, subst, suc, sym, take, true, zero, ℕ}
 pub use Rattle.std.proofs.KnownBytes.{Appends-kept, Appends-nil, Appends-trans}
 pub use Rattle.std.proofs.lemmas.List.{length-replicate, take_more}
 pub use Rattle.std.specs.Io.KnownBytes.{Appends, IsAtEnd, Keeps}

@@ -1,15 +1,14 @@
 -- Frames that differ in the count alone, one after another.
 use Rattle.plan_player.proofs.Words.{[], ◌%◌, ◌*◌, ◌++◌, ◌+◌, ◌-◌, ◌/◌, ◌<◌, ◌==◌, ◌∙◌, ◌∷◌, ◌≡◌, ◌≤◌, AreAlike, Bool}
 use Rattle.plan_player.proofs.Words.{COUNTS, EnsembleInformation, FrameLayout, Header, I, IsAlike, IsPageable, List}
-use Rattle.plan_player.proofs.Words.{Marked, Mode, None, Option, Plan, Some, State, Written, ap, append-nil}
-use Rattle.plan_player.proofs.Words.{append_assoc, ap₂, arith, checked, checked_len, concat, cond, count_step}
-use Rattle.plan_player.proofs.Words.{counted_on, drop, drop_at, ensemble_at, ensemble_figs, ensemble_of, ensemble_sent}
-use Rattle.plan_player.proofs.Words.{entries_bytes, false, fib_bytes, fib_entries, figs_bytes, figs_of, filled}
-use Rattle.plan_player.proofs.Words.{first_fib, flat_map, frame_fibs, head_byte, head_of, header_of, later_fibs}
-use Rattle.plan_player.proofs.Words.{layout_mode, length, length-append, ltb, map, marked, ne_eqb, notice_frames}
-use Rattle.plan_player.proofs.Words.{occurrence_bytes, page_bytes, page_fits, pages_are_valid, refl, replicate}
-use Rattle.plan_player.proofs.Words.{reserved_figs, sent_entries, shown_bytes, subst, suc, suc-mul, sym, take, take_at}
-use Rattle.plan_player.proofs.Words.{true, zero, ℕ}
+use Rattle.plan_player.proofs.Words.{Marked, Mode, None, Plan, Some, State, Written, ap, append-nil, append_assoc, ap₂}
+use Rattle.plan_player.proofs.Words.{arith, checked, checked_len, concat, cond, count_step, counted_on, drop, drop_at}
+use Rattle.plan_player.proofs.Words.{ensemble_at, ensemble_figs, ensemble_of, ensemble_sent, entries_bytes, false}
+use Rattle.plan_player.proofs.Words.{fib_bytes, fib_entries, figs_bytes, figs_of, filled, first_fib, flat_map}
+use Rattle.plan_player.proofs.Words.{frame_fibs, head_byte, head_of, header_of, later_fibs, layout_mode, length}
+use Rattle.plan_player.proofs.Words.{length-append, ltb, map, marked, ne_eqb, notice_frames, occurrence_bytes}
+use Rattle.plan_player.proofs.Words.{page_bytes, page_fits, pages_are_valid, refl, replicate, reserved_figs}
+use Rattle.plan_player.proofs.Words.{sent_entries, shown_bytes, subst, suc, suc-mul, sym, take, take_at, true, zero, ℕ}
 use Rattle.fib_codec.proofs.Finished.{length-filled}
 use Rattle.plan_player.proofs.Words.{EnsembleOf}
 use Rattle.plan_player.proofs.CountedOn.{on_more, count_on}
@@ -82,14 +81,12 @@ page_recounted layout h c later k ms pageable before after bytes fib new offset 
     let rest_long : length (behind h figs) ≡ 24 = omega (arith, whole, parts) in
     let old_long : length old_fib ≡ 32 = ap length old_is
     ∙ checked_len (headed_data h x (c % 250) figs) (omega (arith, rest_long)) in
-    let text : bytes ≡ before ++ (old_fib ++ (others ++ after)) =
-    is ∙ ap (λ l. before ++ l) (append_assoc old_fib others after) in
-    let front : take offset bytes ≡ before = ap (λ l. take offset l) text
-    ∙ take_at before (old_fib ++ (others ++ after)) offset long in
+    let text : bytes ≡ before ++ (old_fib ++ (others ++ after)) = rw (← append_assoc old_fib others after) is in
+    let front : take offset bytes ≡ before = rw (text) (take_at before (old_fib ++ (others ++ after)) offset long) in
     let back : drop offset bytes ≡ old_fib ++ (others ++ after) =
-    ap (λ l. drop offset l) text ∙ drop_at before (old_fib ++ (others ++ after)) offset long in
+    rw (text) (drop_at before (old_fib ++ (others ++ after)) offset long) in
     let past : drop 32 (drop offset bytes) ≡ others ++ after =
-    ap (λ l. drop 32 l) back ∙ drop_at old_fib (others ++ after) 32 old_long in
+    rw (back) (drop_at old_fib (others ++ after) 32 old_long) in
     let fib_is : fib ≡ checked (headed_data h x (c % 250) figs) =
     part ∙ ap (λ l. take 32 l) back ∙ take_at old_fib (others ++ after) 32 old_long ∙ old_is in
     let high_is : high ≡ h.change * 64 + 0 * 32 + later / 250 = omega (arith, is_high) in
@@ -97,8 +94,7 @@ page_recounted layout h c later k ms pageable before after bytes fib new offset 
     step (fig_len h) (fig_head h) (h.eid / 256 % 256) (h.eid % 256) x (c % 250) (behind h figs) rest_long fib_is
     ∙ ap₂ (λ m n. checked (headed_data h m n figs)) high_is is_low
     ∙ sym new_is in
-    ap₂ (λ l m. l ++ m) front (ap₂ (λ l m. l ++ m) made past)
-    ∙ ap (λ l. before ++ l) (sym (append_assoc new_fib others after))
+    rw (append_assoc new_fib others after) (ap₂ (λ l m. l ++ m) front (ap₂ (λ l m. l ++ m) made past))
 
 -- ---- one frame after another
 
@@ -113,22 +109,19 @@ rest_more : (plan : Plan) (n k : ℕ) (s : State) → k < n → rest_from plan n
     ++ rest_from plan n (suc k) s
 rest_more plan n k s lt =
     let count : n - k ≡ suc (n - suc k) = omega (arith, lt) in
-    ap (λ (m : ℕ). concat (notice_frames plan m (counted_on plan k s))) count
-    ∙ ap (λ (u : State). shown_bytes plan (counted_on plan k s) ++ concat (notice_frames plan (n - suc k) u))
-    (sym (on_more plan k s))
+    rw (count, ← on_more plan k s) refl
 
 pub mixed_at : (plan : Plan) (n k : ℕ) (s t : State) → k < n
     → mixed plan n k s t ≡ concat (notice_frames plan k t)
     ++ (shown_bytes plan (counted_on plan k s) ++ rest_from plan n (suc k) s)
-mixed_at plan n k s t lt = ap (λ (l : List ℕ). concat (notice_frames plan k t) ++ l) (rest_more plan n k s lt)
+mixed_at plan n k s t lt = rw (rest_more plan n k s lt) refl
 
 pub mixed_next : (plan : Plan) (n k : ℕ) (s t : State)
     → concat (notice_frames plan k t) ++ (shown_bytes plan (counted_on plan k t) ++ rest_from plan n (suc k) s)
     ≡ mixed plan n (suc k) s t
 mixed_next plan n k s t =
-    sym (append_assoc (concat (notice_frames plan k t)) (shown_bytes plan (counted_on plan k t))
-    (rest_from plan n (suc k) s))
-    ∙ ap (λ (l : List ℕ). l ++ rest_from plan n (suc k) s) (sym (bytes_more plan k t))
+    rw (bytes_more plan k t) (sym (append_assoc (concat (notice_frames plan k t))
+    (shown_bytes plan (counted_on plan k t)) (rest_from plan n (suc k) s)))
 
 pub mixed_none : (plan : Plan) (n : ℕ) (s t : State) → concat (notice_frames plan n s) ≡ mixed plan n 0 s t
 mixed_none plan n s t =
@@ -138,16 +131,13 @@ mixed_none plan n s t =
 pub mixed_all : (plan : Plan) (n k : ℕ) (s t : State) → k ≡ n → mixed plan n k s t ≡ concat (notice_frames plan n t)
 mixed_all plan n k s t e =
     let none : n - k ≡ 0 = omega (arith, e) in
-    ap (λ (m : ℕ). concat (notice_frames plan k t) ++ concat (notice_frames plan m (counted_on plan k s))) none
-    ∙ append-nil (concat (notice_frames plan k t))
-    ∙ ap (λ (m : ℕ). concat (notice_frames plan m t)) e
+    rw (none) (rw (← e) (append-nil (concat (notice_frames plan k t))))
 
 -- ---- frames without FIG 0/0
 
 no_fig : (plan : Plan) (s : State) → (s.count % count_step (layout_mode plan.layout) == 0) ≡ false
     → shown_bytes plan s ≡ page_bytes plan.layout None s.page_index (sent_entries plan s)
-no_fig plan s off = ap (λ (b : Bool). page_bytes plan.layout (cond b (Some (ensemble_of plan s)) None) s.page_index
-    (sent_entries plan s)) off
+no_fig plan s off = rw (off) refl
 
 same_frame : (plan : Plan) (header : Header) (s t : State) → IsAlike plan header s t
     → (t.count % count_step (layout_mode plan.layout) == 0) ≡ false → shown_bytes plan s ≡ shown_bytes plan t
@@ -167,12 +157,10 @@ passed_over plan header n k (suc m) s t alike fits off =
     let next : suc k + m ≡ k + suc m = omega arith in
     let here = same_frame plan header (counted_on plan k s) (counted_on plan k t) (alike k lt)
     (off k (omega arith) (omega arith)) in
-    mixed_at plan n k s t lt
-    ∙ ap (λ (l : List ℕ). concat (notice_frames plan k t) ++ (l ++ rest_from plan n (suc k) s)) here
-    ∙ mixed_next plan n k s t
+    rw (← next) (mixed_at plan n k s t lt ∙ ap (λ (l : List ℕ). concat (notice_frames plan k t) ++
+    (l ++ rest_from plan n (suc k) s)) here ∙ mixed_next plan n k s t
     ∙ passed_over plan header n (suc k) m s t alike (omega (arith, fits))
-    (λ j from below. off j (omega (arith, from)) (omega (arith, below)))
-    ∙ ap (λ (j : ℕ). mixed plan n j s t) next
+    (λ j from below. off j (omega (arith, from)) (omega (arith, below))))
 
 -- ---- a frame with FIG 0/0
 
@@ -221,22 +209,17 @@ frame_recounted plan header n k number offset high low s t bytes fib new alike l
     let h = alike k lt in
     let before : List ℕ = concat (notice_frames plan k t) in
     let after : List ℕ = rest_from plan n (suc k) s in
-    let there : (b.count % count_step (layout_mode plan.layout) == 0) ≡ true =
-    ap (λ (c : ℕ). c % count_step (layout_mode plan.layout) == 0) at ∙ ap (λ (c : ℕ). c == 0) on in
+    let there : (b.count % count_step (layout_mode plan.layout) == 0) ≡ true = rw (at, on) refl in
     let old : ensemble_sent plan a ≡ Some (ensemble_at header a.count) =
     with_fig plan header a h.first (h.on_step ∙ there) in
     let late : ensemble_sent plan b ≡ Some (ensemble_at header number) =
-    with_fig plan header b h.second there ∙ ap (λ (c : ℕ). Some (ensemble_at header c)) at in
+    rw (← at) (with_fig plan header b h.second there) in
     let old_page : shown_bytes plan a ≡ page_bytes plan.layout (Some (ensemble_at header a.count)) b.page_index
-    (sent_entries plan b) =
-    ap (λ (o : Option EnsembleInformation). page_bytes plan.layout o a.page_index (sent_entries plan a)) old
-    ∙ ap₂ (λ (i : ℕ) (ms : List Marked). page_bytes plan.layout (Some (ensemble_at header a.count)) i ms) h.page_index
-    h.entries in
+    (sent_entries plan b) = rw (old) (ap₂ (λ (i : ℕ) (ms : List Marked). page_bytes plan.layout
+    (Some (ensemble_at header a.count)) i ms) h.page_index h.entries) in
     let new_page : shown_bytes plan b ≡ page_bytes plan.layout (Some (ensemble_at header number)) b.page_index
-    (sent_entries plan b) =
-    ap (λ (o : Option EnsembleInformation). page_bytes plan.layout o b.page_index (sent_entries plan b)) late in
-    let pageable : IsPageable (Some (ensemble_at header number)) (sent_entries plan b) =
-    subst (λ (o : Option EnsembleInformation). IsPageable o (sent_entries plan b)) late h.pageable in
+    (sent_entries plan b) = rw (late) refl in
+    let pageable : IsPageable (Some (ensemble_at header number)) (sent_entries plan b) = rw (← late) h.pageable in
     let text = is ∙ mixed_at plan n k s t lt ∙ ap (λ (l : List ℕ). before ++ (l ++ after)) old_page in
     let long : length before ≡ offset = all_long plan header n k s t alike (omega (arith, lt)) ∙ sym at_offset in
     page_recounted plan.layout header a.count number b.page_index (sent_entries plan b) pageable before after bytes fib
@@ -281,10 +264,9 @@ pub none_before : (plan : Plan) (count j : ℕ) (t : State) → count < COUNTS �
     → ((counted_on plan j t).count % count_step (layout_mode plan.layout) == 0) ≡ false
 none_before plan count j t fits at lt =
     let here : (counted_on plan j t).count ≡ (count + j) % COUNTS =
-    count_at plan j t (omega (arith, fits, at)) ∙ ap (λ (c : ℕ). (c + j) % COUNTS) at in
-    ap (λ (c : ℕ). c % count_step (layout_mode plan.layout) == 0) here
-    ∙ ne_eqb ((count + j) % COUNTS % count_step (layout_mode plan.layout)) 0
-    (λ on. off_before (layout_mode plan.layout) count j lt on)
+    rw (← at) (count_at plan j t (omega (arith, fits, at))) in
+    rw (here) (ne_eqb ((count + j) % COUNTS % count_step (layout_mode plan.layout)) 0
+    (λ on. off_before (layout_mode plan.layout) count j lt on))
 
 pub none_between : (plan : Plan) (count k j : ℕ) (t : State) → count < COUNTS → t.count ≡ count
     → (count + k) % COUNTS % count_step (layout_mode plan.layout) ≡ 0 → k < j
@@ -294,11 +276,10 @@ none_between plan count k j t fits at here from below =
     let d : ℕ = j - k in
     let far : count + j ≡ count + k + d = omega (arith, from) in
     let there : (counted_on plan j t).count ≡ (count + k + d) % COUNTS =
-    count_at plan j t (omega (arith, fits, at)) ∙ ap (λ (c : ℕ). (c + j) % COUNTS) at
-    ∙ ap (λ (c : ℕ). c % COUNTS) far in
-    ap (λ (c : ℕ). c % count_step (layout_mode plan.layout) == 0) there
-    ∙ ne_eqb ((count + k + d) % COUNTS % count_step (layout_mode plan.layout)) 0
-    (λ on. off_after (layout_mode plan.layout) (count + k) d (omega (arith, from)) (omega (arith, from, below)) here on)
+    rw (← far, ← at) (count_at plan j t (omega (arith, fits, at))) in
+    rw (there) (ne_eqb ((count + k + d) % COUNTS % count_step (layout_mode plan.layout)) 0
+    (λ on. off_after (layout_mode plan.layout) (count + k) d (omega (arith, from)) (omega (arith, from, below)) here
+    on))
 
 -- ---- from one frame with FIG 0/0 to the next
 
@@ -308,8 +289,8 @@ pub entered : (plan : Plan) (header : Header) (n count at step : ℕ) (s t : Sta
     → bytes ≡ concat (notice_frames plan n s) → bytes ≡ mixed plan n (n - (n - at)) s t
 entered plan header n count at step s t bytes alike counts fits is_step is_at is =
     let k : ℕ = n - (n - at) in
-    let by_mode : at ≡ (count_step (layout_mode plan.layout) - count % count_step (layout_mode plan.layout))
-    % count_step (layout_mode plan.layout) = is_at ∙ ap (λ (m : ℕ). (m - count % m) % m) is_step in
+    let by_mode : at ≡ (count_step (layout_mode plan.layout) - count % count_step (layout_mode plan.layout)) %
+    count_step (layout_mode plan.layout) = rw (← is_step) is_at in
     let start : 0 + k ≡ k = omega arith in
     is
     ∙ mixed_none plan n s t
@@ -335,20 +316,16 @@ continued plan header n count at number step size offset width high low s t byte
     let some : 1 ≤ step = omega (arith, is_step, (step_small (layout_mode plan.layout)).0) in
     let all : suc at + m ≡ k = omega (arith, lt, some) in
     let here : n - (n - at) ≡ at = omega (arith, lt) in
-    let old : bytes ≡ mixed plan n at s t = is ∙ ap (λ (j : ℕ). mixed plan n j s t) here in
+    let old : bytes ≡ mixed plan n at s t = rw (← here) is in
     let there : (counted_on plan at t).count ≡ number =
     count_at plan at t (omega (arith, fits, counts)) ∙ ap (λ (c : ℕ). (c + at) % COUNTS) counts ∙ sym at_number in
-    let now : (count + at) % COUNTS % count_step (layout_mode plan.layout) ≡ 0 =
-    ap (λ (c : ℕ). c % count_step (layout_mode plan.layout)) (sym at_number) ∙ on in
-    is_last
-    ∙ ap (λ (w : ℕ). take offset bytes ++ (new ++ drop w (drop offset bytes))) is_width
+    let now : (count + at) % COUNTS % count_step (layout_mode plan.layout) ≡ 0 = rw (← at_number) on in
+    rw (← all) (is_last ∙ ap (λ (w : ℕ). take offset bytes ++ (new ++ drop w (drop offset bytes))) is_width
     ∙ frame_recounted plan header n at number offset high low s t bytes fib new alike lt there on
-    (at_offset ∙ ap (λ (x : ℕ). at * x) is_size) is_high is_low old
-    (part ∙ ap (λ (w : ℕ). take w (drop offset bytes)) is_width) made
+    (rw (← is_size) at_offset) is_high is_low old (rw (← is_width) part) made
     ∙ passed_over plan header n (suc at) m s t alike (omega (arith, all))
     (λ j from below. none_between plan count at j t fits counts now (omega (arith, from))
-    (omega (arith, below, all, is_step)))
-    ∙ ap (λ (j : ℕ). mixed plan n j s t) all
+    (omega (arith, below, all, is_step))))
 
 pub first_near : (mode : Mode) (count : ℕ) → (count_step mode - count % count_step mode) % count_step mode ≤ 4
 first_near I count = omega arith

@@ -1,6 +1,6 @@
 -- The contents of the tables for the bytes of the count.
 use Rattle.plan_player.proofs.Words.{[], ◌&&◌, ◌+◌, ◌<◌, ◌==◌, ◌∙◌, ◌∷◌, ◌≡◌, Bool, List, and_parts, ap, arith}
-use Rattle.plan_player.proofs.Words.{eqb-true, get_or, later, length, refl, suc, sym, true, zero, ℕ}
+use Rattle.plan_player.proofs.Words.{eqb-true, get_or, later, length, refl, suc, true, zero, ℕ}
 use Rattle.plan_player.specs.declared.count_tables.TheConstants.{LOWS, HIGHS}
 use Rattle.fib_codec.specs.Register.{after}
 
@@ -23,10 +23,10 @@ at_late_place : (n : ℕ) (ts : List ℕ) (k i : ℕ) → is_late_table n ts k �
 at_late_place n [] k i h lt = absurd (omega arith)
 at_late_place n (t ∷ ts) k zero h lt =
     let here : k + 0 ≡ k = omega arith in
-    eqb-true _ _ (and_parts _ _ h).0 ∙ ap (λ b. later n (after 8 b 0)) (sym here)
+    rw (here) (eqb-true _ _ (and_parts _ _ h).0)
 at_late_place n (t ∷ ts) k (suc i) h lt =
     let there : suc k + i ≡ k + suc i = omega arith in
-    at_late_place n ts (suc k) i (and_parts _ _ h).1 (omega arith) ∙ ap (λ b. later n (after 8 b 0)) there
+    rw (← there) (at_late_place n ts (suc k) i (and_parts _ _ h).1 (omega arith))
 
 pub in_lows : (k : ℕ) → k < 256 → get_or LOWS k 0 ≡ later 24 (after 8 k 0)
 in_lows k h =

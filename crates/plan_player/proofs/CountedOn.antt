@@ -1,9 +1,9 @@
 -- Advancing the counts, frame by frame or by many frames at once.
 use Rattle.plan_player.proofs.Words.{[], ◌%◌, ◌++◌, ◌+◌, ◌-◌, ◌<◌, ◌∙◌, ◌∷◌, ◌≡◌, ◌≤◌, Bool, COUNTS, FRAMES_A_DAY}
-use Rattle.plan_player.proofs.Words.{HasRounds, Hold, List, None, Option, Plan, Some, State, Waits, WaitsAny, ap, arith}
+use Rattle.plan_player.proofs.Words.{HasRounds, Hold, None, Option, Plan, Some, State, Waits, WaitsAny, ap, arith}
 use Rattle.plan_player.proofs.Words.{cond, counted_on, false, hold_after_frame, hold_later, left_after_frame}
 use Rattle.plan_player.proofs.Words.{left_later, ltb, ltb-false, ltb-true, mod-add-mod, mod-eq_of_lt, mod-lt, mod_self}
-use Rattle.plan_player.proofs.Words.{notice_frames, page_after, refl, sent_rounds, shown_bytes, subst, suc, sym, true}
+use Rattle.plan_player.proofs.Words.{notice_frames, page_after, refl, sent_rounds, shown_bytes, suc, sym, true}
 use Rattle.plan_player.proofs.Words.{with_next_counts, zero, ℕ}
 
 -- ---- one frame more
@@ -16,8 +16,7 @@ on_more plan (suc k) s = on_more plan k (with_next_counts plan s)
 pub frames_more : (plan : Plan) (k : ℕ) (s : State) → notice_frames plan (suc k) s ≡ notice_frames plan k s
     ++ shown_bytes plan (counted_on plan k s) ∷ []
 frames_more plan zero s = refl
-frames_more plan (suc k) s = ap (λ (fs : List (List ℕ)). shown_bytes plan s ∷ fs)
-    (frames_more plan k (with_next_counts plan s))
+frames_more plan (suc k) s = rw (frames_more plan k (with_next_counts plan s)) refl
 
 -- ---- each part of the state after k frames
 
@@ -45,7 +44,7 @@ left_step : (n : ℕ) (left : Option ℕ) → left_later n (left_after_frame lef
 left_step n None = refl
 left_step n (Some l) =
     let same : l - 1 - n ≡ l - suc n = omega arith in
-    ap (λ (k : ℕ). Some k) same
+    rw (same) refl
 
 pub left_on : (plan : Plan) (k : ℕ) (s : State) → (counted_on plan k s).left ≡ left_later k s.left
 left_on plan zero s = left_none s.left
@@ -61,9 +60,8 @@ hold_none _ = refl
 hold_step : (n : ℕ) (hold : Hold) → hold_later n (hold_after_frame hold) ≡ hold_later (suc n) hold
 hold_step n (Waits m) =
     let same : m - 1 - n ≡ m - suc n = omega arith in
-    ap (λ (k : ℕ). Waits k) same
-hold_step n (WaitsAny closed opened until left) =
-    ap (λ (l : Option ℕ). WaitsAny closed opened until l) (left_step n left)
+    rw (same) refl
+hold_step n (WaitsAny closed opened until left) = rw (left_step n left) refl
 hold_step n _ = refl
 
 hold_on : (plan : Plan) (k : ℕ) (s : State) → (counted_on plan k s).hold ≡ hold_later k s.hold
@@ -73,7 +71,7 @@ hold_on plan (suc k) s = hold_on plan k (with_next_counts plan s) ∙ hold_step 
 wraps_later : (c k m : ℕ) → ((c + 1) % m + suc k) % m ≡ (c + suc (suc k)) % m
 wraps_later c k m =
     let same : c + 1 + suc k ≡ c + suc (suc k) = omega arith in
-    mod-add-mod (c + 1) m (suc k) ∙ ap (λ (x : ℕ). x % m) same
+    rw (← same) (mod-add-mod (c + 1) m (suc k))
 
 pub count_on : (plan : Plan) (k : ℕ) (s : State) → (counted_on plan (suc k) s).count ≡ (s.count + suc k) % COUNTS
 count_on plan zero s = refl
@@ -89,7 +87,7 @@ turns_by pages page_index lt true e = sym (mod-eq_of_lt (ltb-true (page_index + 
 turns_by pages page_index lt false e =
     let past = ltb-false (page_index + 1) pages e in
     let last : page_index + 1 ≡ pages = omega (arith, lt, past) in
-    sym (ap (λ (x : ℕ). x % pages) last ∙ mod_self pages)
+    sym (rw (last) (mod_self pages))
 
 cycle : (pages page_index : ℕ) → page_index < pages → page_after pages page_index ≡ (page_index + 1) % pages
 cycle pages page_index lt = turns_by pages page_index lt (ltb (page_index + 1) pages) refl
@@ -98,20 +96,17 @@ pub turn_on : (plan : Plan) (k pages : ℕ) (s : State) → s.page_index < pages
     → (counted_on plan k s).page_index ≡ (s.page_index + k) % pages
 turn_on plan zero pages s lt rounds =
     let same : s.page_index + 0 ≡ s.page_index = omega arith in
-    sym (ap (λ (x : ℕ). x % pages) same ∙ mod-eq_of_lt lt)
+    sym (rw (same) (mod-eq_of_lt lt))
 turn_on plan (suc k) pages s lt rounds =
     let first : sent_rounds plan s ≡ pages = rounds 0 (omega arith) in
     let next : (with_next_counts plan s).page_index ≡ (s.page_index + 1) % pages =
-    ap (λ (r : ℕ). page_after r s.page_index) first ∙ cycle pages s.page_index lt in
+    rw (first) (cycle pages s.page_index lt) in
     let some : 0 < pages = omega (arith, lt) in
-    let within : (with_next_counts plan s).page_index < pages =
-    subst (λ (x : ℕ). x < pages) (sym next) (mod-lt (s.page_index + 1) some) in
+    let within : (with_next_counts plan s).page_index < pages = rw (next) (mod-lt (s.page_index + 1) some) in
     let later : HasRounds plan k (with_next_counts plan s) pages = λ j below. rounds (suc j) (omega (arith, below)) in
     let same : s.page_index + 1 + k ≡ s.page_index + suc k = omega arith in
-    turn_on plan k pages (with_next_counts plan s) within later
-    ∙ ap (λ (x : ℕ). (x + k) % pages) next
-    ∙ mod-add-mod (s.page_index + 1) pages k
-    ∙ ap (λ (x : ℕ). x % pages) same
+    rw (← same) (turn_on plan k pages (with_next_counts plan s) within later ∙ ap (λ (x : ℕ). (x + k) % pages) next
+    ∙ mod-add-mod (s.page_index + 1) pages k)
 
 -- ---- all parts at once
 

@@ -1,11 +1,11 @@
 -- Quiet frames that come whole cycles after others, and differ from these in the count alone.
 use Rattle.plan_player.proofs.Words.{◌%◌, ◌*◌, ◌++◌, ◌+◌, ◌-◌, ◌<◌, ◌==◌, ◌∙◌, ◌∷◌, ◌≡◌, ◌≤◌, AreAlike, AreRecounted}
-use Rattle.plan_player.proofs.Words.{Bool, COUNTS, Header, I, IsAlike, IsStretch, List, Mode, None, Option, PhasePages}
-use Rattle.plan_player.proofs.Words.{Plan, Some, State, SwapIsAway, ap, ap₂, arith, concat, concat-append, cond}
+use Rattle.plan_player.proofs.Words.{COUNTS, Header, I, IsAlike, IsStretch, List, Mode, Option, PhasePages}
+use Rattle.plan_player.proofs.Words.{Plan, State, SwapIsAway, ap, ap₂, arith, concat, concat-append}
 use Rattle.plan_player.proofs.Words.{copy_within, count_step, counted_on, drop, drop-take, drop_at, fib_count}
 use Rattle.plan_player.proofs.Words.{frame_fibs, header_of, is_noticed, layout_mode, length, length-append, length-drop}
-use Rattle.plan_player.proofs.Words.{length-take-le, mod-add-mod, notice_frames, page_set, paste, refl, sent_entries}
-use Rattle.plan_player.proofs.Words.{shown_bytes, subst, suc, suc-mul, sym, take, take-append-add, take-append-drop}
+use Rattle.plan_player.proofs.Words.{length-take-le, mod-add-mod, notice_frames, paste, refl, sent_entries}
+use Rattle.plan_player.proofs.Words.{shown_bytes, suc, suc-mul, sym, take, take-append-add, take-append-drop}
 use Rattle.plan_player.proofs.Words.{take-append-le, take_at, with_next_counts, zero, ℕ}
 use Rattle.std.proofs.lemmas.List.Edits.{take-paste}
 use Rattle.plan_player.proofs.CountedOn.{apart, left_on, turn_on}
@@ -21,7 +21,7 @@ on_split plan zero b s =
     ap (λ (n : ℕ). counted_on plan n s) e
 on_split plan (suc a) b s =
     let e : suc (a + b) ≡ suc a + b = omega arith in
-    on_split plan a b (with_next_counts plan s) ∙ ap (λ (n : ℕ). counted_on plan n s) e
+    rw (← e) (on_split plan a b (with_next_counts plan s))
 
 frames_split : (plan : Plan) (a b : ℕ) (s : State) → notice_frames plan a s
     ++ notice_frames plan b (counted_on plan a s) ≡ notice_frames plan (a + b) s
@@ -36,8 +36,8 @@ frames_split plan (suc a) b s =
 pub bytes_split : (plan : Plan) (a b : ℕ) (s : State) → concat (notice_frames plan a s)
     ++ concat (notice_frames plan b (counted_on plan a s)) ≡ concat (notice_frames plan (a + b) s)
 bytes_split plan a b s =
-    sym (concat-append (notice_frames plan a s) (notice_frames plan b (counted_on plan a s)))
-    ∙ ap (λ (fs : List (List ℕ)). concat fs) (frames_split plan a b s)
+    rw (← frames_split plan a b s) (sym (concat-append (notice_frames plan a s)
+    (notice_frames plan b (counted_on plan a s))))
 
 pub bytes_long : (plan : Plan) (n k : ℕ) (s : State) (pages : PhasePages) → IsStretch plan n s pages → k ≤ n
     → length (concat (notice_frames plan k s)) ≡ k * (32 * frame_fibs plan.layout)
@@ -64,19 +64,14 @@ entries_later plan n (suc k) s away lt =
     let t : State = counted_on plan (suc k) s in
     let on = ap (λ (o : Option ℕ). is_noticed plan.notice o) (left_on plan (suc k) s)
     ∙ noticed_later plan.notice n (suc k) s.left away lt in
-    ap (λ (u : State). page_set u.current (cond (is_noticed plan.notice t.left) (Some u.next) None))
-    (apart plan (suc k) s)
-    ∙ ap (λ (b : Bool). page_set s.current (cond b (Some s.next) None)) on
+    rw (apart plan (suc k) s, on) refl
 
 turn_again : (page_index done k pages : ℕ) → done % pages ≡ 0
     → (page_index + k) % pages ≡ (page_index + (done + k)) % pages
 turn_again page_index done k pages whole =
     let first : 0 + (page_index + k) ≡ page_index + k = omega arith in
     let last : done + (page_index + k) ≡ page_index + (done + k) = omega arith in
-    ap (λ (x : ℕ). x % pages) (sym first)
-    ∙ ap (λ (x : ℕ). (x + (page_index + k)) % pages) (sym whole)
-    ∙ mod-add-mod done pages (page_index + k)
-    ∙ ap (λ (x : ℕ). x % pages) last
+    rw (← first, ← whole) (rw (← last) (mod-add-mod done pages (page_index + k)))
 
 step_again : (mode : Mode) (count done k : ℕ) → done % count_step mode ≡ 0
     → (count + k) % COUNTS % count_step mode ≡ (count + (done + k)) % COUNTS % count_step mode
@@ -115,8 +110,7 @@ alike : (plan : Plan) (n done more : ℕ) (s : State) (pages : PhasePages) (head
     → done % pages.made ≡ 0 → done % count_step (layout_mode plan.layout) ≡ 0 → done + more ≤ n
     → AreAlike plan header more s (counted_on plan done s)
 alike plan n done more s pages header h is cycle steps le k lt =
-    subst (λ (u : State). IsAlike plan header (counted_on plan k s) u) (sym (on_split plan done k s))
-    (one_alike plan n done k s pages header h is cycle steps (omega (arith, lt, le)))
+    rw (on_split plan done k s) (one_alike plan n done k s pages header h is cycle steps (omega (arith, lt, le)))
 
 -- further frames are copies of the first ones with other counts
 pub turn_on_turn : (plan : Plan) (n done more number : ℕ) (s : State) (pages : PhasePages) (header : Header)
@@ -136,8 +130,8 @@ turn_on_turn plan n done more number s pages header old new text h is cycle step
     let others : List ℕ = concat (notice_frames plan (done - more) (counted_on plan more s)) in
     let parts : old ≡ first ++ others =
     before ∙ sym (bytes_split plan more (done - more) s ∙ ap (λ (k : ℕ). concat (notice_frames plan k s)) all) in
-    let front : take (more * size) old ≡ first = ap (λ (l : List ℕ). take (more * size) l) parts
-    ∙ take_at first others (more * size) (bytes_long plan n more s pages h (omega (arith, few, le))) in
+    let front : take (more * size) old ≡ first = rw (parts) (take_at first others (more * size)
+    (bytes_long plan n more s pages h (omega (arith, few, le)))) in
     let text_is : text ≡ concat (notice_frames plan more t) =
     recounted s t (alike plan n done more s pages header h is cycle steps le) (count_at plan done s counts ∙ sym at)
     front in
@@ -164,11 +158,9 @@ pub copied : (b : List ℕ) (offset len : ℕ) (copy : List ℕ) → len ≤ off
 copied b offset len copy few fits is =
     let front : length (take offset b) ≡ offset = length-take-le offset b (omega (arith, fits)) in
     let part : length (take len b) ≡ len = length-take-le len b (omega (arith, fits)) in
-    ap (λ (l : List ℕ). take len (drop offset l)) is
-    ∙ ap (λ (l : List ℕ). take len l) (drop_at (take offset b) (take len b ++ drop (offset + len) b) offset front)
-    ∙ take_at (take len b) (drop (offset + len) b) len part
-    ∙ ap (λ (l : List ℕ). take len l) (sym (take-append-drop offset b))
-    ∙ take-append-le len (take offset b) (drop offset b) (omega (arith, few, front))
+    rw (is, drop_at (take offset b) (take len b ++ drop (offset + len) b) offset front)
+    (take_at (take len b) (drop (offset + len) b) len part ∙ ap (λ (l : List ℕ). take len l)
+    (sym (take-append-drop offset b)) ∙ take-append-le len (take offset b) (drop offset b) (omega (arith, few, front)))
 
 pub appended : (b copy text last : List ℕ) (offset len : ℕ) → offset + len ≤ length b → copy ≡ take offset b
     ++ (take len b ++ drop (offset + len) b)
@@ -176,8 +168,8 @@ pub appended : (b copy text last : List ℕ) (offset len : ℕ) → offset + len
     → take (offset + len) last ≡ take offset b ++ text
 appended b copy text last offset len fits is long is_last =
     let front : length (take offset b) ≡ offset = length-take-le offset b (omega (arith, fits)) in
-    let same : take offset copy ≡ take offset b = ap (λ (l : List ℕ). take offset l) is
-    ∙ take_at (take offset b) (take len b ++ drop (offset + len) b) offset front in
+    let same : take offset copy ≡ take offset b = rw (is) (take_at (take offset b) (take len b ++ drop (offset + len) b)
+    offset front) in
     let past : List ℕ = drop len (drop offset copy) in
     ap (λ (l : List ℕ). take (offset + len) l) (is_last ∙ ap (λ (l : List ℕ). l ++ (text ++ past)) same)
     ∙ ap (λ (k : ℕ). take (k + len) (take offset b ++ (text ++ past))) (sym front)

@@ -1,7 +1,7 @@
 -- Playing events, and then one more.
 use Rattle.plan_player.proofs.Words.{[], ◌++◌, ◌+◌, ◌<◌, ◌∙◌, ◌∷◌, ◌≡◌, ◌≤◌, Appends, Appends-trans, Contact, Event}
 use Rattle.plan_player.proofs.Words.{Frame, List, Option, Playing, Program, State, Stopped, after_frame, ap}
-use Rattle.plan_player.proofs.Words.{append_assoc, arith, concat, concat-append, drop, frame_steps, frames_of, happens}
+use Rattle.plan_player.proofs.Words.{append_assoc, arith, concat-append, drop, frame_steps, frames_of, happens}
 use Rattle.plan_player.proofs.Words.{last_steps, length, length-append, next_frame, played, played_bytes, refl, run}
 use Rattle.plan_player.proofs.Words.{subst, sym, take, take-append-drop, ℕ}
 use Rattle.plan_runs.proofs.Joined.{state_joins, runs_join}
@@ -33,8 +33,8 @@ frames_join p events more = (runs_join p.code p.state [] events more).frames
 
 pub bytes_join : (p : Playing) (events more : List Event) → played_bytes p (events ++ more) ≡ played_bytes p events
     ++ played_bytes (played p events) more
-bytes_join p events more = ap (λ (fs : List (List ℕ)). concat fs) (frames_join p events more)
-    ∙ concat-append (frames_of p events) (frames_of (played p events) more)
+bytes_join p events more =
+    rw (frames_join p events more) (concat-append (frames_of p events) (frames_of (played p events) more))
 
 -- ---- this many events done
 
@@ -55,8 +55,7 @@ one_more old p q events i e before mid after frames n d more state out whole few
     let bytes : played_bytes p (e ∷ []) ≡ played_bytes at (e ∷ []) =
     ap (λ (x : Playing). played_bytes x (e ∷ [])) d.state in
     let all : played_bytes old es ++ played_bytes p (e ∷ []) ≡ played_bytes old (take (i + 1) events) =
-    ap (λ (l : List ℕ). played_bytes old es ++ l) bytes ∙ sym (bytes_join old es (e ∷ []))
-    ∙ ap (λ (l : List Event). played_bytes old l) (sym more) in
+    rw (bytes) (rw (more) (sym (bytes_join old es (e ∷ [])))) in
     let count : length (frames_of old (take (i + 1) events)) ≡ length (frames_of old es)
     + length (frames_of p (e ∷ [])) =
     ap (λ (l : List Event). length (frames_of old l)) more
@@ -81,7 +80,7 @@ pub stopped_here : (old p q : Playing) (events : List Event) (i : ℕ) (e : Even
 stopped_here old p q events i e before mid after frames n d more is state part out =
     let es : List Event = take i events in
     let at : Playing = played old es in
-    let last : e ∷ [] ≡ Frame ∷ [] = ap (λ (x : Event). x ∷ []) is in
+    let last : e ∷ [] ≡ Frame ∷ [] = rw (is) refl in
     let bytes : played_bytes old es ++ take n (next_frame p) ≡ played_bytes old es ++ take n (next_frame at) =
     ap (λ (x : Playing). played_bytes old es ++ take n (next_frame x)) d.state in
     record {

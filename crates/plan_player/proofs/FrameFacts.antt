@@ -3,7 +3,7 @@ use Rattle.plan_player.proofs.Words.{[], ◌<◌, ◌||◌, ◌∙◌, ◌∷◌
 use Rattle.plan_player.proofs.Words.{FrameLayout, HasChange, IsFrameReady, IsGoing, IsPlan, IsPlayed, IsProgram}
 use Rattle.plan_player.proofs.Words.{IsStart, IsTyped, Keeps, KeepsChange, List, Marked, None, Option, PhasePages, Plan}
 use Rattle.plan_player.proofs.Words.{Program, Progress, Some, Start, StartIsInRange, State, after_burst, after_frame}
-use Rattle.plan_player.proofs.Words.{after_goes, airs, ap, arith, begins_phase, bits_of, change_of, code_of, cond}
+use Rattle.plan_player.proofs.Words.{after_goes, airs, ap, arith, begins_phase, code_of, cond}
 use Rattle.plan_player.proofs.Words.{eqb-false, false, frame_steps, happens, is_due, is_first_noticed, is_noticed}
 use Rattle.plan_player.proofs.Words.{left_after_frame, noticed, noticed_from, page_set, played_holds, reached_is_kept}
 use Rattle.plan_player.proofs.Words.{refl, rounds, sends, sent_entries, shown, starts_are_reached, subst, sym, true}
@@ -93,15 +93,15 @@ change_on plan count None left c n m change g other h on = absurd (newly_off pla
 change_on plan count (Some l) left c n m change g other h on =
     let apart = eqb-false l plan.notice (subst (λ (o : Option ℕ). is_first_noticed plan.notice o ≡ false) g.0 other) in
     let within = noticed_from plan.notice l (subst (λ (o : Option ℕ). is_noticed plan.notice o ≡ true) g.0 on) in
-    h (omega (arith, apart, within.1)) ∙ ap (λ (x : Configuration). bits_of (change_of c x)) (sym g.1)
+    rw (g.1) (h (omega (arith, apart, within.1)))
 
 change_known : (plan : Plan) (s u : State) (change : ℕ) → Links plan s u → (b : Bool) → is_due s.left ≡ b
     → is_first_noticed plan.notice u.left ≡ false → KeepsChange plan.notice s.left s.current s.next change
     → HasChange plan.notice u.left u.current u.next change
 change_known plan s u change link true due other h on = absurd (newly_off plan s.count u.left (link.due due) other on)
 change_known plan s u change link false due other h on =
-    change_on plan s.count s.left u.left s.current s.next u.next change (link.left due) other h on
-    ∙ ap (λ (x : Configuration). bits_of (change_of x u.next)) (sym (link.current due))
+    rw (link.current due) (change_on plan s.count s.left u.left s.current s.next u.next change (link.left due) other h
+    on)
 
 change_later : (notice : ℕ) (left : Option ℕ) (c n : Configuration) (change : ℕ) → IsAhead left
     → HasChange notice left c n change → KeepsChange notice (left_after_frame left) c n change
@@ -112,9 +112,7 @@ change_later notice (Some l) c n change a h = λ earlier. h (noticed notice l a 
 
 same_pages : (layout : FrameLayout) (pages : PhasePages) (ms ns : List Marked) (page_index page : ℕ) → ns ≡ ms
     → page ≡ page_index → Keeps layout ms page_index pages → Keeps layout ns page pages
-same_pages layout pages ms ns page_index page e f k =
-    subst (λ (es : List Marked). Keeps layout es page pages) (sym e)
-    (subst (λ (n : ℕ). Keeps layout ms n pages) (sym f) k)
+same_pages layout pages ms ns page_index page e f k = rw (e) (rw (f) k)
 
 pub frame_ready : (p : Program) (s : State) (steps : ℕ) (pages : PhasePages) → IsGoing p s steps pages
     → IsFrameReady p s pages
@@ -159,8 +157,7 @@ frame_goes p s steps pages after h keeps change =
 -- the same for a borrowed code
 pub lent_ready : (p q : Program) (s : State) (steps : ℕ) (pages : PhasePages) → q ≡ p → IsGoing p s steps pages
     → IsFrameReady q s pages
-lent_ready p q s steps pages e h =
-    subst (λ (x : Program). IsFrameReady x s pages) (sym e) (frame_ready p s steps pages h)
+lent_ready p q s steps pages e h = rw (e) (frame_ready p s steps pages h)
 
 pub lent_goes : (p q : Program) (s t : State) (steps made : ℕ) (pages after : PhasePages) → q ≡ p
     → IsGoing p s steps pages → t ≡ after_frame q s → made ≡ frame_steps q s
@@ -169,16 +166,13 @@ pub lent_goes : (p q : Program) (s t : State) (steps made : ℕ) (pages after : 
     → IsGoing p t made after
 lent_goes p q s t steps made pages after e h state count keeps change =
     let here : Keeps p.plan.layout (sent_entries p.plan (shown p s)) (after_frame p s).page_index after =
-    subst (λ (x : Program). Keeps x.plan.layout (sent_entries x.plan (shown x s)) (after_frame x s).page_index after) e
-    keeps in
+    rw (← e) keeps in
     let flags : HasChange p.plan.notice (shown p s).left (shown p s).current (shown p s).next after.change =
-    subst (λ (x : Program). HasChange x.plan.notice (shown x s).left (shown x s).current (shown x s).next after.change)
-    e change in
+    rw (← e) change in
     let on = frame_goes p s steps pages after h here flags in
-    let state_is : t ≡ after_frame p s = state ∙ ap (λ (x : Program). after_frame x s) e in
-    let count_is : made ≡ frame_steps p s = count ∙ ap (λ (x : Program). frame_steps x s) e in
-    subst (λ (u : State). IsGoing p u made after) (sym state_is)
-    (subst (λ (n : ℕ). IsGoing p (after_frame p s) n after) (sym count_is) on)
+    let state_is : t ≡ after_frame p s = rw (← e) state in
+    let count_is : made ≡ frame_steps p s = rw (← e) count in
+    rw (state_is) (rw (count_is) on)
 
 -- ---- a contact
 
@@ -206,8 +200,8 @@ start_goes p start s pages formed typed range starts none =
       played = record { program = formed; typed = typed; reached = starts_are_reached p start s range starts };
       phase = record {
         entries = ms;
-        sent = subst (λ (o : Option ℕ). SentBy p.plan o s.current s.next ms) (sym starts.left) sent;
-        keeps = subst (λ (n : ℕ). Keeps p.plan.layout ms n pages) (sym starts.page_index) (none p.plan.layout ms);
+        sent = rw (starts.left) sent;
+        keeps = rw (starts.page_index) (none p.plan.layout ms);
         change = subst (λ (o : Option ℕ). KeepsChange p.plan.notice o s.current s.next pages.change) (sym starts.left)
             tt;
       };

@@ -8,8 +8,8 @@ use Rattle.plan_player.proofs.Delivering.{played_join, bytes_join, frames_join}
 
 counts_join : (p : Playing) (events more : List Event)
     → length (frames_of p (events ++ more)) ≡ length (frames_of p events) + length (frames_of (played p events) more)
-counts_join p events more = ap (λ (fs : List (List ℕ)). length fs) (frames_join p events more)
-    ∙ length-append (frames_of p events) (frames_of (played p events) more)
+counts_join p events more =
+    rw (frames_join p events more) (length-append (frames_of p events) (frames_of (played p events) more))
 
 -- ---- events that were delivered, and then more
 
@@ -17,9 +17,8 @@ pub joined : (a b c : Playing) (es fs : List Event) (x y z : Option (List ℕ)) 
     → Delivered b c fs y z n → Delivered a c (es ++ fs) x z (m + n)
 joined a b c es fs x y z m n d e =
     let bytes : played_bytes a es ++ played_bytes b fs ≡ played_bytes a (es ++ fs) =
-    ap (λ (p : Playing). played_bytes a es ++ played_bytes p fs) d.state ∙ sym (bytes_join a es fs) in
-    let count : length (frames_of b fs) ≡ length (frames_of (played a es) fs) =
-    ap (λ (p : Playing). length (frames_of p fs)) d.state in
+    rw (d.state) (sym (bytes_join a es fs)) in
+    let count : length (frames_of b fs) ≡ length (frames_of (played a es) fs) = rw (d.state) refl in
     let all = counts_join a es fs in
     record {
       state = e.state ∙ ap (λ (p : Playing). played p fs) d.state ∙ sym (played_join a es fs);
@@ -33,26 +32,22 @@ joined a b c es fs x y z m n d e =
 pub stopped_later : (a b c : Playing) (es fs : List Event) (x y z : Option (List ℕ)) (m n k : ℕ)
     → Delivered a b es x y m → Stopped b c fs y z n k → Stopped a c (es ++ fs) x z (m + n) k
 stopped_later a b c es fs x y z m n k d s =
-    let at : played b s.done ≡ played a (es ++ s.done) =
-    ap (λ (p : Playing). played p s.done) d.state ∙ sym (played_join a es s.done) in
+    let at : played b s.done ≡ played a (es ++ s.done) = rw (d.state) (sym (played_join a es s.done)) in
     let next : next_frame (played b s.done) ≡ next_frame (played a (es ++ s.done)) =
     ap (λ (p : Playing). next_frame p) at in
     let before : played_bytes a es ++ played_bytes b s.done ≡ played_bytes a (es ++ s.done) =
-    ap (λ (p : Playing). played_bytes a es ++ played_bytes p s.done) d.state ∙ sym (bytes_join a es s.done) in
-    let bytes : played_bytes a es ++ (played_bytes b s.done ++ take k (next_frame (played b s.done)))
-    ≡ played_bytes a (es ++ s.done) ++ take k (next_frame (played a (es ++ s.done))) =
-    sym (append_assoc (played_bytes a es) (played_bytes b s.done) (take k (next_frame (played b s.done))))
-    ∙ ap (λ (l : List ℕ). l ++ take k (next_frame (played b s.done))) before
-    ∙ ap (λ (l : List ℕ). played_bytes a (es ++ s.done) ++ take k l) next in
-    let count : length (frames_of b s.done) ≡ length (frames_of (played a es) s.done) =
-    ap (λ (p : Playing). length (frames_of p s.done)) d.state in
+    rw (d.state) (sym (bytes_join a es s.done)) in
+    let bytes : played_bytes a es ++ (played_bytes b s.done ++ take k (next_frame (played b s.done))) ≡ played_bytes a
+    (es ++ s.done) ++ take k (next_frame (played a (es ++ s.done))) = rw (← next, ← before)
+    (sym (append_assoc (played_bytes a es) (played_bytes b s.done) (take k (next_frame (played b s.done))))) in
+    let count : length (frames_of b s.done) ≡ length (frames_of (played a es) s.done) = rw (d.state) refl in
     let all = counts_join a es s.done in
     record {
       done = es ++ s.done;
       rest = s.rest;
-      cut = ap (λ (l : List Event). es ++ l) s.cut ∙ sym (append_assoc es s.done (Frame ∷ s.rest));
+      cut = rw (s.cut) (sym (append_assoc es s.done (Frame ∷ s.rest)));
       whole = omega (arith, d.whole, s.whole, count, all);
-      part = subst (λ (l : List ℕ). k < length l) next s.part;
+      part = rw (← next) s.part;
       state = s.state ∙ ap (λ (p : Playing). played p (s.done ++ Frame ∷ [])) d.state
           ∙ sym (played_join a es (s.done ++ Frame ∷ []))
           ∙ ap (λ (l : List Event). played a l) (sym (append_assoc es s.done (Frame ∷ [])));
@@ -67,7 +62,7 @@ pub stopped_before : (a c : Playing) (es fs : List Event) (x z : Option (List �
 stopped_before a c es fs x z n k s = record {
   done = s.done;
   rest = s.rest ++ fs;
-  cut = ap (λ (l : List Event). l ++ fs) s.cut ∙ append_assoc s.done (Frame ∷ s.rest) fs;
+  cut = rw (s.cut) (append_assoc s.done (Frame ∷ s.rest) fs);
   whole = s.whole;
   part = s.part;
   state = s.state;
@@ -89,7 +84,7 @@ pub few_stopped : (a c : Playing) (es : List Event) (x z : Option (List ℕ)) (n
     → n ≤ length es
 few_stopped a c es x z n k s =
     let all : length es ≡ length s.done + length (Frame ∷ s.rest) =
-    ap (λ (l : List Event). length l) s.cut ∙ length-append s.done (Frame ∷ s.rest) in
+    rw (s.cut) (length-append s.done (Frame ∷ s.rest)) in
     omega (arith, s.whole, few a.code a.state s.done, all)
 
 -- ---- frames one after another
@@ -97,14 +92,14 @@ few_stopped a c es x z n k s =
 pub replicate_more : (m n : ℕ) → replicate (m + n) Frame ≡ replicate m Frame ++ replicate n Frame
 replicate_more zero n =
     let same : 0 + n ≡ n = omega arith in
-    ap (λ (k : ℕ). replicate k Frame) same
+    rw (same) refl
 replicate_more (suc m) n =
     let next : suc m + n ≡ suc (m + n) = omega arith in
-    ap (λ (k : ℕ). replicate k Frame) next ∙ ap (λ (l : List Event). Frame ∷ l) (replicate_more m n)
+    rw (next, replicate_more m n) refl
 
 pub length_replicate : (n : ℕ) → length (replicate n Frame) ≡ n
 length_replicate zero = refl
-length_replicate (suc n) = ap (λ (k : ℕ). suc k) (length_replicate n)
+length_replicate (suc n) = rw (length_replicate n) refl
 
 -- the sink fails in the first n of m frames
 pub stopped_among : (a b : Playing) (n m : ℕ) (x y : Option (List ℕ)) (frames bytes : ℕ) → n ≤ m
@@ -113,15 +108,13 @@ stopped_among a b n m x y frames bytes le s =
     let all : n + (m - n) ≡ m = omega (arith, le) in
     let cut : replicate n Frame ++ replicate (m - n) Frame ≡ replicate m Frame =
     sym (replicate_more n (m - n)) ∙ ap (λ (k : ℕ). replicate k Frame) all in
-    subst (λ (l : List Event). Stopped a b l x y frames bytes) cut
-    (stopped_before a b (replicate n Frame) (replicate (m - n) Frame) x y frames bytes s)
+    rw (← cut) (stopped_before a b (replicate n Frame) (replicate (m - n) Frame) x y frames bytes s)
 
 -- n frames were delivered, and then more of the m
 pub joined_frames : (a b c : Playing) (x y z : Option (List ℕ)) (n k : ℕ) → Delivered a b (replicate n Frame) x y n
     → Delivered b c (replicate k Frame) y z k → Delivered a c (replicate (n + k) Frame) x z (n + k)
 joined_frames a b c x y z n k d e =
-    subst (λ (l : List Event). Delivered a c l x z (n + k)) (sym (replicate_more n k))
-    (joined a b c (replicate n Frame) (replicate k Frame) x y z n k d e)
+    rw (replicate_more n k) (joined a b c (replicate n Frame) (replicate k Frame) x y z n k d e)
 
 pub stopped_frames : (a b c : Playing) (x y z : Option (List ℕ)) (n m frames bytes : ℕ) → n ≤ m
     → Delivered a b (replicate n Frame) x y n → Stopped b c (replicate (m - n) Frame) y z frames bytes
@@ -130,8 +123,7 @@ stopped_frames a b c x y z n m frames bytes le d s =
     let all : n + (m - n) ≡ m = omega (arith, le) in
     let cut : replicate n Frame ++ replicate (m - n) Frame ≡ replicate m Frame =
     sym (replicate_more n (m - n)) ∙ ap (λ (k : ℕ). replicate k Frame) all in
-    subst (λ (l : List Event). Stopped a c l x z (n + frames) bytes) cut
-    (stopped_later a b c (replicate n Frame) (replicate (m - n) Frame) x y z n frames bytes d s)
+    rw (← cut) (stopped_later a b c (replicate n Frame) (replicate (m - n) Frame) x y z n frames bytes d s)
 
 pub few_frames : (a c : Playing) (m : ℕ) (x z : Option (List ℕ)) (frames bytes : ℕ)
     → Stopped a c (replicate m Frame) x z frames bytes → frames ≤ m

@@ -1,6 +1,6 @@
 -- Keeping the pages of a phase.
 use Rattle.plan_player.proofs.Words.{[], ◌+◌, ◌<◌, ◌∙◌, ◌∷◌, ◌≡◌, ◌≤◌, Bool, Cursor, FrameLayout, HasPage, IsAtPage}
-use Rattle.plan_player.proofs.Words.{IsKept, Keeps, KeptPage, List, Marked, Option, PhasePages, Some, after_up, ap}
+use Rattle.plan_player.proofs.Words.{IsKept, Keeps, KeptPage, List, Marked, Option, PhasePages, Some, after_up}
 use Rattle.plan_player.proofs.Words.{arith, cond, cursor_page, eqb, eqb-false, eqb-true, false, length, length-set, ltb}
 use Rattle.plan_player.proofs.Words.{ltb-false, ltb-true, page_after, refl, rounds, slice_get, slice_set, subst, suc}
 use Rattle.plan_player.proofs.Words.{sym, true, zero, ℕ}
@@ -25,7 +25,7 @@ each_more layout ms made pages page room kept each n below true e =
     let same : n ≡ made = eqb-true n made e in
     let here : HasPage layout ms made (slice_set pages made (Some page)) =
     record { page = page; held = get_set_same pages made (Some page) room; kept = kept } in
-    subst (λ (k : ℕ). HasPage layout ms k (slice_set pages made (Some page))) (sym same) here
+    rw (same) here
 each_more layout ms made pages page room kept each n below false e =
     let apart = eqb-false n made e in
     let earlier : n < made = omega (arith, below, apart) in
@@ -75,8 +75,7 @@ page_next : (layout : FrameLayout) (ms : List Marked) (page_index count : ℕ) (
     → Keeps layout ms page_index p → page_index < p.made → (b : Bool) → p.is_whole ≡ b
     → (p.is_whole ≡ true → count ≡ p.made) → (p.is_whole ≡ false → count ≡ p.made + 1)
     → page_after count page_index ≡ page_after (rounds layout ms) page_index
-page_next layout ms page_index count p k lt true e whole more =
-    ap (λ (n : ℕ). page_after n page_index) (whole e ∙ k.all e)
+page_next layout ms page_index count p k lt true e whole more = rw (whole e ∙ k.all e) refl
 page_next layout ms page_index count p k lt false e whole more =
     after_up count page_index (omega (arith, lt, more e))
     ∙ sym (after_up (rounds layout ms) page_index (omega (arith, lt, k.more e)))
@@ -111,4 +110,4 @@ pub held_is : (layout : FrameLayout) (ms : List Marked) (n : ℕ) (pages : List 
 held_is layout ms n pages page h e =
     let both : Some (Some h.page) ≡ Some (Some page) = sym h.held ∙ e in
     let same : h.page ≡ page = cc both in
-    subst (λ (q : KeptPage). IsKept layout ms n q) same h.kept
+    rw (← same) h.kept

@@ -61,14 +61,14 @@ ends_inside : (p : Program) (n : ℕ) (s t : State) → Executes p s n t → (s.
     → t.hold ≡ Ended → IsInside p t.pc
 ends_inside p zero s t h here e =
     let same : s ≡ t = h.1 in
-    subst (λ (u : State). IsInside p u.pc) same (here (ap (λ (u : State). u.hold) same ∙ e))
+    rw (← same) (here (rw (same) e))
 ends_inside p (suc n) s t h here e =
     let i : Instr = h.1.instr in
     let inside : IsInside p s.pc = line_inside p.lines s.pc i (slice_get p.lines s.pc) refl h.1.within in
     let is : step p s ≡ effect p.plan i s = step_is p s i h.1.within in
     let next : (step p s).hold ≡ Ended → IsInside p (step p s).pc =
-    λ ended. subst (λ (u : State). IsInside p u.pc) (sym is)
-    (effect_inside p p.plan i s h.0 inside (ap (λ (u : State). u.hold) (sym is) ∙ ended)) in
+    λ ended. subst (λ (u : State). IsInside p u.pc) (sym is) (effect_inside p p.plan i s h.0 inside (rw (← is) ended))
+    in
     ends_inside p n (step p s) t h.2 next e
 
 -- ---- a frame
@@ -100,11 +100,11 @@ frame_inside : (p : Program) (ts : List Known) → IsCode p ts → (s : State) �
 frame_inside p ts c s h inside =
     let u : State = after_burst p s in
     let goes = frame_goes p ts c.program c.typing s h.between in
-    let first : IsInside p (ready s).pc = subst (λ (n : ℕ). IsInside p n) (sym (ready_place s)) inside in
+    let first : IsInside p (ready s).pc = rw (ready_place s) inside in
     let ended : u.hold ≡ Ended → IsInside p u.pc =
     ends_inside p goes.allowed.steps (ready s) u goes.allowed.executes (λ e. first) in
     let here : IsInside p u.pc = suspended_inside p ts c.typing u u.hold refl goes.suspends.resumes ended in
-    subst (λ (n : ℕ). IsInside p n) (sym (turned_place u (is_first_noticed p.plan.notice u.left))) here
+    rw (turned_place u (is_first_noticed p.plan.notice u.left)) here
 
 happens_inside : (p : Program) (ts : List Known) → IsCode p ts → (s : State) (e : Event) → Holds p ts s
     → IsInside p s.pc → IsInside p (happens p s e).pc
@@ -128,8 +128,7 @@ played_inside p s h =
       reached = starts_are_reached p r.start r.first r.in_range r.started;
     } in
     let zero_inside : IsInside p r.first.pc = omega (arith, r.started.pc, h.program.lines_from) in
-    subst (λ (t : State). IsInside p t.pc) r.leads
-    (run_inside p ts (code_of p s h) r.first r.events (played_holds p r.first start) zero_inside)
+    rw (← r.leads) (run_inside p ts (code_of p s h) r.first r.events (played_holds p r.first start) zero_inside)
 
 some_line : (lines : List Line) (pc : ℕ) → pc < length lines
     → IsSome (option_map (λ (l : Line). l.number) (slice_get lines pc))
@@ -140,5 +139,5 @@ some_line (l ∷ ls) (suc pc) below = some_line ls pc (omega (arith, below))
 -- so the next instruction has a line
 pub has_line : (p q : Program) (s : State) (o : Option ℕ) → IsPlayed p s → q ≡ p → o ≡ line_at q s.pc → IsSome o
 has_line p q s o h same is =
-    let here : o ≡ line_at p s.pc = is ∙ ap (λ (x : Program). line_at x s.pc) same in
-    subst (λ (x : Option ℕ). IsSome x) (sym here) (some_line p.lines s.pc (played_inside p s h))
+    let here : o ≡ line_at p s.pc = rw (← same) is in
+    rw (here) (some_line p.lines s.pc (played_inside p s h))

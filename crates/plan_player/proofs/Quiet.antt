@@ -2,8 +2,8 @@
 use Rattle.plan_player.proofs.Words.{◌%◌, ◌+◌, ◌==◌, ◌||◌, ◌∙◌, ◌∷◌, ◌≡◌, ◌≤◌, AreQuiet, Bool, DayIsAway, Ended}
 use Rattle.plan_player.proofs.Words.{FRAMES_A_DAY, Frame, Hold, HoldIsAway, IfSome, IsQuiet, List, None, Option, Plan}
 use Rattle.plan_player.proofs.Words.{Program, QuietFramesAreCopied, Running, Some, State, SwapIsAway, Waits, WaitsAny}
-use Rattle.plan_player.proofs.Words.{WaitsContact, WaitsDay, WaitsSwap, after_burst, after_frame, ap, arith, burst}
-use Rattle.plan_player.proofs.Words.{burst_steps, cond, counted_on, eqb-true, false, frame_bytes, frame_steps}
+use Rattle.plan_player.proofs.Words.{WaitsContact, WaitsDay, WaitsSwap, after_burst, after_frame, ap, arith}
+use Rattle.plan_player.proofs.Words.{burst_steps, cond, eqb-true, false, frame_bytes, frame_steps}
 use Rattle.plan_player.proofs.Words.{hold_after_frame, is_day, is_due, is_first_noticed, is_here, is_running}
 use Rattle.plan_player.proofs.Words.{last_steps, left_after_frame, mod-eq_of_lt, notice_frames, or_from, ready, refl}
 use Rattle.plan_player.proofs.Words.{replicate, run_frames, shown, shown_bytes, still_stops, subst, suc, sym, true}
@@ -28,9 +28,8 @@ not_resumed s false e = refl
 is_ready : (p : Program) (s : State) → is_due s.left ≡ false → is_running (ready s).hold ≡ false → ready s ≡ s
 is_ready p s no_swap suspended =
     let unswapped : with_due_swap s ≡ s = no_swap_due s (is_due s.left) no_swap in
-    let stays : is_running (with_hold_ended s).hold ≡ false =
-    subst (λ (t : State). is_running (with_hold_ended t).hold ≡ false) unswapped suspended in
-    ap (λ (t : State). with_hold_ended t) unswapped ∙ not_resumed s (is_here s s.hold) stays
+    let stays : is_running (with_hold_ended s).hold ≡ false = rw (← unswapped) suspended in
+    rw (unswapped) (not_resumed s (is_here s s.hold) stays)
 
 held_steps : (most : ℕ) (p : Program) (s : State) → is_running s.hold ≡ false → burst_steps most p s ≡ 0
 held_steps zero p s held = refl
@@ -62,23 +61,19 @@ pub record Stays (p : Program) (s : State) : Type 0 where
 pub stays : (p : Program) (s : State) → IsQuiet p s → Stays p s
 stays p s quiet =
     let at : ready s ≡ s = is_ready p s quiet.no_swap quiet.suspended in
-    let held : is_running s.hold ≡ false = subst (λ (t : State). is_running t.hold ≡ false) at quiet.suspended in
-    let ran : after_burst p s ≡ s = ap (λ (t : State). burst p.plan.budget p t) at
-    ∙ burst_stays p.plan.budget p s held in
+    let held : is_running s.hold ≡ false = rw (← at) quiet.suspended in
+    let ran : after_burst p s ≡ s = rw (at) (burst_stays p.plan.budget p s held) in
     let notice = p.plan.notice in
     let left : (shown p s).left ≡ s.left = left_kept (after_burst p s) (is_first_noticed notice (after_burst p s).left)
     ∙ ap (λ (t : State). t.left) ran in
-    let later : is_first_noticed notice s.left ≡ false =
-    subst (λ (o : Option ℕ). is_first_noticed notice o ≡ false) left
+    let later : is_first_noticed notice s.left ≡ false = rw (← left)
     (or_false (is_due s.left) (is_first_noticed notice (shown p s).left) quiet.no_phase) in
-    let same : shown p s ≡ s =
-    ap (λ (t : State). cond (is_first_noticed notice t.left) (at_first_page t) t) ran
-    ∙ no_phase_begun s (is_first_noticed notice s.left) later in
+    let same : shown p s ≡ s = rw (ran) (no_phase_begun s (is_first_noticed notice s.left) later) in
     record {
       shows = same;
       bytes = ap (λ (t : State). shown_bytes p.plan t) same;
-      after = ap (λ (t : State). with_next_counts p.plan t) same;
-      no_steps = ap (λ (t : State). burst_steps p.plan.budget p t) at ∙ held_steps p.plan.budget p s held;
+      after = rw (same) refl;
+      no_steps = rw (at) (held_steps p.plan.budget p s held);
       no_notice = later;
     }
 
@@ -93,7 +88,7 @@ quiet_frames_are_copied p (suc n) s quiet =
       frames = ap (λ (f : List ℕ). f ∷ run_frames p (after_frame p s) (replicate n Frame)) now.bytes
           ∙ ap (λ (fs : List (List ℕ)). shown_bytes p.plan s ∷ fs)
           (later.frames ∙ ap (λ (t : State). notice_frames p.plan n t) now.after);
-      state = later.state ∙ ap (λ (t : State). counted_on p.plan n t) now.after;
+      state = rw (← now.after) later.state;
       no_steps = ap (λ (k : ℕ). last_steps p (after_frame p s) k (replicate n Frame)) now.no_steps ∙ later.no_steps;
     }
 
@@ -196,18 +191,16 @@ is_quiet p s n swap hold =
     let here : is_here s s.hold ≡ false = not_here s s.hold n hold in
     let unswapped : with_due_swap s ≡ s = no_swap_due s (is_due s.left) due in
     let unheld : with_hold_ended s ≡ s = not_ended s (is_here s s.hold) here in
-    let at : ready s ≡ s = ap (λ (t : State). with_hold_ended t) unswapped ∙ unheld in
+    let at : ready s ≡ s = rw (unswapped) unheld in
     let held : is_running s.hold ≡ false = still_stops s s.hold here in
-    let ran : after_burst p s ≡ s = ap (λ (t : State). burst p.plan.budget p t) at
-    ∙ burst_stays p.plan.budget p s held in
+    let ran : after_burst p s ≡ s = rw (at) (burst_stays p.plan.budget p s held) in
     let left : (shown p s).left ≡ s.left = left_kept (after_burst p s) (is_first_noticed notice (after_burst p s).left)
     ∙ ap (λ (t : State). t.left) ran in
     let later : is_first_noticed notice (shown p s).left ≡ false =
-    ap (λ (o : Option ℕ). is_first_noticed notice o) left
-    ∙ not_noticed notice s.left n swap (is_first_noticed notice s.left) refl in
+    rw (left) (not_noticed notice s.left n swap (is_first_noticed notice s.left) refl) in
     record {
       no_swap = due;
-      suspended = ap (λ (t : State). is_running t.hold) at ∙ held;
+      suspended = rw (at) held;
       no_phase = or_from (is_due s.left) (is_first_noticed notice (shown p s).left) due later;
     }
 

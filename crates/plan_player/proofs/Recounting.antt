@@ -54,10 +54,8 @@ other_byte x y r =
 -- a change of the register continues as over zero bytes
 one_on : (k r d : ℕ) → after 8 k (bit_xor r d) ≡ bit_xor (after 8 k r) (after 8 0 d)
 one_on k r d =
-    apart k (bit_xor r d)
-    ∙ ap (bit_xor (after 8 k 0)) (zeros_apart r d)
-    ∙ sym (xor_assoc (after 8 k 0) (after 8 0 r) (after 8 0 d))
-    ∙ ap (λ n. bit_xor n (after 8 0 d)) (sym (apart k r))
+    rw (apart k r) (apart k (bit_xor r d) ∙ ap (bit_xor (after 8 k 0)) (zeros_apart r d)
+    ∙ sym (xor_assoc (after 8 k 0) (after 8 0 r) (after 8 0 d)))
 
 later_more : (n d : ℕ) → later n (after 8 0 d) ≡ later (suc n) d
 later_more zero d = refl
@@ -80,13 +78,10 @@ two_others x y high low r rest =
     let second = after 8 (bit_xor y low) 0 in
     let both = after 8 y (after 8 x r) in
     let turned : after 8 low (after 8 high r) ≡ bit_xor (bit_xor both (after 8 0 first)) second =
-    ap (after 8 low) (other_byte x high r)
-    ∙ other_byte y low (bit_xor (after 8 x r) first)
-    ∙ ap (λ n. bit_xor n second) (one_on y (after 8 x r) first) in
-    ap (after_all rest) turned
-    ∙ all_on rest (bit_xor both (after 8 0 first)) second
-    ∙ ap (λ n. bit_xor n (later (length rest) second))
-    (all_on rest both (after 8 0 first) ∙ ap (bit_xor (after_all rest both)) (later_more (length rest) first))
+    rw (← one_on y (after 8 x r) first) (ap (after 8 low) (other_byte x high r)
+    ∙ other_byte y low (bit_xor (after 8 x r) first)) in
+    rw (← all_on rest both (after 8 0 first) ∙ ap (bit_xor (after_all rest both)) (later_more (length rest) first))
+    (ap (after_all rest) turned ∙ all_on rest (bit_xor both (after 8 0 first)) second)
 
 -- ---- the CRC
 
@@ -113,20 +108,18 @@ other_word a b c d x y high low rest long =
     let turned : after_all new 65535 ≡ bit_xor (bit_xor before (later 25 first)) (later 24 second) =
     two_others x y high low (after_all (a ∷ b ∷ c ∷ d ∷ []) 65535) rest
     ∙ ap (λ n. bit_xor (bit_xor before (later (suc n) first)) (later n second)) long in
-    ap (λ w. bit_xor w (bit_xor (later 25 first) (later 24 second))) (sym (word_is old))
-    ∙ sym (xor_assoc (bit_xor before 65535) (later 25 first) (later 24 second))
+    rw (← word_is old) (sym (xor_assoc (bit_xor before 65535) (later 25 first) (later 24 second))
     ∙ ap (λ w. bit_xor w (later 24 second)) (turned_round before 65535 (later 25 first))
-    ∙ turned_round (bit_xor before (later 25 first)) 65535 (later 24 second)
-    ∙ ap (λ w. bit_xor w 65535) (sym turned)
-    ∙ word_is new
+    ∙ turned_round (bit_xor before (later 25 first)) 65535 (later 24 second) ∙ ap (λ w. bit_xor w 65535) (sym turned)
+    ∙ word_is new)
 
 -- ---- the FIB
 
 last_set : (bytes : List ℕ) (v w p q : ℕ) → length bytes ≡ 30
     → slice_set (slice_set (bytes ++ v ∷ w ∷ []) 30 p) 31 q ≡ bytes ++ p ∷ q ∷ []
 last_set bytes v w p q long =
-    ap (λ l. slice_set l 31 q) (set-append_right bytes (v ∷ w ∷ []) 30 30 p long (omega arith))
-    ∙ set-append_right bytes (p ∷ w ∷ []) 30 31 q long (omega arith)
+    rw (set-append_right bytes (v ∷ w ∷ []) 30 30 p long (omega arith))
+    (set-append_right bytes (p ∷ w ∷ []) 30 31 q long (omega arith))
 
 pub recounted : (fib : List ℕ) (high low p q hi lo a b c d x y : ℕ) (rest : List ℕ) → length rest ≡ 24
     → fib ≡ checked (a ∷ b ∷ c ∷ d ∷ x ∷ y ∷ rest)
@@ -158,6 +151,4 @@ recounted fib high low p q hi lo a b c d x y rest long is is_p is_q is_hi is_lo 
     ap₂ (λ m n. bit_xor m n) sum (ap₂ (λ m n. bit_xor m n) at_hi at_lo) ∙ other_word a b c d x y high low rest long in
     let top : word / 256 ≡ new_word / 256 % 256 = omega (arith, same, check_word_below new) in
     let end : word % 256 ≡ new_word % 256 = omega (arith, same) in
-    ap (λ l. slice_set (slice_set (slice_set (slice_set l 4 high) 5 low) 30 (word / 256)) 31 (word % 256)) is
-    ∙ last_set new v w (word / 256) (word % 256) (omega (arith, long))
-    ∙ ap₂ (λ m n. new ++ m ∷ n ∷ []) top end
+    rw (is) (last_set new v w (word / 256) (word % 256) (omega (arith, long)) ∙ ap₂ (λ m n. new ++ m ∷ n ∷ []) top end)

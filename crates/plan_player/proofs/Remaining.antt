@@ -1,6 +1,6 @@
 -- The instructions of a frame that remain to be executed.
 use Rattle.plan_player.proofs.Words.{◌+◌, ◌∙◌, ◌≡◌, ◌≤◌, CanRun, Executes, IsProgram, Program, State, StepIsAllowed}
-use Rattle.plan_player.proofs.Words.{arith, burst, burst_steps, false, is_running, step, subst, suc, sym, true, zero, ℕ}
+use Rattle.plan_player.proofs.Words.{arith, burst, burst_steps, false, is_running, step, suc, sym, true, zero, ℕ}
 use Rattle.plan_runs.proofs.Bursts.{bursts_are_one}
 
 -- this many instructions took the first state to this one, and the rest of the frame's instructions remain
@@ -18,7 +18,7 @@ remains_all p s program can =
       left = can.steps;
       counted = all ∙ sym one.1;
       within = omega (arith, can.within, program.planned.budget_to);
-      executes = subst (λ (t : State). Executes p s can.steps t) (sym one.0) can.executes;
+      executes = rw (one.0) can.executes;
     }
 
 -- what a running machine can execute next, and what then remains

@@ -4,7 +4,7 @@ use Rattle.plan_player.proofs.Words.{Event, Frame, HasChange, IfErr, IfOk, IsCut
 use Rattle.plan_player.proofs.Words.{IsStretch, Keeps, List, None, Ok, OnOk, Option, PhasePages, Plan, Playing, Program}
 use Rattle.plan_player.proofs.Words.{Result, Some, State, Stopped, SwapIsAway, after_frame, ap, arith, concat}
 use Rattle.plan_player.proofs.Words.{counted_on, eqb-false, false, frame_bytes, is_due, is_first_noticed, last_steps}
-use Rattle.plan_player.proofs.Words.{left_after_frame, length, next_frame, notice_frames, page_after, played}
+use Rattle.plan_player.proofs.Words.{left_after_frame, next_frame, notice_frames, page_after, played}
 use Rattle.plan_player.proofs.Words.{played_bytes, refl, replicate, run, run_frames, sent_entries, sent_rounds, shown}
 use Rattle.plan_player.proofs.Words.{shown_bytes, subst, suc, sym, take, true, with_next_counts, zero, ℕ}
 use Rattle.plan_player.specs.declared.fault.Accepted.{Accepted}
@@ -22,12 +22,11 @@ pub quiet_ready : (p : Program) (plan : Plan) (s : State) (steps : ℕ) (pages :
 quiet_ready p plan s steps pages e h quiet =
     let ready = frame_ready p s steps pages h in
     let now = stays p s quiet in
-    let off : is_first_noticed p.plan.notice (shown p s).left ≡ false =
-    subst (λ (t : State). is_first_noticed p.plan.notice t.left ≡ false) (sym now.shows) now.no_notice in
+    let off : is_first_noticed p.plan.notice (shown p s).left ≡ false = rw (now.shows) now.no_notice in
     let there : IsPageReady p.plan (shown p s) pages =
     record { sent = ready.sent; few = ready.few; keeps = ready.kept quiet.no_phase; change = ready.change off } in
-    let here : IsPageReady p.plan s pages = subst (λ (t : State). IsPageReady p.plan t pages) now.shows there in
-    subst (λ (q : Plan). IsPageReady q s pages) (sym e) here
+    let here : IsPageReady p.plan s pages = rw (← now.shows) there in
+    rw (e) here
 
 -- and so it can for a player whose fields these are
 pub ready_in : (old : Playing) (p : Program) (plan : Plan) (s : State) (steps : ℕ) (pages : PhasePages)
@@ -52,14 +51,12 @@ quiet_goes p plan s t steps pages after e h quiet state keeps same =
     let now = stays p s quiet in
     let ready = quiet_ready p p.plan s steps pages refl h quiet in
     let mine : Keeps p.plan.layout (sent_entries p.plan s) (page_after (sent_rounds p.plan s) s.page_index) after =
-    subst (λ (q : Plan). Keeps q.layout (sent_entries q s) (page_after (sent_rounds q s) s.page_index) after) e keeps in
+    rw (← e) keeps in
     let kept : Keeps p.plan.layout (sent_entries p.plan (shown p s)) (after_frame p s).page_index after =
-    subst (λ (u : State). Keeps p.plan.layout (sent_entries p.plan u) (page_after (sent_rounds p.plan u) u.page_index)
-    after) (sym now.shows) mine in
-    let flags : HasChange p.plan.notice s.left s.current s.next after.change =
-    subst (λ (n : ℕ). HasChange p.plan.notice s.left s.current s.next n) (sym same) ready.change in
+    rw (now.shows) mine in
+    let flags : HasChange p.plan.notice s.left s.current s.next after.change = rw (same) ready.change in
     let change : HasChange p.plan.notice (shown p s).left (shown p s).current (shown p s).next after.change =
-    subst (λ (u : State). HasChange p.plan.notice u.left u.current u.next after.change) (sym now.shows) flags in
+    rw (now.shows) flags in
     lent_goes p p s t steps 0 pages after refl h (quiet_after p plan s t e quiet state) (sym now.no_steps) kept change
 
 -- the player after it, and its bytes
@@ -143,7 +140,7 @@ stretch p plan n s steps pages e whole h quiet =
       ready = λ k lt. quiet_ready p p.plan (counted_on p.plan k s) 0 pages refl
           (going_on p n k s steps pages (omega (arith, lt)) whole h quiet) (quiet_at p n k s lt quiet);
     } in
-    subst (λ (q : Plan). IsStretch q n s pages) (sym e) here
+    rw (e) here
 
 -- ---- the player after the frames
 
@@ -174,7 +171,7 @@ pub stretch_delivered : (p : Program) (n : ℕ) (s t : State) (steps : ℕ) (x y
 stretch_delivered p n s t steps x y some quiet state out = record {
   state = ap (λ (u : State). let r : Playing = record { code = p; state = u; steps = 0 } in r) state
       ∙ played_on p n s steps some quiet;
-  out = subst (λ (l : List ℕ). Appends x y l) (bytes_on p n s quiet) out;
+  out = rw (← bytes_on p n s quiet) out;
   whole = all_frames p s n;
 }
 
@@ -200,20 +197,18 @@ stretch_stopped p n s t steps x y frames bytes quiet cut =
     let one : frames + 1 ≡ suc frames = omega arith in
     let last : replicate (suc frames) Frame ≡ done ++ Frame ∷ [] =
     ap (λ (k : ℕ). replicate k Frame) (sym one) ∙ replicate_more frames 1 in
-    let text : concat (notice_frames p.plan frames s) ++ take bytes (shown_bytes p.plan at) ≡ played_bytes old done
-    ++ take bytes (next_frame (played old done)) =
-    ap (λ (l : List ℕ). l ++ take bytes (shown_bytes p.plan at)) (bytes_on p frames s before)
-    ∙ ap (λ (l : List ℕ). played_bytes old done ++ take bytes l) next in
+    let text : concat (notice_frames p.plan frames s) ++ take bytes (shown_bytes p.plan at) ≡ played_bytes old done ++
+    take bytes (next_frame (played old done)) = rw (bytes_on p frames s before, next) refl in
     record {
       done = done;
       rest = replicate r Frame;
       cut = ap (λ (k : ℕ). replicate k Frame) (sym all) ∙ replicate_more frames (suc r);
       whole = all_frames p s frames;
-      part = subst (λ (l : List ℕ). bytes < length l) next cut.part;
+      part = rw (← next) cut.part;
       state = ap (λ (u : State). let q : Playing = record { code = p; state = u; steps = 0 } in q) cut.state
           ∙ played_on p (suc frames) s steps (omega arith) upto
           ∙ ap (λ (l : List Event). played old l) last;
-      out = subst (λ (l : List ℕ). Appends x y l) text cut.out;
+      out = rw (← text) cut.out;
     }
 
 -- ---- results
@@ -230,7 +225,7 @@ quiet_done p plan n s t steps x y (Ok m) e some quiet all state out =
     let new : Playing = record { code = p; state = t; steps = 0 } in
     let whole = stretch_delivered p n s t steps x y some quiet (subst (λ (q : Plan). t ≡ counted_on q n s) e state)
     (subst (λ (q : Plan). Appends x y (concat (notice_frames q n s))) e out) in
-    subst (λ (k : ℕ). Delivered old new (replicate k Frame) x y k) (sym all) whole
+    rw (all) whole
 
 pub quiet_stopped : (p : Program) (plan : Plan) (m n : ℕ) (s t : State) (steps : ℕ) (x y : Option (List ℕ))
     (r : Result ℕ Accepted) → plan ≡ p.plan → n ≤ m → AreQuiet p n s
@@ -255,17 +250,16 @@ pub goes_quiet : (p : Program) (plan : Plan) (n k : ℕ) (s t : State) (steps : 
     → k ≤ n → pages.is_whole ≡ true → IsGoing p s steps pages → AreQuiet p n s → t ≡ counted_on plan k s
     → IsGoing p t 0 pages
 goes_quiet p plan n k s t steps pages e le whole h quiet state =
-    let at : t ≡ counted_on p.plan k s = state ∙ ap (λ (q : Plan). counted_on q k s) e in
-    subst (λ (u : State). IsGoing p u 0 pages) (sym at) (going_on p n k s steps pages le whole h quiet)
+    let at : t ≡ counted_on p.plan k s = rw (← e) state in
+    rw (at) (going_on p n k s steps pages le whole h quiet)
 
 -- after some of them the remaining ones are quiet
 pub quiet_rest : (p : Program) (n k : ℕ) (s : State) → k ≤ n → AreQuiet p n s
     → AreQuiet p (n - k) (run p s (replicate k Frame))
 quiet_rest p n zero s le quiet =
     let same : n ≡ n - 0 = omega arith in
-    subst (λ (m : ℕ). AreQuiet p m s) same quiet
+    rw (← same) quiet
 quiet_rest p zero (suc k) s le quiet = absurd (omega (arith, le))
 quiet_rest p (suc n) (suc k) s le quiet =
     let same : n - k ≡ suc n - suc k = omega arith in
-    subst (λ (m : ℕ). AreQuiet p m (run p (after_frame p s) (replicate k Frame))) same
-    (quiet_rest p n k (after_frame p s) (omega (arith, le)) quiet.1)
+    rw (← same) (quiet_rest p n k (after_frame p s) (omega (arith, le)) quiet.1)

@@ -53,9 +53,7 @@ header_later plan n (suc k) s away lt =
     let on = ap (λ (o : Option ℕ). is_noticed plan.notice o) (left_on plan (suc k) s)
     ∙ noticed_later plan.notice n (suc k) s.left away lt in
     let change : ℕ = bits_of (change_of s.current s.next) in
-    parts
-    ∙ ap (λ (x : ℕ). header_by s.eid change x (is_noticed plan.notice t.left)) low
-    ∙ ap (λ (b : Bool). header_by s.eid change (low_of_swap s.count s.left) b) on
+    rw (← on, ← low) parts
 
 ensemble_is_by : (plan : Plan) (s : State) (b : Bool)
     → cond b (let r : EnsembleInformation = record {
@@ -79,8 +77,8 @@ pub headed_later : (plan : Plan) (n k : ℕ) (s : State) → SwapIsAway plan.not
 headed_later plan n k s away lt =
     let t : State = counted_on plan k s in
     let same : ensemble_of plan t ≡ ensemble_at (header_of plan s) t.count =
-    ensemble_is plan t ∙ ap (λ (h : Header). ensemble_at h t.count) (header_later plan n k s away lt) in
-    ap (λ (e : EnsembleInformation). cond (t.count % count_step (layout_mode plan.layout) == 0) (Some e) None) same
+    rw (← header_later plan n k s away lt) (ensemble_is plan t) in
+    rw (same) refl
 
 -- ---- pages
 
@@ -197,7 +195,7 @@ pub page_kept : (plan : Plan) (n k : ℕ) (s : State) (pages : PhasePages) (page
 page_kept plan n k s pages page_index page h lt at held =
     let t : State = counted_on plan k s in
     held_is plan.layout (sent_entries plan t) t.page_index pages.pages page (stretch_page plan n k s pages h lt)
-    (subst (λ (x : ℕ). slice_get pages.pages x ≡ Some (Some page)) at held)
+    (rw (← at) held)
 
 pub batch_more : (plan : Plan) (n k : ℕ) (s : State) (pages : PhasePages) (header : Header) (number : ℕ)
     (old new : List ℕ) → IsStretch plan n s pages → k < n
@@ -222,13 +220,11 @@ batch_more plan n k s pages header number old new h lt is at before more =
 
 pub turn_more : (plan : Plan) (n k : ℕ) (s : State) (pages : PhasePages) → IsStretch plan n s pages → k < n
     → (counted_on plan (suc k) s).page_index ≡ page_after pages.made (counted_on plan k s).page_index
-turn_more plan n k s pages h lt =
-    ap (λ (u : State). u.page_index) (on_more plan k s)
-    ∙ ap (λ (r : ℕ). page_after r (counted_on plan k s).page_index) (stretch_rounds plan n s pages h k lt)
+turn_more plan n k s pages h lt = rw (on_more plan k s, stretch_rounds plan n s pages h k lt) refl
 
 pub count_more : (plan : Plan) (k : ℕ) (s : State) → (counted_on plan (suc k) s).count
     ≡ ((counted_on plan k s).count + 1) % COUNTS
-count_more plan k s = ap (λ (u : State). u.count) (on_more plan k s)
+count_more plan k s = rw (on_more plan k s) refl
 
 -- ---- the frame in which the sink failed
 

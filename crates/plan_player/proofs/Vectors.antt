@@ -99,8 +99,7 @@ contacts_alone h =
 told_of_too_many : StoppedBy fresh (played fresh (frames 1)) (frames 1) (Some []) (Some []) (Write 1 0) → ⊥
 told_of_too_many h =
     let none : 1 ≡ length (frames_of fresh h.done) = h.whole in
-    let same : length (frames_of fresh h.done) ≡ 0 =
-    ap (λ (done : List Event). length (frames_of fresh done)) (nothing_done h.done h.rest h.cut) in
+    let same : length (frames_of fresh h.done) ≡ 0 = rw (nothing_done h.done h.rest h.cut) refl in
     omega (arith, none, same)
 
 -- ---- the change flags of a notice of 24 frames that changes nothing

@@ -19,7 +19,6 @@ pub use Rattle.fib_codec.specs.Spelling.{Written, bit_of, entry_bytes, ext_of, f
 pub use Rattle.fib_codec.specs.Spelling.{is_long_entry}
 pub use Rattle.fib_codec.specs.declared.frame_layout.FrameLayout.{FrameLayout}
 pub use Rattle.fib_codec.specs.declared.frame_layout.FrameLayout.TheVariants.{ReserveOne, ReserveTwo, Whole}
-pub use Rattle.fib_codec.specs.declared.head.Head.{Head}
 pub use Rattle.fib_codec.specs.declared.modes.Mode.{Mode}
 pub use Rattle.fib_codec.specs.declared.modes.Mode.TheVariants.{I, II}
 pub use Rattle.fib_reader.specs.Laws.{EnsembleIsHeard}

@@ -1,9 +1,8 @@
 -- The search for the pcs that can be reached in a frame finds them all.
 use Rattle.script_compiler.proofs.Words.{[], ◌++◌, ◌+◌, ◌<◌, ◌∙◌, ◌∷◌, ◌≡◌, ◌≤◌, ◌⊎◌, Bool, CanReach, CanRevisit}
-use Rattle.script_compiler.proofs.Words.{GrowsBy, Instr, IsAt, IsExpanded, IsIn, List, None, Option, Searched}
-use Rattle.script_compiler.proofs.Words.{Some, StepsTo, ap, arith, false, get_or, inl, inr, length}
-use Rattle.script_compiler.proofs.Words.{length-append, refl, slice_get, slice_get_within, slice_set, subst, suc, sym}
-use Rattle.script_compiler.proofs.Words.{true, trues, zero, ℕ}
+use Rattle.script_compiler.proofs.Words.{GrowsBy, Instr, IsAt, IsExpanded, IsIn, List, None, Option, Searched, Some}
+use Rattle.script_compiler.proofs.Words.{StepsTo, ap, arith, false, get_or, inl, inr, length, length-append, refl}
+use Rattle.script_compiler.proofs.Words.{slice_get, slice_get_within, slice_set, subst, suc, sym, true, trues, zero, ℕ}
 
 -- ---- lists
 
@@ -95,9 +94,9 @@ grows_one ps qs ws vs place d lt off e f =
         kept = λ k h. subst (λ (l : List Bool). IsAt l k) (sym e) (set_kept ps k place h);
         only = λ k h. set_only ps k place (subst (λ (l : List Bool). IsAt l k) e h);
         fresh = λ k h. elim (set_only ps k place (rw (← e) h))
-        [ | inl a ↦ inl a | inr same ↦ inr (rw f (rw (← same) (in_last k ws))) ];
+            [ inl a ↦ inl a | inr same ↦ inr (rw f (rw (← same) (in_last k ws))) ];
         still = λ k h. subst (λ (l : List ℕ). IsIn k l) (sym f) (in_left k ws (place ∷ []) h);
-        waits = λ k h. elim (in_snoc k place ws (rw (← f) h)) [ | inl a ↦ inl a | inr same ↦ inr (rw same there) ];
+        waits = λ k h. elim (in_snoc k place ws (rw (← f) h)) [ inl a ↦ inl a | inr same ↦ inr (rw same there) ];
         count = (let a = ap trues e ∙ set_trues ps place d lt off in
             let b = ap length f ∙ length-append ws (place ∷ []) in omega (arith, a, b));
       };

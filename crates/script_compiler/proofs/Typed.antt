@@ -267,7 +267,7 @@ module _ (code : Program) (whole : List PlacedInstr) where
             Arrives code typing pc (label_at code pc) (known_with f (first_counters r) a)
         arrives_at pc r a f n l known true b =
             let fits : FitsFlow f l.place.point.flow =
-            elim l.fits [ | inl same ↦ rw same (fits_same f) | inr h ↦ h.1 ] in
+            elim l.fits [ inl same ↦ rw same (fits_same f) | inr h ↦ h.1 ] in
             let found = label_there pc l.place l.there b in
             rw found.there (comes_to pc l.place f (first_counters r) a found fits (ap first_counters (sym l.repeats)) n)
         arrives_at pc r a f n l known false b =

@@ -10,8 +10,7 @@ pub use Rattle.plan_code.specs.Program.{AreBounds, IsInstr, IsLabel, IsLine, IsP
 pub use Rattle.plan_code.specs.Program.{label_at, label_key}
 pub use Rattle.plan_code.specs.declared.flags.Contacts.{Contacts}
 pub use Rattle.plan_code.specs.declared.hold.Hold.{Hold}
-pub use Rattle.plan_code.specs.declared.hold.Hold.TheVariants.{Ended, Running, Waits, WaitsAny, WaitsContact, WaitsDay}
-pub use Rattle.plan_code.specs.declared.hold.Hold.TheVariants.{WaitsSwap}
+pub use Rattle.plan_code.specs.declared.hold.Hold.TheVariants.{Ended, Running, Waits}
 pub use Rattle.plan_code.specs.declared.instr.Instr.{Instr}
 pub use Rattle.plan_code.specs.declared.instr.Instr.TheVariants.{CommitAt, CommitIn, Edit, End, Join, Jump, Loop, Set}
 pub use Rattle.plan_code.specs.declared.instr.Instr.TheVariants.{Settle, Test, TestTime, Until, Wait, WaitAny}
@@ -22,13 +21,12 @@ pub use Rattle.plan_code.specs.declared.label.Swap.{Swap}
 pub use Rattle.plan_code.specs.declared.label.Swap.TheVariants.{Idle, Perhaps, Within}
 pub use Rattle.plan_code.specs.declared.plan.Plan.{Plan}
 pub use Rattle.plan_runs.specs.Frames.{Executes, FrameIsAllowed, after_burst, after_frame, is_due, is_first_noticed}
-pub use Rattle.plan_runs.specs.Frames.{is_here, is_running, ready, shown, with_due_swap, with_hold_ended}
-pub use Rattle.plan_runs.specs.Frames.{with_next_counts, with_swap}
+pub use Rattle.plan_runs.specs.Frames.{is_here, is_running, ready, shown, with_due_swap, with_hold_ended, with_swap}
 pub use Rattle.plan_runs.specs.declared.event.Event.TheVariants.{Contact, Frame}
 pub use Rattle.plan_runs.specs.declared.event.Start.{Start}
 pub use Rattle.plan_verifier.proofs.Samples.{first_is, label, one_sub, plan, sub}
 pub use Rattle.plan_verifier.proofs.Verdicts.{slice_there}
-pub use Rattle.plan_verifier.specs.Causes.{CommitRefused, FlowRefused, Where, WhereSome}
+pub use Rattle.plan_verifier.specs.Causes.{CommitRefused, FlowRefused, WhereSome}
 pub use Rattle.plan_verifier.specs.Flows.{FitsFlow, Flow, after_instr, known_at, known_with, left_over, merged, rests}
 pub use Rattle.plan_verifier.specs.Flows.{set_after, widest}
 pub use Rattle.plan_verifier.specs.Indexed.{AreAt, IsTracked, flow_at}

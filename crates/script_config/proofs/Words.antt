@@ -10,16 +10,12 @@ pub use Rattle.fib_codec.specs.declared.modes.Mode.TheVariants.{I, II, III, IV}
 pub use Rattle.fib_reader.specs.Listening.{Listening, Pictured, all_entries, at_ensemble, untuned}
 pub use Rattle.fib_reader.specs.Picture.{IsKept, IsSubOf, Shows}
 pub use Rattle.fib_reader.specs.Raw.{Raw, raw_entry}
-pub use Rattle.mux_config.proofs.Keeping.{absent_found, add_component_keeps, add_packet_keeps, add_service_keeps}
-pub use Rattle.mux_config.proofs.Keeping.{add_sub_keeps, carrier_same, drop_component_keeps, drop_packet_keeps}
-pub use Rattle.mux_config.proofs.Keeping.{drop_service_keeps, drop_sub_keeps, entry_holds, entry_key, length_with}
-pub use Rattle.mux_config.proofs.Keeping.{move_sub_keeps, rate_sub_keeps}
+pub use Rattle.mux_config.proofs.Keeping.{absent_found, carrier_same, entry_holds, entry_key, length_with}
 pub use Rattle.mux_config.proofs.Same.{component_itself, component_same, packet_same}
-pub use Rattle.mux_config.specs.Edits.{absent_or, add_component_fault, add_packet_fault, add_service_fault}
-pub use Rattle.mux_config.specs.Edits.{add_sub_fault, at_rate, at_start, changed, component_fault, drop_component_fault}
-pub use Rattle.mux_config.specs.Edits.{edit_fault, has_bad_address, has_bad_rate, is_past_end, move_sub_fault}
-pub use Rattle.mux_config.specs.Edits.{packet_at, placing_fault, rate_sub_fault, service_at, sub_at, with_component}
-pub use Rattle.mux_config.specs.Edits.{without_carrier}
+pub use Rattle.mux_config.specs.Edits.{absent_or, add_packet_fault, add_service_fault, add_sub_fault, at_rate, at_start}
+pub use Rattle.mux_config.specs.Edits.{changed, component_fault, drop_component_fault, edit_fault, has_bad_address}
+pub use Rattle.mux_config.specs.Edits.{has_bad_rate, is_past_end, packet_at, placing_fault, service_at, sub_at}
+pub use Rattle.mux_config.specs.Edits.{with_component, without_carrier}
 pub use Rattle.mux_config.specs.declared.edit.Edit.{Edit}
 pub use Rattle.mux_config.specs.declared.edit.Edit.TheVariants.{AddComponent, AddPacket, AddService, AddSub}
 pub use Rattle.mux_config.specs.declared.edit.Edit.TheVariants.{DropComponent, DropPacket, DropService, DropSub}

@@ -148,10 +148,8 @@ pushed (first ∷ others) next some room =
     let e : 8 - length (first ∷ others) ≡ suc n = omega (arith, room) in
     let f : 8 - length ((first ∷ others) ++ next ∷ []) ≡ n =
     (let l = length-append (first ∷ others) (next ∷ []) in omega (arith, l, room)) in
-    ap (λ (m : ℕ). set ((first ∷ others) ++ replicate m first) (length (first ∷ others)) next) e
-    ∙ set-append_seam (first ∷ others) first (replicate n first) next
-    ∙ sym (append_assoc (first ∷ others) (next ∷ []) (replicate n first))
-    ∙ ap (λ (m : ℕ). ((first ∷ others) ++ next ∷ []) ++ replicate m first) (sym f)
+    rw (e) (rw (f) (set-append_seam (first ∷ others) first (replicate n first) next
+    ∙ sym (append_assoc (first ∷ others) (next ∷ []) (replicate n first))))
 
 -- the slots begin with the alternatives
 begin_with : (all : Alternatives) → take (length all) (in_slots all) ≡ all
@@ -169,9 +167,7 @@ pub has_one_more : (slots all : Alternatives) (len : ℕ) (next : Alternative) �
     → slots ≡ in_slots all → AreAlternatives all → IsAlternative next
     → length all < 8 → may_follow all next ≡ true → HasOneMore slots len next
 has_one_more slots all len next begins long kept are is room fits =
-    let now : set slots len next ≡ in_slots (all ++ next ∷ []) =
-    ap (λ (xs : Alternatives). set xs len next) kept ∙ ap (λ (n : ℕ). set (in_slots all) n next) long
-    ∙ pushed all next are.several room in
+    let now : set slots len next ≡ in_slots (all ++ next ∷ []) = rw (kept, long) (pushed all next are.several room) in
     let count : length (all ++ next ∷ []) ≡ len + 1 =
     (let l = length-append all (next ∷ []) in omega (arith, l, long)) in
     let front : take (len + 1) (set slots len next) ≡ all ++ next ∷ [] =
@@ -179,7 +175,7 @@ has_one_more slots all len next begins long kept are is room fits =
     ∙ begin_with (all ++ next ∷ []) in
     let some = are.several in
     record {
-      begins = front ∙ ap (λ (xs : Alternatives). xs ++ next ∷ []) (sym begins);
+      begins = rw (begins) front;
       long = sym count ∙ ap length (sym front);
       kept = now ∙ ap in_slots (sym front);
       are = subst AreAlternatives (sym front)

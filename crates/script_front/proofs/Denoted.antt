@@ -2,20 +2,19 @@
 use Rattle.script_front.proofs.Words.{[], ◌++◌, ◌+◌, ◌-◌, ◌<◌, ◌∙◌, ◌∷◌, ◌≡◌, ◌≤◌, Act, AddComponent, AddPacket}
 use Rattle.script_front.proofs.Words.{AddService, AddSub, All, AllByRecursion, AllFit, Alternative, AreWords, At, Block}
 use Rattle.script_front.proofs.Words.{Bool, Carrier, CommitAt, CommitIn, Component, Condition, Contact, Denotes}
-use Rattle.script_front.proofs.Words.{DropComponent, DropPacket, DropService, DropSub, Early, Edit, FrameLayout}
-use Rattle.script_front.proofs.Words.{HasLexemes, I, II, III, IV, IsAct, IsAlternative, IsCarrier, IsComponent}
-use Rattle.script_front.proofs.Words.{IsCondition, IsEdit, IsInBounds, IsItem, IsMoment, IsName, IsPlan, IsScript}
-use Rattle.script_front.proofs.Words.{IsSid, IsWord, Item, Join, Line, List, Mode, MoveSub, Plan, RateSub, ReserveOne}
-use Rattle.script_front.proofs.Words.{ReserveTwo, Settle, Sid, Sound, Spelled, Statement, Stream, Time, Tree, Until}
-use Rattle.script_front.proofs.Words.{Wait, WaitAny, WaitContact, Whole, act_lexemes, alternative_lexemes}
-use Rattle.script_front.proofs.Words.{alternatives_lexemes, ap, append_assoc, apply, arith, basic, block_lexemes}
-use Rattle.script_front.proofs.Words.{block_lines, block_of, carrier_lexemes, closing, condition_lexemes, decimal}
-use Rattle.script_front.proofs.Words.{decimal_word, defined_lexemes, defined_lines, edit_lexemes, either, false}
-use Rattle.script_front.proofs.Words.{forever, groups_text, header_lexemes, header_lines, hex_text, hex_word_word}
-use Rattle.script_front.proofs.Words.{if_lexemes, items_lexemes, items_lines, keyword_text, layout_mode, length}
-use Rattle.script_front.proofs.Words.{letters, level_text, limits_lexemes, line, mode_lexemes, moment_lexemes, name_at}
+use Rattle.script_front.proofs.Words.{DropComponent, DropPacket, DropService, DropSub, Early, Edit, FrameLayout, I, II}
+use Rattle.script_front.proofs.Words.{III, IV, IsAct, IsAlternative, IsCarrier, IsComponent, IsCondition, IsEdit}
+use Rattle.script_front.proofs.Words.{IsInBounds, IsItem, IsMoment, IsName, IsPlan, IsScript, IsSid, IsWord, Item, Join}
+use Rattle.script_front.proofs.Words.{Line, List, Mode, MoveSub, Plan, RateSub, ReserveOne, ReserveTwo, Settle, Sid}
+use Rattle.script_front.proofs.Words.{Sound, Spelled, Statement, Stream, Time, Tree, Until, Wait, WaitAny, WaitContact}
+use Rattle.script_front.proofs.Words.{Whole, act_lexemes, alternative_lexemes, alternatives_lexemes, ap, append_assoc}
+use Rattle.script_front.proofs.Words.{apply, arith, basic, block_lexemes, block_lines, block_of, carrier_lexemes}
+use Rattle.script_front.proofs.Words.{closing, condition_lexemes, decimal_word, defined_lexemes, defined_lines}
+use Rattle.script_front.proofs.Words.{edit_lexemes, either, false, forever, groups_text, header_lexemes, header_lines}
+use Rattle.script_front.proofs.Words.{hex_word_word, if_lexemes, items_lexemes, items_lines, keyword_text, layout_mode}
+use Rattle.script_front.proofs.Words.{length, letters, level_text, line, mode_lexemes, moment_lexemes, name_at}
 use Rattle.script_front.proofs.Words.{name_word, nothing, or_lexemes, profile_word_word, refl, repeat, reserve_lexemes}
-use Rattle.script_front.proofs.Words.{sid_word_word, stop, subst, suc, sym, text_of_lines, time_word_word, tree_lexemes}
+use Rattle.script_front.proofs.Words.{sid_word_word, stop, suc, sym, text_of_lines, time_word_word, tree_lexemes}
 use Rattle.script_front.proofs.Words.{tree_lines, true, when, within_lexemes, ℕ}
 use Rattle.mux_types.specs.declared.parts.Carrier.TheVariants.{Sub as BySub, Packet as ByPacket}
 use Rattle.mux_types.specs.declared.parts.Component.TheVariants.{Packet as InPackets}
@@ -242,14 +241,11 @@ block_are names known depth d le are (apply n number named rest) h =
 -- the tokens of two lists of lines
 all_both : (xs ys : List Line) → all_words (xs ++ ys) ≡ all_words xs ++ all_words ys
 all_both [] ys = refl
-all_both (x ∷ xs) ys = ap (λ (ws : Spelled). x.lexemes ++ ws) (all_both xs ys)
-    ∙ sym (append_assoc x.lexemes (all_words xs) (all_words ys))
+all_both (x ∷ xs) ys = rw (all_both xs ys) (sym (append_assoc x.lexemes (all_words xs) (all_words ys)))
 
 body_all : (body rest : List Line) (b r : Spelled) (d : ℕ) → all_words body ≡ b → all_words rest ≡ r
     → all_words (body ++ closing d ∷ rest) ≡ b ++ letters the.CloseBrace ∷ r
-body_all body rest b r d e f = all_both body (closing d ∷ rest)
-    ∙ ap (λ (ws : Spelled). ws ++ letters the.CloseBrace ∷ all_words rest) e
-    ∙ ap (λ (ws : Spelled). b ++ letters the.CloseBrace ∷ ws) f
+body_all body rest b r d e f = rw (← f, ← e) (all_both body (closing d ∷ rest))
 
 -- the first line of `if`, and what follows it
 tested : (condition : Condition) (us ws : Spelled) → us ≡ ws → if_lexemes condition
@@ -261,32 +257,26 @@ tested condition us ws e =
 
 block_all : (names : List (List ℕ)) (d : ℕ) (b : Block) → all_words (block_lines names d b) ≡ block_lexemes names b
 block_all names d nothing = refl
-block_all names d (basic n act rest) = ap (λ (ws : Spelled). act_lexemes act ++ ws) (block_all names d rest)
-block_all names d (stop n rest) = ap (λ (ws : Spelled). letters the.End ∷ ws) (block_all names d rest)
+block_all names d (basic n act rest) = rw (block_all names d rest) refl
+block_all names d (stop n rest) = rw (block_all names d rest) refl
 block_all names d (when n condition first rest) =
     tested condition _ _
     (body_all (block_lines names (d + 1) first) (block_lines names d rest) _ _ d (block_all names (d + 1) first)
     (block_all names d rest))
 block_all names d (either n condition first second rest) =
-    tested condition _ _
-    (all_both (block_lines names (d + 1) first) _ ∙ ap
-    (λ (ws : Spelled). ws ++ letters the.CloseBrace ∷ letters the.Else ∷ letters the.OpenBrace
-    ∷ all_words (block_lines names (d + 1) second ++ closing d ∷ block_lines names d rest))
-    (block_all names (d + 1) first)
-    ∙ ap (λ (ws : Spelled). block_lexemes names first ++ letters the.CloseBrace ∷ letters the.Else
-    ∷ letters the.OpenBrace ∷ ws)
-    (body_all (block_lines names (d + 1) second) (block_lines names d rest) _ _ d (block_all names (d + 1) second)
-    (block_all names d rest)))
+    tested condition _ _ (rw (
+      ← body_all (block_lines names (d + 1) second) (block_lines names d rest) _ _ d
+          (block_all names (d + 1) second) (block_all names d rest),
+      ← block_all names (d + 1) first,
+    )
+    (all_both (block_lines names (d + 1) first) _))
 block_all names d (repeat n times body rest) =
-    ap (λ (ws : Spelled). letters the.Repeat ∷ decimal times ∷ letters the.OpenBrace ∷ ws)
-    (body_all (block_lines names (d + 1) body) (block_lines names d rest) _ _ d (block_all names (d + 1) body)
-    (block_all names d rest))
+    rw (body_all (block_lines names (d + 1) body) (block_lines names d rest) _ _ d (block_all names (d + 1) body)
+    (block_all names d rest)) refl
 block_all names d (forever n body rest) =
-    ap (λ (ws : Spelled). letters the.Forever ∷ letters the.OpenBrace ∷ ws)
-    (body_all (block_lines names (d + 1) body) (block_lines names d rest) _ _ d (block_all names (d + 1) body)
-    (block_all names d rest))
-block_all names d (apply n number named rest) =
-    ap (λ (ws : Spelled). letters the.Apply ∷ name_at names number ∷ ws) (block_all names d rest)
+    rw (body_all (block_lines names (d + 1) body) (block_lines names d rest) _ _ d (block_all names (d + 1) body)
+    (block_all names d rest)) refl
+block_all names d (apply n number named rest) = rw (block_all names d rest) refl
 
 -- ---- a script
 
@@ -340,7 +330,7 @@ items_are (i ∷ is) h = (edit_are i.edit (h 0 i (omega arith)).0, items_are is 
 
 items_all : (is : List Item) → all_words (items_lines is) ≡ items_lexemes is
 items_all [] = refl
-items_all (i ∷ is) = ap (λ (ws : Spelled). edit_lexemes i.edit ++ ws) (items_all is)
+items_all (i ∷ is) = rw (items_all is) refl
 
 defined_are : (names : List (List ℕ)) (n : ℕ) (bs : List (List Statement)) → n + length bs ≤ length names
     → AreNamed names → AllFit n bs → AreLines (defined_lines names n bs)
@@ -356,9 +346,8 @@ defined_all : (names : List (List ℕ)) (n : ℕ) (bs : List (List Statement))
     → all_words (defined_lines names n bs) ≡ defined_lexemes names n bs
 defined_all names n [] = refl
 defined_all names n (b ∷ bs) =
-    ap (λ (ws : Spelled). letters the.Define ∷ name_at names n ∷ letters the.OpenBrace ∷ ws)
-    (body_all (block_lines names 1 (block_of [] b)) (defined_lines names (n + 1) bs) _ _ 0
-    (block_all names 1 (block_of [] b)) (defined_all names (n + 1) bs))
+    rw (body_all (block_lines names 1 (block_of [] b)) (defined_lines names (n + 1) bs) _ _ 0
+    (block_all names 1 (block_of [] b)) (defined_all names (n + 1) bs)) refl
 
 reserve_all : (l : FrameLayout) → reserve_lexemes l ++ [] ≡ reserve_lexemes l
 reserve_all (Whole mode) = refl
@@ -366,8 +355,7 @@ reserve_all (ReserveOne mode) = refl
 reserve_all ReserveTwo = refl
 
 header_all : (h : Plan) → all_words (header_lines h) ≡ header_lexemes h
-header_all h = ap (λ (ws : Spelled). letters the.Ensemble ∷ hex_text h.eid
-    ∷ (mode_lexemes (layout_mode h.layout) ++ limits_lexemes h ws)) (reserve_all h.layout)
+header_all h = rw (reserve_all h.layout) refl
 
 tree_all : (t : Tree) → all_words (tree_lines t) ≡ tree_lexemes t
 tree_all t =
@@ -398,5 +386,4 @@ tree_are t s =
 pub printed_denotes : (text : List ℕ) (t : Tree) → IsScript t → text ≡ text_of_lines (tree_lines t) → Denotes text t
 printed_denotes text t s e =
     let h = lines_have (tree_lines t) (tree_are t s) in
-    subst (λ (b : List ℕ). Denotes b t) (sym e)
-    (subst (λ (ws : Spelled). HasLexemes (text_of_lines (tree_lines t)) ws) (tree_all t) h)
+    rw (e) (rw (← tree_all t) h)

@@ -1,10 +1,9 @@
 -- The tokens of a text are those among its pieces.
 use Rattle.script_front.proofs.Words.{[], ◌++◌, ◌+◌, ◌-◌, ◌∙◌, ◌∷◌, ◌≡◌, AreTokens, HasLines, IsScriptOf, LineEnd, List}
-use Rattle.script_front.proofs.Words.{Ok, Piece, Result, Token, TokensFit, Tree, ap, append_assoc, arith, atom, blank}
-use Rattle.script_front.proofs.Words.{brace, comment, drop-append_seam, first_position, kind_of, length, length-append}
-use Rattle.script_front.proofs.Words.{lexemes_in, lexemes_of, lines_of, position_after, position_past, refl}
-use Rattle.script_front.proofs.Words.{script_limits, slice_range, subst, sym, take-append_seam, text_of, tokens_of}
-use Rattle.script_front.proofs.Words.{tree_lexemes, ℕ}
+use Rattle.script_front.proofs.Words.{Ok, Piece, Result, Token, Tree, append_assoc, arith, atom, blank, brace, comment}
+use Rattle.script_front.proofs.Words.{drop-append_seam, first_position, kind_of, length, length-append, lexemes_in}
+use Rattle.script_front.proofs.Words.{lexemes_of, lines_of, position_after, position_past, refl, script_limits}
+use Rattle.script_front.proofs.Words.{slice_range, sym, take-append_seam, text_of, tokens_of, tree_lexemes, ℕ}
 use Rattle.script_tokens.specs.declared.token.Kind.{Kind}
 use Rattle.script_tokens.specs.declared.token.Place.{Place}
 use Rattle.script_tokens.specs.declared.fault.ScriptFault.{ScriptFault}
@@ -32,7 +31,7 @@ next_at p front bs e = let l = length-append front bs in let m = past_bytes p bs
 not_stopped : (front bs : List ℕ) (ts : List Token) (ps : List Piece)
     → lexemes_of ((front ++ bs) ++ text_of ps) ts ≡ lexemes_in ps
     → lexemes_of (front ++ (bs ++ text_of ps)) ts ≡ lexemes_in ps
-not_stopped front bs ts ps h = ap (λ (t : List ℕ). lexemes_of t ts) (sym (append_assoc front bs (text_of ps))) ∙ h
+not_stopped front bs ts ps h = rw (← append_assoc front bs (text_of ps)) h
 
 slices : (front : List ℕ) (p : Place) (ps : List Piece) → p.at ≡ length front
     → lexemes_of (front ++ text_of ps) (tokens_of p ps) ≡ lexemes_in ps
@@ -46,16 +45,17 @@ slices front p (comment bs ∷ ps) e =
 slices front p (brace b ∷ ps) e =
     let here : slice_range (front ++ (b ∷ text_of ps)) p.at (p.at + 1) ≡ b ∷ [] =
     seam front (b ∷ []) (text_of ps) p.at e in
-    ap (λ (w : List ℕ). w ∷ lexemes_of (front ++ (b ∷ text_of ps)) (tokens_of (position_past p (b ∷ [])) ps)) here
-    ∙ ap (λ (ws : List (List ℕ)). (b ∷ []) ∷ ws)
-    (not_stopped front (b ∷ []) (tokens_of (position_past p (b ∷ [])) ps) ps
-    (slices (front ++ b ∷ []) (position_past p (b ∷ [])) ps (next_at p front (b ∷ []) e)))
+    rw (
+      here,
+      not_stopped front (b ∷ []) (tokens_of (position_past p (b ∷ [])) ps) ps
+          (slices (front ++ b ∷ []) (position_past p (b ∷ [])) ps (next_at p front (b ∷ []) e)),
+    ) refl
 slices front p (atom bs ∷ ps) e =
-    ap (λ (w : List ℕ). w ∷ lexemes_of (front ++ (bs ++ text_of ps)) (tokens_of (position_past p bs) ps))
-    (seam front bs (text_of ps) p.at e)
-    ∙ ap (λ (ws : List (List ℕ)). bs ∷ ws)
-    (not_stopped front bs (tokens_of (position_past p bs) ps) ps
-    (slices (front ++ bs) (position_past p bs) ps (next_at p front bs e)))
+    rw (
+      seam front bs (text_of ps) p.at e,
+      not_stopped front bs (tokens_of (position_past p bs) ps) ps
+          (slices (front ++ bs) (position_past p bs) ps (next_at p front bs e)),
+    ) refl
 
 -- a tree whose tokens the text has, on their lines, is that of the text
 pub is_script : (text : List ℕ) (tokens : List Token) (t : Tree) → AreTokens text tokens
@@ -64,17 +64,15 @@ is_script text tokens t h spelled lined =
     let cut = h.1 in
     let first : lexemes_of (text_of cut.pieces) (tokens_of first_position cut.pieces) ≡ lexemes_in cut.pieces =
     slices [] first_position cut.pieces refl in
-    let same : lexemes_of text tokens ≡ lexemes_in cut.pieces =
-    ap (λ (b : List ℕ). lexemes_of b tokens) (sym cut.whole)
-    ∙ ap (λ (ts : List Token). lexemes_of (text_of cut.pieces) ts) (sym cut.are) ∙ first in
+    let same : lexemes_of text tokens ≡ lexemes_in cut.pieces = rw (← cut.whole, ← cut.are) first in
     record {
       pieces = cut.pieces;
       formed = cut.formed;
       whole = cut.whole;
       spelled = sym same ∙ spelled;
-      lined = subst (λ (ts : List Token). HasLines (lines_of ts) t) (sym cut.are) lined;
+      lined = rw (cut.are) lined;
       short = h.0;
-      within = subst (λ (ts : List Token). TokensFit script_limits ts) (sym cut.are) cut.within;
+      within = rw (cut.are) cut.within;
     }
 
 -- the pieces of a script's text give its tokens
@@ -105,5 +103,4 @@ denoted_words text tokens t h s =
     let same = are_its_tokens text tokens t h s in
     let first : lexemes_of (text_of s.pieces) (tokens_of first_position s.pieces) ≡ lexemes_in s.pieces =
     slices [] first_position s.pieces refl in
-    ap (λ (ts : List Token). lexemes_of text ts) same ∙ ap
-    (λ (b : List ℕ). lexemes_of b (tokens_of first_position s.pieces)) (sym s.whole) ∙ first ∙ s.spelled
+    rw (same, ← s.whole) (first ∙ s.spelled)

@@ -172,9 +172,9 @@ layer_plain (Statement-F.Forever line body) rest h = (whole_plain body.items, h)
 layer_plain (Statement-F.Apply line block) rest h = (refl, h)
 
 statement_plain : (s : Statement) → IsPlainStatement s
-statement_plain = ind-Statement IsPlainStatement (λ x y is.
-    subst StaysPlain (sym (fold-roll-Statement Before (statement_step []) x))
-    (subst (λ z. StaysPlain (statement_step [] (map-Statement Statement Before (before []) z))) is (layer_plain y)))
+statement_plain =
+    ind-Statement IsPlainStatement (λ x y is. subst StaysPlain (sym (fold-roll-Statement Before (statement_step []) x))
+    (rw (← is) (layer_plain y)))
 
 pub plain : (ss : List Statement) → IsPlain (block_of [] ss)
 plain [] = tt
@@ -297,7 +297,7 @@ if_begins : (fuel depth left : ℕ) (names : Names) (lines : List ℕ) (conditio
 if_begins fuel depth left names lines condition body rest first is read =
     let ws : Spelled = condition_lexemes condition ++ (body ++ rest) in
     let spelled : (letters the.If ∷ (condition_lexemes condition ++ body)) ++ rest ≡ letters the.If ∷ ws =
-    ap (λ (us : Spelled). letters the.If ∷ us) (append_assoc (condition_lexemes condition) body rest) in
+    rw (append_assoc (condition_lexemes condition) body rest) refl in
     ap (block_at (suc fuel) names lines depth (suc left)) spelled
     ∙ begun_found fuel depth left names lines statement.If ws
     ∙ after_if (block_at fuel names lines) names (line_of lines (letters the.If ∷ ws)) depth left ws condition

@@ -1,8 +1,7 @@
 -- Printed lines have their tokens: a space or the line end follows each token.
-use Rattle.script_front.proofs.Words.{[], ◌++◌, ◌∙◌, ◌∷◌, ◌≡◌, ◌⊎◌, AreWords, Blank, Brace, HasLexemes, IsWord, Line}
-use Rattle.script_front.proofs.Words.{LineEnd, List, Spelled, ap, append-nil, append_assoc, atom, blank, brace}
-use Rattle.script_front.proofs.Words.{each_after, indent, inl, inr, kind_of, line, line_text, refl, spaced, subst, suc}
-use Rattle.script_front.proofs.Words.{sym, zero, ℕ}
+use Rattle.script_front.proofs.Words.{[], ◌++◌, ◌∷◌, ◌≡◌, ◌⊎◌, AreWords, Blank, Brace, HasLexemes, IsWord, Line}
+use Rattle.script_front.proofs.Words.{LineEnd, List, Spelled, append-nil, append_assoc, atom, blank, brace, each_after}
+use Rattle.script_front.proofs.Words.{indent, inl, inr, kind_of, line, line_text, refl, spaced, suc, zero, ℕ}
 use Rattle.script_front.specs.Printing.{text_of_lines}
 
 abbrev pub IsBlank : ℕ → Type 0
@@ -12,7 +11,7 @@ pub blank_first : (b : ℕ) (bytes : List ℕ) (ws : Spelled) → IsBlank b → 
 blank_first b bytes ws k h = record {
   pieces = blank b ∷ h.pieces;
   formed = (k, tt, h.formed);
-  whole = ap (λ (t : List ℕ). b ∷ t) h.whole;
+  whole = rw (h.whole) refl;
   spelled = h.spelled;
 }
 
@@ -21,8 +20,8 @@ brace_first : (c b : ℕ) (bytes : List ℕ) (ws : Spelled) → kind_of c ≡ Br
 brace_first c b bytes ws is k h = record {
   pieces = brace c ∷ blank b ∷ h.pieces;
   formed = (is, tt, (k, tt, h.formed));
-  whole = ap (λ (t : List ℕ). c ∷ b ∷ t) h.whole;
-  spelled = ap (λ (xs : Spelled). (c ∷ []) ∷ xs) h.spelled;
+  whole = rw (h.whole) refl;
+  spelled = rw (h.spelled) refl;
 }
 
 word_first : (w : List ℕ) (b : ℕ) (bytes : List ℕ) (ws : Spelled) → IsWord w → IsBlank b → HasLexemes bytes ws
@@ -30,19 +29,16 @@ word_first : (w : List ℕ) (b : ℕ) (bytes : List ℕ) (ws : Spelled) → IsWo
 word_first w b bytes ws (inl a) k h = record {
   pieces = atom w ∷ blank b ∷ h.pieces;
   formed = ((a.some, a.are), tt, (k, tt, h.formed));
-  whole = ap (λ (t : List ℕ). w ++ b ∷ t) h.whole;
-  spelled = ap (λ (xs : Spelled). w ∷ xs) h.spelled;
+  whole = rw (h.whole) refl;
+  spelled = rw (h.spelled) refl;
 }
 word_first w b bytes ws (inr c) k h = rw (c.is) (brace_first c.byte b bytes ws c.kind k h)
 
 line_has : (w : List ℕ) (ws : Spelled) (bytes : List ℕ) (more : Spelled) → IsWord w → AreWords ws
     → HasLexemes bytes more → HasLexemes ((w ++ each_after ws) ++ 10 ∷ bytes) ((w ∷ ws) ++ more)
-line_has w [] bytes more is are h =
-    subst (λ (t : List ℕ). HasLexemes (t ++ 10 ∷ bytes) (w ∷ more)) (sym (append-nil w))
-    (word_first w 10 bytes more is (inr refl) h)
+line_has w [] bytes more is are h = rw (append-nil w) (word_first w 10 bytes more is (inr refl) h)
 line_has w (v ∷ vs) bytes more is are h =
-    subst (λ (t : List ℕ). HasLexemes t (w ∷ ((v ∷ vs) ++ more)))
-    (sym (append_assoc w (32 ∷ (v ++ each_after vs)) (10 ∷ bytes)))
+    rw (append_assoc w (32 ∷ (v ++ each_after vs)) (10 ∷ bytes))
     (word_first w 32 ((v ++ each_after vs) ++ 10 ∷ bytes) ((v ∷ vs) ++ more) is (inl refl)
     (line_has v vs bytes more are.0 are.1 h))
 
@@ -73,13 +69,12 @@ words_have (w ∷ ws) bytes more is h = line_has w ws bytes more is.0 is.1 h
 
 text_then : (d : ℕ) (ws : Spelled) (bytes : List ℕ) → line_text (line d ws) ++ bytes ≡ indent d
     ++ (spaced ws ++ 10 ∷ bytes)
-text_then d ws bytes = append_assoc (indent d) (spaced ws ++ 10 ∷ []) bytes
-    ∙ ap (λ (t : List ℕ). indent d ++ t) (append_assoc (spaced ws) (10 ∷ []) bytes)
+text_then d ws bytes =
+    rw (← append_assoc (spaced ws) (10 ∷ []) bytes) (append_assoc (indent d) (spaced ws ++ 10 ∷ []) bytes)
 
 pub lines_have : (ls : List Line) → AreLines ls → HasLexemes (text_of_lines ls) (all_words ls)
 unfolding text_of_lines
 lines_have [] are = record { pieces = []; formed = tt; whole = refl; spelled = refl }
 lines_have (l ∷ ls) are =
-    subst (λ (t : List ℕ). HasLexemes t (l.lexemes ++ all_words ls))
-    (sym (text_then l.depth l.lexemes (text_of_lines ls)))
-    (indent_has l.depth _ _ (words_have l.lexemes (text_of_lines ls) (all_words ls) are.0 (lines_have ls are.1)))
+    rw (text_then l.depth l.lexemes (text_of_lines ls)) (indent_has l.depth _ _
+    (words_have l.lexemes (text_of_lines ls) (all_words ls) are.0 (lines_have ls are.1)))

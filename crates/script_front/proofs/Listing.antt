@@ -1,8 +1,7 @@
 -- The parts of a script are within its limits when printed.
-use Rattle.script_front.proofs.Words.{[], ◌+◌, ◌-◌, ◌<◌, ◌∙◌, ◌∷◌, ◌≡◌, ◌≤◌, AllFit, Block, Global, IsInBounds, List}
-use Rattle.script_front.proofs.Words.{Statement, Vec, add-one, ap, apply, arith, basic, block_of, bodies, drop}
-use Rattle.script_front.proofs.Words.{drop-cons, either, forever, get_or, length, nothing, refl, repeat, stop, subst}
-use Rattle.script_front.proofs.Words.{sym, when, ℕ}
+use Rattle.script_front.proofs.Words.{[], ◌+◌, ◌-◌, ◌<◌, ◌∷◌, ◌≡◌, ◌≤◌, AllFit, Block, Global, IsInBounds, List}
+use Rattle.script_front.proofs.Words.{Statement, Vec, add-one, apply, arith, basic, block_of, bodies, drop, drop-cons}
+use Rattle.script_front.proofs.Words.{either, forever, get_or, length, nothing, refl, repeat, stop, subst, when, ℕ}
 
 -- a block in range where this many blocks are known is in range where more are known
 pub more_known : (known more depth : ℕ) (b : Block) → known ≤ more → IsInBounds known depth b → IsInBounds more depth b
@@ -33,7 +32,7 @@ pub next_fits : (k i names : ℕ) (bs : List (Vec Statement Global)) (v : Vec St
     → v ≡ get_or bs i v → k ≤ names → AllFit k (bodies (drop i bs)) → NextFits k i names bs v
 next_fits k i names bs v lt is few h =
     let e : drop i bs ≡ get_or bs i v ∷ drop (i + 1) bs = rw (add-one, drop-cons bs i v lt) refl in
-    let f : drop i bs ≡ v ∷ drop (i + 1) bs = e ∙ ap (λ (x : Vec Statement Global). x ∷ drop (i + 1) bs) (sym is) in
+    let f : drop i bs ≡ v ∷ drop (i + 1) bs = rw (is) e in
     let g : AllFit k (bodies (v ∷ drop (i + 1) bs)) =
     subst (λ (xs : List (Vec Statement Global)). AllFit k (bodies xs)) f h in
     record { fits = more_known k names 15 (block_of [] v.items) few g.0; later = g.1 }

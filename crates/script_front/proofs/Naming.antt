@@ -73,7 +73,7 @@ module _ {Y : Type 0} where
   added bs ks k is new =
       let none : list_any (string_eq k) ks ≡ false = ap (λ b. list_any (λ x. bytes_eq b (string_bytes x)) ks) is
       ∙ none_of bs ks new in
-      rw (none) (map_append ks k ∙ ap (λ b. map string_bytes ks ++ b ∷ []) is)
+      rw (none) (rw (← is) (map_append ks k))
 
   map_length : (ks : List (String Y)) → length (map string_bytes ks) ≡ length ks
   map_length [] = refl

@@ -27,12 +27,10 @@ digit n small = decimal_digit n small
 
 pub behind_both : (xs ys : Spelled) → each_after (xs ++ ys) ≡ each_after xs ++ each_after ys
 behind_both [] ys = refl
-behind_both (w ∷ xs) ys = ap (λ (t : List ℕ). 32 ∷ (w ++ t)) (behind_both xs ys)
-    ∙ ap (λ (t : List ℕ). 32 ∷ t) (sym (append_assoc w (each_after xs) (each_after ys)))
+behind_both (w ∷ xs) ys = rw (behind_both xs ys, ← append_assoc w (each_after xs) (each_after ys)) refl
 
 spaced_both : (w : List ℕ) (xs ys : Spelled) → spaced ((w ∷ xs) ++ ys) ≡ spaced (w ∷ xs) ++ each_after ys
-spaced_both w xs ys = ap (λ (t : List ℕ). w ++ t) (behind_both xs ys)
-    ∙ sym (append_assoc w (each_after xs) (each_after ys))
+spaced_both w xs ys = rw (behind_both xs ys) (sym (append_assoc w (each_after xs) (each_after ys)))
 
 carried_in : (m : Component) (ys : Spelled) → spaced (carried_lexemes m ++ ys) ≡ spaced (carried_lexemes m)
     ++ each_after ys
@@ -44,28 +42,25 @@ pub component_put : (old out new : List ℕ) (sid : Sid) (m : Component) → out
     → new ≡ out ++ each_after (within_lexemes sid)
     → new ≡ old ++ spaced (edit_lexemes (AddComponent sid m))
 component_put old out new sid m e f =
-    f ∙ ap (λ (t : List ℕ). t ++ each_after (within_lexemes sid)) e
-    ∙ append_assoc old (spaced (carried_lexemes m)) (each_after (within_lexemes sid))
-    ∙ ap (λ (t : List ℕ). old ++ t) (sym (carried_in m (within_lexemes sid)))
+    rw (carried_in m (within_lexemes sid)) (f ∙ ap (λ (t : List ℕ). t ++ each_after (within_lexemes sid)) e
+    ∙ append_assoc old (spaced (carried_lexemes m)) (each_after (within_lexemes sid)))
 
 pub drop_put : (old one two new : List ℕ) (sid : Sid) (m : Carrier) → one ≡ old ++ codes "drop component" → two ≡ one
     ++ each_after (carrier_lexemes m) → new ≡ two ++ each_after (within_lexemes sid)
     → new ≡ old ++ spaced (edit_lexemes (DropComponent sid m))
 unfolding letters
 drop_put old one two new sid m e f g =
-    g ∙ ap (λ (t : List ℕ). t ++ each_after (within_lexemes sid))
-    (f ∙ ap (λ (t : List ℕ). t ++ each_after (carrier_lexemes m)) e)
+    rw (behind_both (carrier_lexemes m) (within_lexemes sid))
+    (g ∙ ap (λ (t : List ℕ). t ++ each_after (within_lexemes sid)) (rw (← e) f)
     ∙ append_assoc (old ++ codes "drop component") (each_after (carrier_lexemes m)) (each_after (within_lexemes sid))
-    ∙ append_assoc old (codes "drop component") (each_after (carrier_lexemes m) ++ each_after (within_lexemes sid))
-    ∙ ap (λ (t : List ℕ). old ++ (codes "drop component" ++ t))
-    (sym (behind_both (carrier_lexemes m) (within_lexemes sid)))
+    ∙ append_assoc old (codes "drop component") (each_after (carrier_lexemes m) ++ each_after (within_lexemes sid)))
 
 -- ---- lines
 
 pub indent_more : (n : ℕ) → indent (n + 1) ≡ indent n ++ (32 ∷ 32 ∷ [])
 indent_more zero = refl
 indent_more (suc n) = let up : suc n + 1 ≡ suc (n + 1) = omega arith in
-    ap indent up ∙ ap (λ (xs : List ℕ). 32 ∷ 32 ∷ xs) (indent_more n)
+    rw (← indent_more n) (ap indent up)
 
 pub indented : (old out new : List ℕ) (n : ℕ) → out ≡ old ++ indent n → new ≡ out ++ (32 ∷ 32 ∷ []) → new ≡ old
     ++ indent (n + 1)
@@ -74,21 +69,18 @@ indented old out new n h k = rw (k, h, indent_more n) (append_assoc old (indent 
 pub text_both : (xs ys : List Line) → text_of_lines (xs ++ ys) ≡ text_of_lines xs ++ text_of_lines ys
 unfolding text_of_lines
 text_both [] ys = refl
-text_both (x ∷ xs) ys = ap (λ (t : List ℕ). line_text x ++ t) (text_both xs ys)
-    ∙ sym (append_assoc (line_text x) (text_of_lines xs) (text_of_lines ys))
+text_both (x ∷ xs) ys = rw (text_both xs ys) (sym (append_assoc (line_text x) (text_of_lines xs) (text_of_lines ys)))
 
 -- a line, and the lines after it
 line_then : (old new : List ℕ) (l : Line) (ls : List Line) → new ≡ old ++ line_text l → new ++ text_of_lines ls ≡ old
     ++ text_of_lines (l ∷ ls)
 unfolding text_of_lines
-line_then old new l ls e = ap (λ (t : List ℕ). t ++ text_of_lines ls) e
-    ∙ append_assoc old (line_text l) (text_of_lines ls)
+line_then old new l ls e = rw (e) (append_assoc old (line_text l) (text_of_lines ls))
 
 -- lines, and more after them
 lines_then : (old new : List ℕ) (xs ys : List Line) → new ≡ old ++ text_of_lines xs → new ++ text_of_lines ys ≡ old
     ++ text_of_lines (xs ++ ys)
-lines_then old new xs ys e = ap (λ (t : List ℕ). t ++ text_of_lines ys) e
-    ∙ append_assoc old (text_of_lines xs) (text_of_lines ys) ∙ ap (λ (t : List ℕ). old ++ t) (sym (text_both xs ys))
+lines_then old new xs ys e = rw (e) (rw (text_both xs ys) (append_assoc old (text_of_lines xs) (text_of_lines ys)))
 
 pub act_put : (names : List (List ℕ)) (old new : List ℕ) (d n : ℕ) (act : Act) (added : Before) → new ≡ old
     ++ line_text (line d (act_lexemes act)) → ((b : Block) → added b ≡ basic n act b)
@@ -181,7 +173,7 @@ name_there (n ∷ names) (suc i) lt e = name_there names i (omega arith) e
 cut : (ss : List Statement) (i : ℕ) (s : Statement) → i < length ss → s ≡ get_or ss i s
     → block_of [] (drop i ss) ≡ before [] s (block_of [] (drop (i + 1) ss))
 cut ss i s lt is = let e : drop i ss ≡ get_or ss i s ∷ drop (i + 1) ss = rw (add-one, drop-cons ss i s lt) refl in
-    ap (block_of []) e ∙ ap (λ (x : Statement). before [] x (block_of [] (drop (i + 1) ss))) (sym is)
+    rw (is) (ap (block_of []) e)
 
 -- the statements printed so far, and those that remain
 pub record Printed (names : List (List ℕ)) (old out : List ℕ) (d : ℕ) (ss : List Statement) (i : ℕ) : Type 0 where
@@ -214,7 +206,7 @@ item_more old out new is i x lt same put h = record {
   whole = (
       let e : drop i is ≡ get_or is i x ∷ drop (i + 1) is = rw (add-one, drop-cons is i x lt) refl in
       let f : items_lines (drop i is) ≡ line 0 (edit_lexemes x.edit) ∷ items_lines (drop (i + 1) is) =
-      ap items_lines e ∙ ap (λ (y : Item). line 0 (edit_lexemes y.edit) ∷ items_lines (drop (i + 1) is)) (sym same) in
+      rw (same) (ap items_lines e) in
       line_then out new (line 0 (edit_lexemes x.edit)) (items_lines (drop (i + 1) is)) put
       ∙ sym (ap (λ (ls : List Line). out ++ text_of_lines ls) f) ∙ h.whole
       );
@@ -258,10 +250,7 @@ definition_more names old out new bs i b lt same put h = record {
       let e : drop i bs ≡ get_or bs i b ∷ drop (i + 1) bs = rw (add-one, drop-cons bs i b lt) refl in
       let later : List Line = defined_lines names (i + 1) (bodies (drop (i + 1) bs)) in
       let f : defined_lines names i (bodies (drop i bs)) ≡ definition_lines names i b.items ++ later =
-      ap (λ (xs : List (Vec Statement Global)). defined_lines names i (bodies xs)) e
-      ∙ ap (λ (y : Vec Statement Global). defined_lines names i (bodies (y ∷ drop (i + 1) bs))) (sym same)
-      ∙ ap (λ (ls : List Line). line 0 (letters the.Define ∷ name_at names i ∷ letters the.OpenBrace ∷ []) ∷ ls)
-      (sym (append_assoc (block_lines names 1 (block_of [] b.items)) (closing 0 ∷ []) later)) in
+      rw (e, ← same, ← append_assoc (block_lines names 1 (block_of [] b.items)) (closing 0 ∷ []) later) refl in
       lines_then out new (definition_lines names i b.items) later put
       ∙ sym (ap (λ (ls : List Line). out ++ text_of_lines ls) f) ∙ h.whole
       );
@@ -285,8 +274,8 @@ limits_put old one two new h e f g =
     let reserve : List ℕ = each_after (reserve_lexemes h.layout) in
     let tokens : Spelled = decimal h.period ∷ letters the.Notice ∷ decimal h.notice ∷ letters the.Budget
     ∷ decimal h.budget ∷ [] in
-    g ∙ ap (λ (t : List ℕ). t ++ 10 ∷ []) (f ∙ ap (λ (t : List ℕ). t ++ reserve) e ∙ append_assoc old limits reserve
-    ∙ ap (λ (t : List ℕ). old ++ t) (sym (spaced_both (letters the.Period) tokens (reserve_lexemes h.layout))))
+    g ∙ ap (λ (t : List ℕ). t ++ 10 ∷ []) (rw (spaced_both (letters the.Period) tokens (reserve_lexemes h.layout))
+    (f ∙ ap (λ (t : List ℕ). t ++ reserve) e ∙ append_assoc old limits reserve))
     ∙ append_assoc old (spaced (limits_lexemes h (reserve_lexemes h.layout))) (10 ∷ [])
 
 pub header_put : (old one two three four new : List ℕ) (h : Plan) → one ≡ old ++ codes "ensemble " → two ≡ one
@@ -308,8 +297,7 @@ header_put old one two three four new h e f g i j =
 pub sliced : (names : List (List ℕ)) (old new : List ℕ) (d : ℕ) (slice items : List Statement) → slice ≡ items
     → new ≡ old ++ text_of_lines (block_lines names (d + 1) (block_of [] slice))
     → new ≡ old ++ text_of_lines (block_lines names (d + 1) (block_of [] items))
-sliced names old new d slice items is e =
-    e ∙ ap (λ (ss : List Statement). old ++ text_of_lines (block_lines names (d + 1) (block_of [] ss))) is
+sliced names old new d slice items is e = rw (← is) e
 
 -- a whole script
 pub script_put : (t : Tree) (one two three four new : List ℕ) (h : Plan) (is : List Item) (names : List (List ℕ))
@@ -327,15 +315,4 @@ script_put t one two three four new h is names bs ss a b c d e f g i j k =
     k ∙ line_then three four begin body j ∙ lines_then two three (defined_lines names 0 bs) (begin ∷ body) i
     ∙ lines_then one two (items_lines is) (defined_lines names 0 bs ++ begin ∷ body) g
     ∙ lines_then [] one (header_lines h) (items_lines is ++ (defined_lines names 0 bs ++ begin ∷ body)) f in
-    whole ∙ ap (λ (x : Plan). text_of_lines (header_lines x
-    ++ (items_lines is ++ (defined_lines names 0 bs ++ begin ∷ body)))) a
-    ∙ ap (λ (x : List Item). text_of_lines (header_lines t.header
-    ++ (items_lines x ++ (defined_lines names 0 bs ++ begin ∷ body)))) b
-    ∙ ap (λ (x : List (List ℕ)). text_of_lines (header_lines t.header
-    ++ (items_lines t.items ++ (defined_lines x 0 bs ++ begin ∷ block_lines x 0 (block_of [] ss))))) c
-    ∙ ap (λ (x : List (List Statement)). text_of_lines
-    (header_lines t.header ++ (items_lines t.items
-    ++ (defined_lines t.names 0 x ++ begin ∷ block_lines t.names 0 (block_of [] ss))))) d
-    ∙ ap (λ (x : List Statement). text_of_lines (header_lines t.header
-    ++ (items_lines t.items ++ (defined_lines t.names 0 t.blocks
-    ++ begin ∷ block_lines t.names 0 (block_of [] x))))) e
+    rw (← e, ← d, ← c, ← b, ← a) whole

@@ -23,14 +23,14 @@ twice old one new first second e f = f ∙ ap (λ (t : Text). t ++ second) e ∙
 
 pub at_put : (old new : Text) (time : ℕ) → new ≡ old ++ (32 ∷ time_text time) → new ≡ old
     ++ each_after (moment_lexemes (At time))
-at_put old new time e = e ∙ ap (λ (t : Text). old ++ 32 ∷ t) (sym (append-nil (time_text time)))
+at_put old new time e = rw (append-nil (time_text time)) e
 
 pub early_put : (old one new : Text) (time frames : ℕ) → one ≡ old ++ (32 ∷ time_text time) → new ≡ one
     ++ (codes " early " ++ decimal frames) → new ≡ old ++ each_after (moment_lexemes (Early time frames))
 unfolding letters
 early_put old one new time frames e f =
     twice old one new (32 ∷ time_text time) (codes " early " ++ (decimal frames ++ [])) e
-    (f ∙ ap (λ (t : Text). one ++ (codes " early " ++ t)) (sym (append-nil (decimal frames))))
+    (rw (append-nil (decimal frames)) f)
 
 pub until_put : (old one new : Text) (m : Moment) → one ≡ old ++ codes "until" → new ≡ one
     ++ each_after (moment_lexemes m) → new ≡ old ++ spaced (act_lexemes (Until m))
@@ -57,7 +57,7 @@ or_more old out one new all i a lt same e f h = record {
       let rest : Text = each_after (or_lexemes (drop (i + 1) all)) in
       let this : Text = each_after (alternative_lexemes a) in
       let cut : drop i all ≡ get_or all i a ∷ drop (i + 1) all = rw (add-one, drop-cons all i a lt) refl in
-      let next : drop i all ≡ a ∷ drop (i + 1) all = cut ∙ ap (λ (b : Alternative). b ∷ drop (i + 1) all) (sym same) in
+      let next : drop i all ≡ a ∷ drop (i + 1) all = rw (same) cut in
       ap (λ (t : Text). t ++ rest) (twice out one new (codes " or") this e f)
       ∙ append_assoc out (codes " or" ++ this) rest
       ∙ ap (λ (t : Text). out ++ (codes " or" ++ t))
@@ -93,8 +93,7 @@ unfolding letters
 window_put old one two three new from to e f g h =
     twice old one new (codes " time ") (time_text from ++ (codes " to " ++ (time_text to ++ []))) e
     (twice one two new (time_text from) (codes " to " ++ (time_text to ++ [])) f
-    (twice two three new (codes " to ") (time_text to ++ []) g
-    (h ∙ ap (λ (t : Text). three ++ t) (sym (append-nil (time_text to))))))
+    (twice two three new (codes " to ") (time_text to ++ []) g (rw (append-nil (time_text to)) h)))
 
 pub if_put : (old one two new : Text) (d : ℕ) (c : Condition) → one ≡ old ++ (indent d ++ codes "if") → two ≡ one
     ++ each_after (condition_lexemes c) → new ≡ two ++ codes " {\n" → new ≡ old ++ line_text (line d (if_lexemes c))

@@ -1,7 +1,7 @@
 -- The reading of statements: what is read is in range, is counted, and is spelled by the tokens taken, on their lines.
 use Rattle.script_front.proofs.Words.{[], ◌++◌, ◌+◌, ◌-◌, ◌<◌, ◌==◌, ◌>>=◌, ◌∙◌, ◌∷◌, ◌≡◌, ◌≤◌, Block, BlockOn, Bool}
 use Rattle.script_front.proofs.Words.{Condition, IsCondition, IsInBounds, List, None, Option, Passage, ReadsAsSpelled}
-use Rattle.script_front.proofs.Words.{Some, Spelled, StatementKeyword, Statements, act_from, act_keyword, act_lexemes}
+use Rattle.script_front.proofs.Words.{Some, Spelled, StatementKeyword, Statements, act_from, act_lexemes}
 use Rattle.script_front.proofs.Words.{after, after_begins, ap, append_assoc, arith, bind_some, block_lexemes, braced}
 use Rattle.script_front.proofs.Words.{bytes_eq, bytes_eq-Decides, condition_at, condition_lexemes, counted, decimal}
 use Rattle.script_front.proofs.Words.{drop, either, false, finish, first_statement, from_one, if◌then◌else◌, is_next}
@@ -13,7 +13,7 @@ use Rattle.script_front.specs.BlockReader.{open_at, body_at, applied_at, branch_
 use Rattle.script_tokens.specs.declared.keyword.Keyword.TheVariants as the
 use Rattle.script_tokens.specs.declared.first_keyword.StatementKeyword.TheVariants as statement
 use Rattle.script_front.proofs.ReadingWaits.{condition_law}
-use Rattle.script_front.proofs.Readings.{act_first, act_begins, act_law}
+use Rattle.script_front.proofs.Readings.{act_begins, act_law}
 
 abbrev pub Names : Type 0
 Names = List (List ℕ)
@@ -73,8 +73,7 @@ open_given depth ws rest e = chosen (depth == 0) refl e
 -- a block in braces, and the tokens after it
 pub braced_then : (body tail rest : Spelled) → braced body tail
     ++ rest ≡ letters the.OpenBrace ∷ (body ++ letters the.CloseBrace ∷ (tail ++ rest))
-braced_then body tail rest = ap (λ (x : Spelled). letters the.OpenBrace ∷ x)
-    (append_assoc body (letters the.CloseBrace ∷ tail) rest)
+braced_then body tail rest = rw (append_assoc body (letters the.CloseBrace ∷ tail) rest) refl
 
 pub closed : (body tail rest vs ws : Spelled) → ws ≡ letters the.OpenBrace ∷ (body ++ letters the.CloseBrace ∷ vs)
     → vs ≡ tail ++ rest → ws ≡ braced body tail ++ rest
@@ -91,8 +90,7 @@ applied_given names ws x e =
     let g = values_are_read.names.given ws a.x a.first in
     let p = position-Some (bytes_eq a.x.0) names b.x [] b.first in
     let same : a.x.0 ≡ name_at names b.x = (bytes_eq-Decides a.x.0 (name_at names b.x)).0 p.1 in
-    finish (λ y. (y.0 < length names) × (ws ≡ name_at names y.0 ∷ y.1)) (b.x, a.x.1) x b.second
-    (p.0, g.1 ∙ ap (λ (w : List ℕ). w ∷ a.x.1) same)
+    finish (λ y. (y.0 < length names) × (ws ≡ name_at names y.0 ∷ y.1)) (b.x, a.x.1) x b.second (p.0, rw (← same) g.1)
 
 -- what a reading of statements gives
 abbrev Given : (all names : Names) → List ℕ → Statements → Type 0
@@ -117,7 +115,7 @@ module _ (all names : Names) (lines : List ℕ) (agree : Agree (length names) na
         counts = h.counts;
         spelled = o.1 ∙ ap (λ (vs : Spelled). letters the.OpenBrace ∷ vs)
             (h.spelled ∙ ap (λ (vs : Spelled). block_lexemes all b.x.block ++ vs) k);
-        lined = subst (λ (vs : Spelled). BlockOn all lines b.x.block vs) k h.lined;
+        lined = rw (← k) h.lined;
       })
 
   -- a block on its lines, where the tokens after it are known to be others
@@ -166,9 +164,8 @@ module _ (all names : Names) (lines : List ℕ) (agree : Agree (length names) na
           let g = given depth a.x.left a.x.rest q.more q.read in
           let tail : Spelled = letters the.Else ∷ braced (block_lexemes all a.x.block)
           (block_lexemes all q.more.block) in
-          let later : first.rest ≡ tail ++ q.more.rest =
-          next_begins the.Else first.rest is ∙ ap (λ (us : Spelled). letters the.Else ∷ us)
-          (closed _ (block_lexemes all q.more.block) q.more.rest _ _ s.spelled g.spelled) in
+          let later : first.rest ≡ tail ++ q.more.rest = rw (← closed _ (block_lexemes all q.more.block) q.more.rest _ _
+          s.spelled g.spelled) (next_begins the.Else first.rest is) in
           let whole = begins ∙ tested condition _ _ q.more.rest (closed _ tail q.more.rest _ vs h.spelled later) in
           finish (IsBlockRead all (length names) depth (suc left) lines ws) _ p q.is (record {
             fits = (h.room, small, h.fits, s.fits, g.fits);
@@ -259,10 +256,7 @@ module _ (all names : Names) (lines : List ℕ) (agree : Agree (length names) na
       let f = (act_law k).given vs a.x a.first in
       let q = put_some _ _ p a.second in
       let g = given depth left a.x.1 q.more q.read in
-      let here : ws ≡ act_lexemes a.x.0 ++ a.x.1 =
-      begins ∙ ap (λ j. letters (act_keyword j) ∷ vs) (sym f.0.1)
-      ∙ ap (λ (us : Spelled). letters (act_keyword (act_first a.x.0)) ∷ us) f.1
-      ∙ ap (λ (us : Spelled). us ++ a.x.1) (sym (act_begins a.x.0)) in
+      let here : ws ≡ act_lexemes a.x.0 ++ a.x.1 = rw (act_begins a.x.0, ← f.1, f.0.1) begins in
       let whole = here ∙ ap (λ (us : Spelled). act_lexemes a.x.0 ++ us) g.spelled
       ∙ sym (append_assoc (act_lexemes a.x.0) (block_lexemes all q.more.block) q.more.rest) in
       finish (IsBlockRead all (length names) depth (suc left) lines ws) _ p q.is

@@ -31,7 +31,7 @@ one_longer names n = length-append names (n ∷ [])
 
 -- the first names are as all are
 pub agrees : (all names later : Names) → all ≡ names ++ later → Agree (length names) names all
-agrees all names later front n lt = name_front names later n lt ∙ ap (λ (ns : Names). name_at ns n) (sym front)
+agrees all names later front n lt = rw (front) (name_front names later n lt)
 
 pub apart_of : (all names later : Names) → all ≡ names ++ later → AreNamedApart all → AreApart (length names) names
 apart_of all names later front different k n less lt e =
@@ -162,15 +162,12 @@ one_defined room names lines left ws name p more x xs next e is h =
     let g = body_given more.names names lines agree (block_at (suc left) names lines)
     (block_given more.names names lines agree (suc left)) 16 left a.x.1 p
     (b.first ∙ ap (λ (q : Passage). Some q) body) in
-    let mid : name_at more.names (length names) ≡ name =
-    ap (λ (ns : Names). name_at ns (length names)) front ∙ name_mid names name h.later in
+    let mid : name_at more.names (length names) ≡ name = rw (front) (name_mid names name h.later) in
     let later : p.rest ≡ defined_lexemes more.names (length names + 1) xs ++ more.rest =
-    h.spelled ∙ ap (λ k. defined_lexemes more.names k xs ++ more.rest) (one_longer names name) in
+    rw (← one_longer names name) h.spelled in
     let whole : a.x.1 ≡ braced (block_lexemes more.names (block_of [] x))
-    (defined_lexemes more.names (length names + 1) xs) ++ more.rest =
-    closed _ _ more.rest p.rest a.x.1
-    (g.spelled ∙ ap (λ (c : Block). letters the.OpenBrace
-    ∷ (block_lexemes more.names c ++ letters the.CloseBrace ∷ p.rest)) is) later in
+    (defined_lexemes more.names (length names + 1) xs) ++ more.rest = closed _ _ more.rest p.rest a.x.1
+    (rw (← is) g.spelled) later in
     record {
       later = name ∷ h.later;
       front = front;
@@ -179,8 +176,8 @@ one_defined room names lines left ws name p more x xs next e is h =
       each = (let c = h.each in omega (arith, c));
       few = (let c = h.few in omega (arith, c));
       fit = (
-        subst (λ c. IsInBounds (length names) 15 c) is g.fits,
-        subst (λ k. AllFit k xs) (one_longer names name) h.fit,
+        rw (← is) g.fits,
+        rw (← one_longer names name) h.fit,
       );
       counts = (let c = h.counts in let d = g.counts in let f = ap counted is in omega (arith, c, d, f));
       spelled = next_begins the.Define ws next ∙ ap (λ (us : Spelled). letters the.Define ∷ us)
@@ -189,7 +186,7 @@ one_defined room names lines left ws name p more x xs next e is h =
       lined = (
         subst (λ (us : Spelled). BlockOn more.names lines (block_of [] x) (letters the.CloseBrace ∷ us)) later
             (subst (λ c. BlockOn more.names lines c (letters the.CloseBrace ∷ p.rest)) is g.lined),
-        subst (λ k. DefinedOn more.names lines k xs more.rest) (one_longer names name) h.lined,
+        rw (← one_longer names name) h.lined,
       );
     }
 
@@ -315,8 +312,7 @@ definition_found all names later name lines left mid b bs rest front named diffe
     let tail : Spelled = defined_lexemes all (length names + 1) bs in
     let agree = agrees all names (name ∷ later) front in
     let apart = apart_of all names (name ∷ later) front different in
-    let mine : name_at all (length names) ≡ name = ap (λ (ns : Names). name_at ns (length names)) front
-    ∙ name_mid names name later in
+    let mine : name_at all (length names) ≡ name = rw (front) (name_mid names name later) in
     let there : length names < length all =
     (let l = ap length front in let m = length-append names (name ∷ later) in omega (arith, l, m)) in
     let is : IsName name = subst IsName mine (named (length names) [] there) in
@@ -345,8 +341,7 @@ definitions_found (n ∷ later) all names zero lines left new (b ∷ bs) rest fr
 definitions_found (n ∷ later) all names (suc room) lines left new (b ∷ bs) rest front named different each few fit
     counts none =
     let mid : ℕ = counted_in bs + new in
-    let mine : name_at all (length names) ≡ n = ap (λ (ns : Names). name_at ns (length names)) front
-    ∙ name_mid names n later in
+    let mine : name_at all (length names) ≡ n = rw (front) (name_mid names n later) in
     let one = definition_found all names later n lines left mid b bs rest front named different fit.0
     (omega (arith, counts)) in
     let step = one_longer names n in

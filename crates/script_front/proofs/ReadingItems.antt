@@ -44,10 +44,7 @@ later_some i (Some q) p e = record { more = q; read = refl; is = e }
 
 item_spelled : (ws vs : Spelled) (k : ItemKeyword) (e : Edit) (later : Spelled) → ws ≡ letters (item_keyword k) ∷ vs
     → edit_first e ≡ edit.Item k → vs ≡ edit_rest e ++ later → ws ≡ edit_lexemes e ++ later
-item_spelled ws vs k e later begins first spelled =
-    begins ∙ ap (λ j. letters (edit_keyword j) ∷ vs) (sym first)
-    ∙ ap (λ (us : Spelled). letters (edit_keyword (edit_first e)) ∷ us) spelled
-    ∙ sym (ap (λ (us : Spelled). us ++ later) (edit_begins e))
+item_spelled ws vs k e later begins first spelled = rw (edit_begins e, ← spelled, first) begins
 
 pub items_given : (left : ℕ) (lines : List ℕ) (ws : Spelled) (p : Items) → items_at left lines ws ≡ Some p
     → AreItemsRead left lines ws p
@@ -99,7 +96,7 @@ on_same lines (i ∷ is) after h =
 
 pub on_added : (lines : List ℕ) (is : List Item) (after : Spelled) → added_by (items_on lines is after) ≡ added_by is
 on_added lines [] after = refl
-on_added lines (i ∷ is) after = ap (λ (es : List Edit). i.edit ∷ es) (on_added lines is after)
+on_added lines (i ∷ is) after = rw (on_added lines is after) refl
 
 pub begins_none : (left : ℕ) (lines : List ℕ) (ws : Spelled) → first_item ws ≡ None
     → items_at left lines ws ≡ Some (record { items = []; left = left; rest = ws })

@@ -11,7 +11,7 @@ use Rattle.script_front.proofs.ReadingBlocks.{Names, passed}
 
 put_same : (f g : Before) (r : Option Passage) → ((b : Block) → f b ≡ g b) → put f r ≡ put g r
 put_same f g None h = refl
-put_same f g (Some p) h = ap (λ b. Some (passed b p.left p.rest)) (h p.block)
+put_same f g (Some p) h = rw (h p.block) refl
 
 put_both : (f g : Before) (r : Option Passage) → put f (put g r) ≡ put (λ b. f (g b)) r
 put_both f g None = refl

@@ -71,7 +71,7 @@ script_given i t e =
         defined = ap length (sym names) ∙ few;
         few_blocks = fd.few;
         blocks_fit = fd.fit;
-        fits = subst (λ c. IsInBounds (length t.blocks) 16 c) run (subst (λ n. IsInBounds n 16 r.x.block) few fr.fits);
+        fits = rw (← run) (rw (← few) fr.fits);
         few = (let x = fm.counts in let y = fd.counts in let z = fr.counts in let u = ap counted run in
             let v = ap length items in omega (arith, x, y, z, u, v));
       },
@@ -199,8 +199,7 @@ one_script text s t x y d e =
     let i : Input = record { lexemes = tree_lexemes s; lines = lines_of tokens } in
     let spells : tree_lexemes s ≡ tree_lexemes t = sym (denoted_words text tokens s here d)
     ∙ denoted_words text tokens t here e in
-    let on : HasLines (lines_of tokens) t =
-    subst (λ (ts : List Token). HasLines (lines_of ts) t) (sym (are_its_tokens text tokens t here e)) e.lined in
+    let on : HasLines (lines_of tokens) t = rw (are_its_tokens text tokens t here e) e.lined in
     let one = scripts_are_read.found i s x (record { spells = refl; lined = d.lined }) in
     let other = scripts_are_read.found i t y (record { spells = spells; lined = on }) in
     let same = some_content (content_of s) (content_of t) (sym one ∙ other) in
@@ -222,6 +221,6 @@ none_spelled text tokens i are lexemes lines none t is s =
     let read = scripts_are_read.found i t is
     (record {
       spells = lexemes ∙ denoted_words text tokens t are s;
-      lined = subst (λ (ls : List ℕ). HasLines ls t) (sym lines) on;
+      lined = rw (lines) on;
     }) in
     let f : None ≡ Some (content_of t) = sym none ∙ read in absurd cc

@@ -1,6 +1,6 @@
 -- The readings of moments, of waits and of conditions: what is read is spelled so, and what is spelled so is read,
 -- where neither `early` nor `or` follows.
-use Rattle.script_front.proofs.Words.{[], ◌++◌, ◌+◌, ◌-◌, ◌<◌, ◌>>=◌, ◌∙◌, ◌∷◌, ◌≡◌, ◌≤◌, ◌⊎◌, Act, Alternative, At}
+use Rattle.script_front.proofs.Words.{[], ◌++◌, ◌+◌, ◌-◌, ◌<◌, ◌>>=◌, ◌∙◌, ◌∷◌, ◌≡◌, ◌≤◌, Act, Alternative, At}
 use Rattle.script_front.proofs.Words.{Bool, Condition, Contact, Early, IsAct, IsAlternative, IsCondition, IsMoment}
 use Rattle.script_front.proofs.Words.{None, Option, ReadsAsSpelled, Some, Spelled, Time, Wait, WaitAny, WaitContact}
 use Rattle.script_front.proofs.Words.{act_lexemes, after_itself, allowed, alternative_lexemes, alternatives_lexemes, ap}
@@ -203,8 +203,7 @@ more_found (suc room) before (a ∷ more) rest few h past =
     let same = append_assoc before (a ∷ []) more in
     let others = more_found room (before ++ a ∷ []) more rest (omega (arith, few)) (subst AreTogether (sym same) h)
     past in
-    rw (next_itself the.Or ((alternative_lexemes a ++ or_lexemes more) ++ rest), here)
-    (others ∙ ap (λ (all : Alternatives). Some (all, rest)) same)
+    rw (next_itself the.Or ((alternative_lexemes a ++ or_lexemes more) ++ rest), here) (rw (← same) others)
 
 -- ---- a wait
 
@@ -236,8 +235,7 @@ for_several (OfFrames frames) b more = refl
 several_given : (a : Alternative) (more : Alternatives) (ws vs rest : Spelled) (x : Act × Spelled) → IsGiven ws (a, vs)
     → AreTogether (a ∷ more) → length more ≤ 7 → vs ≡ or_lexemes more ++ rest
     → waiting (a ∷ more, rest) ≡ Some x → IsWaitRead ws x
-several_given a [] ws vs rest x g h few e f =
-    one_given a ws rest x (g.0, g.1 ∙ ap (λ (us : Spelled). alternative_lexemes a ++ us) e) f
+several_given a [] ws vs rest x g h few e f = one_given a ws rest x (g.0, rw (← e) g.1) f
 several_given a (b ∷ more) ws vs rest x g h few e f =
     let all : Alternatives = a ∷ b ∷ more in
     let is : Some (let y : Act × Spelled = (WaitAny all, rest) in y) ≡ Some x =
@@ -260,7 +258,7 @@ wait_given ws x e =
     let b = bind_some (alternatives_from 7 (a.x.0 ∷ []) a.x.1) waiting x a.second in
     let m = more_given 7 (a.x.0 ∷ []) a.x.1 b.x (alone a.x.0 g.0.0) b.first in
     several_given a.x.0 m.more ws a.x.1 b.x.1 x g.0 (subst AreTogether m.is m.together) m.few m.spelled
-    (ap (λ (all : Alternatives). waiting (all, b.x.1)) (sym m.is) ∙ b.second)
+    (rw (← m.is) b.second)
 
 -- one alternative, with what it waits for
 pub one_found : (a : Alternative) (rest : Spelled) → IsAlternative a → IsPast rest

@@ -4,7 +4,7 @@ use Rattle.script_front.proofs.Words.{AddService, AddSub, Adds, Bool, Carrier, C
 use Rattle.script_front.proofs.Words.{DropComponent, DropPacket, DropService, DropSub, Edit, IsAct, IsCarrier}
 use Rattle.script_front.proofs.Words.{IsComponent, IsEdit, IsNewPacket, IsNewSub, IsSid, ItemKeyword, Join, MoveSub}
 use Rattle.script_front.proofs.Words.{RateSub, ReadsAsSpelled, Settle, Some, Sound, Spelled, Stream, Until, Wait}
-use Rattle.script_front.proofs.Words.{WaitAny, WaitContact, act_keyword, act_lexemes, after_itself, ap, arith, below}
+use Rattle.script_front.proofs.Words.{WaitAny, WaitContact, act_keyword, act_lexemes, after_itself, arith, below}
 use Rattle.script_front.proofs.Words.{bind_some, both, both_law, built, carried_lexemes, carrier_lexemes}
 use Rattle.script_front.proofs.Words.{component_keyword, decimal, drop, dropping, edit_keyword, edit_lexemes}
 use Rattle.script_front.proofs.Words.{either_given, false, finish, from_one, giving, groups_text, inl, inr, keyed}
@@ -216,7 +216,7 @@ carried_begins (Stream ty sub) = refl
 carried_begins (InPackets scid) = refl
 
 pub edit_begins : (e : Edit) → edit_lexemes e ≡ letters (edit_keyword (edit_first e)) ∷ edit_rest e
-edit_begins (AddComponent sid m) = ap (λ (ws : Spelled). ws ++ within_lexemes sid) (carried_begins m)
+edit_begins (AddComponent sid m) = rw (carried_begins m) refl
 edit_begins e = refl
 
 -- an edit that begins with this keyword
@@ -239,8 +239,7 @@ item_given item.Packet ws x e =
     ws x e
 item_given (item.Component k) ws x e =
     made_given _ _ _ (both_law _ _ _ _ _ _ (component_law k) service_law) (λ p. AddComponent p.1 p.0)
-    (IsItemOf (item.Component k)) edit_rest []
-    (λ a h. ((h.1, h.0.0), tt, ap (λ j. edit.Item (item.Component j)) h.0.1)) (λ a h. refl) ws x e
+    (IsItemOf (item.Component k)) edit_rest [] (λ a h. ((h.1, h.0.0), tt, rw (h.0.1) refl)) (λ a h. refl) ws x e
 
 placed_law : ReadsAsSpelled (both carrier_at service_at) (λ p. IsCarrier p.0 × IsSid p.1)
     (λ p. carrier_lexemes p.0 ++ within_lexemes p.1)
@@ -384,7 +383,7 @@ act_given : (k : ActKeyword) (ws : Spelled) (x : Act × Spelled) → act_from k 
     × (ws ≡ act_rest x.0 ++ x.1)
 unfolding act_from committing_at
 act_given act.Wait ws x e = let g = wait_given ws x e in
-    ((g.0, begins_so x.0 g.1), g.2 ∙ ap (λ (us : Spelled). us ++ x.1) (rests_so x.0 g.1))
+    ((g.0, begins_so x.0 g.1), rw (← rests_so x.0 g.1) g.2)
 act_given act.Until ws x e =
     let m = bind_some (moment_at ws) (giving Until) x e in
     let g = moment_given ws m.x m.first in
@@ -406,8 +405,8 @@ act_given act.Join ws x e = finish (λ y. IsActOf act.Join y.0 × (ws ≡ act_re
 act_given act.Settle ws x e = finish (λ y. IsActOf act.Settle y.0 × (ws ≡ act_rest y.0 ++ y.1)) (Settle, ws) x e
     ((tt, refl), refl)
 act_given (act.Edit k) ws x e =
-    made_given _ _ _ (edit_law k) Edits (IsActOf (act.Edit k)) act_rest [] (λ a h. (h.0, ap (λ j. act.Edit j) h.1))
-    (λ a h. refl) ws x e
+    made_given _ _ _ (edit_law k) Edits (IsActOf (act.Edit k)) act_rest [] (λ a h. (h.0, rw (h.1) refl)) (λ a h. refl)
+    ws x e
 
 act_found : (a : Act) (rest : Spelled) → IsAct a → IsPast rest
     → act_from (act_first a) (act_rest a ++ rest) ≡ Some (a, rest)

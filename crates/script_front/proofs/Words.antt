@@ -67,7 +67,7 @@ pub use Rattle.script_tokens.specs.Reading.{first_item, first_statement, giving,
 pub use Rattle.script_tokens.specs.Reading.{line_of_left, lines_of}
 pub use Rattle.script_tokens.specs.Spelling.{hex_byte, hex_text, level_text, profile_text, sid_text, time_text}
 pub use Rattle.script_tokens.specs.Taking.{eid_at, level_at, name_next, number_at, profile_at, sid_at, time_at}
-pub use Rattle.script_tokens.specs.Texts.{AreTokens, Piece, TokensFit, atom, blank, brace, comment, script_limits}
+pub use Rattle.script_tokens.specs.Texts.{AreTokens, Piece, atom, blank, brace, comment, script_limits}
 pub use Rattle.script_tokens.specs.Texts.{text_of, tokens_of}
 pub use Rattle.script_tokens.specs.declared.first_keyword.ActKeyword.{ActKeyword}
 pub use Rattle.script_tokens.specs.declared.first_keyword.ItemKeyword.{ItemKeyword}

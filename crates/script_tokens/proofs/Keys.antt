@@ -5,9 +5,8 @@ use Rattle.script_tokens.proofs.Words.{Drop, Early, Eep, Else, End, Ensemble, Fo
 use Rattle.script_tokens.proofs.Words.{IsNoKeyword, Join, Keyword, List, Mode, Move, None, Notice, Open, OpenBrace}
 use Rattle.script_tokens.proofs.Words.{Option, Or, Packet, Period, Rate, Raw, Repeat, Reserve, Service, Settle, Some}
 use Rattle.script_tokens.proofs.Words.{Spelled, Sub, Time, To, TypeWord, Until, Wait, all_ascii_digits, ap, arith}
-use Rattle.script_tokens.proofs.Words.{bytes_eq, bytes_eq-Decides, decimal, digits_decimal, false, false≢true}
-use Rattle.script_tokens.proofs.Words.{keywords, level_text, lexeme_among, refl, subst, sym, text, the}
-use Rattle.script_tokens.proofs.Words.{true, ℕ}
+use Rattle.script_tokens.proofs.Words.{bytes_eq, bytes_eq-Decides, decimal, digits_decimal, false, false≢true, keywords}
+use Rattle.script_tokens.proofs.Words.{level_text, lexeme_among, refl, subst, sym, text, the, true, ℕ}
 use denote.Enum.Bare.{sameb}
 use denote.Enum.Declared.{tag_of}
 use Rattle.std.specs.Cmp.{nat_eq_equiv}

@@ -1,10 +1,9 @@
 -- A scan of bytes up to the end of the first token.
 use Rattle.script_tokens.proofs.Words.{[], ◌+◌, ◌<◌, ◌∙◌, ◌∷◌, ◌≡◌, ◌≤◌, ◌⊎◌, Atom, Bad, Blank, Brace, Byte, Comment}
-use Rattle.script_tokens.proofs.Words.{Err, FindsFirst, Fits, Hash, Inside, Kind, Letter, Limits}
-use Rattle.script_tokens.proofs.Words.{LineEnd, List, None, Nothing, Ok, Option, Place, Result, ScriptFault, Some}
-use Rattle.script_tokens.proofs.Words.{Token, ap, arith, drop, drop_all, false, get_or, inl, inr, inside_after, is_bad}
-use Rattle.script_tokens.proofs.Words.{kind_of, length, made, position_after, refl, role_of, subst, sym, token_at}
-use Rattle.script_tokens.proofs.Words.{tokens_before, ℕ}
+use Rattle.script_tokens.proofs.Words.{Err, FindsFirst, Fits, Hash, Inside, Kind, Letter, Limits, LineEnd, List, None}
+use Rattle.script_tokens.proofs.Words.{Nothing, Ok, Option, Place, Result, ScriptFault, Some, Token, ap, arith, drop}
+use Rattle.script_tokens.proofs.Words.{drop_all, false, get_or, inl, inr, inside_after, is_bad, kind_of, length, made}
+use Rattle.script_tokens.proofs.Words.{position_after, refl, role_of, subst, sym, token_at, tokens_before, ℕ}
 use Rattle.script_tokens.specs.declared.scanner.Role.TheVariants.{Passed, Ends, Brace as IsBrace, Bad as IsBad}
 use Rattle.script_tokens.specs.Lexing.{lexed}
 use Rattle.script_tokens.proofs.Lexing.{Cuts, cut_at}

@@ -15,8 +15,7 @@ pub use Rattle.script_tokens.specs.Reading.{◌>>=◌, AreLastOf, AreOnScriptLin
 pub use Rattle.script_tokens.specs.Reading.{FirstKeywordsAreFound, Input, Reads, ReadsAsSpelled, Spelled, both, built}
 pub use Rattle.script_tokens.specs.Reading.{either, first_item, first_statement, giving, is_next, key_of, keyed}
 pub use Rattle.script_tokens.specs.Reading.{lexemes_of, line_of_left, lines_of, shown_lines}
-pub use Rattle.script_tokens.specs.Scanning.{FindsFirst, FindsNext, Fits, IsPlaceIn, Scan, role_of}
-pub use Rattle.script_tokens.specs.Scanning.{tokens_left}
+pub use Rattle.script_tokens.specs.Scanning.{FindsFirst, FindsNext, Fits, IsPlaceIn, Scan, role_of, tokens_left}
 pub use Rattle.script_tokens.specs.Spelling.{hex_byte, hex_digit, hex_long, hex_text, level_text, profile_text}
 pub use Rattle.script_tokens.specs.Spelling.{set_letter, sid_text, time_text, two_digits}
 pub use Rattle.script_tokens.specs.Taking.{ValuesAreRead, digit_of, four_of, is_bare, is_eid, is_name, is_number}

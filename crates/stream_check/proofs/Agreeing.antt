@@ -37,8 +37,7 @@ agree_same a b h =
     let ext : a.ext ≡ b.ext = eqb-true a.ext b.ext one.0 in
     let long : a.long ≡ b.long = bools a.long b.long two.0 in
     let bytes : a.bytes ≡ b.bytes = (bytes_eq-Decides a.bytes b.bytes).0 two.1 in
-    ap (λ n. raw_with n a.long a.bytes) ext ∙ ap (λ l. raw_with b.ext l a.bytes) long
-    ∙ ap (λ bs. raw_with b.ext b.long bs) bytes
+    rw (ext, long, bytes) refl
 
 -- a test of equality decides whether entries agree
 pub agree_where : (b : Bool) (x y : Raw) → (IsTrue b ↔ (x ≡ y)) → b ≡ agree x y

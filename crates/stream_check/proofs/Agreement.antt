@@ -46,7 +46,7 @@ entries_all : (k : Pictured) (second : ℕ) (entries : List ℕ) → contradicti
 entries_all k second [] none = absurd cc
 entries_all k second (b ∷ bs) none =
     let ms = mentions_of (second % 32) (second / 32 % 2 == 1) (b ∷ bs) in
-    ap (λ t. t && are_there k ms) (some_entries b bs) ∙ all_among k (second % 32) ms none
+    rw (some_entries b bs) (all_among k (second % 32) ms none)
 
 pub agreeing_none : (k : Pictured) (fig : List ℕ) → fig_agrees k fig ≡ true → contradictions_in k fig ≡ []
 agreeing_none k fig = by (is_judged fig)

@@ -1,5 +1,5 @@
 -- Hearing what is sent, one after the other.
-use Rattle.stream_check.proofs.Words.{[], ◌++◌, ◌∙◌, ◌∷◌, ◌≡◌, ◌≤◌, All, AtMost, Bool, CheckerState, Contradiction}
+use Rattle.stream_check.proofs.Words.{[], ◌++◌, ◌∙◌, ◌∷◌, ◌≡◌, ◌≤◌, All, AtMost, Bool, CheckerState}
 use Rattle.stream_check.proofs.Words.{FrameAt, Hears, IsHeard, Knows, List, Moment, Reported, Sent, Unknown, What, ap}
 use Rattle.stream_check.proofs.Words.{append-nil, append_assoc, arith, cond, false, false≢true, findings_at_sent}
 use Rattle.stream_check.proofs.Words.{in_frame, items_in, kept_findings, leb-false, length, length-append, lt-leb, map}
@@ -15,7 +15,7 @@ kept_twice most xs ys zs le many e =
     let over = leb-false (length xs) most many in
     let same = ap (λ (l : List Finding). length l) e in
     let few : nat_le (length zs) most ≡ false = lt-leb (length zs) most (omega (arith, le, over, same)) in
-    ap (λ b. cond b (AtMost most zs) Unknown) few
+    rw (few) refl
 
 more_of : (b : Bool) (most : ℕ) (fs xs ys : List Finding) (x y : Finding) → nat_le (length (fs ++ x ∷ xs)) most ≡ b
     → with_more (cond b (AtMost most (fs ++ x ∷ xs)) Unknown) (y ∷ ys) ≡ kept_findings most (fs ++ (x ∷ xs ++ y ∷ ys))
@@ -27,16 +27,15 @@ more_of false most fs xs ys x y e =
 
 none_more : (o : Reported) → with_more o [] ≡ o
 none_more Unknown = refl
-none_more (All fs) = ap (λ l. All l) (append-nil fs)
+none_more (All fs) = rw (append-nil fs) refl
 none_more (AtMost most fs) = refl
 
 pub more_twice : (reported : Reported) (xs ys : List Finding)
     → with_more (with_more reported xs) ys ≡ with_more reported (xs ++ ys)
 more_twice Unknown xs ys = refl
-more_twice (All fs) xs ys = ap (λ l. All l) (append_assoc fs xs ys)
+more_twice (All fs) xs ys = rw (append_assoc fs xs ys) refl
 more_twice (AtMost most fs) [] ys = refl
-more_twice (AtMost most fs) (x ∷ xs) [] = none_more (kept_findings most (fs ++ x ∷ xs))
-    ∙ ap (λ l. kept_findings most (fs ++ x ∷ l)) (sym (append-nil xs))
+more_twice (AtMost most fs) (x ∷ xs) [] = rw (append-nil xs) (none_more (kept_findings most (fs ++ x ∷ xs)))
 more_twice (AtMost most fs) (x ∷ xs) (y ∷ ys) = more_of (nat_le (length (fs ++ x ∷ xs)) most) most fs xs ys x y refl
 
 pub more_none : (reported : Reported) → reported ≡ with_more reported []
@@ -48,11 +47,10 @@ pub more_thrice : (at : FrameAt) (r a b c : Reported) (xs ys zs : List What)
     → c ≡ with_more b (map (in_frame at) zs)
     → c ≡ with_more r (map (in_frame at) (xs ++ (ys ++ zs)))
 more_thrice at r a b c xs ys zs one two three =
-    three ∙ ap (λ t. with_more t (map (in_frame at) zs)) (two ∙ ap (λ t. with_more t (map (in_frame at) ys)) one)
+    three ∙ ap (λ t. with_more t (map (in_frame at) zs)) (rw (← one) two)
     ∙ more_twice (with_more r (map (in_frame at) xs)) (map (in_frame at) ys) (map (in_frame at) zs)
     ∙ more_twice r (map (in_frame at) xs) (map (in_frame at) ys ++ map (in_frame at) zs)
-    ∙ ap (with_more r) (sym (map-append (in_frame at) xs (ys ++ zs)
-    ∙ ap (λ fs. map (in_frame at) xs ++ fs) (map-append (in_frame at) ys zs)))
+    ∙ ap (with_more r) (sym (rw (← map-append (in_frame at) ys zs) (map-append (in_frame at) xs (ys ++ zs))))
 
 -- in two parts
 pub more_pair : (at : FrameAt) (r a b : Reported) (xs ys : List What)
@@ -85,10 +83,7 @@ hears_more at xs ys old mid new before reported after full same page_index h g p
     subst (λ (s : ℕ). Knows s mid.period then mid) (sym same)
     (subst (λ (p : ℕ). Knows old.step p then mid) (sym page_index) (one.knows refl)) in
     let two : IsHeard at old.step old.period then noted ys reported after new full =
-    subst (λ (n : List Contradiction). IsHeard at old.step old.period then n ys reported after new full)
-    (one.noted refl)
-    (subst (λ (p : ℕ). IsHeard at old.step p then mid.noted ys reported after new full) page_index
-    (subst (λ (s : ℕ). IsHeard at s mid.period then mid.noted ys reported after new full) same (g then known))) in
+    rw (← one.noted refl) (rw (← page_index) (rw (← same) (g then known))) in
     let first = findings_at_sent old.step old.period past old.noted xs in
     let rest = findings_at_sent old.step old.period then noted ys in
     record {

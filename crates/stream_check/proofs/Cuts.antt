@@ -29,7 +29,7 @@ last_of wanted p (q ∷ qs) each =
       parts = p ∷ rest.parts;
       part = rest.part;
       count = ap suc rest.count;
-      is = ap (λ row. p ++ row) rest.is ∙ sym (append_assoc p (flat_map (λ q. q) rest.parts) rest.part);
+      is = rw (rest.is) (sym (append_assoc p (flat_map (λ q. q) rest.parts) rest.part));
       each = (each.0, rest.each);
       whole = rest.whole;
     }
@@ -62,7 +62,7 @@ pub more : (wanted : List ℕ) (n : ℕ) (front part : List (List ℕ)) → IsCu
     → IsCutInto wanted (n + 1) (front ++ part)
 more wanted n front part c whole = record {
   parts = c.parts ++ part ∷ [];
-  count = length-append c.parts (part ∷ []) ∙ ap (λ k. k + 1) c.count;
+  count = rw (← c.count) (length-append c.parts (part ∷ []));
   whole = flat_map-append (λ p. p) c.parts (part ∷ []) ∙ ap (λ row. row ++ (part ++ [])) c.whole
       ∙ ap (λ row. front ++ row) (append-nil part);
   each = each_more wanted c.parts part c.each whole;

@@ -1,13 +1,13 @@
 -- After a FIG 0/0 the state still agrees with the past of the stream.
-use Rattle.stream_check.proofs.Words.{[], ◌%◌, ◌&&◌, ◌++◌, ◌+◌, ◌==◌, ◌||◌, ◌∙◌, ◌∷◌, ◌≡◌, ◌≤◌, Bool, CheckerState}
+use Rattle.stream_check.proofs.Words.{[], ◌%◌, ◌&&◌, ◌+◌, ◌==◌, ◌||◌, ◌∙◌, ◌∷◌, ◌≡◌, ◌≤◌, Bool, CheckerState}
 use Rattle.stream_check.proofs.Words.{Each, EnsembleInformation, HasNotice, IsLastHeard, IsStamped, Item, Knows, List}
 use Rattle.stream_check.proofs.Words.{Listening, Moment, None, Option, Said, Some, ap, append-nil, arith, at_ensemble}
 use Rattle.stream_check.proofs.Words.{at_most, awaiting, began_early, begins_notice, cases_lt, cond, eid_after, eid_of}
-use Rattle.stream_check.proofs.Words.{empty_picture, ensemble_of_item, false, false≢true, flag_count, frames_ended}
+use Rattle.stream_check.proofs.Words.{empty_picture, ensemble_of_item, false, false≢true, frames_ended}
 use Rattle.stream_check.proofs.Words.{has_begun, has_ensemble, has_flags, inl, inr, is_cut_off, is_ensemble, is_flagged}
 use Rattle.stream_check.proofs.Words.{is_made, is_member, is_swap, key_of, known_in, last_eid, last_flags, last_heard}
 use Rattle.stream_check.proofs.Words.{le-ltb, length, listener_after, listener_in, listening, lt-ltb, makes_swap}
-use Rattle.stream_check.proofs.Words.{next_key, not, refl, row_at_hand, rows, settles_at, subst, swapped, sym}
+use Rattle.stream_check.proofs.Words.{not, refl, row_at_hand, rows, settles_at, subst, swapped, sym}
 use Rattle.stream_check.proofs.Words.{times_announced, true, with_ensemble, with_swap, ℕ}
 use Rattle.stream_check.proofs.Notice.{notice_none, notice_begins, each_in}
 use Rattle.stream_check.proofs.Members.{or_false, or_true, ensemble_swap, ensemble_flagged, ensemble_placed}
@@ -23,8 +23,7 @@ not_is false b e = ap not e
 eid_is : (step : ℕ) (i : Item) (o : Option ℕ) → is_ensemble i ≡ true
     → eid_after (i.first && ((ensemble_of_item i).count % step == 0)) (ensemble_of_item i) o ≡ eid_of step i o
 eid_is step i None e = sym (ap (λ t. cond t (Some (ensemble_of_item i).eid) None) e)
-eid_is step i (Some eid) e = sym (ap (λ t. cond t (Some (ensemble_of_item i).eid) (Some eid))
-    (ensemble_placed step i e))
+eid_is step i (Some eid) e = rw (← ensemble_placed step i e) refl
 
 begins_is : (past : List Moment) (i : Item) (f : Bool) → is_ensemble i ≡ true → is_flagged i ≡ f
     → begins_notice past i ≡ f
@@ -39,8 +38,7 @@ begun_is past i b f e sw fl =
     ∙ ap (λ t. cond b f (has_begun past || t)) (begins_is past i f e fl)
 
 early_is : (past : List Moment) (i : Item) → is_ensemble i ≡ true → began_early (Said i ∷ past) ≡ false
-early_is past i e = ap (λ t. cond t false (cond (begins_notice past i && not (has_begun past)) (not (has_ensemble past))
-    (began_early past))) e
+early_is past i e = rw (e) refl
 
 has_is : (past : List Moment) (i : Item) → is_ensemble i ≡ true → has_ensemble (Said i ∷ past) ≡ true
 has_is past i e = ap (λ t. t || has_ensemble past) e
@@ -54,30 +52,24 @@ cut_is past i b f e sw fl =
 
 times_are : (past : List Moment) (i : Item) (b f : Bool) → is_swap past i ≡ b → is_flagged i ≡ f
     → times_announced (Said i ∷ past) ≡ cond b (cond f 1 0) (times_announced past + cond f 1 0)
-times_are past i b f sw fl =
-    ap (λ t. cond t (flag_count i) (times_announced past + flag_count i)) sw
-    ∙ ap (λ t. cond b (cond t 1 0) (times_announced past + cond t 1 0)) fl
+times_are past i b f sw fl = rw (sw, fl) refl
 
 settles_is : (period : ℕ) (past : List Moment) (i : Item) (b : Bool) → is_swap past i ≡ b
     → settles_at period (Said i ∷ past) ≡ cond b (cond (is_cut_off past) (frames_ended past + period) 0)
     (settles_at period past)
-settles_is period past i b sw =
-    ap (λ t. cond t (cond (is_cut_off past) (frames_ended past + period) 0) (settles_at period past)) sw
+settles_is period past i b sw = rw (sw) refl
 
 flags_are : (past : List Moment) (i : Item) (f : Bool) → is_flagged i ≡ f
     → last_flags (Said i ∷ past) ≡ cond f (ensemble_of_item i).change (last_flags past)
-flags_are past i f fl = ap (λ t. cond t (ensemble_of_item i).change (last_flags past)) fl
+flags_are past i f fl = rw (fl) refl
 
 rows_are : (past : List Moment) (i : Item) (b : Bool) → is_swap past i ≡ b
     → rows (Said i ∷ past) ≡ cond b [] (rows past)
-rows_are past i b sw = ap (λ t. cond t [] (rows past)) sw
+rows_are past i b sw = rw (sw) refl
 
 row_is : (past : List Moment) (i : Item) (b : Bool) → is_ensemble i ≡ true → is_swap past i ≡ b
     → row_at_hand (Said i ∷ past) ≡ cond b [] (row_at_hand past)
-row_is past i b e sw =
-    ap (λ t. cond t [] (row_at_hand past ++ next_key past i)) sw
-    ∙ ap (λ t. cond b [] (row_at_hand past ++ cond (t && i.next) (key_of i.raw ∷ []) [])) (ensemble_no_member past i e)
-    ∙ ap (λ r. cond b [] r) (append-nil (row_at_hand past))
+row_is past i b e sw = rw (sw, ensemble_no_member past i e, append-nil (row_at_hand past)) refl
 
 last_is : (key : ℕ) (past : List Moment) (i : Item) (b : Bool) → is_ensemble i ≡ true → is_swap past i ≡ b
     → last_heard key (Said i ∷ past) ≡ cond b (frames_ended past + 1) (last_heard key past)
@@ -112,7 +104,7 @@ heard_is e l b f made fl =
 
 at_most_more : (n : ℕ) → at_most 3 (at_most 3 n + 1) ≡ at_most 3 (n + 1)
 at_most_more n = elim (cases_lt n 3) [
-  | inl lt ↦ ap (λ t. at_most 3 (cond t n 3 + 1)) (lt-ltb n 3 lt)
+  | inl lt ↦ rw (lt-ltb n 3 lt) refl
   | inr ge ↦ ap (λ t. at_most 3 (cond t n 3 + 1)) (le-ltb n 3 ge)
       ∙ sym (ap (λ t. cond t (n + 1) 3) (le-ltb (n + 1) 3 (omega (arith, ge))))
 ]
@@ -257,7 +249,7 @@ case_stay true step period past i m s k =
           ∙ sym (ap (at_most 3) (times_are past i false true s.sw s.fl));
       settles_at = k.settles_at ∙ sym (settles_is period past i false s.sw);
       untuned = λ u. absurd (false≢true (sym u));
-      few = subst (λ (rs : List (List ℕ)). length rs ≤ frames_ended past) (sym (rows_are past i false s.sw)) k.few;
+      few = rw (rows_are past i false s.sw) k.few;
       swapped = k.swapped;
       kinds = k.kinds;
       last = each_in (IsLastHeard past m.swapped) (IsLastHeard (Said i ∷ past) m.swapped) m.current
@@ -287,7 +279,7 @@ case_stay false step period past i m s k =
           ∙ sym (ap (at_most 3) (times_are past i false false s.sw s.fl));
       settles_at = k.settles_at ∙ sym (settles_is period past i false s.sw);
       untuned = λ u. absurd (false≢true (sym u));
-      few = subst (λ (rs : List (List ℕ)). length rs ≤ frames_ended past) (sym (rows_are past i false s.sw)) k.few;
+      few = rw (rows_are past i false s.sw) k.few;
       swapped = k.swapped;
       kinds = k.kinds;
       last = each_in (IsLastHeard past m.swapped) (IsLastHeard (Said i ∷ past) m.swapped) m.current
@@ -319,7 +311,7 @@ knows_ensemble step period past m i e k =
           ∙ eid_is step i (last_eid step past) e;
       heard = ensemble_heard past i (listener_in m) e k.heard
           ∙ ap (λ l. Some l) (heard_is (ensemble_of_item i) (listener_in m) b f made fl);
-      tuned = ap (λ (l : Listening). l.tuned) (after_is past (listener_in m) k.heard);
+      tuned = rw (after_is past (listener_in m) k.heard) refl;
     }
 
     cases : (b f : Bool) → makes_swap (known_in m) (ensemble_of_item i) ≡ b → has_flags (ensemble_of_item i) ≡ f

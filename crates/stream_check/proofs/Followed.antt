@@ -51,10 +51,7 @@ follows_skip r mode period stream start reported c fib none empty silent f =
     let held : map r.read c.held ≡ [] = ap (map r.read) empty in
     let longer = length-append f.skipped (r.read fib ∷ []) in
     let one : length (r.read fib ∷ []) ≡ 1 = refl in
-    let before : IsFramed (fib_count mode) stream f.skipped [] [] =
-    subst (λ (h : List Fib). IsFramed (fib_count mode) stream f.skipped [] h) held
-    (subst (λ (fs : List (List Fib)). IsFramed (fib_count mode) stream f.skipped fs (map r.read c.held)) nothing
-    f.framed) in
+    let before : IsFramed (fib_count mode) stream f.skipped [] [] = rw (← held) (rw (← nothing) f.framed) in
     let g : Follows r mode period (stream ++ r.read fib ∷ []) start reported (record c { skipped = c.skipped + 1 }) =
     record {
       skipped = f.skipped ++ r.read fib ∷ [];
@@ -322,10 +319,8 @@ cut_after r mode period stream start reported c fib next later whole f =
     let all : length (map r.read c.held ++ r.read fib ∷ []) ≡ fib_count mode =
     omega (arith, long, one, same, whole, f.size) in
     let le : length (map r.read c.held ++ r.read fib ∷ []) ≤ fib_count mode = omega (arith, all) in
-    subst (λ (h : List Fib). IsFramed (fib_count mode) (stream ++ r.read fib ∷ []) f.skipped (f.frames ++ h ∷ []) [])
-    (sym (map_one r c.held fib))
-    (goes_on (fib_count mode) stream f.skipped f.frames ((map r.read c.held ++ r.read fib ∷ []) ∷ [])
-    (map r.read c.held) [] (r.read fib)
+    rw (map_one r c.held fib) (goes_on (fib_count mode) stream f.skipped f.frames
+    ((map r.read c.held ++ r.read fib ∷ []) ∷ []) (map r.read c.held) [] (r.read fib)
     (append-nil ((map r.read c.held ++ r.read fib ∷ []) ++ []) ∙ append-nil (map r.read c.held ++ r.read fib ∷ []))
     (one_is, le, (λ lt. absurd (omega (arith, lt, all))), tt)
     (first_holds (fib_count mode) f.frames (map r.read c.held) (r.read fib) f.framed.cut f.framed.begun

@@ -1,14 +1,13 @@
 -- After the end of a frame the state still agrees with the past of the stream.
-use Rattle.stream_check.proofs.Words.{[], ◌%◌, ◌++◌, ◌+◌, ◌==◌, ◌∙◌, ◌∷◌, ◌≡◌, ◌≤◌, AllByRecursion, Bool, CheckerState}
-use Rattle.stream_check.proofs.Words.{Ended, Fib, FrameAt, HasNotice, Heard, Hears, HearsFrame, IsLastHeard, IsLater}
-use Rattle.stream_check.proofs.Words.{Item, Knows, List, Listening, Moment, Option, Raw, Reported, Some, What}
-use Rattle.stream_check.proofs.Words.{all_entries, ap, append-nil, append_assoc, arith, cond, count_of_frame, due}
-use Rattle.stream_check.proofs.Words.{false, false≢true, filter, findings_at_sent, frame_at, frame_findings}
-use Rattle.stream_check.proofs.Words.{frame_items, frame_sent, frames_ended, has_begun, heard_since, in_frame, is_quiet}
-use Rattle.stream_check.proofs.Words.{is_silent, key_of, last_findings, last_heard, length, length-append, listener_in}
-use Rattle.stream_check.proofs.Words.{map, map-append, name_of, quiet_findings, raws, refl, row_at_hand, rows}
-use Rattle.stream_check.proofs.Words.{runs_full, said, silence, silent_findings, silent_in, subst, sym, true, when}
-use Rattle.stream_check.proofs.Words.{with_frame, with_more, with_row, ℕ}
+use Rattle.stream_check.proofs.Words.{[], ◌%◌, ◌++◌, ◌+◌, ◌∙◌, ◌∷◌, ◌≡◌, ◌≤◌, AllByRecursion, Bool, CheckerState, Ended}
+use Rattle.stream_check.proofs.Words.{Fib, FrameAt, HasNotice, Heard, Hears, HearsFrame, IsLastHeard, IsLater, Item}
+use Rattle.stream_check.proofs.Words.{Knows, List, Moment, Option, Raw, Reported, Some, What, ap, append-nil}
+use Rattle.stream_check.proofs.Words.{append_assoc, arith, cond, count_of_frame, due, false, false≢true, filter}
+use Rattle.stream_check.proofs.Words.{findings_at_sent, frame_at, frame_findings, frame_items, frame_sent, frames_ended}
+use Rattle.stream_check.proofs.Words.{has_begun, heard_since, in_frame, is_quiet, is_silent, last_findings, length}
+use Rattle.stream_check.proofs.Words.{length-append, listener_in, map, map-append, name_of, quiet_findings, raws, refl}
+use Rattle.stream_check.proofs.Words.{row_at_hand, rows, runs_full, said, silence, silent_findings, silent_in, subst}
+use Rattle.stream_check.proofs.Words.{sym, true, when, with_frame, with_more, with_row, ℕ}
 use Rattle.stream_check.specs.declared.finding.Fault.TheVariants as faults
 use Rattle.stream_check.proofs.Notice.{notice_closed, notice_open}
 use Rattle.stream_check.proofs.Members.{after_is}
@@ -19,17 +18,15 @@ use Rattle.stream_check.proofs.Sending.{frame_has_items}
 
 rows_are : (past : List Moment) (count : ℕ) (b : Bool) → has_begun past ≡ b
     → rows (Ended count ∷ past) ≡ cond b (rows past ++ row_at_hand past ∷ []) []
-rows_are past count b e = ap (λ t. cond t (rows past ++ row_at_hand past ∷ []) []) e
+rows_are past count b e = rw (e) refl
 
 few_more : (past : List Moment) (count : ℕ) (b : Bool) → has_begun past ≡ b → length (rows past) ≤ frames_ended past
     → length (rows (Ended count ∷ past)) ≤ frames_ended past + 1
 few_more past count true e few =
     let longer = length-append (rows past) (row_at_hand past ∷ []) in
     let one : length (row_at_hand past ∷ []) ≡ 1 = refl in
-    subst (λ (rs : List (List ℕ)). length rs ≤ frames_ended past + 1) (sym (rows_are past count true e))
-    (omega (arith, longer, one, few))
-few_more past count false e few =
-    subst (λ (rs : List (List ℕ)). length rs ≤ frames_ended past + 1) (sym (rows_are past count false e)) (omega arith)
+    rw (rows_are past count true e) (omega (arith, longer, one, few))
+few_more past count false e few = rw (rows_are past count false e) (omega arith)
 
 -- the parts after a frame
 abbrev row_state : Bool → Bool → CheckerState → CheckerState
@@ -47,23 +44,14 @@ noticed : (step period : ℕ) (past : List Moment) (m : CheckerState) (count : �
     → HasNotice (rows (Ended count ∷ past)) [] (row_state begun whole m).rows (row_state begun whole m).since
     (row_state begun whole m).parts m.next m.has_begun
 noticed step period past m count true true b w k =
-    subst (λ (t : Bool). HasNotice (rows (Ended count ∷ past)) [] (m.rows + 1) (m.rows + 1) (m.parts + 1) m.next t)
-    (sym b)
-    (subst (λ (rs : List (List ℕ)). HasNotice rs [] (m.rows + 1) (m.rows + 1) (m.parts + 1) m.next true)
-    (sym (rows_are past count true (sym k.has_begun ∙ b)))
-    (notice_closed (rows past) (row_at_hand past) m.rows m.since m.parts m.next w
-    (subst (λ (t : Bool). HasNotice (rows past) (row_at_hand past) m.rows m.since m.parts m.next t) b k.notice)))
+    rw (b) (rw (rows_are past count true (sym k.has_begun ∙ b))
+    (notice_closed (rows past) (row_at_hand past) m.rows m.since m.parts m.next w (rw (← b) k.notice)))
 noticed step period past m count true false b w k =
-    subst (λ (t : Bool). HasNotice (rows (Ended count ∷ past)) [] (m.rows + 1) m.since m.parts m.next t) (sym b)
-    (subst (λ (rs : List (List ℕ)). HasNotice rs [] (m.rows + 1) m.since m.parts m.next true)
-    (sym (rows_are past count true (sym k.has_begun ∙ b)))
-    (notice_open (rows past) (row_at_hand past) m.rows m.since m.parts m.next w
-    (subst (λ (t : Bool). HasNotice (rows past) (row_at_hand past) m.rows m.since m.parts m.next t) b k.notice)))
+    rw (b) (rw (rows_are past count true (sym k.has_begun ∙ b))
+    (notice_open (rows past) (row_at_hand past) m.rows m.since m.parts m.next w (rw (← b) k.notice)))
 noticed step period past m count false whole b w k =
     let idle = k.notice.idle b in
-    subst (λ (rs : List (List ℕ)). HasNotice rs [] m.rows m.since m.parts m.next m.has_begun)
-    (idle.0 ∙ sym (rows_are past count false (sym k.has_begun ∙ b)))
-    (subst (λ (r : List ℕ). HasNotice (rows past) r m.rows m.since m.parts m.next m.has_begun) idle.1 k.notice)
+    rw (← idle.0 ∙ sym (rows_are past count false (sym k.has_begun ∙ b))) (rw (← idle.1) k.notice)
 
 -- whatever the rows and parts become, if the notice agrees with them
 knows_rows : (step period : ℕ) (past : List Moment) (m : CheckerState) (count r s q : ℕ) → Knows step period past m
@@ -74,7 +62,7 @@ knows_rows step period past m count r s q k few notice = record {
   mode = k.mode;
   page_index = k.page_index;
   heard = k.heard;
-  frames = ap (λ n. n + 1) k.frames;
+  frames = rw (k.frames) refl;
   due = refl;
   eid = k.eid;
   has_ensemble = refl;
@@ -133,8 +121,7 @@ quiet_raws : (period : ℕ) (past : List Moment) (swapped frames : ℕ) (hs : Li
     → quiet_findings swapped period frames hs ≡ map silence (filter (is_silent period past) (raws hs))
 quiet_raws period past swapped frames [] e all = refl
 quiet_raws period past swapped frames (h ∷ hs) e all =
-    let same : is_quiet swapped period frames h ≡ is_silent period past h.raw =
-    ap (λ n. n + period == frames + 1) all.0 ∙ ap (λ n. last_heard (key_of h.raw) past + period == n + 1) e in
+    let same : is_quiet swapped period frames h ≡ is_silent period past h.raw = rw (all.0, e) refl in
     ap (λ t. when t (faults.Silent (name_of h.raw)) ++ quiet_findings swapped period frames hs) same
     ∙ ap (λ fs. when (is_silent period past h.raw) (faults.Silent (name_of h.raw)) ++ fs)
     (quiet_raws period past swapped frames hs e all.1)
@@ -149,7 +136,7 @@ filter_append : {X : Type 0} (p : X → Bool) (xs ys : List X) → filter p (xs 
 filter_append p [] ys = refl
 filter_append p (x ∷ xs) ys = elim (p x) as (λ t. cond t (x ∷ filter p (xs ++ ys)) (filter p (xs ++ ys))
     ≡ cond t (x ∷ filter p xs) (filter p xs) ++ filter p ys) [
-      | true ↦ ap (λ l. x ∷ l) (filter_append p xs ys)
+      | true ↦ rw (filter_append p xs ys) refl
       | false ↦ filter_append p xs ys
     ]
 
@@ -162,26 +149,18 @@ spread period past xs ys = ap (map silence) (filter_append (is_silent period pas
 pub silent_is : (step period : ℕ) (past : List Moment) (m : CheckerState) → Knows step period past m
     → silent_in m ≡ silent_findings period past
 silent_is step period past m k =
-    ap (λ p. quiet_findings m.swapped p m.frames m.current.subs
-    ++ (quiet_findings m.swapped p m.frames m.current.services
-    ++ quiet_findings m.swapped p m.frames m.current.packets)) k.page_index
-    ∙ ap (λ fs. fs ++ (quiet_findings m.swapped period m.frames m.current.services
-    ++ quiet_findings m.swapped period m.frames m.current.packets))
-    (quiet_raws period past m.swapped m.frames m.current.subs k.frames k.last.0)
-    ∙ ap (λ fs. map silence (filter (is_silent period past) (raws m.current.subs))
-    ++ (fs ++ quiet_findings m.swapped period m.frames m.current.packets))
-    (quiet_raws period past m.swapped m.frames m.current.services k.frames k.last.1.0)
-    ∙ ap (λ fs. map silence (filter (is_silent period past) (raws m.current.subs))
-    ++ (map silence (filter (is_silent period past) (raws m.current.services)) ++ fs))
-    (quiet_raws period past m.swapped m.frames m.current.packets k.frames k.last.1.1)
-    ∙ sym (spread period past (raws m.current.subs ++ raws m.current.services) (raws m.current.packets)
+    rw (
+      k.page_index,
+      quiet_raws period past m.swapped m.frames m.current.subs k.frames k.last.0,
+      quiet_raws period past m.swapped m.frames m.current.services k.frames k.last.1.0,
+      quiet_raws period past m.swapped m.frames m.current.packets k.frames k.last.1.1,
+    ) (rw (after_is past (listener_in m) k.heard)
+    (sym (spread period past (raws m.current.subs ++ raws m.current.services) (raws m.current.packets)
     ∙ ap (λ fs. fs ++ map silence (filter (is_silent period past) (raws m.current.packets)))
     (spread period past (raws m.current.subs) (raws m.current.services))
     ∙ append_assoc (map silence (filter (is_silent period past) (raws m.current.subs)))
     (map silence (filter (is_silent period past) (raws m.current.services)))
-    (map silence (filter (is_silent period past) (raws m.current.packets))))
-    ∙ ap (λ (l : Listening). map silence (filter (is_silent period past) (all_entries l.current)))
-    (sym (after_is past (listener_in m) k.heard))
+    (map silence (filter (is_silent period past) (raws m.current.packets))))))
 
 -- ---- a whole frame
 
@@ -198,9 +177,7 @@ frame_done size frame at old mid before reported one two place first h l last pa
     let room = ap (runs_full old.step old.period past) (sym (frame_has_items frame)) ∙ all.room in
     let known = subst (λ (is : List Item). Knows old.step old.period (said is past) mid) (frame_has_items frame)
     (all.knows refl) in
-    let same : at ≡ frame_at old.step past frame = place
-    ∙ ap (λ n. at_of n (count_of_frame old.step old.due frame)) k.frames
-    ∙ ap (λ d. at_of (frames_ended past) (count_of_frame old.step d frame)) k.due in
+    let same : at ≡ frame_at old.step past frame = rw (← k.due, ← k.frames) place in
     let silent = silent_is old.step old.period (said (frame_items frame) past) mid known in
     let items = findings_at_sent old.step old.period past old.noted (frame_sent frame) in
     let rest = silent_findings old.period (said (frame_items frame) past) in
@@ -250,9 +227,7 @@ pub frame_full : (size : ℕ) (frame : List Fib) (at : FrameAt) (old mid : Check
 frame_full size frame at old mid before reported one place first h past k =
     let all = h past k in
     let room = ap (runs_full old.step old.period past) (sym (frame_has_items frame)) ∙ all.room in
-    let same : at ≡ frame_at old.step past frame = place
-    ∙ ap (λ n. at_of n (count_of_frame old.step old.due frame)) k.frames
-    ∙ ap (λ d. at_of (frames_ended past) (count_of_frame old.step d frame)) k.due in
+    let same : at ≡ frame_at old.step past frame = rw (← k.due, ← k.frames) place in
     let items = findings_at_sent old.step old.period past old.noted (frame_sent frame) in
     record {
       findings = all.findings ∙ ap (λ t. with_more t (map (in_frame at) items)) first

@@ -51,7 +51,7 @@ pub seen_after : (r : Reading) (fibs more : List (List ℕ)) (fib : List ℕ) (s
 seen_after r fibs more fib summary damaged d begins b lacks l first bare all one empty opens unopened begun are is =
     let s = seen_more r fibs fib summary damaged begins lacks are is in
     record {
-      damaged_is = ap (λ n. damaged + n) one ∙ s.damaged_is ∙ sym (ap (λ xs. damaged_in (map r.read xs)) all);
+      damaged_is = rw (one) (rw (all) s.damaged_is);
       begins_is = opens ∙ ap (λ t. cond t summary.opening begins) empty ∙ s.begins_is
           ∙ sym (ap (λ xs. first_opening (map r.read xs)) all);
       lacks_is = begun ∙ ap (λ t. cond t bare lacks) empty ∙ ap (λ t. cond (is_empty fibs) t lacks) unopened

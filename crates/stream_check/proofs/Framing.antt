@@ -53,7 +53,7 @@ held_of size (f ∷ fs) held all = held_of size fs held all.3
 pub skips_more : (size : ℕ) (stream skipped : List Fib) (fib : Fib) → holds_ensemble fib ≡ false
     → IsFramed size stream skipped [] [] → IsFramed size (stream ++ fib ∷ []) (skipped ++ fib ∷ []) [] []
 skips_more size stream skipped fib no_ensemble f = record {
-  whole = ap (λ l. l ++ fib ∷ []) (f.whole ∙ append-nil skipped) ∙ sym (append-nil (skipped ++ fib ∷ []));
+  whole = rw (f.whole ∙ append-nil skipped) (sym (append-nil (skipped ++ fib ∷ [])));
   before = all_append (λ g. holds_ensemble g ≡ false) skipped (fib ∷ []) f.before (no_ensemble, tt);
   begun = tt;
   cut = tt;
@@ -66,8 +66,8 @@ pub goes_on : (size : ℕ) (stream skipped : List Fib) (frames tail : List (List
     → IsFramed size (stream ++ fib ∷ []) skipped (frames ++ tail) rest
 goes_on size stream skipped frames tail held rest fib e t first f =
     let same : flat (frames ++ tail) ++ rest ≡ (flat frames ++ held) ++ fib ∷ [] =
-    ap (λ l. l ++ rest) (flat_map-append (λ g. g) frames tail) ∙ append_assoc (flat frames) (flat tail) rest
-    ∙ ap (λ l. flat frames ++ l) e ∙ sym (append_assoc (flat frames) held (fib ∷ [])) in
+    rw (flat_map-append (λ g. g) frames tail) (append_assoc (flat frames) (flat tail) rest
+    ∙ ap (λ l. flat frames ++ l) e ∙ sym (append_assoc (flat frames) held (fib ∷ []))) in
     record {
       whole = ap (λ l. l ++ fib ∷ []) f.whole ∙ append_assoc skipped (flat frames ++ held) (fib ∷ [])
           ∙ ap (λ l. skipped ++ l) (sym same);

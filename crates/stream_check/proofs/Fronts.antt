@@ -121,8 +121,7 @@ front_framing size front behind skipped later f g r s a b = chosen (flat f ++ r)
     chosen : (held : List Fib) → flat f ++ r ≡ held → (more : List (List Fib)) × (g ≡ f ++ more)
     chosen [] e = (g, ap (λ l. l ++ g) (sym (no_flat size f r a.cut e)))
     chosen (x ∷ held) e =
-        let first : HoldsFirst ((flat f ++ r) ++ behind) =
-        subst (λ l. HoldsFirst (l ++ behind)) (sym e) (subst HoldsFirst e a.begun) in
+        let first : HoldsFirst ((flat f ++ r) ++ behind) = rw (e) (subst HoldsFirst e a.begun) in
         let same : skipped ++ ((flat f ++ r) ++ behind) ≡ later ++ (flat g ++ s) =
         sym (append_assoc skipped (flat f ++ r) behind) ∙ ap (λ l. l ++ behind) (sym a.whole) ∙ b.whole in
         front_cut size f g r s behind a.cut b.cut

@@ -2,7 +2,7 @@
 use Rattle.stream_check.proofs.Words.{[], ◌++◌, ◌+◌, ◌<◌, ◌∙◌, ◌∷◌, ◌≡◌, ◌≢◌, ◌≤◌, Contains, GreedyCloses, GreedyIsMost}
 use Rattle.stream_check.proofs.Words.{GreedyStays, HasAll, IsCutInThree, IsCutInto, IsGreedy, IsMostParts, IsPart, List}
 use Rattle.stream_check.proofs.Words.{MostIsOne, NewBeginsAnew, ThreeOrMore, ap, append-nil, append_assoc, arith}
-use Rattle.stream_check.proofs.Words.{cases_lt, concat, inl, inr, length, length-append, refl, subst, suc, sym, zero, ℕ}
+use Rattle.stream_check.proofs.Words.{cases_lt, concat, inl, inr, length, length-append, refl, suc, sym, zero, ℕ}
 use Rattle.stream_check.proofs.Rows.{shorter, behind, front}
 use Rattle.stream_check.proofs.Cuts.{last, more, none, has_left, has_right}
 
@@ -104,12 +104,12 @@ stays_most wanted n done open_frames frame g short (suc k) front back e c =
       | inl lt ↦ omega (arith, lt)
       | inr ge ↦
           let same : k ≡ n = omega (arith, le, ge) in
-          let cut : IsCutInto wanted n b.start = subst (λ (i : ℕ). IsCutInto wanted i b.start) same b.cut in
+          let cut : IsCutInto wanted n b.start = rw (← same) b.cut in
           let far : length done ≤ length b.start = g.soonest b.start b.back_before b.is_before cut in
           let at = behind done b.start (b.part ++ back) (open_frames ++ frame ∷ []) b.is far in
           let all : HasAll wanted (at.mid ++ (b.part ++ back)) =
           has_right wanted at.mid (b.part ++ back) (has_left wanted b.part back b.whole.1) in
-          absurd (short (subst (λ (row : List (List ℕ)). HasAll wanted row) (sym at.is) all))
+          absurd (short (rw (at.is) all))
     ]
 
 stays_soonest : (wanted : List ℕ) (n : ℕ) (done open_frames : List (List ℕ)) (frame : List ℕ)
@@ -141,9 +141,7 @@ cut_all wanted (suc k) done open_frames g some =
     let is : l.front ++ (l.part ++ open_frames) ≡ done ++ open_frames =
     sym (append_assoc l.front l.part open_frames) ∙ ap (λ row. row ++ open_frames) (sym l.is) in
     let one : k + 1 ≡ suc k = omega arith in
-    subst (λ (i : ℕ). IsCutInto wanted i (done ++ open_frames)) one
-    (subst (λ (row : List (List ℕ)). IsCutInto wanted (k + 1) row) is
-    (more wanted k l.front (l.part ++ open_frames) l.cut whole))
+    rw (← one) (rw (← is) (more wanted k l.front (l.part ++ open_frames) l.cut whole))
 
 pub greedy_is_most : GreedyIsMost
 greedy_is_most wanted n done open_frames g = record {
@@ -174,7 +172,7 @@ one_part wanted n frames c =
     let l = last wanted n frames c in
     let whole : IsPart wanted (l.front ++ l.part) =
     (some_right l.front l.part l.whole.0, has_right wanted l.front l.part l.whole.1) in
-    subst (λ (row : List (List ℕ)). IsPart wanted row) (sym l.is) whole
+    rw (l.is) whole
 
 three_of : (wanted : List ℕ) (n : ℕ) (frames : List (List ℕ)) → IsCutInto wanted n frames → 3 ≤ n
     → IsCutInThree wanted frames
@@ -188,7 +186,7 @@ three_of wanted (suc (suc (suc k))) frames c three =
       first = second.front;
       second = second.part;
       third = third.part;
-      cut = third.is ∙ ap (λ row. row ++ third.part) second.is;
+      cut = rw (← second.is) third.is;
       whole_in_first = one_part wanted k second.front second.cut;
       whole_in_second = second.whole;
       whole_in_third = third.whole;
@@ -198,8 +196,7 @@ of_three : (wanted : List ℕ) (frames : List (List ℕ)) → IsCutInThree wante
 of_three wanted frames t =
     let two = more wanted 1 t.first t.second (more wanted 0 [] t.first (none wanted) t.whole_in_first)
     t.whole_in_second in
-    subst (λ (r : List (List ℕ)). IsCutInto wanted 3 r) (sym t.cut)
-    (more wanted 2 (t.first ++ t.second) t.third two t.whole_in_third)
+    rw (t.cut) (more wanted 2 (t.first ++ t.second) t.third two t.whole_in_third)
 
 pub three_or_more : ThreeOrMore
 three_or_more wanted n frames h = (
@@ -217,8 +214,8 @@ missing wanted x frames want new (suc k) front back e c =
     let l = last wanted k front c in
     let all : HasAll wanted ((l.front ++ l.part) ++ back) =
     has_left wanted (l.front ++ l.part) back (has_right wanted l.front l.part l.whole.1) in
-    let is : (l.front ++ l.part) ++ back ≡ frames = ap (λ row. row ++ back) (sym l.is) ∙ e in
-    absurd (new (subst (λ (row : List (List ℕ)). Contains (concat row) x) is (all x want)))
+    let is : (l.front ++ l.part) ++ back ≡ frames = rw (← l.is) e in
+    absurd (new (rw (← is) (all x want)))
 
 pub new_begins_anew : NewBeginsAnew
 new_begins_anew wanted x frames want new = record {

@@ -85,11 +85,11 @@ other_kind (x ∷ xs) h e f k all small less other c =
 
 kept_as_changed : (h : Heard) (hs : List Heard) → has_entry heard_key (heard_key h) hs ≡ true
     → heard_kept h hs ≡ with_entry_changed heard_key h hs
-kept_as_changed h hs e = ap (λ t. cond t (with_entry_changed heard_key h hs) (with_entry heard_key h hs)) e
+kept_as_changed h hs e = rw (e) refl
 
 kept_as_added : (h : Heard) (hs : List Heard) → has_entry heard_key (heard_key h) hs ≡ false
     → heard_kept h hs ≡ with_entry heard_key h hs
-kept_as_added h hs e = ap (λ t. cond t (with_entry_changed heard_key h hs) (with_entry heard_key h hs)) e
+kept_as_added h hs e = rw (e) refl
 
 -- ---- whether an entry is in the list, from its lookup
 
@@ -143,18 +143,15 @@ packet_kept h p e = ap (λ n. cond (n == 1) (record p { subs = heard_kept h p.su
 
 sub_standing : (raw : Raw) (p : HeardPicture) → raw.ext ≡ 1
     → lookup_in raw (picture_of_heard p) ≡ lookup raw (raws p.subs)
-sub_standing raw p e = ap (λ n. lookup raw (cond (n == 1) (raws p.subs)
-    (cond (n == 2) (raws p.services) (raws p.packets)))) e
+sub_standing raw p e = rw (e) refl
 
 service_standing : (raw : Raw) (p : HeardPicture) → raw.ext ≡ 2
     → lookup_in raw (picture_of_heard p) ≡ lookup raw (raws p.services)
-service_standing raw p e = ap (λ n. lookup raw (cond (n == 1) (raws p.subs)
-    (cond (n == 2) (raws p.services) (raws p.packets)))) e
+service_standing raw p e = rw (e) refl
 
 packet_standing : (raw : Raw) (p : HeardPicture) → raw.ext ≡ 3
     → lookup_in raw (picture_of_heard p) ≡ lookup raw (raws p.packets)
-packet_standing raw p e = ap (λ n. lookup raw (cond (n == 1) (raws p.subs)
-    (cond (n == 2) (raws p.services) (raws p.packets)))) e
+packet_standing raw p e = rw (e) refl
 
 -- ---- properties of each entry
 
@@ -250,13 +247,11 @@ own_known h hs e k kinds is = ap keys (kept_as_changed h hs is) ∙ changed_keys
 
 own_has : (h : Heard) (hs : List Heard) → has_entry heard_key (heard_key h) hs ≡ false
     → Contains (keys (heard_kept h hs)) (key_of h.raw)
-own_has h hs is = subst (λ (ys : List Heard). Contains (keys ys) (key_of h.raw)) (sym (kept_as_added h hs is))
-    (added_has h hs)
+own_has h hs is = rw (kept_as_added h hs is) (added_has h hs)
 
 own_keeps : (h : Heard) (hs : List Heard) (k : ℕ) → has_entry heard_key (heard_key h) hs ≡ false → Contains (keys hs) k
     → Contains (keys (heard_kept h hs)) k
-own_keeps h hs k is c = subst (λ (ys : List Heard). Contains (keys ys) k) (sym (kept_as_added h hs is))
-    (added_keeps h hs k c)
+own_keeps h hs k is c = rw (kept_as_added h hs is) (added_keeps h hs k c)
 
 in_first : (a b c : List ℕ) (k : ℕ) → Contains a k → Contains (a ++ (b ++ c)) k
 in_first a b c k h = Contains-append_left a (b ++ c) k h
@@ -386,7 +381,7 @@ own_there (x ∷ xs) h e k all is =
       | true ↦ λ same more.
           let one : heard_key x ≡ heard_key h = eqb-true (heard_key x) (heard_key h) same in
           let key : key_of x.raw ≡ key_of h.raw = omega (arith, one, k, all.0) in
-          subst (λ (n : ℕ). Contains (keys (x ∷ xs)) n) key (here (key_of x.raw) (keys xs))
+          rw (← key) (here (key_of x.raw) (keys xs))
       | false ↦ λ same more. there (key_of x.raw) (key_of h.raw) (keys xs) (own_there xs h e k all.1 more)
     ] refl is
 

@@ -3,7 +3,7 @@ use Rattle.stream_check.proofs.Words.{[], ◌&&◌, ◌++◌, ◌+◌, ◌<◌, 
 use Rattle.stream_check.proofs.Words.{HasNotice, Heard, IsLastHeard, Item, Knows, List, Listening, Moment, Said, Some}
 use Rattle.stream_check.proofs.Words.{ap, append-nil, arith, at_most, began_early, cases_lt, cond, eq-eqb, false}
 use Rattle.stream_check.proofs.Words.{false≢true, finds_no_room, frames_ended, has_begun, has_ensemble, inl, inr, into}
-use Rattle.stream_check.proofs.Words.{is_absent, is_ensemble, key_of, last_heard, later, le-ltb, length, listener_after}
+use Rattle.stream_check.proofs.Words.{is_absent, is_ensemble, key_of, last_heard, later, le-ltb, listener_after}
 use Rattle.stream_check.proofs.Words.{listener_in, lookup_in, lt-ltb, ne_eqb, not, picture_kept, picture_of}
 use Rattle.stream_check.proofs.Words.{picture_of_heard, pictured, refl, row_at_hand, rows, subst, sym, true}
 use Rattle.stream_check.proofs.Words.{with_current, with_next, ℕ}
@@ -16,16 +16,16 @@ use Rattle.stream_check.proofs.Members.{member_rows, member_row, member_last, me
 
 pub later_second : (a b : ℕ) → a ≤ b → later a b ≡ b
 later_second a b le = elim (cases_lt a b) [
-  | inl lt ↦ ap (λ t. cond t b a) (lt-ltb a b lt)
+  | inl lt ↦ rw (lt-ltb a b lt) refl
   | inr ge ↦ (let same : a ≡ b = omega (arith, le, ge) in ap (λ t. cond t b a) (le-ltb a b ge) ∙ same)
 ]
 
 pub later_first : (a b : ℕ) → b ≤ a → later a b ≡ a
-later_first a b le = ap (λ t. cond t b a) (le-ltb a b le)
+later_first a b le = rw (le-ltb a b le) refl
 
 tuned_is : (step period : ℕ) (past : List Moment) (m : CheckerState) → Knows step period past m
     → (listener_after past).tuned ≡ m.tuned
-tuned_is step period past m k = ap (λ (l : Listening). l.tuned) (after_is past (listener_in m) k.heard)
+tuned_is step period past m k = rw (after_is past (listener_in m) k.heard) refl
 
 -- before the first FIG 0/0 it is ignored
 pub knows_passed : (step period : ℕ) (past : List Moment) (m : CheckerState) (i : Item) → is_ensemble i ≡ false
@@ -56,7 +56,7 @@ knows_passed step period past m i e untuned k =
       times = k.times ∙ ap (at_most 3) (member_times past i e);
       settles_at = k.settles_at ∙ member_settles period past i e;
       untuned = k.untuned;
-      few = subst (λ (rs : List (List ℕ)). length rs ≤ frames_ended past) (sym (member_rows past i e)) k.few;
+      few = rw (member_rows past i e) k.few;
       swapped = k.swapped;
       kinds = k.kinds;
       last = each_in (IsLastHeard past m.swapped) (IsLastHeard (Said i ∷ past) m.swapped) m.current
@@ -108,7 +108,7 @@ knows_current step period past m i e few some tuned nx room k =
       times = k.times ∙ ap (at_most 3) (member_times past i e);
       settles_at = k.settles_at ∙ member_settles period past i e;
       untuned = λ no_tune. absurd (false≢true (sym no_tune ∙ tuned));
-      few = subst (λ (rs : List (List ℕ)). length rs ≤ frames_ended past) (sym (member_rows past i e)) k.few;
+      few = rw (member_rows past i e) k.few;
       swapped = k.swapped;
       kinds = (kinds_kept (record { raw = i.raw; at = m.frames + 1 }) m.current some few k.kinds.0, k.kinds.1);
       last = picture_each (IsLastHeard past m.swapped) (IsLastHeard (Said i ∷ past) m.swapped)
@@ -171,7 +171,7 @@ knows_next step period past m i e few some tuned nx room k =
       times = k.times ∙ ap (at_most 3) (member_times past i e);
       settles_at = k.settles_at ∙ member_settles period past i e;
       untuned = λ no_tune. absurd (false≢true (sym no_tune ∙ tuned));
-      few = subst (λ (rs : List (List ℕ)). length rs ≤ frames_ended past) (sym (member_rows past i e)) k.few;
+      few = rw (member_rows past i e) k.few;
       swapped = k.swapped;
       kinds = (k.kinds.0, kinds_kept (record { raw = i.raw; at = m.rows + 1 }) m.next some few k.kinds.1);
       last = each_in (IsLastHeard past m.swapped) (IsLastHeard (Said i ∷ past) m.swapped) m.current

@@ -1,6 +1,6 @@
 -- Hearing what is sent in a loop: what was heard so far, and the rest.
 use Rattle.stream_check.proofs.Words.{[], ◌++◌, ◌∙◌, ◌≡◌, CheckerState, FrameAt, Hears, IsLater, IsSane, List, Reported}
-use Rattle.stream_check.proofs.Words.{Sent, ap, append_assoc, false, refl, subst, sym, true}
+use Rattle.stream_check.proofs.Words.{Sent, ap, append_assoc, false, refl, sym, true}
 use Rattle.stream_check.proofs.Chain.{hears_nothing, hears_more, hears_full}
 use Rattle.stream_check.proofs.Steps.{later_itself, later_twice}
 
@@ -32,7 +32,6 @@ pub breaks_off : (at : FrameAt) (all left some rest : List Sent) (old now new : 
     (before reported after : Reported) → left ≡ some ++ rest → Hears at some now reported new after true
     → IsOnItsWay at all left old before now reported → Hears at all old before new after true
 breaks_off at all left some rest old now new before reported after e h w =
-    subst (λ (is : List Sent). Hears at is old before new after true)
-    (append_assoc w.done some rest ∙ ap (λ r. w.done ++ r) (sym e) ∙ w.whole)
+    rw (← append_assoc w.done some rest ∙ ap (λ r. w.done ++ r) (sym e) ∙ w.whole)
     (hears_full at (w.done ++ some) rest old new before after
     (hears_more at w.done some old now new before reported after true w.later.step w.later.period w.heard h))

@@ -1,12 +1,11 @@
 -- How an entry of FIG 0/1 to 0/3 affects the past of a stream.
 use Rattle.stream_check.proofs.Words.{[], ◌%◌, ◌&&◌, ◌++◌, ◌+◌, ◌==◌, ◌||◌, ◌∙◌, ◌∷◌, ◌≡◌, Bool, Item, List, Listening}
 use Rattle.stream_check.proofs.Words.{Moment, None, Option, Raw, Said, Some, ap, arith, at_ensemble, began_early}
-use Rattle.stream_check.proofs.Words.{begins_notice, cond, eid_of, ensemble_in, ensemble_of_item, false, flag_count}
-use Rattle.stream_check.proofs.Words.{frames_ended, has_begun, has_ensemble, hear_entry, into, is_cut_off, is_ensemble}
-use Rattle.stream_check.proofs.Words.{is_flagged, is_in_place, is_made, is_member, is_swap, key_of, last_eid}
-use Rattle.stream_check.proofs.Words.{last_flags, last_heard, listener, listener_after, listening, next_key, not}
-use Rattle.stream_check.proofs.Words.{picture_of, pictured, refl, row_at_hand, rows, settles_at, sym, times_announced}
-use Rattle.stream_check.proofs.Words.{true, where_heard, ℕ}
+use Rattle.stream_check.proofs.Words.{begins_notice, cond, eid_of, ensemble_of_item, false, flag_count, frames_ended}
+use Rattle.stream_check.proofs.Words.{has_begun, has_ensemble, hear_entry, into, is_cut_off, is_ensemble, is_flagged}
+use Rattle.stream_check.proofs.Words.{is_in_place, is_made, is_member, is_swap, key_of, last_eid, last_flags}
+use Rattle.stream_check.proofs.Words.{last_heard, listener, listener_after, listening, not, picture_of, pictured, refl}
+use Rattle.stream_check.proofs.Words.{row_at_hand, rows, settles_at, sym, times_announced, true, where_heard, ℕ}
 
 pub and_false : (a : Bool) → (a && false) ≡ false
 and_false true = refl
@@ -23,17 +22,17 @@ or_true false = refl
 -- ---- an entry other than FIG 0/0
 
 pub no_swap : (past : List Moment) (i : Item) → is_ensemble i ≡ false → is_swap past i ≡ false
-no_swap past i e = ap (λ t. t && is_made (listener_after past).awaited (ensemble_of_item i)) e
+no_swap past i e = rw (e) refl
 
 pub no_flags : (i : Item) → is_ensemble i ≡ false → is_flagged i ≡ false
-no_flags i e = ap (λ t. t && not ((ensemble_of_item i).change == 0)) e
+no_flags i e = rw (e) refl
 
 pub not_placed : (step : ℕ) (i : Item) → is_ensemble i ≡ false → is_in_place step i ≡ false
-not_placed step i e = ap (λ t. i.first && (t && ((ensemble_of_item i).count % step == 0))) e ∙ and_false i.first
+not_placed step i e = rw (e) (and_false i.first)
 
 eid_same : (step : ℕ) (i : Item) (o : Option ℕ) → is_ensemble i ≡ false → eid_of step i o ≡ o
-eid_same step i None e = ap (λ t. cond t (Some (ensemble_of_item i).eid) None) e
-eid_same step i (Some eid) e = ap (λ t. cond t (Some (ensemble_of_item i).eid) (Some eid)) (not_placed step i e)
+eid_same step i None e = rw (e) refl
+eid_same step i (Some eid) e = rw (not_placed step i e) refl
 
 pub member_eid : (step : ℕ) (past : List Moment) (i : Item) → is_ensemble i ≡ false
     → last_eid step past ≡ last_eid step (Said i ∷ past)
@@ -50,7 +49,7 @@ member_begins past i e =
     ∙ ap (λ t. (not t && (listener_after past).tuned) && i.next) e
 
 pub member_is : (past : List Moment) (i : Item) → is_ensemble i ≡ false → is_member past i ≡ (listener_after past).tuned
-member_is past i e = ap (λ t. not t && (listener_after past).tuned) e
+member_is past i e = rw (e) refl
 
 pub member_has_begun : (past : List Moment) (i : Item) → is_ensemble i ≡ false
     → has_begun (Said i ∷ past) ≡ (has_begun past || ((listener_after past).tuned && i.next))
@@ -73,16 +72,13 @@ member_flags past i e = sym (ap (λ t. cond t (ensemble_of_item i).change (last_
 pub member_times : (past : List Moment) (i : Item) → is_ensemble i ≡ false
     → times_announced past ≡ times_announced (Said i ∷ past)
 member_times past i e =
-    let none : flag_count i ≡ 0 = ap (λ t. cond t 1 0) (no_flags i e) in
+    let none : flag_count i ≡ 0 = rw (no_flags i e) refl in
     let same : times_announced past ≡ times_announced past + flag_count i = omega (arith, none) in
-    same ∙ sym (ap (λ t. cond t (flag_count i) (times_announced past + flag_count i)) (no_swap past i e))
+    rw (no_swap past i e) same
 
 pub member_cut_off : (past : List Moment) (i : Item) → is_ensemble i ≡ false
     → is_cut_off past ≡ is_cut_off (Said i ∷ past)
-member_cut_off past i e =
-    sym (ap (λ t. cond t false
-    (cond (is_ensemble i && not (listener_after past).tuned) (is_flagged i) (is_cut_off past))) (no_swap past i e)
-    ∙ ap (λ t. cond (t && not (listener_after past).tuned) (is_flagged i) (is_cut_off past)) e)
+member_cut_off past i e = sym (rw (no_swap past i e, e) refl)
 
 pub member_settles : (period : ℕ) (past : List Moment) (i : Item) → is_ensemble i ≡ false
     → settles_at period past ≡ settles_at period (Said i ∷ past)
@@ -91,14 +87,12 @@ member_settles period past i e =
     (no_swap past i e))
 
 pub member_rows : (past : List Moment) (i : Item) → is_ensemble i ≡ false → rows (Said i ∷ past) ≡ rows past
-member_rows past i e = ap (λ t. cond t [] (rows past)) (no_swap past i e)
+member_rows past i e = rw (no_swap past i e) refl
 
 pub member_row : (past : List Moment) (i : Item) → is_ensemble i ≡ false
     → row_at_hand (Said i ∷ past) ≡ row_at_hand past ++ cond ((listener_after past).tuned && i.next) (key_of i.raw ∷ [])
     []
-member_row past i e =
-    ap (λ t. cond t [] (row_at_hand past ++ next_key past i)) (no_swap past i e)
-    ∙ ap (λ t. row_at_hand past ++ cond (t && i.next) (key_of i.raw ∷ []) []) (member_is past i e)
+member_row past i e = rw (no_swap past i e, member_is past i e) refl
 
 pub member_last : (key : ℕ) (past : List Moment) (i : Item) → is_ensemble i ≡ false
     → last_heard key (Said i ∷ past) ≡ cond ((listener_after past).tuned && (not i.next && (key_of i.raw == key)))
@@ -120,19 +114,17 @@ after_is past l h = ap listener h
 
 pub ensemble_swap : (past : List Moment) (i : Item) (l : Listening) → is_ensemble i ≡ true → listening past ≡ Some l
     → is_swap past i ≡ is_made l.awaited (ensemble_of_item i)
-ensemble_swap past i l e h =
-    ap (λ t. t && is_made (listener_after past).awaited (ensemble_of_item i)) e
-    ∙ ap (λ (o : Listening). is_made o.awaited (ensemble_of_item i)) (after_is past l h)
+ensemble_swap past i l e h = rw (e, after_is past l h) refl
 
 pub ensemble_flagged : (i : Item) → is_ensemble i ≡ true → is_flagged i ≡ not ((ensemble_of_item i).change == 0)
-ensemble_flagged i e = ap (λ t. t && not ((ensemble_of_item i).change == 0)) e
+ensemble_flagged i e = rw (e) refl
 
 pub ensemble_placed : (step : ℕ) (i : Item) → is_ensemble i ≡ true
     → is_in_place step i ≡ (i.first && ((ensemble_of_item i).count % step == 0))
-ensemble_placed step i e = ap (λ t. i.first && (t && ((ensemble_of_item i).count % step == 0))) e
+ensemble_placed step i e = rw (e) refl
 
 pub ensemble_no_member : (past : List Moment) (i : Item) → is_ensemble i ≡ true → is_member past i ≡ false
-ensemble_no_member past i e = ap (λ t. not t && (listener_after past).tuned) e
+ensemble_no_member past i e = rw (e) refl
 
 pub ensemble_heard : (past : List Moment) (i : Item) (l : Listening) → is_ensemble i ≡ true → listening past ≡ Some l
     → listening (Said i ∷ past) ≡ Some (at_ensemble (ensemble_of_item i) l)
@@ -143,5 +135,4 @@ ensemble_heard past i l e h =
 
 pub member_entry : (next : Bool) (raw : Raw) (l : Listening) → (raw.ext == 0) ≡ false
     → hear_entry next raw l ≡ cond l.tuned (into next l (pictured raw (picture_of next l))) (Some l)
-member_entry next raw l e = ap (λ t. cond t (Some (at_ensemble (ensemble_in raw) l))
-    (cond l.tuned (into next l (pictured raw (picture_of next l))) (Some l))) e
+member_entry next raw l e = rw (e) refl

@@ -86,7 +86,7 @@ pub left_more : (at : FrameAt) (k : Pictured) (ext : ℕ) (long : Bool) (all res
 left_more at k ext long all rest size old now then before reported after some is one h =
     let fits = fits_where ext long rest some h.whole in
     let same : take (length rest - size) (drop size rest) ≡ drop (first_entry_length ext long rest) rest =
-    rest_of size rest ∙ ap (λ s. drop s rest) is in
+    rw (← is) (rest_of size rest) in
     let whole : are_whole (mentions_of ext long (drop (first_entry_length ext long rest) rest)) ≡ true =
     sym (whole_with (entry_mention ext long rest) (mentions_of ext long (drop (first_entry_length ext long rest) rest)))
     ∙ sym (ap are_whole (of_more ext long rest some fits)) ∙ h.whole in
@@ -108,6 +108,4 @@ pub left_none : (at : FrameAt) (k : Pictured) (ext : ℕ) (long : Bool) (all res
     (before reported : Reported) → length rest ≡ 0 → AreLeft at k ext long all rest old before now reported
     → AreNoted at (absent_among k ext (mentions_of ext long all)) old before now reported
 left_none at k ext long all rest old now before reported none h =
-    h.left now reported (subst (λ (ms : Option (List Mention)).
-    AreNoted at (absent_among k ext ms) now reported now reported) (sym (of_none ext long rest none))
-    (noted_nothing at now reported))
+    h.left now reported (rw (of_none ext long rest none) (noted_nothing at now reported))

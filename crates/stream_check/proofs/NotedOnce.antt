@@ -50,7 +50,7 @@ noted_here xs ys c =
     (is_same c c || list_any (is_same c) ys) (ap (λ b. b || list_any (is_same c) ys) (itself_same c))
 
 new_more : (before xs ys : List Contradiction) → AreNew before xs → AreNew (before ++ xs) ys → AreNew before (xs ++ ys)
-new_more before [] ys one other = subst (λ (l : List Contradiction). AreNew l ys) (append-nil before) other
+new_more before [] ys one other = rw (← append-nil before) other
 new_more before (x ∷ xs) ys one other = (
   one.0,
   new_more (before ++ x ∷ []) xs ys one.1
@@ -140,6 +140,6 @@ later_noted noted d cs c rest =
 pub none_is_left_out : NoneIsLeftOut
 none_is_left_out noted [] c inside = absurd (contains_none c inside)
 none_is_left_out noted (d ∷ cs) c inside = elim (contains_cases d cs c inside) [
-  | inl is ↦ subst (λ (x : Contradiction). IsNotedOrMany (noted_with noted (d ∷ cs)) x) is (first_noted noted d cs)
+  | inl is ↦ rw (← is) (first_noted noted d cs)
   | inr more ↦ later_noted noted d cs c (λ l. none_is_left_out l cs c more)
 ]

@@ -76,9 +76,9 @@ notice_known frames frame count since parts next begun h some few kinds room kno
       only = λ x c. subst (λ (l : List ℕ). Contains l x) (sym same)
           (elim (heard_or_new frames frame (key_of h.raw) x c) [
             | inl before ↦ n.only x before
-            | inr is ↦ subst (λ (y : ℕ). Contains (keys_of next) y) (sym is) has
+            | inr is ↦ rw (is) has
           ]);
-      greedy = subst (λ (l : List ℕ). IsGreedy l parts (take since frames) (drop since frames)) (sym same) n.greedy;
+      greedy = rw (same) n.greedy;
       idle = λ e. absurd (false≢true (sym e));
     }
 
@@ -101,7 +101,7 @@ notice_new frames frame count since parts next begun h some few kinds room new a
           n.stamps;
       only = λ x c. elim (heard_or_new frames frame (key_of h.raw) x c) [
         | inl before ↦ j.keeps x (n.only x before)
-        | inr is ↦ subst (λ (y : ℕ). Contains (keys_of (picture_kept h next)) y) (sym is) j.has
+        | inr is ↦ rw (is) j.has
       ];
       greedy = new_begins_anew (keys_of (picture_kept h next)) (key_of h.raw) frames j.has unheard;
       idle = λ e. absurd (false≢true (sym e));
@@ -131,7 +131,7 @@ stamp_after frames frame x h =
             let row : concat (drop s frames) ++ frame ≡ concat (drop s (frames ++ frame ∷ [])) ++ [] =
             wanted_more (drop s frames) frame ∙ ap (λ r. concat r ++ [])
             (sym (drop-append-le s frames (frame ∷ []) near)) in (
-              λ c. (h.1 s near).0 (subst (λ (l : List ℕ). Contains l (key_of x.raw)) (sym row) c),
+              λ c. (h.1 s near).0 (rw (row) c),
               λ b. subst (λ (l : List ℕ). Contains l (key_of x.raw)) row ((h.1 s near).1 b),
             )
       ],
@@ -230,8 +230,8 @@ whole_has_all frames frame count since parts next begun n whole x want =
     let each = each_both (λ h. since < h.at) (IsStamped frames frame)
     (λ h. Contains (concat (drop since frames) ++ frame) (key_of h.raw)) next (λ h lt s. (s.1 since n.part).1 lt)
     (each_later since next whole) n.stamps in
-    subst (λ (l : List ℕ). Contains l x) (sym (concat-more (drop since frames) frame))
-    (picture_by_keys (λ k. Contains (concat (drop since frames) ++ frame) k) next each x want)
+    rw (concat-more (drop since frames) frame) (picture_by_keys (λ k. Contains (concat (drop since frames) ++ frame) k)
+    next each x want)
 
 has_all_whole : (frames : List (List ℕ)) (frame : List ℕ) (count since parts : ℕ) (next : HeardPicture) (begun : Bool)
     → HasNotice frames frame count since parts next begun
@@ -245,7 +245,7 @@ has_all_whole frames frame count since parts next begun n all =
 only_after : (frames : List (List ℕ)) (frame : List ℕ) (next : HeardPicture)
     → ((x : ℕ) → Contains (concat frames ++ frame) x → Contains (keys_of next) x)
     → (x : ℕ) → Contains (concat (frames ++ frame ∷ []) ++ []) x → Contains (keys_of next) x
-only_after frames frame next only x c = only x (subst (λ (l : List ℕ). Contains l x) (sym (wanted_more frames frame)) c)
+only_after frames frame next only x c = only x (rw (wanted_more frames frame) c)
 
 count_after : (frames : List (List ℕ)) (frame : List ℕ) (count : ℕ) → count ≡ length frames
     → count + 1 ≡ length (frames ++ frame ∷ [])

@@ -107,8 +107,7 @@ along : (wanted : List ℕ) (n : ℕ) (done part frames : List (List ℕ)) → I
     → IsMostParts wanted (n + parts_from wanted part frames) (done ++ (part ++ frames))
 along wanted n done part [] g =
     let zero_more : n ≡ n + 0 = omega arith in
-    subst (λ (row : List (List ℕ)). IsMostParts wanted (n + 0) (done ++ row)) (sym (append-nil part))
-    (subst (λ (k : ℕ). IsMostParts wanted k (done ++ part)) zero_more (greedy_is_most wanted n done part g))
+    rw (append-nil part) (rw (← zero_more) (greedy_is_most wanted n done part g))
 along wanted n done part (f ∷ fs) g =
     elim (has_all wanted (part ++ f ∷ [])) as (λ t. has_all wanted (part ++ f ∷ []) ≡ t
     → IsMostParts wanted (n + cond t (parts_from wanted [] fs + 1) (parts_from wanted (part ++ f ∷ []) fs))
@@ -117,7 +116,7 @@ along wanted n done part (f ∷ fs) g =
           let closed = greedy_closes wanted n done part f g (has_all_told wanted (part ++ f ∷ []) e) in
           let rest = along wanted (n + 1) (done ++ (part ++ f ∷ [])) [] fs closed in
           let rows : (done ++ (part ++ f ∷ [])) ++ fs ≡ done ++ (part ++ f ∷ fs) =
-          append_assoc done (part ++ f ∷ []) fs ∙ ap (λ row. done ++ row) (append_assoc part (f ∷ []) fs) in
+          rw (← append_assoc part (f ∷ []) fs) (append_assoc done (part ++ f ∷ []) fs) in
           let count : n + 1 + parts_from wanted [] fs ≡ n + (parts_from wanted [] fs + 1) = omega arith in
           subst (λ (row : List (List ℕ)). IsMostParts wanted (n + (parts_from wanted [] fs + 1)) row) rows
           (subst (λ (k : ℕ). IsMostParts wanted k ((done ++ (part ++ f ∷ [])) ++ fs)) count rest)
@@ -132,7 +131,7 @@ along wanted n done part (f ∷ fs) g =
 pub is_the_most : IsTheMost
 is_the_most wanted frames =
     let count : 0 + parts_from wanted [] frames ≡ most_parts wanted frames = omega arith in
-    subst (λ (n : ℕ). IsMostParts wanted n frames) count (along wanted 0 [] [] frames (greedy_at_first wanted))
+    rw (← count) (along wanted 0 [] [] frames (greedy_at_first wanted))
 
 -- so a greedy cut has this number of parts
 pub parts_counted : (wanted : List ℕ) (n : ℕ) (done open_frames : List (List ℕ)) → IsGreedy wanted n done open_frames

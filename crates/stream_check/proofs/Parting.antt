@@ -42,7 +42,7 @@ pub sends_ensemble : (at : FrameAt) (first next : Bool) (raw : Raw) (old new : C
     → HearsItems at (items_of first next (raw ∷ [])) old before new after false
     → Hears at (entries_sent first next (raw ∷ [])) old before new after false
 sends_ensemble at first next raw old new before after zero is h =
-    let e : (raw.ext == 0) ≡ true = ap (λ n. n == 0) zero in
+    let e : (raw.ext == 0) ≡ true = rw (zero) refl in
     sends_one at (record { first = first; next = next; raw = raw }) old new before after false h
     (λ past k. ap (λ (m : CheckerState). m.noted) is ∙ ensemble_noted first (ensemble_in raw) old
     (makes_swap (known_in old) (ensemble_in raw))

@@ -13,14 +13,14 @@ use Rattle.stream_check.proofs.Saying.{said_append, full_append, full_stays}
 
 pub items_append : (xs ys : List Sent) → items_in (xs ++ ys) ≡ items_in xs ++ items_in ys
 items_append [] ys = refl
-items_append (EntrySent i ∷ ss) ys = ap (λ is. i ∷ is) (items_append ss ys)
+items_append (EntrySent i ∷ ss) ys = rw (items_append ss ys) refl
 items_append (FigSent fig ∷ ss) ys = items_append ss ys
 
 pub entries_items : (first next : Bool) (raws : List Raw)
     → items_in (entries_sent first next raws) ≡ items_of first next raws
 entries_items first next [] = refl
 entries_items first next (raw ∷ raws) =
-    ap (λ is. record { first = first; next = next; raw = raw } ∷ is) (entries_items first next raws)
+    rw (entries_items first next raws) refl
 
 pub fig_has_items : (first : Bool) (f : Fig) → items_in (fig_sent first f) ≡ fig_items first f
 fig_has_items first (Open second es) = entries_items first (is_next second) (entries_in (Open second es))
@@ -29,9 +29,7 @@ fig_has_items first (Other given) = refl
 pub figs_have_items : (first : Bool) (figs : List Fig) → items_in (figs_sent first figs) ≡ figs_items first figs
 figs_have_items first [] = refl
 figs_have_items first (f ∷ fs) =
-    items_append (fig_sent first f) (figs_sent false fs)
-    ∙ ap (λ is. is ++ items_in (figs_sent false fs)) (fig_has_items first f)
-    ∙ ap (λ is. fig_items first f ++ is) (figs_have_items false fs)
+    rw (← figs_have_items false fs, ← fig_has_items first f) (items_append (fig_sent first f) (figs_sent false fs))
 
 pub fib_has_items : (first : Bool) (fib : Fib) → items_in (fib_sent first fib) ≡ fib_items first fib
 fib_has_items first None = refl
@@ -40,9 +38,8 @@ fib_has_items first (Some figs) = figs_have_items first figs
 pub fibs_have_items : (first : Bool) (fibs : List Fib) → items_in (fibs_sent first fibs) ≡ fibs_items first fibs
 fibs_have_items first [] = refl
 fibs_have_items first (fib ∷ fibs) =
-    items_append (fib_sent first fib) (fibs_sent false fibs)
-    ∙ ap (λ is. is ++ items_in (fibs_sent false fibs)) (fib_has_items first fib)
-    ∙ ap (λ is. fib_items first fib ++ is) (fibs_have_items false fibs)
+    rw (← fibs_have_items false fibs, ← fib_has_items first fib)
+    (items_append (fib_sent first fib) (fibs_sent false fibs))
 
 pub frame_has_items : (frame : List Fib) → items_in (frame_sent frame) ≡ frame_items frame
 frame_has_items frame = fibs_have_items true frame
@@ -59,7 +56,7 @@ noted_append period (FigSent fig ∷ ss) ys past noted =
 
 pub said_sent : (xs ys : List Sent) (past : List Moment)
     → said (items_in (xs ++ ys)) past ≡ said (items_in ys) (said (items_in xs) past)
-said_sent xs ys past = ap (λ is. said is past) (items_append xs ys) ∙ said_append (items_in xs) (items_in ys) past
+said_sent xs ys past = rw (items_append xs ys) (said_append (items_in xs) (items_in ys) past)
 
 pub full_sent : (step period : ℕ) (xs ys : List Sent) (past : List Moment)
     → runs_full step period past (items_in xs) ≡ false
@@ -80,9 +77,9 @@ pub findings_append : (step period : ℕ) (xs ys : List Sent) (past : List Momen
 findings_append step period [] ys past noted e = refl
 findings_append step period (FigSent fig ∷ xs) ys past noted e =
     let cs = contradictions_at period past fig in
-    ap (λ fs. new_findings noted cs ++ fs) (findings_append step period xs ys past (noted_with noted cs) e)
-    ∙ sym (append_assoc (new_findings noted cs) (findings_at_sent step period past (noted_with noted cs) xs)
-    (findings_at_sent step period (said (items_in xs) past) (noted_after period past (noted_with noted cs) xs) ys))
+    rw (findings_append step period xs ys past (noted_with noted cs) e)
+    (sym (append_assoc (new_findings noted cs) (findings_at_sent step period past (noted_with noted cs) xs)
+    (findings_at_sent step period (said (items_in xs) past) (noted_after period past (noted_with noted cs) xs) ys)))
 findings_append step period (EntrySent x ∷ xs) ys past noted e =
     let now = noted_at past x noted in
     let rest = findings_at_sent step period (said (items_in xs) (Said x ∷ past))
@@ -106,7 +103,7 @@ pub findings_stay : (step period : ℕ) (xs ys : List Sent) (past : List Moment)
 findings_stay step period [] ys past noted e = absurd (false≢true e)
 findings_stay step period (FigSent fig ∷ xs) ys past noted e =
     let cs = contradictions_at period past fig in
-    ap (λ fs. new_findings noted cs ++ fs) (findings_stay step period xs ys past (noted_with noted cs) e)
+    rw (findings_stay step period xs ys past (noted_with noted cs) e) refl
 findings_stay step period (EntrySent x ∷ xs) ys past noted e =
     let now = noted_at past x noted in
     elim (has_no_room (known_of step period past) x) as (λ t.
@@ -136,8 +133,7 @@ new_append (c ∷ cs) ys noted =
 
 pub noted_twice : (xs ys noted : List Contradiction) → noted_with (noted_with noted xs) ys ≡ noted_with noted (xs ++ ys)
 noted_twice xs ys noted =
-    append_assoc noted (new_among noted xs) (new_among (noted_with noted xs) ys)
-    ∙ ap (λ l. noted ++ l) (sym (new_append xs ys noted))
+    rw (new_append xs ys noted) (append_assoc noted (new_among noted xs) (new_among (noted_with noted xs) ys))
 
 pub found_twice : (xs ys noted : List Contradiction) → new_findings noted xs
     ++ new_findings (noted_with noted xs) ys ≡ new_findings noted (xs ++ ys)

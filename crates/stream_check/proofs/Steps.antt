@@ -1,16 +1,15 @@
 -- Hearing one entry: what is reported, and what is known afterwards.
-use Rattle.stream_check.proofs.Words.{[], ◌&&◌, ◌++◌, ◌+◌, ◌<◌, ◌==◌, ◌∙◌, ◌∷◌, ◌≡◌, ◌≢◌, Bool, CheckerState}
-use Rattle.stream_check.proofs.Words.{FrameAt, Heard, HeardPicture, HearsItems, IsLater, IsSane}
-use Rattle.stream_check.proofs.Words.{Item, KnownBefore, Knows, List, Listening, Moment, Option, Raw, Reported, Said}
-use Rattle.stream_check.proofs.Words.{What, all_entries, ap, append-nil, append_assoc, arith, at_most, began_early}
-use Rattle.stream_check.proofs.Words.{cases_lt, cond, current_findings, drop, due, ensemble_findings, ensemble_in}
-use Rattle.stream_check.proofs.Words.{false, false≢true, findings_at, finds_no_room, frames_ended, has_begun}
-use Rattle.stream_check.proofs.Words.{has_ensemble, has_no_room, in_frame, inl, inr, is_cut_off, items_of}
-use Rattle.stream_check.proofs.Words.{key_of, keys, keys_of, known_in, known_of, last_eid, last_flags}
-use Rattle.stream_check.proofs.Words.{listener_after, listener_in, lookup_in, makes_swap, map, map-append}
-use Rattle.stream_check.proofs.Words.{member_findings, most_parts, ne_eqb, next_findings, not, picture_of_heard, raws}
-use Rattle.stream_check.proofs.Words.{refl, rows, subst, sym, take, take-append-drop, times_announced, times_heard}
-use Rattle.stream_check.proofs.Words.{true, with_current, with_ensemble, with_more, with_next, with_swap, ℕ}
+use Rattle.stream_check.proofs.Words.{[], ◌&&◌, ◌++◌, ◌+◌, ◌<◌, ◌==◌, ◌∙◌, ◌∷◌, ◌≡◌, ◌≢◌, Bool, CheckerState, FrameAt}
+use Rattle.stream_check.proofs.Words.{Heard, HeardPicture, HearsItems, IsLater, IsSane, Item, KnownBefore, Knows, List}
+use Rattle.stream_check.proofs.Words.{Listening, Moment, Option, Raw, Reported, Said, What, all_entries, ap, append-nil}
+use Rattle.stream_check.proofs.Words.{append_assoc, arith, began_early, cases_lt, cond, current_findings, drop, due}
+use Rattle.stream_check.proofs.Words.{ensemble_findings, ensemble_in, false, false≢true, findings_at, finds_no_room}
+use Rattle.stream_check.proofs.Words.{has_begun, has_ensemble, has_no_room, in_frame, inl, inr, is_cut_off, items_of}
+use Rattle.stream_check.proofs.Words.{key_of, keys, keys_of, known_in, known_of, listener_in, lookup_in, makes_swap}
+use Rattle.stream_check.proofs.Words.{map, map-append, member_findings, most_parts, ne_eqb, next_findings, not}
+use Rattle.stream_check.proofs.Words.{picture_of_heard, raws, refl, rows, subst, sym, take, take-append-drop}
+use Rattle.stream_check.proofs.Words.{times_heard, true, with_current, with_ensemble, with_more, with_next, with_swap}
+use Rattle.stream_check.proofs.Words.{ℕ}
 use Rattle.stream_check.proofs.PartCount.{parts_counted}
 use Rattle.stream_check.proofs.Members.{after_is}
 use Rattle.stream_check.proofs.Knowing.{knows_passed, knows_current, knows_next}
@@ -21,7 +20,7 @@ use Rattle.stream_check.proofs.Chain.{more_none}
 
 raw_keys : (hs : List Heard) → map key_of (raws hs) ≡ keys hs
 raw_keys [] = refl
-raw_keys (h ∷ hs) = ap (λ ks. key_of h.raw ∷ ks) (raw_keys hs)
+raw_keys (h ∷ hs) = rw (raw_keys hs) refl
 
 entry_keys : (p : HeardPicture) → map key_of (all_entries (picture_of_heard p)) ≡ keys_of p
 entry_keys p =
@@ -61,42 +60,27 @@ known_with step listener frames due eid has begun early cut flags times heard se
 pub known_same : (step period : ℕ) (past : List Moment) (m : CheckerState) → Knows step period past m
     → known_in m ≡ known_of step period past
 known_same step period past m k =
-    ap (λ x. known_with x (listener_in m) m.frames m.due m.eid m.has_ensemble m.has_begun m.began_early m.is_cut_off
-    m.flags m.times m.parts m.settles_at) k.mode
-    ∙ ap (λ x. known_with step x m.frames m.due m.eid m.has_ensemble m.has_begun m.began_early m.is_cut_off m.flags
-    m.times m.parts m.settles_at) (sym (after_is past (listener_in m) k.heard))
-    ∙ ap (λ x. known_with step (listener_after past) x m.due m.eid m.has_ensemble m.has_begun m.began_early m.is_cut_off
-    m.flags m.times m.parts m.settles_at) k.frames
-    ∙ ap (λ x. known_with step (listener_after past) (frames_ended past) x m.eid m.has_ensemble m.has_begun
-    m.began_early m.is_cut_off m.flags m.times m.parts m.settles_at) k.due
-    ∙ ap (λ x. known_with step (listener_after past) (frames_ended past) (due past) x m.has_ensemble m.has_begun
-    m.began_early m.is_cut_off m.flags m.times m.parts m.settles_at) k.eid
-    ∙ ap (λ x. known_with step (listener_after past) (frames_ended past) (due past) (last_eid step past) x m.has_begun
-    m.began_early m.is_cut_off m.flags m.times m.parts m.settles_at) k.has_ensemble
-    ∙ ap (λ x. known_with step (listener_after past) (frames_ended past) (due past) (last_eid step past)
-    (has_ensemble past) x m.began_early m.is_cut_off m.flags m.times m.parts m.settles_at) k.has_begun
-    ∙ ap (λ x. known_with step (listener_after past) (frames_ended past) (due past) (last_eid step past)
-    (has_ensemble past) (has_begun past) x m.is_cut_off m.flags m.times m.parts m.settles_at) k.began_early
-    ∙ ap (λ x. known_with step (listener_after past) (frames_ended past) (due past) (last_eid step past)
-    (has_ensemble past) (has_begun past) (began_early past) x m.flags m.times m.parts m.settles_at) k.is_cut_off
-    ∙ ap (λ x. known_with step (listener_after past) (frames_ended past) (due past) (last_eid step past)
-    (has_ensemble past) (has_begun past) (began_early past) (is_cut_off past) x m.times m.parts m.settles_at)
-    k.flags
-    ∙ ap (λ x. known_with step (listener_after past) (frames_ended past) (due past) (last_eid step past)
-    (has_ensemble past) (has_begun past) (began_early past) (is_cut_off past) (last_flags past) x m.parts
-    m.settles_at) k.times
-    ∙ ap (λ x. known_with step (listener_after past) (frames_ended past) (due past) (last_eid step past)
-    (has_ensemble past) (has_begun past) (began_early past) (is_cut_off past) (last_flags past)
-    (at_most 3 (times_announced past)) x m.settles_at) (parts_are step period past m k)
-    ∙ ap (λ x. known_with step (listener_after past) (frames_ended past) (due past) (last_eid step past)
-    (has_ensemble past) (has_begun past) (began_early past) (is_cut_off past) (last_flags past)
-    (at_most 3 (times_announced past)) (times_heard past) x) k.settles_at
+    rw (
+      k.mode,
+      ← after_is past (listener_in m) k.heard,
+      k.frames,
+      k.due,
+      k.eid,
+      k.has_ensemble,
+      k.has_begun,
+      k.began_early,
+      k.is_cut_off,
+      k.flags,
+      k.times,
+      parts_are step period past m k,
+      k.settles_at,
+    ) refl
 
 -- ---- one entry
 
 one_found : (k : KnownBefore) (i : Item) (found : List What) → has_no_room k i ≡ false → findings_at k i ≡ found
     → cond (has_no_room k i) [] (findings_at k i ++ []) ≡ found
-one_found k i found room is = ap (λ t. cond t [] (findings_at k i ++ [])) room ∙ append-nil (findings_at k i) ∙ is
+one_found k i found room is = rw (room) (append-nil (findings_at k i) ∙ is)
 
 -- an entry for which there is room
 pub heard_one : (at : FrameAt) (i : Item) (old new : CheckerState) (before after : Reported)
@@ -112,7 +96,7 @@ heard_one at i old new before after room reported next past k =
           (ap (λ t. findings_at t i) same
           ∙ sym (one_found (known_of old.step old.period past) i (findings_at (known_of old.step old.period past) i)
           free refl));
-      room = ap (λ t. cond t true false) free;
+      room = rw (free) refl;
       knows = λ e. next past k;
     }
 
@@ -125,7 +109,7 @@ heard_none at i old new before after room reported past k =
     record {
       findings = reported ∙ more_none before ∙ ap (λ fs. with_more before (map (in_frame at) fs))
           (sym (ap (λ t. cond t [] (findings_at (known_of old.step old.period past) i ++ [])) full));
-      room = ap (λ t. cond t true false) full;
+      room = rw (full) refl;
       knows = λ e. absurd (false≢true (sym e));
     }
 
@@ -137,7 +121,7 @@ pub hears_ensemble : (at : FrameAt) (first next : Bool) (raw : Raw) (old new : C
     (cond (makes_swap (known_in old) (ensemble_in raw)) (with_swap old) old)
     → HearsItems at (items_of first next (raw ∷ [])) old before new after false
 hears_ensemble at first next raw old new before after zero reported is =
-    let e : (raw.ext == 0) ≡ true = ap (λ n. n == 0) zero in
+    let e : (raw.ext == 0) ≡ true = rw (zero) refl in
     heard_one at (record { first = first; next = next; raw = raw }) old new before after
     (ap (λ t. cond t false (old.tuned && finds_no_room
     (lookup_in raw (cond next (picture_of_heard old.next) (picture_of_heard old.current))))) e)
@@ -165,9 +149,7 @@ room_of old first next raw b e is =
 found_of : (old : CheckerState) (first next : Bool) (raw : Raw) → (raw.ext == 0) ≡ false
     → findings_at (known_in old) (record { first = first; next = next; raw = raw })
     ≡ member_findings (known_in old) next raw
-found_of old first next raw e =
-    ap (λ t. cond t (ensemble_findings (known_in old) first (ensemble_in raw))
-    (member_findings (known_in old) next raw)) e
+found_of old first next raw e = rw (e) refl
 
 -- an entry before the first FIG 0/0
 pub hears_passed : (at : FrameAt) (first next : Bool) (raw : Raw) (old : CheckerState) (before : Reported) → raw.ext ≢ 0

@@ -26,14 +26,13 @@ pub standing_found : (raw : Raw) (hs : List Heard) (found : Option Heard)
     → found ≡ entry_at heard_key (identifier_of raw) hs
     → lookup raw (raws hs) ≡ lookup_among raw (length hs) (raw_in found)
 standing_found raw hs found e =
-    ap (λ n. lookup_among raw n (entry_at identifier_of (identifier_of raw) (raws hs))) (length-map hs (λ h. h.raw))
-    ∙ ap (lookup_among raw (length hs)) (found_raw (identifier_of raw) hs ∙ ap raw_in (sym e))
+    rw (length-map hs (λ h. h.raw)) (ap (lookup_among raw (length hs))
+    (found_raw (identifier_of raw) hs ∙ ap raw_in (sym e)))
 
 pub standing_known : (raw : Raw) (hs : List Heard) (h : Heard) (b : Bool)
     → Some h ≡ entry_at heard_key (identifier_of raw) hs → b ≡ agree h.raw raw
     → lookup raw (raws hs) ≡ cond b standings.Same standings.Other
-standing_known raw hs h b e is = standing_found raw hs (Some h) e
-    ∙ ap (λ t. cond t standings.Same standings.Other) (sym is)
+standing_known raw hs h b e is = rw (is) (standing_found raw hs (Some h) e)
 
 pub standing_new : (raw : Raw) (hs : List Heard) → None ≡ entry_at heard_key (identifier_of raw) hs → length hs < 64
     → standings.Absent ≡ lookup raw (raws hs)
@@ -57,8 +56,8 @@ changed_raw h [] = refl
 changed_raw h (x ∷ xs) = elim (heard_key x == heard_key h)
     as (λ t. (cond t h x).raw ∷ raws (with_entry_changed heard_key h xs) ≡ cond t h.raw x.raw
     ∷ with_entry_changed identifier_of h.raw (raws xs)) [
-      | true ↦ ap (λ ys. h.raw ∷ ys) (changed_raw h xs)
-      | false ↦ ap (λ ys. x.raw ∷ ys) (changed_raw h xs)
+      | true ↦ rw (changed_raw h xs) refl
+      | false ↦ rw (changed_raw h xs) refl
     ]
 
 added_raw : (h : Heard) (hs : List Heard) → raws (with_entry heard_key h hs) ≡ with_entry identifier_of h.raw (raws hs)
@@ -67,7 +66,7 @@ added_raw h (x ∷ xs) = elim (nat_lt (heard_key h) (heard_key x))
     as (λ t. raws (cond t (h ∷ x ∷ xs) (x ∷ with_entry heard_key h xs))
     ≡ cond t (h.raw ∷ x.raw ∷ raws xs) (x.raw ∷ with_entry identifier_of h.raw (raws xs))) [
       | true ↦ refl
-      | false ↦ ap (λ ys. x.raw ∷ ys) (added_raw h xs)
+      | false ↦ rw (added_raw h xs) refl
     ]
 
 pub kept_raw : (h : Heard) (hs : List Heard) → raws (heard_kept h hs) ≡ kept h.raw (raws hs)

@@ -1,7 +1,6 @@
 -- Where every entry was last heard late enough, none is silent yet.
-use Rattle.stream_check.proofs.Words.{[], ◌++◌, ◌+◌, ◌<◌, ◌∙◌, ◌∷◌, ◌≡◌, ◌≤◌, AllByRecursion, Heard, List, ap, arith}
-use Rattle.stream_check.proofs.Words.{cases_lt, false, heard_kept, inl, inr, is_quiet, later, length, name_of, ne_eqb}
-use Rattle.stream_check.proofs.Words.{quiet_findings, refl, when, ℕ}
+use Rattle.stream_check.proofs.Words.{[], ◌+◌, ◌<◌, ◌∷◌, ◌≡◌, ◌≤◌, AllByRecursion, Heard, List, arith, cases_lt, false}
+use Rattle.stream_check.proofs.Words.{heard_kept, inl, inr, is_quiet, later, length, ne_eqb, quiet_findings, refl, ℕ}
 use Rattle.stream_check.specs.declared.finding.Fault.TheVariants as faults
 use Rattle.stream_check.proofs.Tables.{each_kept}
 use Rattle.stream_check.proofs.Knowing.{later_first, later_second}
@@ -31,8 +30,7 @@ none_quiet swapped period frames oldest (h ∷ hs) all soon =
     let grown = later_grows oldest h.at swapped all.0 in
     let loud : is_quiet swapped period frames h ≡ false =
     ne_eqb (later h.at swapped + period) (frames + 1) (λ is. omega (arith, is, grown, soon)) in
-    ap (λ t. when t (faults.Silent (name_of h.raw)) ++ quiet_findings swapped period frames hs) loud
-    ∙ none_quiet swapped period frames oldest hs all.1 soon
+    rw (loud) (none_quiet swapped period frames oldest hs all.1 soon)
 
 -- a time before which none was last heard, with one more entry
 pub kept_since : (n m : ℕ) (h : Heard) (hs : List Heard) → n ≤ m → n ≤ h.at

@@ -46,7 +46,7 @@ pub use Rattle.stream_check.specs.History.{Ended, Item, Moment, Said, began_earl
 pub use Rattle.stream_check.specs.History.{ensemble_of_item, fib_items, fibs_items, fig_items, figs_items, flag_count}
 pub use Rattle.stream_check.specs.History.{frame_items, frames_ended, has_begun, has_ensemble, is_cut_off, is_ensemble}
 pub use Rattle.stream_check.specs.History.{is_flagged, is_in_place, is_member, is_swap, items_of, last_eid, last_flags}
-pub use Rattle.stream_check.specs.History.{last_heard, listener, listener_after, listening, next_key, row_at_hand, rows}
+pub use Rattle.stream_check.specs.History.{last_heard, listener, listener_after, listening, row_at_hand, rows}
 pub use Rattle.stream_check.specs.History.{said, settles_at, times_announced}
 pub use Rattle.stream_check.specs.Lookup.{agree, bool_eq, lookup, lookup_among, lookup_in}
 pub use Rattle.stream_check.specs.Parts.{IsTheMost, contains, has_all, most_parts, parts_from}

@@ -40,7 +40,7 @@ pub use Rattle.mux_types.specs.declared.parts.Sub.{Sub}
 pub use Rattle.plan_code.specs.Machine.{State, effect, effect_of, settle, step}
 pub use Rattle.plan_code.specs.Program.{Program, instr_at}
 pub use Rattle.plan_code.specs.declared.plan.Plan.{Plan}
-pub use Rattle.plan_runs.proofs.Announcing.{IsDue, heard_contacts, notice_airs, noticed_information, swaps_run}
+pub use Rattle.plan_runs.proofs.Announcing.{IsDue, heard_contacts, noticed_information, swaps_run}
 pub use Rattle.plan_runs.proofs.Announcing.{page_up, notice_hears, due_left}
 pub use Rattle.plan_runs.proofs.Carries.{IsNewly, LeftBy}
 pub use Rattle.plan_runs.proofs.Clock.{shown_count}
@@ -53,31 +53,30 @@ pub use Rattle.plan_runs.proofs.HeardFrame.{RowSaid, current_shown, due_current,
 pub use Rattle.plan_runs.proofs.HeardFrame.{frame_heard, zero_or_not}
 pub use Rattle.plan_runs.proofs.HeardFrames.{KnowsAt, Nothing, current_part, enters_known, knows_weaker}
 pub use Rattle.plan_runs.proofs.Hearing.{headed, hear_marked, raw_is, second_next, then_joined}
-pub use Rattle.plan_runs.proofs.Knowing.{InFrame, KnowsBy, KnowsPending, Still, Waits, WaitsBy, knows_after}
+pub use Rattle.plan_runs.proofs.Knowing.{InFrame, KnowsBy, KnowsPending, Still, Waits, knows_after}
 pub use Rattle.plan_runs.proofs.Knowing.{none_awaited, long_notice}
 pub use Rattle.plan_runs.proofs.Knowledge.{CommittedBy, IsAhead}
 pub use Rattle.plan_runs.proofs.LastSent.{unnoticed_left}
 pub use Rattle.plan_runs.proofs.NewKnown.{said_append as said_of_two, said_one, begun_left, none_heard, left_on}
 pub use Rattle.plan_runs.proofs.Notice.{Links, base_of, both_rounds, contains_frame, frames_from, heard_frame, links}
-pub use Rattle.plan_runs.proofs.Notice.{notice_at, notice_at_is, noticed_state, none_some}
+pub use Rattle.plan_runs.proofs.Notice.{notice_at, none_some}
 pub use Rattle.plan_runs.proofs.Parts.{In, IsPart, each_in, part_takes, partly, each_partly, ascends_partly, in_partly}
-pub use Rattle.plan_runs.proofs.Passing.{due_is, not_due, some_is}
+pub use Rattle.plan_runs.proofs.Passing.{not_due, some_is}
 pub use Rattle.plan_runs.proofs.Periods.{Goes, after_goes, sends, sent_period, current_inside}
 pub use Rattle.plan_runs.proofs.Pictures.{HasAll, IsOf, IsPartial, contains_in, each_whole, entries_of, entry_is_of}
 pub use Rattle.plan_runs.proofs.Pictures.{fact_in, in_append, in_contains, in_fact, in_first, in_second, said_by}
 pub use Rattle.plan_runs.proofs.Pictures.{whole_is_set, whole_of}
 pub use Rattle.plan_runs.proofs.Right.{PageLaws, ensemble_right, ensemble_within, page_laws, pageable, sent_within}
 pub use Rattle.plan_runs.proofs.Swaps.{zero_or_more}
-pub use Rattle.plan_runs.proofs.Tracked.{Airs, SwapsOn, noticed, noticed_from, page_after_below, page_of, page_of_first}
-pub use Rattle.plan_runs.proofs.Tracked.{page_of_next, some_rounds, split_le, turn_is_page}
-pub use Rattle.plan_runs.proofs.Tuned.{IsSentOf, NextBy, Or, SaidIn, Tuned, hears_entries, tuned_weaker, some_ext}
-pub use Rattle.plan_runs.proofs.Tuned.{sent_ext}
+pub use Rattle.plan_runs.proofs.Tracked.{Airs, SwapsOn, noticed, noticed_from, page_after_below, page_of}
+pub use Rattle.plan_runs.proofs.Tracked.{some_rounds, split_le, turn_is_page}
+pub use Rattle.plan_runs.proofs.Tuned.{IsSentOf, NextBy, Or, SaidIn, Tuned, hears_entries, tuned_weaker, sent_ext}
 pub use Rattle.plan_runs.specs.Announced.{HasHeader, HasThreeHeaders, IsAnnounced, IsHeaded, IsHeardInSome}
-pub use Rattle.plan_runs.specs.Announced.{IsHeardWhole, RunsJoin, heard_left, heard_of, notice_begin, notice_frames}
+pub use Rattle.plan_runs.specs.Announced.{IsHeardWhole, RunsJoin, heard_of}
 pub use Rattle.plan_runs.specs.Frames.{after_burst, after_frame, begins_phase, burst, ensemble_of, ensemble_sent}
 pub use Rattle.plan_runs.specs.Frames.{frame_bytes, is_due, is_first_noticed, is_here, is_noticed, is_running}
 pub use Rattle.plan_runs.specs.Frames.{left_after_frame, low_of_swap, ready, sent_entries, sent_rounds, shown}
-pub use Rattle.plan_runs.specs.Frames.{shown_bytes, with_due_swap, with_next_counts, with_swap}
+pub use Rattle.plan_runs.specs.Frames.{shown_bytes, with_due_swap, with_swap}
 pub use Rattle.plan_runs.specs.Headline.{HeadlineHolds}
 pub use Rattle.plan_runs.specs.Listening.{HasCount, HearsAll, HearsFib, ListenersAreRight, fibs_from, fibs_of}
 pub use Rattle.plan_runs.specs.RightBytes.{FrameIsRight, FramesAreRight, IsHeadedBy, IsNoHeader, IsRight, IsUnheaded}
@@ -119,10 +118,10 @@ pub use Rattle.stream_check.specs.Frames.{begins_with_ensemble, damaged_in, firs
 pub use Rattle.stream_check.specs.Frames.{first_opening, first_or, first_raw, holds_ensemble, is_damaged, is_there}
 pub use Rattle.stream_check.specs.Frames.{lacks_opening, opening, opening_in_figs}
 pub use Rattle.stream_check.specs.History.{Ended, Item, Moment, Said, began_early, begins_notice, due, eid_of}
-pub use Rattle.stream_check.specs.History.{ensemble_of_item, fib_items, fibs_items, fig_items, figs_items, flag_count}
+pub use Rattle.stream_check.specs.History.{ensemble_of_item, fib_items, fibs_items, fig_items, figs_items}
 pub use Rattle.stream_check.specs.History.{frame_items, frames_ended, has_begun, has_ensemble, is_cut_off, is_ensemble}
 pub use Rattle.stream_check.specs.History.{is_flagged, is_in_place, is_member, is_swap, items_of, last_eid, last_flags}
-pub use Rattle.stream_check.specs.History.{last_heard, listener_after, listening, next_key, row_at_hand, rows, said}
+pub use Rattle.stream_check.specs.History.{last_heard, listener_after, listening, row_at_hand, rows, said}
 pub use Rattle.stream_check.specs.History.{settles_at, times_announced}
 pub use Rattle.stream_check.specs.Lookup.{agree, list_for, lookup, lookup_among, lookup_in}
 pub use Rattle.stream_check.specs.Parts.{IsTheMost}

@@ -1,12 +1,11 @@
-use Rattle.fib_codec.proofs.Words.{◌+◌, ◌-◌, ◌∙◌, ◌≡◌, after, ap, arith, sym}
+use Rattle.fib_codec.proofs.Words.{◌-◌, ◌∙◌, ◌≡◌, after, ap, arith, sym}
 use Rattle.fib_codec.proofs.Division.{after_more, after-zero}
 use Rattle.fib_codec.proofs.crc.byte_step_by_bits.Goals as goal
 
 pub loop-index-preserved : goal.loop-index-preserved
 loop-index-preserved c =
-    ap (λ r. after (8 - (c.loop-index.index + 1)) c.args.byte r) c.step-register.ensures
-    ∙ sym (after_more c.loop-index.index c.args.byte c.loop-index.register c.loop-index-test.true)
-    ∙ c.loop-index.invariant
+    rw (c.step-register.ensures) (sym (after_more c.loop-index.index c.args.byte c.loop-index.register
+    c.loop-index-test.true) ∙ c.loop-index.invariant)
 
 pub returns : goal.returns
 returns c =

@@ -11,8 +11,7 @@ pub returns : goal.returns
 returns c =
     let some : 0 < length c.args.bytes.now = some_left _ _ c.is_empty.ensures c.if-is_empty.false in
     let len : c.min-len.result ≡ min (entry_len (number_of c.args.extension) c.args.long c.args.bytes.now)
-    (length c.args.bytes.now) =
-    c.min-len.ensures ∙ ap (λ n. min n (length c.args.bytes.now)) c.entry_len_of.ensures in
+    (length c.args.bytes.now) = rw (← c.entry_len_of.ensures) c.min-len.ensures in
     let front : c.split_at.result.0.now ≡ take (entry_len (number_of c.args.extension) c.args.long c.args.bytes.now)
     c.args.bytes.now =
     c.split_at.ensures.front ∙ ap (λ n. take n c.args.bytes.now) len

@@ -15,9 +15,8 @@ returns-in_default-clause-none c = λ cs different whole.
 pub returns-then-is_named_by-clause-none : goal.returns-then-is_named_by-clause-none
 returns-then-is_named_by-clause-none c = λ cs different whole.
     let named : list_any (names (carrier_of c.in-Some.component)) c.loop-index.components ≡ true =
-    ap (λ x. list_any (names x) c.loop-index.components) (sym c.carrier.ensures)
-    ∙ ap (list_any (names c.carrier.result)) (sym c.as_slice.ensures.value)
-    ∙ sym c.is_named_by.ensures ∙ c.if-is_named_by.true in
+    rw (← c.carrier.ensures) (ap (list_any (names c.carrier.result)) (sym c.as_slice.ensures.value)
+    ∙ sym c.is_named_by.ensures ∙ c.if-is_named_by.true) in
     named_twice c.loop-index.components cs c.args.entries.now c.loop-index.index c.index-entries-index.result
     c.in-Some.component
     c.loop-index.invariant.value c.loop-index-test.true c.index-entries-index.is c.in-Some.ensures.value named different
@@ -26,16 +25,15 @@ returns-then-is_named_by-clause-none c = λ cs different whole.
 pub loop-index-preserved : goal.loop-index-preserved
 loop-index-preserved c =
     let unnamed : list_any (names (carrier_of c.in-Some.component)) c.loop-index.components ≡ false =
-    ap (λ x. list_any (names x) c.loop-index.components) (sym c.carrier.ensures)
-    ∙ ap (list_any (names c.carrier.result)) (sym c.as_slice.ensures.value)
-    ∙ sym c.is_named_by.ensures ∙ c.if-is_named_by.false in
+    rw (← c.carrier.ensures) (ap (list_any (names c.carrier.result)) (sym c.as_slice.ensures.value)
+    ∙ sym c.is_named_by.ensures ∙ c.if-is_named_by.false) in
     let first : (length c.loop-index.components == 0) ≡ (c.loop-index.index == 0) =
     ap (λ n. n == 0) c.loop-index.invariant.count in
     let size : length (c.loop-index.components ++ c.in-Some.component ∷ []) ≡ length c.loop-index.components + 1 =
     length-append c.loop-index.components (c.in-Some.component ∷ []) in
     let count = c.loop-index.invariant.count in
     record {
-      count = ap length c.push.ensures ∙ size ∙ ap (λ n. n + 1) count;
+      count = rw (← count) (ap length c.push.ensures ∙ size);
       value = ap component_entries c.push.ensures ∙ component_entries-more c.loop-index.components c.in-Some.component
           ∙ ap (λ b. component_entries c.loop-index.components ++ component_entry b c.in-Some.component ∷ []) first
           ∙ ap (λ e. component_entries c.loop-index.components ++ e ∷ [])

@@ -1,4 +1,4 @@
-use Rattle.plan_player.proofs.Words.{[], ◌++◌, ◌+◌, ◌∙◌, ◌∷◌, ◌≡◌, Event, List, ap, sym, take, take_more, ℕ}
+use Rattle.plan_player.proofs.Words.{[], ◌++◌, ◌+◌, ◌∷◌, ◌≡◌, Event, List, take, take_more, ℕ}
 use Rattle.plan_player.proofs.Delivering.{one_more, stopped_here}
 use Rattle.plan_player.proofs.delivery.play.Goals as goal
 
@@ -8,7 +8,7 @@ returns-in-Err-clause-stopped g c =
     let i : ℕ = c.loop-event.event-index in
     let e : Event = c.event-item.result in
     let more : take (i + 1) events ≡ take i events ++ e ∷ [] =
-    take_more events i e c.loop-event-test.true ∙ ap (λ (x : Event). take i events ++ x ∷ []) (sym c.event-item.is) in
+    rw (c.event-item.is) (take_more events i e c.loop-event-test.true) in
     let taken = g.K.Sink.taken in
     let h = c.in-Err.ensures in
     stopped_here c.args.player.now c.loop-event.player c.play_event.new.player events i e (taken c.args.sink.now)
@@ -21,7 +21,7 @@ loop-event-preserved g c =
     let i : ℕ = c.loop-event.event-index in
     let e : Event = c.event-item.result in
     let more : take (i + 1) events ≡ take i events ++ e ∷ [] =
-    take_more events i e c.loop-event-test.true ∙ ap (λ (x : Event). take i events ++ x ∷ []) (sym c.event-item.is) in
+    rw (c.event-item.is) (take_more events i e c.loop-event-test.true) in
     let taken = g.K.Sink.taken in
     let h = c.in-Ok.ensures in
     record {

@@ -1,4 +1,4 @@
-use Rattle.plan_player.proofs.Words.{◌-◌, ◌≤◌, Frame, Stopped, arith, replicate, subst, sym, ℕ}
+use Rattle.plan_player.proofs.Words.{◌-◌, ◌≤◌, Frame, arith, replicate}
 use Rattle.plan_player.proofs.Joining.{joined_frames, stopped_frames, few_frames}
 use Rattle.plan_player.proofs.frames.play_frames.Goals as goal
 
@@ -11,10 +11,8 @@ overflow_add-done-in-Err g c =
 pub returns-in-Err-clause-stopped : goal.returns-in-Err-clause-stopped
 returns-in-Err-clause-stopped g c =
     let taken = g.K.Sink.taken in
-    subst (λ (n : ℕ). Stopped c.args.player.now c.play_some.new.player (replicate c.args.count Frame)
-    (taken c.args.sink.now) (taken c.play_some.new.sink) n c.in-Err.cut.bytes) (sym c.from.ensures)
-    (stopped_frames _ _ _ _ _ _ c.loop-done.done c.args.count _ _ (omega (arith, c.loop-done-test.true))
-    c.loop-done.invariant.delivered c.in-Err.ensures.stopped)
+    rw (c.from.ensures) (stopped_frames _ _ _ _ _ _ c.loop-done.done c.args.count _ _
+    (omega (arith, c.loop-done-test.true)) c.loop-done.invariant.delivered c.in-Err.ensures.stopped)
 
 pub loop-done-preserved : goal.loop-done-preserved
 loop-done-preserved g c =

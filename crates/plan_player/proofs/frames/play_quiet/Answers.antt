@@ -1,4 +1,4 @@
-use Rattle.plan_player.proofs.Words.{◌+◌, ◌-◌, ◌≡◌, ◌≤◌, AreQuiet, Playing, arith, subst, sym, ℕ}
+use Rattle.plan_player.proofs.Words.{◌+◌, ◌-◌, ◌≡◌, ◌≤◌, AreQuiet, Playing, arith, ℕ}
 use Rattle.plan_player.proofs.Joining.{joined_frames, stopped_frames, few_frames}
 use Rattle.plan_player.proofs.Stretches.{quiet_rest}
 use Rattle.plan_player.proofs.frames.play_quiet.Goals as goal
@@ -26,12 +26,11 @@ loop-done-preserved g c =
     let some = h.some in
     let rest = quiet_rest mid.code left made mid.state some.1 before.quiet in
     let fewer : left - made ≡ c.args.count - (k + made) = omega (arith, some.1, before.within) in
-    let quiet : AreQuiet new.code (left - made) new.state =
-    subst (λ (x : Playing). AreQuiet x.code (left - made) x.state) (sym h.done.state) rest in
+    let quiet : AreQuiet new.code (left - made) new.state = rw (h.done.state) rest in
     record {
       within = omega (arith, some.1, before.within);
-      plan = subst (λ (x : Playing). c.plan-plan.result ≡ x.code.plan) (sym h.done.state) before.plan;
-      quiet = subst (λ (m : ℕ). AreQuiet new.code m new.state) fewer quiet;
+      plan = rw (h.done.state) before.plan;
+      quiet = rw (← fewer) quiet;
       delivered = joined_frames _ _ _ _ _ _ k made before.delivered h.done;
       works = h.works;
     }

@@ -1,4 +1,4 @@
-use Rattle.plan_player.proofs.Words.{IsAtPage, IsKept, page_after, page_set_of, rounds, subst, ℕ}
+use Rattle.plan_player.proofs.Words.{page_set_of}
 use Rattle.std.specs.Option.{option_copied}
 use Rattle.plan_player.proofs.Keeping.{one_more}
 use Rattle.plan_player.proofs.phase_pages.make.Goals as goal
@@ -11,7 +11,5 @@ returns-clause-keeps g c =
     let page = c.kept_page-page.result in
     let cursor = c.kept_page-page.new.self in
     one_more layout ms c.args.pages.now c.from-place.result page c.number.result cursor c.requires.keeps
-    c.from-place.ensures c.requires.few c.requires.within
-    (subst (λ (k : ℕ). IsKept layout ms k page) at c.kept_page-page.ensures.kept)
-    (subst (λ (k : ℕ). IsAtPage layout ms (page_after (rounds layout ms) k) cursor) at c.kept_page-page.ensures.next)
-    c.number.ensures
+    c.from-place.ensures c.requires.few c.requires.within (rw (← at) c.kept_page-page.ensures.kept)
+    (rw (← at) c.kept_page-page.ensures.next) c.number.ensures

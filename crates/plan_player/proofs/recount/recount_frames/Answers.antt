@@ -1,5 +1,5 @@
-use Rattle.plan_player.proofs.Words.{◌%◌, ◌*◌, ◌+◌, ◌-◌, ◌∙◌, ◌≡◌, ◌≤◌, COUNTS, List, Mode, ap, arith, count_step}
-use Rattle.plan_player.proofs.Words.{frame_fibs, layout_mode, mod-add-mod, refl, subst, sym, ℕ}
+use Rattle.plan_player.proofs.Words.{◌%◌, ◌*◌, ◌+◌, ◌-◌, ◌∙◌, ◌≡◌, ◌≤◌, COUNTS, List, ap, arith, count_step}
+use Rattle.plan_player.proofs.Words.{frame_fibs, layout_mode, mod-add-mod, refl, ℕ}
 use borrow.Rule.Slice.PartMut.{put_mid, mid_of, same_len_mid}
 use Rattle.plan_player.proofs.Alike.{mixed_all, first_on_step, next_on_step, first_near, entered, continued}
 use Rattle.plan_player.proofs.recount.recount_frames.Goals as goal
@@ -10,12 +10,10 @@ loop-at-init c =
     let count : ℕ = c.args.count in
     let step : ℕ = c.step-step.result in
     let at : ℕ = c.before_step-at.result in
-    let is_step : step ≡ count_step (layout_mode plan.layout) =
-    c.step-step.ensures.value ∙ ap (λ (m : Mode). count_step m) c.mode.ensures in
-    let by_mode : at ≡ (count_step (layout_mode plan.layout) - count % count_step (layout_mode plan.layout))
-    % count_step (layout_mode plan.layout) =
-    c.before_step-at.ensures ∙ ap (λ (m : ℕ). (m - count % m) % m) is_step in
-    let small : at ≤ 4 = subst (λ (x : ℕ). x ≤ 4) (sym by_mode) (first_near (layout_mode plan.layout) count) in
+    let is_step : step ≡ count_step (layout_mode plan.layout) = rw (← c.mode.ensures) c.step-step.ensures.value in
+    let by_mode : at ≡ (count_step (layout_mode plan.layout) - count % count_step (layout_mode plan.layout)) %
+    count_step (layout_mode plan.layout) = rw (← is_step) c.before_step-at.ensures in
+    let small : at ≤ 4 = rw (by_mode) (first_near (layout_mode plan.layout) count) in
     record {
       near = omega (arith, small);
       number = c.count_later-number.ensures;
@@ -40,11 +38,10 @@ loop-at-preserved c =
     let bytes : List ℕ = c.loop-at.bytes in
     let new : List ℕ = c.recount.new.fib in
     let before = c.loop-at.invariant in
-    let is_step : step ≡ count_step (layout_mode plan.layout) =
-    c.step-step.ensures.value ∙ ap (λ (m : Mode). count_step m) c.mode.ensures in
-    let is_size : size ≡ 32 * frame_fibs plan.layout = ap (λ (k : ℕ). 32 * k) c.fibs-size.ensures.value in
+    let is_step : step ≡ count_step (layout_mode plan.layout) = rw (← c.mode.ensures) c.step-step.ensures.value in
+    let is_size : size ≡ 32 * frame_fibs plan.layout = rw (c.fibs-size.ensures.value) refl in
     let is_width : width ≡ 32 = omega arith in
-    let at_offset : offset ≡ at * size = ap (λ (k : ℕ). k * size) c.from.ensures in
+    let at_offset : offset ≡ at * size = rw (c.from.ensures) refl in
     let later = c.count_later-number-in-loop-at.ensures in
     let behind : count + at + step ≡ count + (at + step) = omega arith in
     record {

@@ -1,5 +1,5 @@
-use Rattle.plan_player.proofs.Words.{◌%◌, ◌+◌, ◌∙◌, ◌≡◌, COUNTS, HasPage, State, ap, arith, concat, counted_on}
-use Rattle.plan_player.proofs.Words.{notice_frames, page_after, sent_entries, state_of, subst, suc, sym, ℕ}
+use Rattle.plan_player.proofs.Words.{◌%◌, ◌+◌, ◌∙◌, ◌≡◌, COUNTS, HasPage, State, ap, arith, counted_on}
+use Rattle.plan_player.proofs.Words.{page_after, sent_entries, state_of, subst, suc, sym, ℕ}
 use Rattle.plan_player.proofs.Together.{stretch_page, headed_within, page_kept, batch_more, turn_more, count_more}
 use Rattle.plan_player.proofs.stretch.begin.Goals as goal
 
@@ -46,8 +46,8 @@ loop-done-preserved g c =
     c.count_after-number.ensures ∙ ap (λ (x : ℕ). (x + 1) % COUNTS) before.number ∙ sym (count_more plan k s) in
     record {
       within = omega (arith, lt);
-      page_index = subst (λ (j : ℕ). c.page_after-page_index.result ≡ (counted_on plan j s).page_index) next page_index;
-      number = subst (λ (j : ℕ). c.count_after-number.result ≡ (counted_on plan j s).count) next number;
-      bytes = subst (λ (j : ℕ). c.push.new.batch ≡ concat (notice_frames plan j s)) next more;
+      page_index = rw (← next) page_index;
+      number = rw (← next) number;
+      bytes = rw (← next) more;
       room = omega (arith, before.room, c.push.ensures.size);
     }

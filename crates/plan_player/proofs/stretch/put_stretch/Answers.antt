@@ -1,5 +1,5 @@
-use Rattle.plan_player.proofs.Words.{◌%◌, ◌*◌, ◌+◌, ◌/◌, ◌<◌, ◌∙◌, ◌≡◌, Appends, IsCut, List, State, ap, arith, concat}
-use Rattle.plan_player.proofs.Words.{counted_on, length, notice_frames, state_of, subst, suc, sym, take, ℕ}
+use Rattle.plan_player.proofs.Words.{◌%◌, ◌*◌, ◌+◌, ◌/◌, ◌<◌, ◌∙◌, ◌≡◌, Appends, IsCut, State, ap, arith, concat}
+use Rattle.plan_player.proofs.Words.{length, notice_frames, state_of, suc, take, ℕ}
 use Rattle.plan_player.proofs.Together.{Cut, stretch_cut, stretch_rounds, fewer_rounds}
 use Rattle.plan_player.proofs.stretch.put_stretch.Goals.{After-fibs-size}
 use Rattle.plan_player.proofs.stretch.put_stretch.Given as given
@@ -12,7 +12,7 @@ cut : (g : given.Over) (c : After-fibs-size g)
 cut g c =
     let s : State = state_of g.S.Store.content c.args.machine.now in
     let inside : c.in-Err.taken < length (concat (notice_frames c.args.plan.now c.args.count s)) =
-    subst (λ (l : List ℕ). c.in-Err.taken < length l) (c.as_slice.ensures ∙ c.fill.ensures) c.in-Err.ensures.bound in
+    rw (← c.as_slice.ensures ∙ c.fill.ensures) c.in-Err.ensures.bound in
     stretch_cut c.args.plan.now c.args.count s c.args.pages.now (32 * c.fibs-size.result) c.in-Err.taken
     c.requires.stretch (ap (λ (k : ℕ). 32 * k) c.fibs-size.ensures.value)
     (omega (arith, c.fibs-size.ensures.in_range)) inside
@@ -42,15 +42,14 @@ returns-in-Err-clause-cut g c =
     (stretch_rounds plan n s c.args.pages.now c.requires.stretch) in
     let next : frames + 1 ≡ suc frames = omega arith in
     let part : Appends x y (take c.in-Err.taken (concat (notice_frames plan n s))) =
-    subst (λ (l : List ℕ). Appends x y (take c.in-Err.taken l)) (c.as_slice.ensures ∙ c.fill.ensures)
-    c.in-Err.ensures.part in
+    rw (← c.as_slice.ensures ∙ c.fill.ensures) c.in-Err.ensures.part in
     let whole : IsCut plan n s t x y frames bytes = record {
       few = all.few;
       part = all.part;
-      state = c.pass_many-in-Err.ensures plan rounds ∙ ap (λ (k : ℕ). counted_on plan k s) next;
-      out = subst (λ (l : List ℕ). Appends x y l) all.text part;
+      state = rw (← next) (c.pass_many-in-Err.ensures plan rounds);
+      out = rw (← all.text) part;
     } in
-    subst (λ (k : ℕ). IsCut plan n s t x y k bytes) (sym c.from-in-Err.ensures) whole
+    rw (c.from-in-Err.ensures) whole
 
 pub returns-in-Ok-clause-counted : goal.returns-in-Ok-clause-counted
 returns-in-Ok-clause-counted g c = (

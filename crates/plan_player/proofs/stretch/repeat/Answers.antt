@@ -1,4 +1,4 @@
-use Rattle.plan_player.proofs.Words.{◌%◌, ◌*◌, ◌+◌, ◌<◌, ◌∙◌, ◌≡◌, ◌≤◌, COUNTS, List, State, ap, arith, count_step}
+use Rattle.plan_player.proofs.Words.{◌%◌, ◌*◌, ◌+◌, ◌<◌, ◌∙◌, ◌≡◌, ◌≤◌, COUNTS, State, ap, arith, count_step}
 use Rattle.plan_player.proofs.Words.{frame_fibs, layout_mode, length, mul-le-mul_right, state_of, ℕ}
 use Rattle.plan_player.proofs.Cycles.{bytes_long, turn_on_turn, twice_whole, room}
 use Rattle.plan_player.proofs.stretch.repeat.Goals.{After-min-more}
@@ -9,9 +9,8 @@ use Rattle.plan_player.proofs.stretch.repeat.Goals as goal
 long : (g : given.Over) (c : After-min-more g) → length c.loop-done.batch ≡ c.loop-done.done
     * (32 * frame_fibs c.args.plan.now.layout)
 long g c =
-    ap (λ (l : List ℕ). length l) c.loop-done.invariant.bytes
-    ∙ bytes_long c.args.plan.now c.args.count c.loop-done.done (state_of g.S.Store.content c.args.machine.now)
-    c.args.pages.now c.requires.stretch c.loop-done.invariant.within
+    rw (c.loop-done.invariant.bytes) (bytes_long c.args.plan.now c.args.count c.loop-done.done
+    (state_of g.S.Store.content c.args.machine.now) c.args.pages.now c.requires.stretch c.loop-done.invariant.within)
 
 pub repeat-requires-clause-there : goal.repeat-requires-clause-there
 repeat-requires-clause-there g c =

@@ -1,4 +1,4 @@
-use Rattle.script_front.proofs.Words.{◌∙◌, AreOnScriptLines, HasLines, Input, List, Token, ap, err_from_is_err_and}
+use Rattle.script_front.proofs.Words.{◌∙◌, AreOnScriptLines, Input, List, Token, ap, err_from_is_err_and}
 use Rattle.script_front.proofs.Words.{first_position, lexemes_of, lines_of, subst, sym, tokens_of, ℕ}
 use Rattle.script_front.proofs.Denoting.{is_script, are_tokens}
 use Rattle.script_front.proofs.ReadingScripts.{script_given, none_spelled}
@@ -13,8 +13,7 @@ returns-clause-script c =
     let lines = c.new-reader.ensures.lines on_lines ∙ ap lines_of c.deref.ensures.value in
     let spelled = (script_given c.new-reader.result c.in_ok-found.found c.in_ok-found.ensures.read).1 in
     is_script c.args.text.now c.in_ok-tokens.tokens.items c.in_ok-found.found c.in_ok-tokens.ensures.tokens
-    (sym lexemes ∙ spelled.spells)
-    (subst (λ (ls : List ℕ). HasLines ls c.in_ok-found.found) lines spelled.lined)
+    (sym lexemes ∙ spelled.spells) (rw (← lines) spelled.lined)
 
 pub returns-in_err-tokens-clause-none : goal.returns-in_err-tokens-clause-none
 returns-in_err-tokens-clause-none c =

@@ -1,5 +1,5 @@
-use Rattle.script_front.proofs.Words.{[], ◌++◌, ◌∙◌, IsInBounds, List, Statement, ap, arith, block_of, definition_lines}
-use Rattle.script_front.proofs.Words.{length, string_bytes, subst, sym, text_of_lines}
+use Rattle.script_front.proofs.Words.{◌++◌, ◌∙◌, List, Statement, ap, arith, definition_lines}
+use Rattle.script_front.proofs.Words.{length, string_bytes, text_of_lines}
 use Rattle.script_front.proofs.Listing.{next_fits}
 use Rattle.script_front.proofs.Printed.{definition_more, definitions_all}
 use Rattle.script_front.proofs.printer.put_definitions.Goals as goal
@@ -10,8 +10,7 @@ put_definition-requires-clause-fits c =
     let h = next_fits c.loop-index.index c.loop-index.index (length c.args.names.now) c.args.blocks.now
     c.index-blocks-index.result c.loop-index-test.true c.index-blocks-index.is
     (omega (arith, few, c.loop-index-test.true)) c.loop-index.invariant.fits in
-    subst (λ (ss : List Statement). IsInBounds (length c.args.names.now) 15 (block_of [] ss))
-    (sym c.as_slice.ensures.value) h.fits
+    rw (c.as_slice.ensures.value) h.fits
 
 pub loop-index-preserved : goal.loop-index-preserved
 loop-index-preserved c =

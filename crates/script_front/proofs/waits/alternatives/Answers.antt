@@ -1,7 +1,6 @@
-use Rattle.script_front.proofs.Words.{◌∙◌, ◌≡◌, ◌≤◌, Some, allowed_at, ap, arith, drop, length, sym, true}
+use Rattle.script_front.proofs.Words.{◌∙◌, ◌≡◌, Some, allowed_at, arith, drop, length, sym, true}
 use Rattle.std.proofs.lemmas.Grind.{common_steps}
 use Rattle.script_front.proofs.ReadingWaits.{two_read, next_read}
-use Rattle.script_front.proofs.Beside.{Alternatives}
 use Rattle.script_front.proofs.waits.alternatives.Goals as goal
 
 pub alternatives-init : goal.alternatives-init
@@ -17,10 +16,9 @@ alternatives-preserved c =
     let next = sym c.is_next.ensures.is ∙ c.alternatives-test.true in
     let full : length c.alternatives.all ≡ 8 → ⊥ = λ e.
     grind (arith, common_steps, e, c.if-as_slice-eq-MOST_ALTERNATIVES.false, c.as_slice.ensures) in
-    let read : allowed_at c.alternatives.all (drop 1 c.alternatives.reader.lexemes)
-    ≡ Some (c.in_ok-next.next, c.or_alternative.new.reader.lexemes) =
-    ap (λ (xs : Alternatives). allowed_at xs (drop 1 c.alternatives.reader.lexemes))
-    (sym c.as_slice-in-alternatives.ensures) ∙ c.in_ok-next.ensures.read.0 in
+    let read : allowed_at c.alternatives.all (drop 1 c.alternatives.reader.lexemes) ≡ Some
+    (c.in_ok-next.next, c.or_alternative.new.reader.lexemes) = rw (← c.as_slice-in-alternatives.ensures)
+    c.in_ok-next.ensures.read.0 in
     let h = next_read c.alternatives.all c.push.new.self c.in_ok-next.next c.alternatives.reader.lexemes
     c.or_alternative.new.reader.lexemes c.alternatives.invariant.few full next read c.push.ensures in
     record {

@@ -1,4 +1,4 @@
-use Rattle.script_front.proofs.Words.{[], ◌+◌, ◌-◌, ◌∷◌, ◌≡◌, ◌≤◌, alternatives_from, length}
+use Rattle.script_front.proofs.Words.{[], ◌-◌, ◌∷◌, ◌≡◌, ◌≤◌, alternatives_from, length}
 use Rattle.script_front.proofs.waits.alternatives.Given as goal
 
 abbrev pub invariant-alternatives : goal.invariant-alternatives

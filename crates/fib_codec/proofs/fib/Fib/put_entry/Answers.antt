@@ -1,4 +1,4 @@
-use Rattle.fib_codec.proofs.Words.{◌+◌, ◌∙◌, ◌≡◌, ap, arith, entry_bytes, entry_size, length, length-append}
+use Rattle.fib_codec.proofs.Words.{◌+◌, ◌≡◌, ap, arith, entry_bytes, entry_size, length, length-append}
 use Rattle.fib_codec.proofs.Lengths.{entry_length}
 use Rattle.fib_codec.proofs.fib.Fib.put_entry.Goals as goal
 
@@ -6,6 +6,6 @@ pub invariant_of-self : goal.invariant_of-self
 invariant_of-self c =
     let size : length (entry_bytes c.args.entry.now) ≡ entry_size c.args.entry.now = entry_length c.args.entry.now in
     let grown : length c.put_entry.new.out ≡ length c.self.inside.bytes + length (entry_bytes c.args.entry.now) =
-    ap length c.put_entry.ensures.written ∙ length-append c.self.inside.bytes (entry_bytes c.args.entry.now) in
+    rw (c.put_entry.ensures.written) (length-append c.self.inside.bytes (entry_bytes c.args.entry.now)) in
     let before : length c.self.inside.bytes ≡ length c.args.self.now = ap length c.self.view_is in
     omega (arith, size, grown, before, c.requires)

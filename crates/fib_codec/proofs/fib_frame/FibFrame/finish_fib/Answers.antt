@@ -1,5 +1,4 @@
-use Rattle.fib_codec.proofs.Words.{◌*◌, ◌∙◌, ◌≡◌, IsInFrame, List, ap, arith, checked, filled, length, length-take-le}
-use Rattle.fib_codec.proofs.Words.{subst, sym, take, with_fib, ℕ}
+use Rattle.fib_codec.proofs.Words.{◌*◌, ◌≡◌, List, arith, checked, filled, length, length-take-le, sym, take, ℕ}
 use Rattle.fib_codec.proofs.U16.{checked_len}
 use Rattle.fib_codec.proofs.Frames.{written_over, written_fib, front_of}
 use Rattle.fib_codec.proofs.fib_frame.FibFrame.finish_fib.Goals as goal
@@ -12,7 +11,7 @@ invariant_of-self c =
     checked_len _ (length-take-le 30 c.row.result.now (omega (arith, c.row.ensures.whole))) in
     let is = written_over frame.len (32 * c.args.index) frame.bytes fib c.self.invariant (rw c.self.view_is c.requires)
     long in
-    subst (λ bytes. IsInFrame frame.len bytes) (sym c.write_sealed.ensures) is.kept
+    rw (c.write_sealed.ensures) is.kept
 
 pub returns-clause-written : goal.returns-clause-written
 returns-clause-written c =
@@ -22,13 +21,12 @@ returns-clause-written c =
     checked_len _ (length-take-le 30 c.row.result.now (omega (arith, c.row.ensures.whole))) in
     let is = written_over frame.len (32 * c.args.index) frame.bytes fib c.self.invariant (rw c.self.view_is c.requires)
     long in
-    rw (sym c.self.view_is)
-    (written_fib frame.len c.args.index frame.bytes fib c.write_sealed.new.bytes is c.write_sealed.ensures
-    ∙ ap (λ xs. with_fib c.args.index (checked xs) (take frame.len frame.bytes)) c.row.ensures.filled)
+    rw (sym c.self.view_is) (rw (← c.row.ensures.filled) (written_fib frame.len c.args.index frame.bytes fib
+    c.write_sealed.new.bytes is c.write_sealed.ensures))
 
 pub returns-clause-front : goal.returns-clause-front
 returns-clause-front c =
     let long : length (checked (filled c.args.fib.now)) ≡ 32 =
-    ap (λ xs. length (checked xs)) (sym c.row.ensures.filled)
-    ∙ checked_len _ (length-take-le 30 c.row.result.now (omega (arith, c.row.ensures.whole))) in
+    rw (← c.row.ensures.filled) (checked_len _ (length-take-le 30 c.row.result.now
+    (omega (arith, c.row.ensures.whole)))) in
     front_of c.args.index _ (checked (filled c.args.fib.now)) _ long c.requires (returns-clause-written c)

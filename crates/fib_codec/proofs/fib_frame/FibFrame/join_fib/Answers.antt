@@ -1,4 +1,4 @@
-use Rattle.fib_codec.proofs.Words.{◌*◌, ◌++◌, ◌-◌, ◌≡◌, IsInFrame, List, arith, checked, length, subst, sym, take, ℕ}
+use Rattle.fib_codec.proofs.Words.{◌*◌, ◌++◌, ◌-◌, ◌≡◌, List, arith, checked, length, sym, take, ℕ}
 use Rattle.fib_codec.proofs.U16.{checked_len, joined_len}
 use Rattle.fib_codec.proofs.Frames.{written_over, written_fib}
 use Rattle.fib_codec.proofs.fib_frame.FibFrame.join_fib.Goals as goal
@@ -12,7 +12,7 @@ invariant_of-self g c =
     (omega (arith, c.told-plain))) in
     let is = written_over frame.len (32 * c.args.index) frame.bytes fib c.self.invariant
     (rw c.self.view_is c.requires.there) long in
-    subst (λ bytes. IsInFrame frame.len bytes) (sym c.write_joined.ensures) is.kept
+    rw (c.write_joined.ensures) is.kept
 
 pub returns : goal.returns
 returns g c =

@@ -1,4 +1,4 @@
-use Rattle.fib_codec.proofs.Words.{◌*◌, IsInFrame, arith, subst, sym}
+use Rattle.fib_codec.proofs.Words.{◌*◌, arith, sym}
 use Rattle.fib_codec.proofs.Frames.{written_over, written_fib}
 use Rattle.fib_codec.proofs.fib_frame.FibFrame.write_fib.Goals as goal
 
@@ -7,7 +7,7 @@ invariant_of-self c =
     let frame = c.self.inside in
     let is = written_over frame.len (32 * c.args.index) frame.bytes c.args.fib.now c.self.invariant
     (rw c.self.view_is c.requires) (omega arith) in
-    subst (λ bytes. IsInFrame frame.len bytes) (sym c.write_at.ensures) is.kept
+    rw (c.write_at.ensures) is.kept
 
 pub returns-clause-written : goal.returns-clause-written
 returns-clause-written c =

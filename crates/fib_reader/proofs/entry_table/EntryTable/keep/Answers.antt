@@ -1,4 +1,4 @@
-use Rattle.fib_reader.proofs.Words.{◌||◌, ◌∙◌, ◌≤◌, List, ap, cond, le-ltb, length, nat_lt, subst, sym, with_entry}
+use Rattle.fib_reader.proofs.Words.{◌||◌, ◌∙◌, ◌≤◌, List, ap, le-ltb, length, nat_lt, subst, sym, with_entry}
 use Rattle.fib_reader.proofs.Words.{with_entry_changed}
 use Rattle.fib_reader.proofs.Keeping.{known_if_found}
 use Rattle.fib_reader.proofs.entry_table.EntryTable.keep.Goals as goal
@@ -15,11 +15,9 @@ returns-then-is_some-clause-kept g c = λ yes.
     let known = known_if_found g.T.Keyed.key (g.T.Keyed.key (g.T.TableEntry.heard c.args.entry.now c.args.at)) _
     c.args.self.now c.get.result c.is_some.result
     c.is_some.ensures c.requires c.get.ensures.value in
-    c.replace.ensures ∙ ap (λ e. with_entry_changed g.T.Keyed.key e c.self.inside.table) c.heard.ensures
-    ∙ ap (with_entry_changed g.T.Keyed.key (g.T.TableEntry.heard c.args.entry.now c.args.at)) c.self.view_is
-    ∙ ap (λ b. cond b (with_entry_changed g.T.Keyed.key (g.T.TableEntry.heard c.args.entry.now c.args.at)
-    c.args.self.now) (with_entry g.T.Keyed.key (g.T.TableEntry.heard c.args.entry.now c.args.at) c.args.self.now))
-    (sym c.if-is_some.true ∙ known)
+    rw (← sym c.if-is_some.true ∙ known) (c.replace.ensures ∙ ap (λ e. with_entry_changed g.T.Keyed.key e
+    c.self.inside.table) c.heard.ensures ∙ ap (with_entry_changed g.T.Keyed.key
+    (g.T.TableEntry.heard c.args.entry.now c.args.at)) c.self.view_is)
 
 pub returns-then-is_full-clause-room : goal.returns-then-is_full-clause-room
 returns-then-is_full-clause-room g c =
@@ -36,8 +34,5 @@ returns-clause-kept g c = λ yes.
     let known = known_if_found g.T.Keyed.key (g.T.Keyed.key (g.T.TableEntry.heard c.args.entry.now c.args.at)) _
     c.args.self.now c.get.result c.is_some.result
     c.is_some.ensures c.requires c.get.ensures.value in
-    c.insert.ensures ∙ ap (λ e. with_entry g.T.Keyed.key e c.self.inside.table) c.heard-2.ensures
-    ∙ ap (with_entry g.T.Keyed.key (g.T.TableEntry.heard c.args.entry.now c.args.at)) c.self.view_is
-    ∙ ap (λ b. cond b (with_entry_changed g.T.Keyed.key (g.T.TableEntry.heard c.args.entry.now c.args.at)
-    c.args.self.now) (with_entry g.T.Keyed.key (g.T.TableEntry.heard c.args.entry.now c.args.at) c.args.self.now))
-    (sym c.if-is_some.false ∙ known)
+    rw (← sym c.if-is_some.false ∙ known) (c.insert.ensures ∙ ap (λ e. with_entry g.T.Keyed.key e c.self.inside.table)
+    c.heard-2.ensures ∙ ap (with_entry g.T.Keyed.key (g.T.TableEntry.heard c.args.entry.now c.args.at)) c.self.view_is)

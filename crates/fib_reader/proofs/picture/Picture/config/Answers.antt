@@ -1,5 +1,4 @@
-use Rattle.fib_reader.proofs.Words.{◌∙◌, ◌≤◌, Configuration, IsConfiguration, List, Pictured, Raw, Shows, Some, ap}
-use Rattle.fib_reader.proofs.Words.{length, subst, sym}
+use Rattle.fib_reader.proofs.Words.{◌∙◌, Configuration, IsConfiguration, Pictured, Shows, Some, ap, subst, sym}
 use Rattle.fib_reader.proofs.Shown.{ShowsEach, shows_each, each_shows, shows_one, makes_configuration}
 use Rattle.fib_reader.proofs.picture.Picture.config.Goals as goal
 
@@ -38,8 +37,7 @@ returns-clause-shown c =
       services = c.in-Some-members.ensures.said ∙ c.as_slice-2.ensures.value;
       packets = c.in-Some-members-2.ensures.said ∙ c.as_slice-3.ensures.value;
     } in
-    subst (Shows c.args.self.now) (sym c.of.ensures)
-    (subst (λ (p : Pictured). Shows p made) c.self.view_is (each_shows inside made parts))
+    subst (Shows c.args.self.now) (sym c.of.ensures) (rw (← c.self.view_is) (each_shows inside made parts))
 
 pub returns-clause-every : goal.returns-clause-every
 returns-clause-every c = λ d is_d shows.
@@ -59,15 +57,12 @@ returns-clause-every c = λ d is_d shows.
       services = c.in-Some-members.ensures.said ∙ c.as_slice-2.ensures.value;
       packets = c.in-Some-members-2.ensures.said ∙ c.as_slice-3.ensures.value;
     } in
-    let is_made : IsConfiguration made =
-    makes_configuration inside made parts c.in-Some.ensures.members c.in-Some-members.ensures.members
-    c.in-Some-members-2.ensures.members
-    c.as_slice.ensures.ascending
-    c.as_slice-2.ensures.ascending
-    c.as_slice-3.ensures.ascending
-    (subst (λ (xs : List Raw). length xs ≤ 64) c.as_slice.ensures.value c.as_slice.ensures.bound)
-    (subst (λ (xs : List Raw). length xs ≤ 64) c.as_slice-2.ensures.value c.as_slice-2.ensures.bound)
-    (subst (λ (xs : List Raw). length xs ≤ 64) c.as_slice-3.ensures.value c.as_slice-3.ensures.bound) in
+    let is_made : IsConfiguration made = makes_configuration inside made parts c.in-Some.ensures.members
+    c.in-Some-members.ensures.members c.in-Some-members-2.ensures.members c.as_slice.ensures.ascending
+    c.as_slice-2.ensures.ascending c.as_slice-3.ensures.ascending
+    (rw (← c.as_slice.ensures.value) c.as_slice.ensures.bound)
+    (rw (← c.as_slice-2.ensures.value) c.as_slice-2.ensures.bound)
+    (rw (← c.as_slice-3.ensures.value) c.as_slice-3.ensures.bound) in
     let shown : Shows inside d = subst (λ (p : Pictured). Shows p d) (sym c.self.view_is) shows in
     ap Some (c.of.ensures ∙ shows_one inside made d c.spelling.ensures.tells c.facts.ensures is_made is_d
     (each_shows inside made parts) shown)

@@ -1,4 +1,4 @@
-use Rattle.fib_reader.proofs.Words.{◌++◌, ◌∙◌, ◌≡◌, ◌≤◌, AreInOrder, IsKept, List, Raw, ap, length, subst, sym}
+use Rattle.fib_reader.proofs.Words.{◌++◌, ◌∙◌, ◌≡◌, AreInOrder, IsKept, ap, subst, sym}
 use Rattle.fib_reader.proofs.Order.{in_order}
 use Rattle.fib_reader.proofs.picture.Picture.entries.Goals as goal
 
@@ -19,7 +19,7 @@ returns-clause-kept c = subst IsKept c.self.view_is (record {
   subs_ascend = c.as_slice.ensures.ascending;
   services_ascend = c.as_slice-2.ensures.ascending;
   packets_ascend = c.as_slice-3.ensures.ascending;
-  subs_few = subst (λ (xs : List Raw). length xs ≤ 64) c.as_slice.ensures.value c.as_slice.ensures.bound;
-  services_few = subst (λ (xs : List Raw). length xs ≤ 64) c.as_slice-2.ensures.value c.as_slice-2.ensures.bound;
-  packets_few = subst (λ (xs : List Raw). length xs ≤ 64) c.as_slice-3.ensures.value c.as_slice-3.ensures.bound;
+  subs_few = rw (← c.as_slice.ensures.value) c.as_slice.ensures.bound;
+  services_few = rw (← c.as_slice-2.ensures.value) c.as_slice-2.ensures.bound;
+  packets_few = rw (← c.as_slice-3.ensures.value) c.as_slice-3.ensures.bound;
 })

@@ -1,5 +1,5 @@
-use Rattle.fib_reader.proofs.Words.{◌∙◌, ◌≡◌, ◌≢◌, IfSome, Pictured, ap, arith, number_of, subst, sym}
-use Rattle.fib_reader.proofs.Forecast.{Takes, takes_sub, takes_if_service, takes_if_packet}
+use Rattle.fib_reader.proofs.Words.{◌∙◌, ◌≡◌, ◌≢◌, ap, arith, number_of, sym}
+use Rattle.fib_reader.proofs.Forecast.{takes_sub, takes_if_service, takes_if_packet}
 use Rattle.fib_reader.proofs.picture.Picture.new_members.Goals as goal
 
 pub returns-in-SubChannels : goal.returns-in-SubChannels
@@ -8,17 +8,14 @@ returns-in-SubChannels c = takes_sub c.args.self.now c.args.entry.now c.args.oth
 
 pub returns-in-Services : goal.returns-in-Services
 returns-in-Services c =
-    subst (λ (p : Pictured). IfSome c.new_members.result (Takes p c.args.entry.now c.args.others)) c.self.view_is
-    (takes_if_service _ c.args.entry.now c.args.others c.new_members.result
-    (sym c.extension.ensures.value ∙ ap number_of c.in-Services.is)
-    c.new_members.ensures.known c.new_members.ensures.new)
+    rw (← c.self.view_is) (takes_if_service _ c.args.entry.now c.args.others c.new_members.result
+    (sym c.extension.ensures.value ∙ ap number_of c.in-Services.is) c.new_members.ensures.known
+    c.new_members.ensures.new)
 
 pub returns-in-Packets : goal.returns-in-Packets
 returns-in-Packets c =
     let is_packet : c.args.entry.now.ext ≡ 3 = sym c.extension.ensures.value ∙ ap number_of c.in-Packets.is in
     let one : c.args.entry.now.ext ≢ 1 = λ e. omega (arith, is_packet, e) in
     let two : c.args.entry.now.ext ≢ 2 = λ e. omega (arith, is_packet, e) in
-    subst (λ (p : Pictured). IfSome c.new_members-in-Packets.result (Takes p c.args.entry.now c.args.others))
-    c.self.view_is
-    (takes_if_packet _ c.args.entry.now c.args.others c.new_members-in-Packets.result one two
+    rw (← c.self.view_is) (takes_if_packet _ c.args.entry.now c.args.others c.new_members-in-Packets.result one two
     c.new_members-in-Packets.ensures.known c.new_members-in-Packets.ensures.new)

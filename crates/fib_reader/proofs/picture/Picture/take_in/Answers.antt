@@ -1,13 +1,12 @@
-use Rattle.fib_reader.proofs.Words.{◌<◌, ◌∙◌, ◌≡◌, IsSubOf, ap, false, has_room, identifier_of, number_of, subst, sym}
-use Rattle.fib_reader.proofs.Words.{true}
+use Rattle.fib_reader.proofs.Words.{◌<◌, ◌∙◌, ◌≡◌, IsSubOf, ap, false, has_room, identifier_of, number_of, sym, true}
 use Rattle.fib_reader.proofs.Keeping.{each_after, room_for_subs}
 use Rattle.fib_reader.proofs.picture.Picture.take_in.Goals as goal
 
 pub invariant_of-self : goal.invariant_of-self
 invariant_of-self c =
     let is_sub : c.args.entry.now.ext ≡ 1 = sym c.extension.ensures.value ∙ ap number_of c.in-SubChannels.is in
-    let low : identifier_of c.args.entry.now < 64 =
-    subst (λ n. n < 64) c.identifier-identifier.ensures.value (c.identifier-identifier.ensures.sub is_sub) in
+    let low : identifier_of c.args.entry.now < 64 = rw (← c.identifier-identifier.ensures.value)
+    (c.identifier-identifier.ensures.sub is_sub) in
     record {
       subs = each_after IsSubOf c.args.entry.now _ _ c.keep.result (is_sub, low) c.self.invariant.subs
           c.keep.ensures.kept c.keep.ensures.unchanged;
@@ -40,8 +39,8 @@ invariant_of-self-in-Packets c =
 pub returns-in-SubChannels-clause-full : goal.returns-in-SubChannels-clause-full
 returns-in-SubChannels-clause-full c = λ no.
     let is_sub : c.args.entry.now.ext ≡ 1 = sym c.extension.ensures.value ∙ ap number_of c.in-SubChannels.is in
-    let low : identifier_of c.args.entry.now < 64 =
-    subst (λ n. n < 64) c.identifier-identifier.ensures.value (c.identifier-identifier.ensures.sub is_sub) in
+    let low : identifier_of c.args.entry.now < 64 = rw (← c.identifier-identifier.ensures.value)
+    (c.identifier-identifier.ensures.sub is_sub) in
     let room : has_room c.args.entry.now c.self.inside.subs ≡ true =
     room_for_subs c.args.entry.now c.self.inside.subs c.keep.ensures.ascending c.self.invariant.subs low in
     let none : has_room c.args.entry.now c.self.inside.subs ≡ false = sym c.keep.ensures.room ∙ no in

@@ -1,5 +1,5 @@
-use Rattle.fib_reader.proofs.Words.{◌∙◌, ◌≡◌, Agrees, AllByRecursion, Basis, Fig, List, Raw, Some, hear_entry}
-use Rattle.fib_reader.proofs.Words.{hear_figs, refl, subst, sym}
+use Rattle.fib_reader.proofs.Words.{◌∙◌, ◌≡◌, Agrees, AllByRecursion, Basis, List, Raw, Some, hear_entry}
+use Rattle.fib_reader.proofs.Words.{refl, subst, sym}
 use Rattle.fib_reader.proofs.Remembering.{fig_lasts, other_lasts, figs_last}
 use Rattle.fib_reader.proofs.receiver.Receiver.knows.Goals as goal
 
@@ -11,18 +11,14 @@ loop-fig-preserved-in-Some-head c = λ x agrees rest.
     (c.knows_entries.ensures c.if-not-knows_entries.false) in
     let agree = subst (λ (b : Basis). Agrees b c.args.self.now x) c.of.ensures (c.and-basis.ensures.other _ x agrees) in
     c.loop-fig.invariant x (c.and-basis.ensures.one _ x agrees)
-    (subst (λ (fs : List Fig). hear_figs fs x ≡ Some x) (sym c.in-Some.ensures.steps)
-    (figs_last c.in-Some.fig c.next.new.self x
+    (rw (c.in-Some.ensures.steps) (figs_last c.in-Some.fig c.next.new.self x
     (fig_lasts c.args.self.now x c.in-Some.fig head (sym c.head.ensures ∙ c.in-Some-head.is) known agree) rest))
 
 pub loop-fig-preserved : goal.loop-fig-preserved
-loop-fig-preserved c = λ x agrees rest.
-    c.loop-fig.invariant x agrees
-    (subst (λ (fs : List Fig). hear_figs fs x ≡ Some x) (sym c.in-Some.ensures.steps)
+loop-fig-preserved c =
+    λ x agrees rest. c.loop-fig.invariant x agrees (rw (c.in-Some.ensures.steps)
     (figs_last c.in-Some.fig c.next.new.self x (other_lasts c.in-Some.fig x (sym c.head.ensures ∙ c.in_default-head.is))
     rest))
 
 pub returns : goal.returns
-returns c = λ x agrees.
-    c.loop-fig.invariant x agrees
-    (subst (λ (fs : List Fig). hear_figs fs x ≡ Some x) (sym c.in_default.ensures.steps.0) refl)
+returns c = λ x agrees. c.loop-fig.invariant x agrees (rw (c.in_default.ensures.steps.0) refl)

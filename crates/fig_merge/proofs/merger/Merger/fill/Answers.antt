@@ -1,7 +1,6 @@
-use Rattle.fig_merge.proofs.Words.{◌++◌, ◌-◌, ◌∙◌, ◌≡◌, Bool, Fib, Fig, IsFib, IsPassedOver, List, Listening, Ok, Other}
-use Rattle.fig_merge.proofs.Words.{Result, Some, after_fill, agrees_with, ap, ap₂, arith, carried_in, checked, concat}
-use Rattle.fig_merge.proofs.Words.{data_of, fig_agrees, filled, filled_fib, length, map, merged, refl, room_of, subst}
-use Rattle.fig_merge.proofs.Words.{sym, take, ℕ}
+use Rattle.fig_merge.proofs.Words.{◌++◌, ◌-◌, ◌∙◌, ◌≡◌, Bool, Fig, IsFib, IsPassedOver, List, Listening, Ok, Result}
+use Rattle.fig_merge.proofs.Words.{Some, after_fill, agrees_with, ap, ap₂, arith, carried_in, checked, concat, data_of}
+use Rattle.fig_merge.proofs.Words.{fig_agrees, filled, filled_fib, length, refl, room_of, sym, take, ℕ}
 use Rattle.fib_reader.specs.Listening.{hear_figs}
 use Rattle.fib_reader.specs.declared.fault.FibFault.{FibFault}
 use Rattle.stream_check.proofs.Seeing.{read_whole}
@@ -33,7 +32,7 @@ pub bytes_are : (before behind sealed : List ℕ) (used : ℕ) (figs : List Fig)
     → ok ≡ agrees_with figs l → behind ≡ take used before ++ concat (carried_in ok (30 - used) waiting)
     → sealed ≡ checked (filled behind) → sealed ≡ filled_fib figs l waiting
 bytes_are before behind sealed used figs l ok waiting is size same carried seals =
-    let front : take used before ≡ data_of figs = ap (λ n. take n before) size ∙ data_front before figs is in
+    let front : take used before ≡ data_of figs = rw (size) (data_front before figs is) in
     seals ∙ ap (λ xs. checked (filled xs))
     (carried ∙ ap₂ (λ xs n. xs ++ concat (carried_in ok (30 - n) waiting)) front size
     ∙ ap (λ (k : List ℕ → Bool). data_of figs ++ concat (carried_in k (room_of figs) waiting)) same)
@@ -58,12 +57,8 @@ returns-clause-figs c = λ figs is.
     c.in-Ok.ensures.figs c.data_len-used.ensures
     (judges c.in-Ok.figs l c.hear.new.self c.current.result.now heard c.current.ensures) c.carry-load.ensures.data
     c.end_fib.ensures in
-    let there : c.end_fib.new.fib ≡ filled_fib figs l waiting =
-    here ∙ ap (λ (fs : List Fig). filled_fib fs l waiting) same in
-    rw (← c.self.view_is) (subst
-    (λ (xs : List ℕ). IsFib xs (figs ++ map Other (carried_in (agrees_with figs l) (room_of figs) waiting)))
-    (sym there)
-    (filled_is c.args.fib.now figs l waiting is c.self.invariant.passed_over))
+    let there : c.end_fib.new.fib ≡ filled_fib figs l waiting = rw (← same) here in
+    rw (← c.self.view_is) (rw (there) (filled_is c.args.fib.now figs l waiting is c.self.invariant.passed_over))
 
 pub returns-clause-bytes : goal.returns-clause-bytes
 returns-clause-bytes c = λ r.
@@ -82,7 +77,7 @@ returns-clause-bytes c = λ r.
     c.end_fib.ensures in
     let seen : filled_fib c.in-Ok.figs l waiting ≡ filled_fib c.in-Ok.figs c.args.self.now.heard
     c.args.self.now.waiting = rw (← c.self.view_is) refl in
-    here ∙ seen ∙ ap (λ (fib : Fib). merged c.args.fib.now fib c.args.self.now) one
+    rw (← one) (here ∙ seen)
 
 pub returns-clause-merger : goal.returns-clause-merger
 returns-clause-merger c = λ r.
@@ -100,4 +95,4 @@ returns-clause-merger c = λ r.
     (judges c.in-Ok.figs l c.hear.new.self c.current.result.now heard c.current.ensures)
     c.carry-load.ensures.left c.carry-load.ensures.count c.carry-load.ensures.stale c.sum-self-inside.ensures
     c.sum-self-inside-2.ensures heard) in
-    done ∙ ap (λ (fib : Fib). after_fill fib m) one
+    rw (← one) done

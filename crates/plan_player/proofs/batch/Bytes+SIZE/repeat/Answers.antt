@@ -17,14 +17,12 @@ returns c =
     ap₂ (λ (m n : ℕ). m * (32 * n)) c.from.ensures c.fibs.ensures.value in
     let whole : length b ≡ 16384 = c.self.invariant.1 in
     let within : offset ≤ 16384 = c.self.invariant.0 in
-    let long : length old ≡ offset = ap (λ (l : List ℕ). length l) view
-    ∙ length-take-le offset b (omega (arith, whole, within)) in
+    let long : length old ≡ offset = rw (view) (length-take-le offset b (omega (arith, whole, within))) in
     let few : len ≤ offset = omega (arith, is_len, long, c.requires.there) in
     let fits : offset + len ≤ length b = omega (arith, is_len, long, whole, c.requires.room) in
     let is_width : width ≡ len = omega arith in
     let part : take width (drop offset copy) ≡ take len old =
-    ap (λ (w : ℕ). take w (drop offset copy)) is_width ∙ copied b offset len copy few fits c.copy_front.ensures
-    ∙ ap (λ (l : List ℕ). take len l) (sym view) in
+    rw (is_width) (rw (view) (copied b offset len copy few fits c.copy_front.ensures)) in
     let text_long : length text ≡ len =
     c.recount_frames.ensures.size ∙ ap (λ (l : List ℕ). length l) part
     ∙ length-take-le len old (omega (arith, few, long)) in
@@ -32,7 +30,7 @@ returns c =
     c.copy_front.ensures text_long
     (ap (λ (w : ℕ). take offset copy ++ (text ++ drop w (drop offset copy))) is_width) in (
       text,
-      all ∙ ap (λ (l : List ℕ). l ++ text) (sym view),
+      rw (view) all,
       λ s t alike counts is. c.recount_frames.ensures.frames s t alike counts
           (part ∙ ap (λ (k : ℕ). take k old) is_len ∙ is),
     )
@@ -46,6 +44,6 @@ copy_front-requires-clause-before c =
     ap₂ (λ (m n : ℕ). m * (32 * n)) c.from.ensures c.fibs.ensures.value in
     let whole : length b ≡ 16384 = c.self.invariant.1 in
     let within : offset ≤ 16384 = c.self.invariant.0 in
-    let long : length c.args.self.now ≡ offset =
-    ap (λ (l : List ℕ). length l) (sym c.self.view_is) ∙ length-take-le offset b (omega (arith, whole, within)) in
+    let long : length c.args.self.now ≡ offset = rw (← c.self.view_is)
+    (length-take-le offset b (omega (arith, whole, within))) in
     omega (arith, is_len, long, c.requires.there)

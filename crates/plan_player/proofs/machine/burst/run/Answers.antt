@@ -1,6 +1,6 @@
 -- Answers of `run` in src/burst.rt
-use Rattle.plan_player.proofs.Words.{◌+◌, ◌∙◌, ◌≡◌, State, false, is_running, state_of, subst, sym, true}
-use Rattle.plan_player.proofs.Remaining.{Remains, goes, stops}
+use Rattle.plan_player.proofs.Words.{◌∙◌, ◌≡◌, State, false, is_running, state_of, sym, true}
+use Rattle.plan_player.proofs.Remaining.{goes, stops}
 use Rattle.plan_player.proofs.machine.burst.run.Goals as goal
 
 -- src/burst.rt:49:9
@@ -18,8 +18,7 @@ instructions-preserved g c =
     let runs : is_running now.hold ≡ true = sym c.is_running.ensures ∙ c.instructions-test.true in
     let next = (goes c.args.code.now (state_of g.S.Store.content c.args.machine.now) c.instructions.steps now
     c.instructions.invariant runs).next in
-    subst (λ (t : State). Remains c.args.code.now (state_of g.S.Store.content c.args.machine.now)
-    (c.instructions.steps + 1) t) (sym c.step.ensures) next
+    rw (c.step.ensures) next
 
 -- src/burst.rt:39:1
 pub returns-clause-state : goal.returns-clause-state

@@ -1,5 +1,4 @@
-use Rattle.plan_player.proofs.Words.{◌∙◌, Contact, IsGoing, IsPlayed, Playing, State, ap, arith, happens, state_of}
-use Rattle.plan_player.proofs.Words.{subst, sym}
+use Rattle.plan_player.proofs.Words.{◌∙◌, Contact, Playing, State, ap, arith, happens, state_of}
 use Rattle.plan_player.proofs.FrameFacts.{contact_goes}
 use Rattle.plan_player.proofs.player.Player.contact.Goals as goal
 
@@ -9,7 +8,7 @@ invariant_of-self g c =
     let s = state_of g.S.Store.content c.self.inside.machine in
     let going = contact_goes p s c.self.inside.steps c.self.inside.pages c.args.contact c.args.closed c.self.invariant
     (omega (arith, c.get-number.ensures.value, c.get-number.ensures.in_range)) in
-    subst (λ (t : State). IsGoing p t c.self.inside.steps c.self.inside.pages) (sym (c.set_contact.ensures p)) going
+    rw (c.set_contact.ensures p) going
 
 pub returns-clause-played : goal.returns-clause-played
 returns-clause-played g c =
@@ -17,7 +16,7 @@ returns-clause-played g c =
     let s = state_of g.S.Store.content c.self.inside.machine in
     let going = contact_goes p s c.self.inside.steps c.self.inside.pages c.args.contact c.args.closed c.self.invariant
     (omega (arith, c.get-number.ensures.value, c.get-number.ensures.in_range)) in
-    subst (λ (t : State). IsPlayed p t) (sym (c.set_contact.ensures p)) going.played
+    rw (c.set_contact.ensures p) going.played
 
 pub returns-clause-state : goal.returns-clause-state
 returns-clause-state g c =

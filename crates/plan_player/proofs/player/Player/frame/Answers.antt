@@ -1,5 +1,4 @@
-use Rattle.plan_player.proofs.Words.{[], ◌∙◌, ◌∷◌, ◌≤◌, Frame, IsGoing, Playing, Program, ap, frame_bytes, state_of}
-use Rattle.plan_player.proofs.Words.{subst}
+use Rattle.plan_player.proofs.Words.{[], ◌∙◌, ◌∷◌, Frame, IsGoing, Playing, Program, ap, frame_bytes, state_of}
 use Rattle.plan_player.proofs.FrameFacts.{lent_ready, lent_goes}
 use Rattle.plan_player.proofs.player.Player.frame.Goals.{After-make_frame-self-inside}
 use Rattle.plan_player.proofs.player.Player.frame.Given as given
@@ -51,5 +50,4 @@ returns-clause-counted g c = λ events. (c.promise.ensures events).counted
 
 pub returns-clause-within : goal.returns-clause-within
 returns-clause-within g c =
-    subst (λ (x : Playing). c.make_frame-self-inside.result ≤ x.code.plan.budget) c.self.view_is
-    (goes g (goal.at.returns-clause-within g c).After-make_frame-self-inside).within
+    rw (← c.self.view_is) (goes g (goal.at.returns-clause-within g c).After-make_frame-self-inside).within

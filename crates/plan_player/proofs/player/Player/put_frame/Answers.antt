@@ -1,5 +1,4 @@
-use Rattle.plan_player.proofs.Words.{◌<◌, ◌∙◌, ◌≡◌, Appends, IfErr, List, OnOk, Playing, Program, ap, frame_bytes}
-use Rattle.plan_player.proofs.Words.{length, next_frame, state_of, subst, take, ℕ}
+use Rattle.plan_player.proofs.Words.{◌∙◌, ◌≡◌, Playing, Program, ap, frame_bytes, next_frame, state_of}
 use Rattle.plan_player.proofs.FrameFacts.{lent_ready, lent_goes}
 use Rattle.plan_player.proofs.player.Player.put_frame.Goals.{After-bytes}
 use Rattle.plan_player.proofs.player.Player.put_frame.Given as given
@@ -31,18 +30,10 @@ invariant_of-self g c =
     made.ensures.change
 
 pub returns-clause-bytes : goal.returns-clause-bytes
-returns-clause-bytes g c =
-    subst (λ (bs : List ℕ). OnOk c.put_all.result
-    (Appends (g.K.Sink.taken c.args.sink.now) (g.K.Sink.taken c.put_all.new.sink) bs))
-    (sent g (goal.at.returns-clause-bytes g c).After-bytes) c.put_all.ensures.all
+returns-clause-bytes g c = rw (← sent g (goal.at.returns-clause-bytes g c).After-bytes) c.put_all.ensures.all
 
 pub returns-clause-bound : goal.returns-clause-bound
-returns-clause-bound g c =
-    subst (λ (bs : List ℕ). IfErr c.put_all.result (λ n. n < length bs))
-    (sent g (goal.at.returns-clause-bound g c).After-bytes) c.put_all.ensures.bound
+returns-clause-bound g c = rw (← sent g (goal.at.returns-clause-bound g c).After-bytes) c.put_all.ensures.bound
 
 pub returns-clause-part : goal.returns-clause-part
-returns-clause-part g c =
-    subst (λ (bs : List ℕ). IfErr c.put_all.result (λ n.
-    Appends (g.K.Sink.taken c.args.sink.now) (g.K.Sink.taken c.put_all.new.sink) (take n bs)))
-    (sent g (goal.at.returns-clause-part g c).After-bytes) c.put_all.ensures.part
+returns-clause-part g c = rw (← sent g (goal.at.returns-clause-part g c).After-bytes) c.put_all.ensures.part

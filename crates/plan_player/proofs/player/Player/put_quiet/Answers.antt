@@ -1,5 +1,5 @@
-use Rattle.plan_player.proofs.Words.{◌-◌, ◌≡◌, ◌≤◌, AreQuiet, Delivered, Frame, IfErr, IfOk, Playing, State, Stopped}
-use Rattle.plan_player.proofs.Words.{ap, arith, refl, replicate, state_of, subst, suc, sym, true, ℕ}
+use Rattle.plan_player.proofs.Words.{◌-◌, ◌≡◌, ◌≤◌, AreQuiet, Playing, State}
+use Rattle.plan_player.proofs.Words.{ap, arith, refl, state_of, subst, suc, sym, true, ℕ}
 use Rattle.plan_player.proofs.Joining.{stopped_among, one_delivered, one_stopped, first_quiet}
 use Rattle.plan_player.proofs.Stretches.{fewer_quiet, stretch, quiet_done, quiet_stopped, some_quiet, goes_quiet}
 use Rattle.plan_player.proofs.player.Player.put_quiet.Goals.{After-min-count}
@@ -50,13 +50,13 @@ pub returns-in-Ok-clause-some : goal.returns-in-Ok-clause-some
 returns-in-Ok-clause-some g c = (omega arith, c.requires.one)
 
 pub returns-in-Ok-clause-code : goal.returns-in-Ok-clause-code
-returns-in-Ok-clause-code g c = ap (λ (x : Playing). x.code) c.in-Ok.ensures.state
+returns-in-Ok-clause-code g c = rw (c.in-Ok.ensures.state) refl
 
 pub returns-in-Ok-clause-works : goal.returns-in-Ok-clause-works
 returns-in-Ok-clause-works g c = c.in-Ok.ensures.works
 
 pub returns-in-Err-clause-code : goal.returns-in-Err-clause-code
-returns-in-Err-clause-code g c = ap (λ (x : Playing). x.code) c.in-Err.ensures.state
+returns-in-Err-clause-code g c = rw (c.in-Err.ensures.state) refl
 
 pub returns-in-Err-clause-stopped : goal.returns-in-Err-clause-stopped
 returns-in-Err-clause-stopped g c =
@@ -107,10 +107,9 @@ returns-clause-done g c =
     let new : Playing = record { code = i.code.now; state = t; steps = 0 } in
     let e = c.put_stretch.ensures in
     let some : 1 ≤ c.min-count.result = omega (arith, c.min-count.ensures, c.requires.one, c.from.ensures) in
-    subst (λ (old : Playing). IfOk c.put_stretch.result (λ k. Delivered old new (replicate k Frame) x y k))
-    c.self.view_is
-    (quiet_done i.code.now c.args.plan.now c.min-count.result (state_of g.S.Store.content i.machine) t i.steps x y
-    c.put_stretch.result (plan_is g here) some (quiet g here) e.all e.state e.bytes)
+    rw (← c.self.view_is) (quiet_done i.code.now c.args.plan.now c.min-count.result
+    (state_of g.S.Store.content i.machine) t i.steps x y c.put_stretch.result (plan_is g here) some (quiet g here) e.all
+    e.state e.bytes)
 
 pub returns-clause-some : goal.returns-clause-some
 returns-clause-some g c =
@@ -132,10 +131,9 @@ returns-clause-stopped g c =
     let y = g.K.Sink.taken c.put_stretch.new.sink in
     let t : State = state_of g.S.Store.content c.put_stretch.new.machine in
     let new : Playing = record { code = i.code.now; state = t; steps = 0 } in
-    subst (λ (old : Playing). IfErr c.put_stretch.result
-    (λ cut. Stopped old new (replicate c.args.most Frame) x y cut.frames cut.bytes)) c.self.view_is
-    (quiet_stopped i.code.now c.args.plan.now c.args.most c.min-count.result (state_of g.S.Store.content i.machine) t
-    i.steps x y c.put_stretch.result (plan_is g here) (few g here) (quiet g here) c.put_stretch.ensures.cut)
+    rw (← c.self.view_is) (quiet_stopped i.code.now c.args.plan.now c.args.most c.min-count.result
+    (state_of g.S.Store.content i.machine) t i.steps x y c.put_stretch.result (plan_is g here) (few g here)
+    (quiet g here) c.put_stretch.ensures.cut)
 
 pub returns-clause-fails : goal.returns-clause-fails
 returns-clause-fails g c = c.put_stretch.ensures.fails

@@ -1,5 +1,5 @@
-use Rattle.plan_player.proofs.Words.{[], ◌<◌, ◌∙◌, ◌∷◌, ◌≡◌, Appends, Frame, IfErr, IsQuiet, List, OnOk, Playing, ap}
-use Rattle.plan_player.proofs.Words.{frame_bytes, length, next_frame, played, state_of, subst, sym, take, ℕ}
+use Rattle.plan_player.proofs.Words.{[], ◌∙◌, ◌∷◌, ◌≡◌, Frame, IsQuiet, Playing, ap}
+use Rattle.plan_player.proofs.Words.{frame_bytes, next_frame, played, state_of, subst, sym}
 use Rattle.plan_player.proofs.player.Player.put_quiet_frame.Goals.{After-send, After-bytes}
 use Rattle.plan_player.proofs.Stretches.{ready_in, quiet_goes, quiet_played, quiet_bytes}
 use Rattle.plan_player.proofs.player.Player.put_quiet_frame.Given as given
@@ -65,18 +65,10 @@ returns-clause-state g c =
     ∙ ap (λ (x : Playing). played x (Frame ∷ [])) c.self.view_is
 
 pub returns-clause-bytes : goal.returns-clause-bytes
-returns-clause-bytes g c =
-    subst (λ (bs : List ℕ). OnOk c.put_all.result
-    (Appends (g.K.Sink.taken c.args.sink.now) (g.K.Sink.taken c.put_all.new.sink) bs))
-    (sent g (goal.at.returns-clause-bytes g c).After-bytes) c.put_all.ensures.all
+returns-clause-bytes g c = rw (← sent g (goal.at.returns-clause-bytes g c).After-bytes) c.put_all.ensures.all
 
 pub returns-clause-bound : goal.returns-clause-bound
-returns-clause-bound g c =
-    subst (λ (bs : List ℕ). IfErr c.put_all.result (λ n. n < length bs))
-    (sent g (goal.at.returns-clause-bound g c).After-bytes) c.put_all.ensures.bound
+returns-clause-bound g c = rw (← sent g (goal.at.returns-clause-bound g c).After-bytes) c.put_all.ensures.bound
 
 pub returns-clause-part : goal.returns-clause-part
-returns-clause-part g c =
-    subst (λ (bs : List ℕ). IfErr c.put_all.result (λ n.
-    Appends (g.K.Sink.taken c.args.sink.now) (g.K.Sink.taken c.put_all.new.sink) (take n bs)))
-    (sent g (goal.at.returns-clause-part g c).After-bytes) c.put_all.ensures.part
+returns-clause-part g c = rw (← sent g (goal.at.returns-clause-part g c).After-bytes) c.put_all.ensures.part

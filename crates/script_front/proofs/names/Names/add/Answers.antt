@@ -1,4 +1,4 @@
-use Rattle.script_front.proofs.Words.{[], ◌++◌, ◌∙◌, ◌∷◌, ◌≢◌, List, Some, ap, map, slice_get, string_bytes, ℕ}
+use Rattle.script_front.proofs.Words.{◌≢◌, Some, map, slice_get, string_bytes, ℕ}
 use Rattle.script_front.proofs.Naming.{added}
 use Rattle.script_front.proofs.names.Names.add.Goals as goal
 
@@ -6,6 +6,5 @@ pub returns : goal.returns
 returns c =
     let new : (i : ℕ) → slice_get (map string_bytes c.self.inside.set.keys) i ≢ Some c.args.name.now =
     rw (c.self.view_is) c.requires in
-    ap (λ ks. map string_bytes ks) c.in_ok-insert.ensures.keys
-    ∙ added c.args.name.now c.self.inside.set.keys c.in_ok-from_str.field-0 c.in_ok-from_str.ensures.ok new
-    ∙ ap (λ (xs : List (List ℕ)). xs ++ c.args.name.now ∷ []) c.self.view_is
+    rw (c.in_ok-insert.ensures.keys) (rw (← c.self.view_is) (added c.args.name.now c.self.inside.set.keys
+    c.in_ok-from_str.field-0 c.in_ok-from_str.ensures.ok new))

@@ -1,4 +1,4 @@
-use Rattle.stream_check.proofs.Words.{[], ◌++◌, ◌∙◌, ◌∷◌, Bool, Checking, Follows, FollowsFib, HearsFrame, IsFramed}
+use Rattle.stream_check.proofs.Words.{[], ◌++◌, ◌∙◌, ◌∷◌, Bool, HearsFrame, IsFramed}
 use Rattle.stream_check.proofs.Words.{List, Unknown, false, fib_count, first_in, map, not, refl, subst, sym, ℕ}
 use Rattle.stream_check.proofs.Followed.{two_fibs, skipped_where, next_where, cut_where, later_where, follows_skip}
 use Rattle.stream_check.proofs.Followed.{follows_hold, follows_frame, ends_frame, adds_skip, adds_hold, adds_frame}
@@ -9,10 +9,8 @@ pub returns-then-is_skipped-clause-heard : goal.returns-then-is_skipped-clause-h
 returns-then-is_skipped-clause-heard g c = λ r mode period stream start f.
     let w = skipped_where r c.args.self.now c.args.fib.now (first_in (r.read c.args.fib.now)) refl
     (sym (c.is_skipped.ensures r) ∙ c.if-is_skipped.true) in
-    subst (λ (n : Checking). Follows r mode period (stream ++ r.read c.args.fib.now ∷ []) start
-    (g.R.Report.reported c.args.report.now) n) (sym c.skip.ensures)
-    (follows_skip r mode period stream start (g.R.Report.reported c.args.report.now) c.args.self.now c.args.fib.now
-    w.0.none w.0.empty w.1 f).0
+    rw (c.skip.ensures) (follows_skip r mode period stream start (g.R.Report.reported c.args.report.now) c.args.self.now
+    c.args.fib.now w.0.none w.0.empty w.1 f).0
 
 pub returns-then-is_cut-clause-heard : goal.returns-then-is_cut-clause-heard
 returns-then-is_cut-clause-heard g c = λ r mode period stream start f.
@@ -49,10 +47,8 @@ returns-then-has_space-clause-heard g c = λ r mode period stream start f.
     (sym (c.is_skipped.ensures r) ∙ c.if-is_skipped.false) in
     let later = later_where r c.args.self.now c.args.fib.now c.summary_of-summary.result.opening
     (c.summary_of-summary.ensures r).begins (sym c.is_cut.ensures.value ∙ c.if-is_cut.false) in
-    subst (λ (n : Checking). Follows r mode period (stream ++ r.read c.args.fib.now ∷ []) start
-    (g.R.Report.reported c.args.report.now) n) (sym c.hold.ensures)
-    (follows_hold r mode period stream start (g.R.Report.reported c.args.report.now) c.args.self.now c.args.fib.now next
-    later (c.has_space.ensures.space c.if-has_space.true) f).0
+    rw (c.hold.ensures) (follows_hold r mode period stream start (g.R.Report.reported c.args.report.now) c.args.self.now
+    c.args.fib.now next later (c.has_space.ensures.space c.if-has_space.true) f).0
 
 pub returns-clause-heard : goal.returns-clause-heard
 returns-clause-heard g c = λ r mode period stream start f.
@@ -93,11 +89,8 @@ pub returns-then-is_skipped-clause-added : goal.returns-then-is_skipped-clause-a
 returns-then-is_skipped-clause-added g c = λ r mode period stream.
     let w = skipped_where r c.args.self.now c.args.fib.now (first_in (r.read c.args.fib.now)) refl
     (sym (c.is_skipped.ensures r) ∙ c.if-is_skipped.true) in
-    subst (λ (n : Checking). FollowsFib r mode period stream (r.read c.args.fib.now) false
-    (g.R.Report.reported c.args.report.now) (g.R.Report.reported c.args.report.now) c.args.self.now n)
-    (sym c.skip.ensures)
-    (adds_skip r mode period stream (g.R.Report.reported c.args.report.now) c.args.self.now c.args.fib.now w.0.none
-    w.0.empty w.1)
+    rw (c.skip.ensures) (adds_skip r mode period stream (g.R.Report.reported c.args.report.now) c.args.self.now
+    c.args.fib.now w.0.none w.0.empty w.1)
 
 pub returns-then-has_space-clause-added : goal.returns-then-has_space-clause-added
 returns-then-has_space-clause-added g c = λ r mode period stream.
@@ -105,11 +98,8 @@ returns-then-has_space-clause-added g c = λ r mode period stream.
     (sym (c.is_skipped.ensures r) ∙ c.if-is_skipped.false) in
     let later = later_where r c.args.self.now c.args.fib.now c.summary_of-summary.result.opening
     (c.summary_of-summary.ensures r).begins (sym c.is_cut.ensures.value ∙ c.if-is_cut.false) in
-    subst (λ (n : Checking). FollowsFib r mode period stream (r.read c.args.fib.now) false
-    (g.R.Report.reported c.args.report.now) (g.R.Report.reported c.args.report.now) c.args.self.now n)
-    (sym c.hold.ensures)
-    (adds_hold r mode period stream (g.R.Report.reported c.args.report.now) c.args.self.now c.args.fib.now next later
-    (c.has_space.ensures.space c.if-has_space.true))
+    rw (c.hold.ensures) (adds_hold r mode period stream (g.R.Report.reported c.args.report.now) c.args.self.now
+    c.args.fib.now next later (c.has_space.ensures.space c.if-has_space.true))
 
 pub returns-then-is_cut-clause-added : goal.returns-then-is_cut-clause-added
 returns-then-is_cut-clause-added g c = λ r mode period stream f.

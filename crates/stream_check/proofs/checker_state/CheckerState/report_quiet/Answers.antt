@@ -1,11 +1,9 @@
-use Rattle.stream_check.proofs.Words.{◌∙◌, ap, in_frame, map, sym, with_more}
 use Rattle.stream_check.proofs.Chain.{more_none}
 use Rattle.stream_check.proofs.Waiting.{none_quiet}
 use Rattle.stream_check.proofs.checker_state.CheckerState.report_quiet.Goals as goal
 
 pub returns-then-is_too_soon : goal.returns-then-is_too_soon
 returns-then-is_too_soon g c =
-    more_none (g.R.Report.reported c.args.report.now)
-    ∙ sym (ap (λ fs. with_more (g.R.Report.reported c.args.report.now) (map (in_frame c.args.at) fs))
-    (none_quiet c.args.self.now.swapped c.args.self.now.period c.args.self.now.frames c.oldest.result c.args.table.now
-    c.oldest.ensures (c.is_too_soon.ensures c.if-is_too_soon.true)))
+    rw (none_quiet c.args.self.now.swapped c.args.self.now.period c.args.self.now.frames c.oldest.result
+    c.args.table.now c.oldest.ensures (c.is_too_soon.ensures c.if-is_too_soon.true))
+    (more_none (g.R.Report.reported c.args.report.now))
