@@ -19,10 +19,8 @@ pub fn read_event_text<'a, F: Files>(
         (λ bytes. bytes ≡ string_bytes text)) }
     ensures world { Stays (F.world files.old) (F.world files.new) }
 {
-    let file = match files.open(path) {
-        Ok(file) => file,
-        Err(fault) => return Err(Failure::of_file(fault, path)),
-    };
+    let file = files.open(path);
+    let file = file.map_err(|fault| Failure::of_file(fault, path))?;
     match read_text(alloc, file) {
         Ok(text) => Ok(text),
         Err(TextFault::Memory) => Err(Failure::Memory),

@@ -151,7 +151,7 @@ fn stream_playback<W: Write>(
 }
 
 /// Prints the number of frames played, or why playback failed.
-fn print_ending<'a, W: Write>(
+pub(crate) fn print_ending<'a, W: Write>(
     ended: Result<u128, RunFault>,
     out: &mut W,
 ) -> Result<Status, Failure<'a>>

@@ -40,15 +40,11 @@ impl<W: Write> Sink for WriterSink<W> {
 
     fn put(&mut self, bytes: &[u8]) -> Option<usize> {
         match self.out.write(bytes) {
-            Ok(0) => {
+            Ok(0) | Err(_) => {
                 self.has_failed = true;
                 None
             }
             Ok(count) => Some(count),
-            Err(_) => {
-                self.has_failed = true;
-                None
-            }
         }
     }
 
