@@ -41,7 +41,7 @@ pub struct FrameRequest<'a> {
 }
 
 /// Why a record gives no frame, in the order in which [`frame_of`] tests.
-#[derive(Clone, Copy, Debug, PartialEq, Eq)]
+#[derive(Clone, Copy, Debug)]
 pub enum FrameFault {
     /// The bytes are not a configuration record.
     Record(RecordFault),

@@ -8,7 +8,7 @@ use console::output::write_out;
 use std::io::Write;
 
 /// What an output took before it failed: whole frames, and bytes of the next one.
-#[derive(Clone, Copy, Debug, PartialEq, Eq)]
+#[derive(Clone, Copy)]
 pub struct Taken {
     /// The whole frames.
     pub frames: u64,

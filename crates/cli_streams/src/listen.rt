@@ -19,7 +19,7 @@ use stream_monitor::Hints;
 use thiserror::Error;
 
 /// Why a stream is refused.
-#[derive(Clone, Copy, Debug, PartialEq, Eq, Error)]
+#[derive(Clone, Copy, Debug, Error)]
 pub enum StreamFault {
     /// The length is not a multiple of 32 bytes.
     #[error("refused: not whole FIBs")]

@@ -71,7 +71,7 @@ impl Display for MergeFault<'_> {
 impl error::Error for MergeFault<'_> {}
 
 /// What was merged.
-#[derive(Clone, Copy, Debug, PartialEq, Eq)]
+#[derive(Clone, Copy)]
 pub struct MergeSummary {
     /// The frames of the plan.
     pub frames: u64,
