@@ -6,57 +6,14 @@ use std::alloc::{AllocError, Global};
 /// The most commits that are looked at: no code has more instructions.
 const MOST: usize = 4096;
 
-/// Appends the block of a commit.
-fn push(commits: &mut Vec<Option<BlockId>>, block: Option<BlockId>) -> Result<(), AllocError> {
-    if commits.len() >= MOST {
-        return Ok(());
-    }
-    match commits.push(block) {
-        Ok(()) => Ok(()),
-        Err(_full) => Err(AllocError),
-    }
-}
-
-/// Appends the blocks of these commits.
-fn push_all(
-    commits: &mut Vec<Option<BlockId>>,
-    blocks: &[Option<BlockId>],
-) -> Result<(), AllocError> {
+/// Appends the blocks of these commits, as far as they are looked at.
+fn push(commits: &mut Vec<Option<BlockId>>, blocks: &[Option<BlockId>]) -> Result<(), AllocError> {
     for block in blocks {
-        push(commits, *block)?;
+        if commits.len() < MOST {
+            commits.push(*block)?;
+        }
     }
     Ok(())
-}
-
-/// Appends the blocks of the commits of a defined block, where those of the blocks before are
-/// `defined`.
-fn push_applied(
-    commits: &mut Vec<Option<BlockId>>,
-    defined: &[Vec<Option<BlockId>>],
-    block: BlockId,
-) -> Result<(), AllocError> {
-    match defined.get(usize::from(block.get())) {
-        Some(its) => push_all(commits, its.as_slice()),
-        None => Ok(()),
-    }
-}
-
-/// Appends the block of an act of the block `own`, if it is a commit.
-fn push_act(
-    commits: &mut Vec<Option<BlockId>>,
-    own: Option<BlockId>,
-    act: &Act,
-) -> Result<(), AllocError> {
-    match act {
-        Act::CommitIn(_) | Act::CommitAt(_) => push(commits, own),
-        Act::Edit(_)
-        | Act::Wait(_)
-        | Act::WaitContact { .. }
-        | Act::WaitAny(_)
-        | Act::Until(_)
-        | Act::Join
-        | Act::Settle => Ok(()),
-    }
 }
 
 /// Appends the blocks of the commits of statements of the block `own`.
@@ -82,16 +39,24 @@ fn push_statement(
     statement: &Statement,
 ) -> Result<(), AllocError> {
     match statement {
-        Statement::Act { act, .. } => push_act(commits, *own, act),
-        Statement::End { .. } => Ok(()),
-        Statement::If { first, .. } => push_statements(commits, defined, own, first.as_slice()),
+        Statement::Act {
+            act: Act::CommitIn(_) | Act::CommitAt(_),
+            ..
+        } => push(commits, &[*own]),
+        Statement::Act { .. } | Statement::End { .. } => Ok(()),
         Statement::IfElse { first, second, .. } => {
             push_statements(commits, defined, own, first.as_slice())?;
             push_statements(commits, defined, own, second.as_slice())
         }
-        Statement::Repeat { body, .. } => push_statements(commits, defined, own, body.as_slice()),
-        Statement::Forever { body, .. } => push_statements(commits, defined, own, body.as_slice()),
-        Statement::Apply { block, .. } => push_applied(commits, defined, *block),
+        Statement::If { first: body, .. }
+        | Statement::Repeat { body, .. }
+        | Statement::Forever { body, .. } => {
+            push_statements(commits, defined, own, body.as_slice())
+        }
+        Statement::Apply { block, .. } => match defined.get(usize::from(block.get())) {
+            Some(its) => push(commits, its.as_slice()),
+            None => Ok(()),
+        },
     }
 }
 
@@ -109,9 +74,7 @@ pub(crate) fn commit_blocks(
         let mut its = Vec::new(alloc);
         let own = BlockId::new(number);
         push_statements(&mut its, defined.as_slice(), &own, block.as_slice())?;
-        if defined.push(its).is_err() {
-            return Err(AllocError);
-        }
+        defined.push(its)?;
         number = number.saturating_add(1);
     }
     let mut commits = Vec::new(alloc);

@@ -52,7 +52,7 @@ pub(crate) struct Found {
 }
 
 /// Why a script is not compiled. Its text is the line that is printed.
-#[derive(Clone, Copy, Debug, PartialEq, Eq, Error)]
+#[derive(Clone, Copy, Debug, Error)]
 pub enum ScriptRefusal {
     /// The text is not a script.
     #[error("{0}")]

@@ -35,7 +35,7 @@ pub struct DiffRequest<'a> {
 }
 
 /// Why no plan is printed.
-#[derive(Clone, Copy, Debug, PartialEq, Eq)]
+#[derive(Clone, Copy)]
 pub enum PlanFault {
     /// No plan changes one opening into the other.
     Between(DiffFault),

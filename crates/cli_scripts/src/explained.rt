@@ -16,7 +16,7 @@ use std::io::{self, ErrorKind, Write};
 use std::str;
 
 /// Where a refusal is explained.
-#[derive(Clone, Copy, Debug, PartialEq, Eq)]
+#[derive(Clone, Copy, PartialEq, Eq)]
 pub enum Explanation {
     /// Behind the line of the refusal, as `PATH:L: SENTENCE`.
     WithLine = 1,
@@ -171,7 +171,7 @@ fn lines_of(
 }
 
 /// Reports lines on standard error, the last of which ends with a line feed.
-pub(crate) fn report_lines<F: Files>(lines: &[u8], files: &mut F)
+pub fn report_lines<F: Files>(lines: &[u8], files: &mut F)
     ensures world { Stays (F.world files.old) (F.world files.new) }
 {
     let Some((last, line)) = lines.split_last() else {

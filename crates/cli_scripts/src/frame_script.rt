@@ -1,7 +1,6 @@
 //! `dabplan frame --script`: prints one frame of the initial configuration of a script.
 
 ghost use Rattle.std.specs.Prelude.{◌≡◌, ◌≢◌, ◌<◌, ℕ, List, codes, take, true, IfErr, IfOk, IfSome};
-ghost use Rattle.std.specs.Prelude.{OnOk};
 ghost use Rattle.std.specs.Io.KnownBytes.{Appends};
 ghost use Rattle.mux_types.specs.declared.limits.TheConstants.{COUNTS};
 ghost use Rattle.cli_scripts.specs.ScriptFrame.{GivesFrame, IsFrameReason};
@@ -21,7 +20,7 @@ use script_compiler::CompileFault;
 use script_config::{ItemFault, opening_of};
 use script_front::{ScriptFault, parse};
 use std::alloc::Global;
-use std::io::{self, Write};
+use std::io::Write;
 use thiserror::Error;
 
 /// The last CIF count; the command line refuses a higher one.
@@ -44,7 +43,7 @@ pub struct FrameScriptRequest<'a> {
 
 /// Why a script gives no frame, in the order in which [`frame_of_script`] tests. Its text is the
 /// line that is printed.
-#[derive(Clone, Copy, Debug, PartialEq, Eq, Error)]
+#[derive(Clone, Copy, Debug, Error)]
 pub enum ScriptFrameFault {
     /// The text is not a script.
     #[error("{0}")]
@@ -96,7 +95,7 @@ fn show_frame_of<'a, F: Files, W: Write>(
     let text = script_text(bytes, request.script)?;
     match frame_of_script(alloc, text, count_of(request), request.page) {
         Ok(frame) => {
-            print_fibs(&frame, request.raw, out)?;
+            print_frame(&frame, request.raw, out)?;
             Ok(Status::Done)
         }
         Err(ScriptFrameFault::Memory) => Err(Failure::Memory),
@@ -128,18 +127,6 @@ fn refusal_of(fault: ScriptFrameFault) -> ScriptRefusal {
             cause: Cause::Edit(item.fault),
         }),
         ScriptFrameFault::Frame(_) | ScriptFrameFault::Memory => ScriptRefusal::Memory,
-    }
-}
-
-/// Prints the FIBs of a frame as bytes or as digits.
-fn print_fibs<W: Write>(frame: &FibFrame, raw: bool, out: &mut W) -> io::Result<()>
-    ensures { raw ≡ true → OnOk result
-        (Appends (W.contents out.old) (W.contents out.new) frame.now) }
-{
-    if raw {
-        out.write_all(frame.bytes())
-    } else {
-        print_frame(frame, false, out)
     }
 }
 

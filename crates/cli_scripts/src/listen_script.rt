@@ -159,10 +159,7 @@ fn ended(has_room: bool, heard: Heard, eid: Option<u16>) -> Result<Named, Stream
 fn print_fault<'a, W: Write>(fault: StreamFault, out: &mut W) -> Result<Status, Failure<'a>>
     ensures { IfOk result (λ status. status ≡ Refused) }
 {
-    match fault {
-        StreamFault::NotWhole => writeln!(out, "refused: not whole FIBs")?,
-        StreamFault::Full => writeln!(out, "refused: Full")?,
-    }
+    writeln!(out, "{fault}")?;
     Ok(Status::Refused)
 }
 

@@ -41,11 +41,8 @@ pub fn show_map<'a, F: Files, W: Write>(
     let Some(map) = map_script(alloc, request, files, out)? else {
         return Ok(Status::Refused);
     };
-    let warnings = map.warnings.as_slice();
-    let lines = match warning_lines(alloc, request.script, warnings) {
-        Ok(lines) => lines,
-        Err(_) => return Err(Failure::Memory),
-    };
+    let lines = warning_lines(alloc, request.script, map.warnings.as_slice());
+    let lines = lines.map_err(|_| Failure::Memory)?;
     if let Some(path) = request.drawing {
         write_drawing(alloc, &map, path, files)?;
     }
@@ -77,21 +74,17 @@ fn map_script<'a, F: Files, W: Write>(
     }
 }
 
-/// Prints the map, or its layout if that is requested; returns the exit status.
+/// Prints the map, or its layout if that is requested; returns the exit status, `Refused` where
+/// there is no layout.
 fn print_requested<W: Write>(map: &Map, layout: bool, out: &mut W) -> io::Result<Status> {
-    if layout {
-        print_layout(&map.layout, out)?;
-        return Ok(status_of(&map.layout));
+    if !layout {
+        print_map(map.rows.as_slice(), out)?;
+        return Ok(Status::Done);
     }
-    print_map(map.rows.as_slice(), out)?;
-    Ok(Status::Done)
-}
-
-/// The exit status for a layout: `Refused` where there is none.
-fn status_of(layout: &Layout) -> Status {
-    match layout {
-        Layout::One(_) => Status::Done,
-        Layout::Apart(_) => Status::Refused,
+    print_layout(&map.layout, out)?;
+    match map.layout {
+        Layout::One(_) => Ok(Status::Done),
+        Layout::Apart(_) => Ok(Status::Refused),
     }
 }
 
@@ -103,13 +96,12 @@ fn write_drawing<'a, F: Files>(
     files: &mut F,
 ) -> Result<(), Failure<'a>> {
     let mut drawing: Vec<u8> = Vec::new(alloc);
-    match draw_map(
+    let drawn = draw_map(
         map.eid,
         map.rows.as_slice(),
         map.key.as_slice(),
         &mut drawing,
-    ) {
-        Ok(()) => write_file(files, path, drawing.as_slice()),
-        Err(_) => Err(Failure::Memory),
-    }
+    );
+    drawn.map_err(|_| Failure::Memory)?;
+    write_file(files, path, drawing.as_slice())
 }
