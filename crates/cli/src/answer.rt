@@ -45,11 +45,8 @@ pub fn answer<S: AsStr, F: Files, W: Write>(
         return finish(ended, &mut output);
     }
     match request_of(alloc, args) {
-        Ok(request) => match same_file(&request, files) {
-            None => answer_request(alloc, &request, files, out),
-            Some(unasked) => answer_mistake(alloc, unasked, can_stream(args), files, out),
-        },
-        Err(unasked) => answer_mistake(alloc, unasked, can_stream(args), files, out),
+        Ok(request) => answer_request(alloc, &request, can_stream(args), files, out),
+        Err(mistake) => answer_mistake(alloc, mistake, can_stream(args), files, out),
     }
 }
 
@@ -76,18 +73,23 @@ pub fn answer_without_args<F: Files, W: Write>(
 fn answer_request<F: Files, W: Write>(
     alloc: Global,
     request: &Request<'_>,
+    can_stream: bool,
     files: &mut F,
     out: &mut W,
 ) -> u8
     ensures bound { result ≤ 3 }
 {
+    if let Some(mistake) = same_file(request, files) {
+        return answer_mistake(alloc, mistake, can_stream, files, out);
+    }
     if has_product(request) {
         return status_number(answer_product(alloc, request, files, out));
     }
     answer_printed(alloc, request, files, out)
 }
 
-/// Runs a command that prints, and returns the exit status.
+/// Runs a command that prints, prints its failure, and returns the exit status.
+#[inline(never)]
 fn answer_printed<F: Files, W: Write>(
     alloc: Global,
     request: &Request<'_>,
@@ -97,21 +99,10 @@ fn answer_printed<F: Files, W: Write>(
     ensures bound { result ≤ 3 }
 {
     let mut output = Output::new(out);
-    let ended = dispatch(alloc, request, files, &mut output);
-    finish(ended, &mut output)
-}
-
-/// Runs a command that prints, and prints its failure.
-#[inline(never)]
-fn dispatch<F: Files, W: Write>(
-    alloc: Global,
-    request: &Request<'_>,
-    files: &mut F,
-    out: &mut Output<W>,
-) -> io::Result<Status> {
-    let ended = run(alloc, request, files, out);
+    let ended = run(alloc, request, files, &mut output);
     make_remark(alloc, request, Remark::on(&ended), files);
-    report(is_json_of(request), ended, out)
+    let ended = report(is_json_of(request), ended, &mut output);
+    finish(ended, &mut output)
 }
 
 /// Runs a command that prints.

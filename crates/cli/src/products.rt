@@ -6,6 +6,7 @@ use crate::args::Request;
 use crate::remarks::{Remark, make_remark};
 use cli_plans::play::stream_play;
 use cli_scripts::compile::stream_compile;
+use cli_scripts::explained::report_lines;
 use console::ending::report;
 use console::exit::{Failure, Status};
 use console::files::Files;
@@ -13,7 +14,6 @@ use console::output::{Output, write_out};
 use std::alloc::Global;
 use std::convert::AsStr;
 use std::io::Write;
-use std::str;
 
 /// Whether standard output gets a product of the command of this request.
 pub(crate) fn has_product(request: &Request<'_>) -> bool {
@@ -39,8 +39,8 @@ pub(crate) fn can_stream<S: AsStr>(args: &[S]) -> bool {
     }
 }
 
-/// Runs a command whose product goes to `out`, and returns its exit status. Its lines go to
-/// standard error.
+/// Runs a command whose product goes to `out`, and returns its exit status. Its lines, and that of
+/// its failure, go to standard error.
 #[inline(never)]
 pub(crate) fn answer_product<F: Files, W: Write>(
     alloc: Global,
@@ -57,7 +57,19 @@ pub(crate) fn answer_product<F: Files, W: Write>(
         Request::Compile(request) => stream_compile(alloc, request, files, out, &mut lines),
         _ => print_product(alloc, request, files, out, &mut lines),
     };
-    report_lines(alloc, request, ended, lines, files)
+    let remark = Remark::on(&ended);
+    let status = match report(false, ended, &mut lines) {
+        Ok(status) => {
+            report_lines(lines.as_slice(), files);
+            status
+        }
+        Err(_error) => {
+            files.report(Failure::Memory);
+            Status::Refused
+        }
+    };
+    make_remark(alloc, request, remark, files);
+    status
 }
 
 /// Runs a command that prints a product, which is held until it is whole: what is printed of a
@@ -81,39 +93,4 @@ fn print_product<'a, F: Files, W: Write>(
     written?;
     out.flush()?;
     Ok(ended)
-}
-
-/// Reports the lines of a command, and the line of its failure, on standard error.
-fn report_lines<F: Files>(
-    alloc: Global,
-    request: &Request<'_>,
-    ended: Result<Status, Failure<'_>>,
-    lines: Vec<u8>,
-    files: &mut F,
-) -> Status {
-    let status = match &ended {
-        Ok(status) => *status,
-        Err(_) => Status::Refused,
-    };
-    let on = Remark::on(&ended);
-    let mut lines = lines;
-    match report(false, ended, &mut lines) {
-        Ok(_status) => tell(lines.as_slice(), files),
-        Err(_error) => files.report(Failure::Memory),
-    }
-    make_remark(alloc, request, on, files);
-    status
-}
-
-/// Reports lines on standard error: all of them, the last of which ends with a line feed.
-fn tell<F: Files>(lines: &[u8], files: &mut F) {
-    let Some((last, line)) = lines.split_last() else {
-        return;
-    };
-    if *last != b'\n' {
-        return;
-    }
-    if let Ok(text) = str::from_utf8(line) {
-        files.report(text);
-    }
 }

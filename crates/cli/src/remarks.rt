@@ -5,7 +5,7 @@ use crate::args::Request;
 use console::escaped::Escaped;
 use console::exit::{Failure, Status};
 use console::files::Files;
-use fib_codec::crc16;
+use fib_codec::is_checked;
 use std::alloc::Global;
 use std::io::Read;
 use std::str;
@@ -17,7 +17,7 @@ const FRONT: usize = 4096;
 const MOST: usize = 1_048_581;
 
 /// What a file holds, by its first bytes.
-#[derive(Clone, Copy, Debug, PartialEq, Eq)]
+#[derive(Clone, Copy)]
 enum Kind {
     Code,
     Script,
@@ -55,9 +55,12 @@ pub(crate) fn make_remark<F: Files>(
     remark: Remark<'_>,
     files: &mut F,
 ) {
-    match remark {
-        Remark::Unread(path) => {
-            let is_said = match wanted_of(request) {
+    match (remark, wanted_of(request)) {
+        (Remark::Refused, Some((path, wanted))) => {
+            let _is_said = remark_kind(alloc, path, wanted, files);
+        }
+        (Remark::Unread(path), wanted) => {
+            let is_said = match wanted {
                 Some((input, wanted)) => input == path && remark_kind(alloc, path, wanted, files),
                 None => false,
             };
@@ -65,12 +68,7 @@ pub(crate) fn make_remark<F: Files>(
                 remark_unread(alloc, path, is_text(request, path), files);
             }
         }
-        Remark::Refused => {
-            if let Some((path, wanted)) = wanted_of(request) {
-                let _is_said = remark_kind(alloc, path, wanted, files);
-            }
-        }
-        Remark::Nothing => {}
+        _ => {}
     }
 }
 
@@ -80,28 +78,36 @@ fn remark_unread<F: Files>(alloc: Global, path: &str, is_text: bool, files: &mut
     if path == "-" {
         return;
     }
-    let shown = Escaped::in_line(path);
     if let Some(obstacle) = files.obstacle(path) {
-        if let Ok(line) = format!(in alloc; "{shown}: error: {obstacle}") {
-            files.report(line.as_str());
-        }
-        return;
+        report_error(alloc, path, obstacle, files);
+    } else if is_text && files.can_reread(path) {
+        let bytes = front_of(alloc, path, MOST, files);
+        remark_no_text(alloc, path, bytes.as_slice(), files);
     }
-    if !is_text || !files.can_reread(path) {
-        return;
-    }
-    let bytes = front_of(alloc, path, MOST, files);
-    let Err(error) = str::from_utf8(bytes.as_slice()) else {
+}
+
+/// Reports the first byte of a file that is no UTF-8, if there is one.
+fn remark_no_text<F: Files>(alloc: Global, path: &str, bytes: &[u8], files: &mut F) {
+    let Err(error) = str::from_utf8(bytes) else {
         return;
     };
     let at = error.valid_up_to();
-    let Some(byte) = bytes.as_slice().get(at) else {
+    let Some(byte) = bytes.get(at) else {
         return;
     };
-    let (line, column) = place_of(&bytes.as_slice()[..at]);
+    let (line, column) = place_of(&bytes[..at]);
+    let shown = Escaped::in_line(path);
     if let Ok(line) = format!(in alloc;
         "{shown}:{line}:{column}: error: the byte {byte:02X} is no UTF-8"
     ) {
+        files.report(line.as_str());
+    }
+}
+
+/// Reports what is wrong with the file of a path.
+fn report_error<F: Files>(alloc: Global, path: &str, text: &str, files: &mut F) {
+    let shown = Escaped::in_line(path);
+    if let Ok(line) = format!(in alloc; "{shown}: error: {text}") {
         files.report(line.as_str());
     }
 }
@@ -157,23 +163,19 @@ fn remark_kind<F: Files>(alloc: Global, path: &str, wanted: Kind, files: &mut F)
         return false;
     }
     let bytes = front_of(alloc, path, FRONT, files);
-    let kind = kind_of(bytes.as_slice());
-    if kind == wanted {
-        return false;
+    match text_of(kind_of(bytes.as_slice()), wanted) {
+        Some(text) => {
+            report_error(alloc, path, text, files);
+            true
+        }
+        None => false,
     }
-    let Some(text) = text_of(kind, wanted) else {
-        return false;
-    };
-    let shown = Escaped::in_line(path);
-    if let Ok(line) = format!(in alloc; "{shown}: error: {text}") {
-        files.report(line.as_str());
-    }
-    true
 }
 
 /// What is said of a file of one kind where another is wanted.
 fn text_of(kind: Kind, wanted: Kind) -> Option<&'static str> {
     match (kind, wanted) {
+        (Kind::Code, Kind::Code) => None,
         (Kind::Code, Kind::Script) => Some("this is a code file: its script is wanted"),
         (Kind::Script, Kind::Code) => Some("this is a script: compile it first"),
         (Kind::Script, Kind::Other) => Some("this is a script: with --script"),
@@ -196,38 +198,25 @@ fn front_of<F: Files>(alloc: Global, path: &str, most: usize, files: &mut F) -> 
 /// What a file with these first bytes holds.
 fn kind_of(bytes: &[u8]) -> Kind {
     if bytes.starts_with(b"DABP") {
-        return Kind::Code;
+        Kind::Code
+    } else if bytes
+        .split_first_chunk::<32>()
+        .is_some_and(|(fib, _others)| is_checked(fib))
+    {
+        Kind::Fibs
+    } else if is_eti(bytes) {
+        Kind::Eti
+    } else if begins_script(bytes) {
+        Kind::Script
+    } else {
+        Kind::Other
     }
-    if is_fib(bytes) {
-        return Kind::Fibs;
-    }
-    if is_eti(bytes) {
-        return Kind::Eti;
-    }
-    if begins_script(bytes) {
-        return Kind::Script;
-    }
-    Kind::Other
-}
-
-/// Whether bytes begin with a FIB: 30 bytes, and their CRC (EN 300 401 clause 5.2.1).
-fn is_fib(bytes: &[u8]) -> bool {
-    let Some((fib, _others)) = bytes.split_first_chunk::<32>() else {
-        return false;
-    };
-    let sum = crc16(&fib[..30]).to_be_bytes();
-    fib[30] == sum[0] && fib[31] == sum[1]
 }
 
 /// Whether bytes begin with a frame of ETI (NI): its error field, and one of its two
 /// synchronisation words (EN 300 799 clause 6.2).
 fn is_eti(bytes: &[u8]) -> bool {
-    match bytes.split_first() {
-        Some((_error, rest)) => {
-            rest.starts_with(&[0x07, 0x3A, 0xB6]) || rest.starts_with(&[0xF8, 0xC5, 0x49])
-        }
-        None => false,
-    }
+    matches!(bytes, [_, 0x07, 0x3A, 0xB6, ..] | [_, 0xF8, 0xC5, 0x49, ..])
 }
 
 /// Whether the first word of a text, behind comments, is that of a script.

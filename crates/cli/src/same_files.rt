@@ -4,73 +4,51 @@
 use crate::args::{Request, UsageError};
 use console::files::Files;
 
-/// A file that a request names, and how its usage names it.
-#[derive(Clone, Copy)]
-struct Operand<'a> {
-    name: &'static str,
-    path: &'a str,
-}
-
 /// The mistake of an input of a request that is its output too, `None` if there is none. Nothing is
 /// opened or created.
 pub(crate) fn same_file<'a, F: Files>(request: &Request<'a>, files: &F) -> Option<UsageError<'a>> {
     match request {
-        Request::Compile(request) => one_file(
-            files,
-            named("SCRIPT", request.script),
-            named("OUT", request.out),
-        ),
+        Request::Compile(request) => {
+            one_file(files, ("SCRIPT", request.script), ("OUT", request.out))
+        }
         Request::Play(request) => {
-            let out = named("OUT", request.out);
-            match one_file(files, named("CODE", request.code), out) {
-                None => one_file(files, named("EVENTS", request.events), out),
-                Some(mistake) => Some(mistake),
+            let out = ("OUT", request.out);
+            match one_file(files, ("CODE", request.code), out) {
+                None => one_file(files, ("EVENTS", request.events), out),
+                mistake => mistake,
             }
         }
-        Request::Map(request) => match request.drawing {
-            None => None,
-            Some(drawing) => one_file(
-                files,
-                named("SCRIPT", request.script),
-                named("--svg <OUT>", drawing),
-            ),
-        },
+        Request::Map(request) => {
+            let drawing = ("--svg <OUT>", request.drawing?);
+            one_file(files, ("SCRIPT", request.script), drawing)
+        }
         _ => None,
     }
 }
 
-/// A file of a request.
-fn named<'a>(name: &'static str, path: &'a str) -> Operand<'a> {
-    Operand { name, path }
-}
-
-/// The mistake where an input and an output are one file, or are named by the same words. The
-/// output `-` is standard output, the input `-` standard input, which may be a file; and a device
-/// or a pipe may be both.
+/// The mistake where an input and an output are one file, or are named by the same words; each with
+/// its name in the usage, and its path. The output `-` is standard output, the input `-` standard
+/// input, which may be a file; and a device or a pipe may be both.
 fn one_file<'a, F: Files>(
     files: &F,
-    input: Operand<'a>,
-    output: Operand<'a>,
+    (input, read): (&'static str, &'a str),
+    (output, path): (&'static str, &'a str),
 ) -> Option<UsageError<'a>> {
-    if output.path == "-" || files.is_special(output.path) {
+    if path == "-" || files.is_special(path) {
         return None;
     }
-    if input.path == output.path {
+    if read == path {
         return Some(UsageError::SameFile {
-            input: input.name,
-            output: output.name,
-            path: output.path,
+            input,
+            output,
+            path,
         });
     }
-    let read = if input.path == "-" {
-        "/dev/stdin"
-    } else {
-        input.path
-    };
-    if files.is_same(read, output.path) {
+    let input = if read == "-" { "/dev/stdin" } else { read };
+    if files.is_same(input, path) {
         return Some(UsageError::OneFile {
-            input: read,
-            output: output.path,
+            input,
+            output: path,
         });
     }
     None
