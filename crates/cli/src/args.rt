@@ -13,10 +13,10 @@ mod merge;
 mod parser;
 mod play;
 mod shared;
-pub mod start;
+mod start;
 mod verify;
 
-use crate::args::parser::{Grammar, Parsed};
+use crate::args::parser::{Page, parse};
 use cli_plans::debug::DebugRequest;
 use cli_plans::live::LiveRequest;
 use cli_plans::play::PlayRequest;
@@ -31,13 +31,15 @@ use cli_streams::frame::FrameRequest;
 use cli_streams::listen::ListenRequest;
 use cli_streams::merge::MergeRequest;
 use console::escaped::Escaped;
+use console::exit::Failure;
 pub use parser::Message;
-use std::alloc::{AllocError, Global};
+use std::alloc::Global;
 use std::convert::AsStr;
+use std::fmt::{self, Display, Formatter};
 
 /// The parsed command line of every command but `live` and `merge`, whose output is frames: see
 /// [`FramesRequest`].
-#[derive(Drop)]
+#[derive(Clone, Copy)]
 pub enum Request<'a> {
     /// `frame`.
     Frame(FrameRequest<'a>),
@@ -64,7 +66,7 @@ pub enum Request<'a> {
 }
 
 /// The parsed command line of a command that writes frames to standard output.
-#[derive(Drop)]
+#[derive(Clone, Copy)]
 pub enum FramesRequest<'a> {
     /// `live`.
     Live(LiveRequest<'a>),
@@ -79,15 +81,12 @@ pub enum UsageError<'a> {
     Help(Message),
     /// Invalid: the first lines of the text say how.
     Mistake(Message),
-    /// The value of this option is not four hexadecimal digits.
-    Digits {
+    /// This value of an option is not one of it, for this reason.
+    Value {
         option: &'static str,
         value: &'a str,
+        reason: &'static str,
     },
-    /// The value of `--time` is not a time of day.
-    Time(&'a str),
-    /// `--reserve` has this value, which is not one of the mode.
-    Reserve(u8),
     /// Both inputs are standard input.
     TwiceInput,
     /// Two of the paths, those of these values, are the same, and one of the files would be written
@@ -102,8 +101,6 @@ pub enum UsageError<'a> {
         input: &'a str,
         output: &'a str,
     },
-    /// The drawing of `map` can't be standard output, which has the map.
-    DrawingOutput,
     /// No command is named, or a required value is missing.
     Nothing,
     /// The arguments are not UTF-8.
@@ -119,11 +116,58 @@ impl UsageError<'_> {
     }
 }
 
-impl From<AllocError> for UsageError<'_> {
-    fn from(_error: AllocError) -> Self {
-        UsageError::Memory
+impl Display for UsageError<'_> {
+    fn fmt<W: fmt::Write>(&self, f: &mut Formatter<W>) -> fmt::Result {
+        match self {
+            UsageError::Help(message) | UsageError::Mistake(message) => write!(f, "{message}"),
+            UsageError::Value {
+                option,
+                value,
+                reason,
+            } => {
+                let value = Escaped::in_line(value);
+                write!(f, "error: invalid value '{value}' for '{option}': {reason}")
+            }
+            UsageError::SameFile {
+                input,
+                output,
+                path,
+            } => {
+                let path = Escaped::in_line(path);
+                write!(f, "error: {input} and {output} are the same file: '{path}'")
+            }
+            UsageError::OneFile { input, output } => {
+                let (input, output) = (Escaped::in_line(input), Escaped::in_line(output));
+                write!(f, "error: {input} and {output} are the same file")
+            }
+            UsageError::TwiceInput => {
+                f.write_str("error: standard input can't be both <PLAN> and <OTHER>")
+            }
+            UsageError::Nothing => f.write_str(MISSING_COMMAND),
+            UsageError::NoText => f.write_str("error: an argument is not UTF-8"),
+            UsageError::Memory => write!(f, "{}", Failure::Memory),
+        }
     }
 }
+
+/// The message where no command is named.
+const MISSING_COMMAND: &str = "error: missing command; expected one of frame, listen, check, \
+     merge, diff, compile, verify, map, play, debug, live, help";
+
+/// The program's commands, in the order of its help.
+pub(crate) const PAGES: [Page; 11] = [
+    frame::PAGE,
+    listen::PAGE,
+    check::PAGE,
+    merge::PAGE,
+    diff::PAGE,
+    compile::PAGE,
+    verify::PAGE,
+    map::PAGE,
+    play::PAGE,
+    debug::PAGE,
+    live::PAGE,
+];
 
 /// Parses the arguments after the program's name. Those of `live` and `merge` are parsed by
 /// [`frames_request_of`], and are refused here.
@@ -131,17 +175,17 @@ pub fn request_of<'a, S: AsStr>(
     alloc: Global,
     args: &'a [S],
 ) -> Result<Request<'a>, UsageError<'a>> {
-    let parsed = parse(alloc, args)?;
-    match parsed.command() {
-        Some(("frame", values)) => frame::request(&values),
-        Some(("listen", values)) => listen::request(&values),
-        Some(("diff", values)) => diff::request(&values),
-        Some(("check", values)) => check::request(&values),
-        Some(("compile", values)) => compile::request(&values),
-        Some(("verify", values)) => verify::request(&values),
-        Some(("play", values)) => play::request(&values),
-        Some(("debug", values)) => debug::request(&values),
-        Some(("map", values)) => map::request(&values),
+    let values = parse(alloc, args)?;
+    match values.command() {
+        Some("frame") => frame::request(&values),
+        Some("listen") => listen::request(&values),
+        Some("diff") => Ok(diff::request(&values)),
+        Some("check") => check::request(&values),
+        Some("compile") => Ok(compile::request(&values)),
+        Some("verify") => Ok(verify::request(&values)),
+        Some("play") => play::request(&values),
+        Some("debug") => debug::request(&values),
+        Some("map") => map::request(&values),
         _ => Err(UsageError::Nothing),
     }
 }
@@ -151,76 +195,10 @@ pub fn frames_request_of<'a, S: AsStr>(
     alloc: Global,
     args: &'a [S],
 ) -> Result<FramesRequest<'a>, UsageError<'a>> {
-    let parsed = parse(alloc, args)?;
-    match parsed.command() {
-        Some(("live", values)) => match live::request(&values) {
-            Ok(request) => Ok(FramesRequest::Live(request)),
-            Err(error) => Err(error),
-        },
-        Some(("merge", values)) => match merge::request(&values) {
-            Ok(request) => Ok(FramesRequest::Merge(request)),
-            Err(error) => Err(error),
-        },
+    let values = parse(alloc, args)?;
+    match values.command() {
+        Some("live") => live::request(&values),
+        Some("merge") => merge::request(&values),
         _ => Err(UsageError::Nothing),
     }
-}
-
-/// Parses a command line. A mistake shows the control bytes of arguments as `\xHH`.
-fn parse<'a, S: AsStr>(alloc: Global, args: &'a [S]) -> Result<Parsed<'a>, UsageError<'a>> {
-    let grammar = match program(alloc) {
-        Ok(grammar) => grammar,
-        Err(_) => return Err(UsageError::Memory),
-    };
-    match grammar.parsed(args) {
-        Ok(parsed) => Ok(parsed),
-        Err(UsageError::Mistake(message)) => match shown(alloc, args, message) {
-            Ok(message) => Err(UsageError::Mistake(message)),
-            Err(_) => Err(UsageError::Memory),
-        },
-        Err(unasked) => Err(unasked),
-    }
-}
-
-/// The message about these arguments, with their control bytes as `\xHH`.
-fn shown<S: AsStr>(alloc: Global, args: &[S], message: Message) -> Result<Message, AllocError> {
-    if args.iter().all(|arg| !has_control(arg.as_str())) {
-        return Ok(message);
-    }
-    let mut escaped: Vec<String> = Vec::new(alloc);
-    for arg in args {
-        escaped.push(Escaped::in_line(arg.as_str()).to_string(alloc)?)?;
-    }
-    match program(alloc)?.parsed(escaped.as_slice()) {
-        Err(UsageError::Mistake(message)) => Ok(message),
-        Err(UsageError::Memory) => Err(AllocError),
-        _ => Ok(message),
-    }
-}
-
-/// Whether a text has a control byte.
-fn has_control(text: &str) -> bool {
-    text.as_bytes().iter().any(|byte| byte.is_ascii_control())
-}
-
-/// The program's commands.
-fn program<'a>(alloc: Global) -> Result<Grammar<'a>, AllocError> {
-    Grammar::of_program(
-        alloc,
-        "dabplan",
-        help::VERSION,
-        help::PROGRAM,
-        help::AFTER_PROGRAM,
-        "dabplan <COMMAND>",
-    )
-    .command(frame::grammar(alloc)?)?
-    .command(listen::grammar(alloc)?)?
-    .command(check::grammar(alloc)?)?
-    .command(merge::grammar(alloc)?)?
-    .command(diff::grammar(alloc)?)?
-    .command(compile::grammar(alloc)?)?
-    .command(verify::grammar(alloc)?)?
-    .command(map::grammar(alloc)?)?
-    .command(play::grammar(alloc)?)?
-    .command(debug::grammar(alloc)?)?
-    .command(live::grammar(alloc)?)
 }

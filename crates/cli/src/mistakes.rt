@@ -3,11 +3,10 @@
 ghost use Rattle.std.specs.Prelude.{◌≤◌, IfOk};
 
 use crate::args::UsageError;
-use console::escaped::Escaped;
 use console::exit::{Failure, Status};
 use console::files::Files;
 use console::output::Output;
-use std::alloc::{AllocError, Global};
+use std::alloc::Global;
 use std::io::{self, Write};
 use std::str;
 
@@ -56,11 +55,11 @@ fn explain<W: Write>(alloc: Global, unasked: UsageError<'_>, out: &mut W) -> io:
     ensures bound { IfOk result (λ status. status ≤ 2) }
 {
     let status = mistake_status(&unasked);
-    if let UsageError::Help(help) = &unasked {
-        write!(out, "{help}")?;
+    if unasked.is_help() {
+        write!(out, "{unasked}")?;
         return Ok(status);
     }
-    match text_of(alloc, unasked) {
+    match unasked.to_string(alloc) {
         Ok(text) => {
             print_mistake(text.as_str(), out)?;
             Ok(status)
@@ -80,50 +79,6 @@ fn mistake_status(unasked: &UsageError<'_>) -> u8
         UsageError::Help(_) => Status::Done as u8,
         UsageError::Memory => Status::Refused as u8,
         _ => Status::Misused as u8,
-    }
-}
-
-/// The message for an invalid command line.
-fn text_of(alloc: Global, unasked: UsageError<'_>) -> Result<String, AllocError> {
-    match unasked {
-        UsageError::Help(message) | UsageError::Mistake(message) => message.to_string(alloc),
-        UsageError::Digits { option, value } => format!(in alloc;
-            "error: invalid value '{}' for '{option}': expected four hexadecimal digits (0-9, A-F)",
-            Escaped::in_line(value)
-        ),
-        UsageError::Time(value) => format!(in alloc;
-            "error: invalid value '{}' for '--time <HH:MM:SS>': expected 00:00:00 to 23:59:59",
-            Escaped::in_line(value)
-        ),
-        UsageError::Reserve(value) => format!(in alloc;
-            "error: invalid value '{value}' for '--reserve <R>': expected 1, or in mode 3 a number \
-             from 1 to 2"
-        ),
-        UsageError::SameFile {
-            input,
-            output,
-            path,
-        } => format!(in alloc;
-            "error: {input} and {output} are the same file: '{}'",
-            Escaped::in_line(path)
-        ),
-        UsageError::OneFile { input, output } => format!(in alloc;
-            "error: {} and {} are the same file",
-            Escaped::in_line(input),
-            Escaped::in_line(output)
-        ),
-        UsageError::DrawingOutput =>
-            "error: invalid value '-' for '--svg <OUT>': standard output has the map".to_string(
-                alloc,
-            ),
-        UsageError::TwiceInput =>
-            "error: standard input can't be both <PLAN> and <OTHER>".to_string(alloc),
-        UsageError::Nothing =>
-            "error: missing command; expected one of frame, listen, check, merge, diff, compile, verify, map, play, debug, live, help".to_string(
-                alloc,
-            ),
-        UsageError::NoText => "error: an argument is not UTF-8".to_string(alloc),
-        UsageError::Memory => Err(AllocError),
     }
 }
 

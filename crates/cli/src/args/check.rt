@@ -1,22 +1,30 @@
 //! The command line of `check`.
 
-use crate::args::parser::{Argument, Grammar, Kind, Page, Rule, Values};
-use crate::args::shared::{file, flag, mode, number, some_mode};
-use crate::args::start::second_at;
+use crate::args::parser::Kind::{Flag, Number, Operand, Text};
+use crate::args::parser::{Argument, Page, Values};
+use crate::args::shared::{MODE, mode_of, time_of};
 use crate::args::{Request, UsageError};
 use cli_streams::check::CheckRequest;
-use std::alloc::{AllocError, Global};
 use stream_monitor::{CheckOptions, Form};
 
-const PAGE: Page = Page {
+const FILE: &str = "The file of FIBs, or '-' for standard input";
+
+const PERIOD: &str = "Every entry must come at least once in this many frames of 24 ms, 1 to 60000";
+
+const EVERY: &str = "Prints the totals so far after every N frames, 1 to 4294967295";
+
+const TIME: &str = "\
+The time of the day at frame 0, 00:00:00 to 23:59:59: prints the time of each finding";
+
+const UNTIL_FAULT: &str = "Ends with the first frame that has a fault, with status 3";
+
+const JSON: &str = "Prints each line as a JSON object";
+
+/// The command `check`.
+pub(crate) const PAGE: Page = Page {
     name: "check",
     about: "Reports where a file of FIBs breaks the rules of reconfigurations",
-    long_about: LONG,
-    usage: USAGE,
-    after: AFTER,
-};
-
-const LONG: &str = "\
+    long_about: "\
 Reports where a file of FIBs breaks the rules of reconfigurations (EN 300 401, clause 6.5).
 
 The file has FIBs of 32 bytes, one after another, as any multiplexer may have written them. Prints
@@ -24,13 +32,20 @@ the announcements, the swaps and the faults, each with its frame and CIF count. 
 that was not announced in time, or comes at another count or with other flags; a next configuration
 that could not be received three times before its swap; an entry that changed, appeared or fell
 silent without a swap; a jump of the CIF count; a FIG 0/0 out of place; a damaged or missing FIB;
-another FIG that names a sub-channel or component that is not there.";
-
-const USAGE: &str = "\
+another FIG that names a sub-channel or component that is not there.",
+    usage: "\
 dabplan check <FILE> [--mode <M>] [--period <N>] [--every <N>] [--time <HH:MM:SS>]
-       [--until-fault] [--json]";
-
-const AFTER: &str = "\
+       [--until-fault] [--json]",
+    arguments: &[
+        Argument("file", Operand("FILE"), &[], FILE),
+        MODE,
+        Argument("period", Number("N", 1, 60000, Some("250")), &[], PERIOD),
+        Argument("every", Number("N", 1, 4294967295, None), &[], EVERY),
+        Argument("time", Text("HH:MM:SS", None), &[], TIME),
+        Argument("until-fault", Flag, &[], UNTIL_FAULT),
+        Argument("json", Flag, &[], JSON),
+    ],
+    after: "\
 The lines, each with the number of its frame, from 0, and the CIF count of the frame:
   0 0 ensemble E1C5                   the ensemble of the first FIG 0/0
   4 4 announced 1 swap at low 28      flags 1: sub-channels change, 2: services, 3: both; the low
@@ -101,73 +116,26 @@ Exit status:
   0  there is no fault
   1  the FIBs are refused, or FILE can't be read
   2  the command line is wrong
-  3  there is a fault";
-
-/// The command `check`.
-pub(crate) fn grammar<'a>(alloc: Global) -> Result<Grammar<'a>, AllocError> {
-    let file_help = "The file of FIBs, or '-' for standard input";
-    let until_help = "Ends with the first frame that has a fault, with status 3";
-    let json_help = "Prints each line as a JSON object";
-    Grammar::of_command(alloc, PAGE)
-        .argument(file("file", "FILE", file_help))?
-        .argument(mode())?
-        .argument(period())?
-        .argument(every())?
-        .argument(time())?
-        .argument(flag("until-fault", until_help))?
-        .argument(flag("json", json_help))
-}
-
-/// The option for the period.
-fn period() -> Argument {
-    let help = "Every entry must come at least once in this many frames of 24 ms, 1 to 60000";
-    number("period", "N", 1, 60000, Some("250"), help)
-}
-
-/// The option for totals so far.
-fn every() -> Argument {
-    let help = "Prints the totals so far after every N frames, 1 to 4294967295";
-    number("every", "N", 1, 4294967295, None, help)
-}
-
-/// The option for the time of day.
-fn time() -> Argument {
-    Argument {
-        name: "time",
-        value_name: "HH:MM:SS",
-        help: "The time of the day at frame 0, 00:00:00 to 23:59:59: prints the time of each \
-         finding",
-        kind: Kind::Text(None),
-        rule: Rule::Free,
-    }
-}
+  3  there is a fault",
+};
 
 /// Reads the arguments of `check`.
-pub(crate) fn request<'a>(values: &Values<'_, 'a>) -> Result<Request<'a>, UsageError<'a>> {
-    let file = values.some_text("file")?;
-    let mode = some_mode(values)?;
-    let period = values.some_u16("period")?;
-    let is_json = values.flag("json");
-    let start = start_of(values)?;
+pub(crate) fn request<'a>(values: &Values<'a>) -> Result<Request<'a>, UsageError<'a>> {
+    let start = match time_of(values)? {
+        Some(time) => Some(time.seconds()),
+        None => None,
+    };
     Ok(Request::Check(CheckRequest {
-        file,
+        file: values.text("file"),
         options: CheckOptions {
-            mode,
-            period,
-            every: values.number("every"),
+            mode: mode_of(values),
+            period: values.number("period"),
+            every: values.some_number("every"),
             until_fault: values.flag("until-fault"),
-            form: Form { is_json, start },
+            form: Form {
+                is_json: values.flag("json"),
+                start,
+            },
         },
     }))
-}
-
-/// The second of the day of frame 0.
-fn start_of<'a>(values: &Values<'_, 'a>) -> Result<Option<u32>, UsageError<'a>> {
-    match values.text("time") {
-        Some(text) => match second_at(text) {
-            Some(second) => Ok(Some(second)),
-            None => Err(UsageError::Time(text)),
-        },
-        None => Ok(None),
-    }
 }

@@ -1,29 +1,32 @@
 //! The command line of `compile`.
 
-use crate::args::parser::{Grammar, Page, Rule, Values};
-use crate::args::shared::{explain, explanation, file, quiet, with_rule};
-use crate::args::{Request, UsageError};
+use crate::args::Request;
+use crate::args::parser::Kind::{Flag, Operand};
+use crate::args::parser::Rule::Excludes;
+use crate::args::parser::{Argument, Page, Values};
+use crate::args::shared::{EXPLAIN, QUIET, explanation};
 use cli_scripts::compile::CompileRequest;
-use std::alloc::{AllocError, Global};
 
-const PAGE: Page = Page {
+const SCRIPT: &str = "The script, or '-' for standard input";
+
+/// The command `compile`.
+pub(crate) const PAGE: Page = Page {
     name: "compile",
     about: "Compiles a script into a code file",
-    long_about: LONG,
-    usage: USAGE,
-    after: AFTER,
-};
-
-const LONG: &str = "\
+    long_about: "\
 Compiles a script into a code file.
 
 A script is the text of a plan of reconfigurations: the configuration that it begins with, and what
 changes when. The code file is what 'verify', 'play', 'debug' and 'live' read. Every plan that is
-compiled is one that 'dabplan verify' accepts.";
-
-const USAGE: &str = "dabplan compile <SCRIPT> <OUT> [--explain | --quiet]";
-
-const AFTER: &str = "\
+compiled is one that 'dabplan verify' accepts.",
+    usage: "dabplan compile <SCRIPT> <OUT> [--explain | --quiet]",
+    arguments: &[
+        Argument("script", Operand("SCRIPT"), &[], SCRIPT),
+        Argument("out", Operand("OUT"), &[], "The code file to write"),
+        EXPLAIN,
+        Argument("quiet", Flag, &[Excludes("explain")], QUIET),
+    ],
+    after: "\
 A script:
   ensemble E1C5               # the EId
   period 4 notice 24 budget 20
@@ -82,24 +85,14 @@ Example: the plan that leads from one configuration to another
 Exit status:
   0  OUT holds the code file
   1  the script is refused, or a file can't be read or written
-  2  the command line is wrong";
-
-/// The command `compile`.
-pub(crate) fn grammar<'a>(alloc: Global) -> Result<Grammar<'a>, AllocError> {
-    Grammar::of_command(alloc, PAGE)
-        .argument(file("script", "SCRIPT", "The script, or '-' for standard input"))?
-        .argument(file("out", "OUT", "The code file to write"))?
-        .argument(explain())?
-        .argument(with_rule(quiet(), Rule::Excludes("explain")))
-}
+  2  the command line is wrong",
+};
 
 /// Reads the arguments of `compile`.
-pub(crate) fn request<'a>(values: &Values<'_, 'a>) -> Result<Request<'a>, UsageError<'a>> {
-    let script = values.some_text("script")?;
-    let out = values.some_text("out")?;
-    Ok(Request::Compile(CompileRequest {
-        script,
-        out,
+pub(crate) fn request<'a>(values: &Values<'a>) -> Request<'a> {
+    Request::Compile(CompileRequest {
+        script: values.text("script"),
+        out: values.text("out"),
         explanation: explanation(values),
-    }))
+    })
 }

@@ -1,31 +1,32 @@
 //! The command line of `debug`.
 
-use crate::args::parser::{Grammar, Page, Values};
-use crate::args::shared::file;
-use crate::args::start::{start_options, with_start};
+use crate::args::parser::Kind::Operand;
+use crate::args::parser::{Argument, Page, Values};
+use crate::args::start::{CONTACTS, COUNT, DAY, TIME, start_options};
 use crate::args::{Request, UsageError};
 use cli_plans::debug::DebugRequest;
-use std::alloc::{AllocError, Global};
 
-const PAGE: Page = Page {
+/// The command `debug`.
+pub(crate) const PAGE: Page = Page {
     name: "debug",
     about: "Steps through a plan of reconfigurations by commands",
-    long_about: LONG,
-    usage: USAGE,
-    after: AFTER,
-};
-
-const LONG: &str = "\
+    long_about: "\
 Steps through a plan of reconfigurations by commands.
 
 CODE is a code file, the binary form of a plan. COMMANDS is a text of commands. Each command is
-answered by a line: how many frames of 24 ms it played, and the state of the player after it.";
-
-const USAGE: &str = "\
+answered by a line: how many frames of 24 ms it played, and the state of the player after it.",
+    usage: "\
 dabplan debug <CODE> <COMMANDS> [--count <N>] [--day <N> | --time <HH:MM:SS>]
-                            [--contacts <HHHH>]";
-
-const AFTER: &str = "\
+                            [--contacts <HHHH>]",
+    arguments: &[
+        Argument("code", Operand("CODE"), &[], "The code file"),
+        Argument("commands", Operand("COMMANDS"), &[], "The command file"),
+        COUNT,
+        DAY,
+        TIME,
+        CONTACTS,
+    ],
+    after: "\
 The commands, in order, with blanks, line ends and comments ('#' to the end of the line) between:
   run N                plays frames up to the first that reaches the break line, at most N, 1 to
                        3600000. A frame reaches it where an instruction of that line becomes the
@@ -64,22 +65,14 @@ Example: a plan stopped at line 9, then stepped through the swap that contact 3 
 Exit status:
   0  all commands were carried out
   1  the plan, the start or the commands are refused, or a file can't be read
-  2  the command line is wrong";
-
-/// The command `debug`.
-pub(crate) fn grammar<'a>(alloc: Global) -> Result<Grammar<'a>, AllocError> {
-    let files = Grammar::of_command(alloc, PAGE)
-        .argument(file("code", "CODE", "The code file"))?
-        .argument(file("commands", "COMMANDS", "The command file"))?;
-    with_start(files)
-}
+  2  the command line is wrong",
+};
 
 /// Reads the arguments of `debug`.
-pub(crate) fn request<'a>(values: &Values<'_, 'a>) -> Result<Request<'a>, UsageError<'a>> {
-    let start = start_options(values)?;
+pub(crate) fn request<'a>(values: &Values<'a>) -> Result<Request<'a>, UsageError<'a>> {
     Ok(Request::Debug(DebugRequest {
-        code: values.some_text("code")?,
-        commands: values.some_text("commands")?,
-        start,
+        start: start_options(values)?,
+        code: values.text("code"),
+        commands: values.text("commands"),
     }))
 }

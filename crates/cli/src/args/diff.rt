@@ -1,29 +1,32 @@
 //! The command line of `diff`.
 
-use crate::args::parser::{Grammar, Page, Values};
-use crate::args::shared::{explanation_on_error, file, quiet};
-use crate::args::{Request, UsageError};
+use crate::args::Request;
+use crate::args::parser::Kind::{Flag, Operand};
+use crate::args::parser::{Argument, Page, Values};
+use crate::args::shared::{QUIET, explanation};
 use cli_scripts::diff::DiffRequest;
-use std::alloc::{AllocError, Global};
 
-const PAGE: Page = Page {
+const FROM: &str = "The script with the configuration to start from";
+
+const TO: &str = "The script with the configuration to reach";
+
+/// The command `diff`.
+pub(crate) const PAGE: Page = Page {
     name: "diff",
     about: "Writes the plan that changes one configuration into another",
-    long_about: LONG,
-    usage: USAGE,
-    after: AFTER,
-};
-
-const LONG: &str = "\
+    long_about: "\
 Writes the plan that changes one configuration into another.
 
 FROM and TO are scripts, of which only the configurations that they begin with are used. The printed
 plan begins with that of FROM and reaches that of TO by one reconfiguration: the edits between them,
-a commit and a join. 'dabplan compile' accepts it.";
-
-const USAGE: &str = "dabplan diff <FROM> <TO> [--quiet]";
-
-const AFTER: &str = "\
+a commit and a join. 'dabplan compile' accepts it.",
+    usage: "dabplan diff <FROM> <TO> [--quiet]",
+    arguments: &[
+        Argument("from", Operand("FROM"), &[], FROM),
+        Argument("to", Operand("TO"), &[], TO),
+        Argument("quiet", Flag, &[], QUIET),
+    ],
+    after: "\
 The plan has the header of TO, its reserve included, and announces the swap for the notice of TO. No
 frame has more instructions than the budget of TO.
 
@@ -52,27 +55,14 @@ Example: a sub-channel of what is on air gets a lower rate tonight
 Exit status:
   0  the plan was printed
   1  there is none, or a file can't be read
-  2  the command line is wrong";
-
-/// The command `diff`.
-pub(crate) fn grammar<'a>(alloc: Global) -> Result<Grammar<'a>, AllocError> {
-    Grammar::of_command(alloc, PAGE)
-        .argument(file(
-            "from",
-            "FROM",
-            "The script with the configuration to start from",
-        ))?
-        .argument(file("to", "TO", "The script with the configuration to reach"))?
-        .argument(quiet())
-}
+  2  the command line is wrong",
+};
 
 /// Reads the arguments of `diff`.
-pub(crate) fn request<'a>(values: &Values<'_, 'a>) -> Result<Request<'a>, UsageError<'a>> {
-    let from = values.some_text("from")?;
-    let to = values.some_text("to")?;
-    Ok(Request::Diff(DiffRequest {
-        from,
-        to,
-        explanation: explanation_on_error(values),
-    }))
+pub(crate) fn request<'a>(values: &Values<'a>) -> Request<'a> {
+    Request::Diff(DiffRequest {
+        from: values.text("from"),
+        to: values.text("to"),
+        explanation: explanation(values),
+    })
 }

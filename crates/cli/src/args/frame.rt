@@ -1,38 +1,64 @@
 //! The command line of `frame`, for a record or a script.
 
-use crate::args::parser::{Argument, Grammar, Kind, Page, Rule, Values};
-use crate::args::shared::{
-    explanation_on_error, file, flag, layout_of, mode, number, quiet, reserve, with_rule,
-};
+use crate::args::parser::Kind::{Flag, Number, Operand, Text};
+use crate::args::parser::Rule::{Excludes, Needs, Required, RequiredUnless};
+use crate::args::parser::{Argument, Page, Values};
+use crate::args::shared::{MODE, QUIET, RESERVE, RESERVE_HELP, digits_of, explanation, layout_of};
 use crate::args::{Request, UsageError};
 use cli_scripts::frame_script::FrameScriptRequest;
 use cli_streams::frame::FrameRequest;
-use console::hexadecimal::u16_of;
 use mux_config::Ensemble;
-use std::alloc::{AllocError, Global};
 
-const PAGE: Page = Page {
+const CONFIG: &str = "The configuration record or script: a file, or '-' for standard input";
+
+const ENSEMBLE: &str = "The identifier of the ensemble: four hexadecimal digits, upper case";
+
+const COUNT: &str = "\
+The CIF count of the frame, 0 to 4999; decides whether FIG 0/0 is in the frame";
+
+const PAGE_HELP: &str = "Which frame of a configuration that needs more than one, from 0";
+
+const SCRIPT: &str = "CONFIG is a script, which also gives the ensemble and the mode";
+
+const RAW: &str = "Writes the FIBs as bytes, not as hexadecimal digits";
+
+/// The command `frame`.
+pub(crate) const PAGE: Page = Page {
     name: "frame",
     about: "Writes the FIBs of one frame of a configuration",
-    long_about: LONG,
-    usage: USAGE,
-    after: AFTER,
-};
-
-const LONG: &str = "\
+    long_about: "\
 Writes the FIBs of one frame of a configuration.
 
 The configuration comes from a configuration record, a short binary file, or with --script from the
 text of a script. Each FIB of the frame of 24 ms is printed as a line of 64 hexadecimal digits, its
 CRC included: three FIBs, in transmission mode 3 four. Where the entries of the configuration take
-more than one frame, --page picks the frame.";
-
-const USAGE: &str = "\
+more than one frame, --page picks the frame.",
+    usage: "\
 dabplan frame <CONFIG> --ensemble <HHHH> --count <N> [--page <K>] [--mode <M>]
                      [--reserve <R>] [--raw]
-       dabplan frame <SCRIPT> --script --count <N> [--page <K>] [--raw] [--quiet]";
-
-const AFTER: &str = "\
+       dabplan frame <SCRIPT> --script --count <N> [--page <K>] [--raw] [--quiet]",
+    arguments: &[
+        Argument("config", Operand("CONFIG"), &[], CONFIG),
+        Argument(
+            "ensemble",
+            Text("HHHH", None),
+            &[RequiredUnless("script")],
+            ENSEMBLE,
+        ),
+        Argument("count", Number("N", 0, 4999, None), &[Required], COUNT),
+        Argument("page", Number("K", 0, 65535, Some("0")), &[], PAGE_HELP),
+        MODE,
+        Argument("reserve", RESERVE, &[Excludes("script")], RESERVE_HELP),
+        Argument(
+            "script",
+            Flag,
+            &[Excludes("ensemble"), Excludes("mode")],
+            SCRIPT,
+        ),
+        Argument("raw", Flag, &[], RAW),
+        Argument("quiet", Flag, &[Needs("script")], QUIET),
+    ],
+    after: "\
 The record, field by field (in brackets the bytes of a field, its high byte first):
   sub-channels [1], services [1], packet components [1]   how many of each follow, 0 to 64
   each sub-channel:       id [1] 0 to 63, first capacity unit [2], set [1] 0 is A and 1 is B,
@@ -77,82 +103,36 @@ Example: the same kind of frame from a script, as bytes
 Exit status:
   0  the FIBs were printed
   1  the record, the script or the configuration is refused, or CONFIG can't be read
-  2  the command line is wrong";
-
-/// The command `frame`.
-pub(crate) fn grammar<'a>(alloc: Global) -> Result<Grammar<'a>, AllocError> {
-    let config_help = "The configuration record or script: a file, or '-' for standard input";
-    let page_help = "Which frame of a configuration that needs more than one, from 0";
-    Grammar::of_command(alloc, PAGE)
-        .argument(file("config", "CONFIG", config_help))?
-        .argument(ensemble())?
-        .argument(count())?
-        .argument(number("page", "K", 0, 65535, Some("0"), page_help))?
-        .argument(mode())?
-        .argument(with_rule(reserve(), Rule::Excludes("script")))?
-        .argument(script())?
-        .argument(flag("raw", "Writes the FIBs as bytes, not as hexadecimal digits"))?
-        .argument(with_rule(quiet(), Rule::Needs("script")))
-}
-
-/// The ensemble identifier; a script has its own.
-fn ensemble() -> Argument {
-    Argument {
-        name: "ensemble",
-        value_name: "HHHH",
-        help: "The identifier of the ensemble: four hexadecimal digits, upper case",
-        kind: Kind::Text(None),
-        rule: Rule::RequiredUnless("script"),
-    }
-}
-
-/// The CIF count of the frame.
-fn count() -> Argument {
-    let help = "The CIF count of the frame, 0 to 4999; decides whether FIG 0/0 is in the frame";
-    with_rule(number("count", "N", 0, 4999, None, help), Rule::Required)
-}
-
-/// The option that reads a script rather than a record.
-fn script() -> Argument {
-    let help = "CONFIG is a script, which also gives the ensemble and the mode";
-    with_rule(flag("script", help), Rule::ExcludesBoth("ensemble", "mode"))
-}
+  2  the command line is wrong",
+};
 
 /// Reads the arguments of `frame`.
-pub(crate) fn request<'a>(values: &Values<'_, 'a>) -> Result<Request<'a>, UsageError<'a>> {
+pub(crate) fn request<'a>(values: &Values<'a>) -> Result<Request<'a>, UsageError<'a>> {
     if values.flag("script") {
-        return script_request(values);
+        return Ok(script_request(values));
     }
-    let digits = values.some_text("ensemble")?;
-    let Some(eid) = u16_of(digits) else {
-        return Err(UsageError::Digits {
-            option: "--ensemble <HHHH>",
-            value: digits,
-        });
-    };
-    let config = values.some_text("config")?;
-    let count = values.some_u16("count")?;
-    let page = values.some_u16("page")?;
+    let eid = digits_of(values, "ensemble", "--ensemble <HHHH>")?;
+    let count = values.number("count");
     let layout = layout_of(values)?;
     let Some(ensemble) = Ensemble::new(eid, 0, false, count, None) else {
         return Err(UsageError::Nothing);
     };
     Ok(Request::Frame(FrameRequest {
-        config,
+        config: values.text("config"),
         layout,
         ensemble,
-        page,
+        page: values.number("page"),
         raw: values.flag("raw"),
     }))
 }
 
 /// Reads the arguments of `frame --script`.
-fn script_request<'a>(values: &Values<'_, 'a>) -> Result<Request<'a>, UsageError<'a>> {
-    Ok(Request::FrameScript(FrameScriptRequest {
-        script: values.some_text("config")?,
-        count: values.some_u16("count")?,
-        page: values.some_u16("page")?,
+fn script_request<'a>(values: &Values<'a>) -> Request<'a> {
+    Request::FrameScript(FrameScriptRequest {
+        script: values.text("config"),
+        count: values.number("count"),
+        page: values.number("page"),
         raw: values.flag("raw"),
-        explanation: explanation_on_error(values),
-    }))
+        explanation: explanation(values),
+    })
 }

@@ -1,35 +1,66 @@
 //! The command line of `listen`, whose result is a listing or a script.
 
-use crate::args::parser::{Argument, Grammar, Page, Rule, Values};
-use crate::args::shared::{file, flag, layout_of, number, reserve, with_rule};
+use crate::args::parser::Kind::{Flag, Number, Operand};
+use crate::args::parser::Rule::{Excludes, Needs};
+use crate::args::parser::{Argument, Page, Rule, Values};
+use crate::args::shared::{RESERVE, RESERVE_HELP, layout_of};
 use crate::args::{Request, UsageError};
 use cli_scripts::listen_script::ListenScriptRequest;
 use cli_streams::listen::ListenRequest;
-use plan_code::limits::{LONGEST_NOTICE, LONGEST_PERIOD, SHORTEST_NOTICE};
-use std::alloc::{AllocError, Global};
 
-const PAGE: Page = Page {
+const FILE: &str = "The file of FIBs, or '-' for standard input";
+
+const JSON: &str = "Prints one object of JSON instead of lines";
+
+const SCRIPT: &str = "Prints the current configuration as a script";
+
+const MODE: &str = "The transmission mode of the script, 1 to 4, which FIBs do not carry";
+
+const PERIOD: &str = "\
+The period of the script in frames, 1 to 60 [default: room for two such configurations]";
+
+const NOTICE: &str = "The notice of the script in frames, 12 to 248";
+
+const BUDGET: &str = "The budget of the script in instructions per frame, 1 to 255";
+
+const NEXT: &str = "\
+Prints the next configuration, which a swap is announced for, not the current one";
+
+/// The rules of an option of the printed script.
+const OF_SCRIPT: &[Rule] = &[Needs("script"), Excludes("json")];
+
+/// The command `listen`.
+pub(crate) const PAGE: Page = Page {
     name: "listen",
     about: "Decodes a file of FIBs and prints the resulting configuration",
-    long_about: LONG,
-    usage: USAGE,
-    after: AFTER,
-};
-
-const LONG: &str = "\
+    long_about: "\
 Decodes a file of FIBs and prints the resulting configuration.
 
 The file has FIBs of 32 bytes, one after another, as any multiplexer may have written them. Prints
 the number of FIBs, how many of them were damaged, the current configuration at the end of the file,
 and the next configuration, with the low part of the CIF count of its swap, where a reconfiguration
-is announced.";
-
-const USAGE: &str = "\
+is announced.",
+    usage: "\
 dabplan listen <FILE> [--json]
        dabplan listen <FILE> --script [--mode <M>] [--period <P>] [--notice <W>] [--budget <B>]
-                     [--reserve <R>] [--next]";
-
-const AFTER: &str = "\
+                     [--reserve <R>] [--next]",
+    arguments: &[
+        Argument("file", Operand("FILE"), &[], FILE),
+        Argument("json", Flag, &[Excludes("script")], JSON),
+        Argument("script", Flag, &[], SCRIPT),
+        Argument("mode", Number("M", 1, 4, Some("1")), OF_SCRIPT, MODE),
+        Argument("period", Number("P", 1, 60, None), OF_SCRIPT, PERIOD),
+        Argument(
+            "notice",
+            Number("W", 12, 248, Some("240")),
+            OF_SCRIPT,
+            NOTICE,
+        ),
+        Argument("budget", Number("B", 1, 255, Some("20")), OF_SCRIPT, BUDGET),
+        Argument("reserve", RESERVE, OF_SCRIPT, RESERVE_HELP),
+        Argument("next", Flag, OF_SCRIPT, NEXT),
+    ],
+    after: "\
 The lines:
   fibs 1203 damaged 0                 damaged: a wrong CRC, or no whole FIGs
   current                             what was received with C/N 0 follows
@@ -73,94 +104,28 @@ Example: what is on air, as the beginning of a plan
 Exit status:
   0  the listing or the script was printed
   1  the FIBs are refused, or FILE can't be read
-  2  the command line is wrong";
-
-/// The command `listen`.
-pub(crate) fn grammar<'a>(alloc: Global) -> Result<Grammar<'a>, AllocError> {
-    let file_help = "The file of FIBs, or '-' for standard input";
-    let json_help = "Prints one object of JSON instead of lines";
-    let script_help = "Prints the current configuration as a script";
-    let next_help =
-        "Prints the next configuration, which a swap is announced for, not the current one";
-    Grammar::of_command(alloc, PAGE)
-        .argument(file("file", "FILE", file_help))?
-        .argument(with_rule(flag("json", json_help), Rule::Excludes("script")))?
-        .argument(flag("script", script_help))?
-        .argument(mode())?
-        .argument(period())?
-        .argument(notice())?
-        .argument(budget())?
-        .argument(with_rule(reserve(), Rule::NeedsWithout("script", "json")))?
-        .argument(with_rule(
-            flag("next", next_help),
-            Rule::NeedsWithout("script", "json"),
-        ))
-}
-
-/// The transmission mode of the printed script.
-fn mode() -> Argument {
-    let help = "The transmission mode of the script, 1 to 4, which FIBs do not carry";
-    with_rule(
-        number("mode", "M", 1, 4, Some("1"), help),
-        Rule::NeedsWithout("script", "json"),
-    )
-}
-
-/// The period of the printed script.
-fn period() -> Argument {
-    let help =
-        "The period of the script in frames, 1 to 60 [default: room for two such configurations]";
-    with_rule(
-        number("period", "P", 1, i64::from(LONGEST_PERIOD), None, help),
-        Rule::NeedsWithout("script", "json"),
-    )
-}
-
-/// The notice of the printed script.
-fn notice() -> Argument {
-    let help = "The notice of the script in frames, 12 to 248";
-    let shortest = i64::from(SHORTEST_NOTICE);
-    let longest = i64::from(LONGEST_NOTICE);
-    with_rule(
-        number("notice", "W", shortest, longest, Some("240"), help),
-        Rule::NeedsWithout("script", "json"),
-    )
-}
-
-/// The budget of the printed script.
-fn budget() -> Argument {
-    let help = "The budget of the script in instructions per frame, 1 to 255";
-    with_rule(
-        number("budget", "B", 1, 255, Some("20"), help),
-        Rule::NeedsWithout("script", "json"),
-    )
-}
+  2  the command line is wrong",
+};
 
 /// Reads the arguments of `listen`.
-pub(crate) fn request<'a>(values: &Values<'_, 'a>) -> Result<Request<'a>, UsageError<'a>> {
+pub(crate) fn request<'a>(values: &Values<'a>) -> Result<Request<'a>, UsageError<'a>> {
     if values.flag("script") {
         return script_request(values);
     }
     Ok(Request::Listen(ListenRequest {
-        file: values.some_text("file")?,
+        file: values.text("file"),
         is_json: values.flag("json"),
     }))
 }
 
 /// Reads the arguments of `listen --script`.
-fn script_request<'a>(values: &Values<'_, 'a>) -> Result<Request<'a>, UsageError<'a>> {
-    let file = values.some_text("file")?;
-    let layout = layout_of(values)?;
-    let period = match values.number("period") {
-        Some(_) => Some(values.some_u8("period")?),
-        None => None,
-    };
+fn script_request<'a>(values: &Values<'a>) -> Result<Request<'a>, UsageError<'a>> {
     Ok(Request::ListenScript(ListenScriptRequest {
-        file,
-        layout,
-        period,
-        notice: values.some_u8("notice")?,
-        budget: values.some_u8("budget")?,
+        file: values.text("file"),
+        layout: layout_of(values)?,
+        period: values.some_number("period"),
+        notice: values.number("notice"),
+        budget: values.number("budget"),
         is_next: values.flag("next"),
     }))
 }

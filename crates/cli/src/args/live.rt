@@ -1,34 +1,48 @@
 //! The command line of `live`.
 
-use crate::args::UsageError;
-use crate::args::parser::{Argument, Grammar, Page, Values};
-use crate::args::shared::{file, flag, number};
-use crate::args::start::{start_options, with_start};
+use crate::args::parser::Kind::{Flag, Number, Operand};
+use crate::args::parser::{Argument, Page, Values};
+use crate::args::start::{CONTACTS, COUNT, DAY, TIME, start_options};
+use crate::args::{FramesRequest, UsageError};
 use cli_plans::live::LiveRequest;
 use plan_live::Wanted;
-use std::alloc::{AllocError, Global};
 
-const PAGE: Page = Page {
+const SKIP: &str = "\
+How many frames at the beginning are played but not written, 0 to 4294967295";
+
+const STATUS: &str = "\
+Reports each notice that begins, each swap and the end of the plan on standard error";
+
+const EVERY: &str = "Reports on standard error the last of each N frames, 1 to 4294967295";
+
+const JSON: &str = "Writes each message on standard error as an object of JSON";
+
+/// The command `live`.
+pub(crate) const PAGE: Page = Page {
     name: "live",
     about: "Plays a plan of reconfigurations over standard input, line by line",
-    long_about: LONG,
-    usage: USAGE,
-    after: AFTER,
-};
-
-const LONG: &str = "\
+    long_about: "\
 Plays a plan of reconfigurations over standard input, line by line, as the lines come.
 
 CODE is a code file, the binary form of a plan. The lines are like those of an event file of
 'dabplan play': frames of 24 ms, and contacts that are closed and opened between them. The FIBs of a
 line's frames are written to standard output before the next line is read: three FIBs of 32 bytes a
-frame, in transmission mode 3 four. All messages go to standard error.";
-
-const USAGE: &str = "\
+frame, in transmission mode 3 four. All messages go to standard error.",
+    usage: "\
 dabplan live <CODE> [--count <N>] [--day <N> | --time <HH:MM:SS>] [--contacts <HHHH>]
-                           [--skip <N>] [--status] [--every <N>] [--json]";
-
-const AFTER: &str = "\
+                           [--skip <N>] [--status] [--every <N>] [--json]",
+    arguments: &[
+        Argument("code", Operand("CODE"), &[], "The code file"),
+        COUNT,
+        DAY,
+        TIME,
+        CONTACTS,
+        Argument("skip", Number("N", 0, 4294967295, Some("0")), &[], SKIP),
+        Argument("status", Flag, &[], STATUS),
+        Argument("every", Number("N", 1, 4294967295, None), &[], EVERY),
+        Argument("json", Flag, &[], JSON),
+    ],
+    after: "\
 A line has steps, with blanks between, a comment, or nothing:
   frames 1                     one frame is played; up to 3600000 at a time
   contact 3 closed             contact 3, of 0 to 15, is closed; 'open': it is opened
@@ -72,44 +86,19 @@ Exit status:
   0  standard input came to its end, whatever its lines were
   1  the plan or the start is refused, CODE or standard input can't be read, or standard output
      failed
-  2  the command line is wrong";
-
-/// The command `live`.
-pub(crate) fn grammar<'a>(alloc: Global) -> Result<Grammar<'a>, AllocError> {
-    let status_help =
-        "Reports each notice that begins, each swap and the end of the plan on standard error";
-    let json_help = "Writes each message on standard error as an object of JSON";
-    let code = Grammar::of_command(alloc, PAGE).argument(file("code", "CODE", "The code file"))?;
-    with_start(code)?
-        .argument(skip())?
-        .argument(flag("status", status_help))?
-        .argument(every())?
-        .argument(flag("json", json_help))
-}
-
-/// The option for the number of frames after which one is reported.
-fn every() -> Argument {
-    let help = "Reports on standard error the last of each N frames, 1 to 4294967295";
-    number("every", "N", 1, 4294967295, None, help)
-}
-
-/// The option for the number of frames to skip.
-fn skip() -> Argument {
-    let help = "How many frames at the beginning are played but not written, 0 to 4294967295";
-    number("skip", "N", 0, 4294967295, Some("0"), help)
-}
+  2  the command line is wrong",
+};
 
 /// Reads the arguments of `live`.
-pub(crate) fn request<'a>(values: &Values<'_, 'a>) -> Result<LiveRequest<'a>, UsageError<'a>> {
-    let start = start_options(values)?;
-    Ok(LiveRequest {
-        code: values.some_text("code")?,
-        start,
-        skip: values.some_number("skip")?,
+pub(crate) fn request<'a>(values: &Values<'a>) -> Result<FramesRequest<'a>, UsageError<'a>> {
+    Ok(FramesRequest::Live(LiveRequest {
+        start: start_options(values)?,
+        code: values.text("code"),
+        skip: values.number("skip"),
         wanted: Wanted {
             status: values.flag("status"),
-            every: values.number("every").unwrap_or(0),
+            every: values.number("every"),
         },
         json: values.flag("json"),
-    })
+    }))
 }

@@ -1,29 +1,35 @@
 //! The command line of `map`.
 
-use crate::args::parser::{Argument, Grammar, Kind, Page, Rule, Values};
-use crate::args::shared::{explanation_on_error, file, flag, quiet};
+use crate::args::parser::Kind::{Flag, Operand, Text};
+use crate::args::parser::{Argument, Page, Values};
+use crate::args::shared::{QUIET, explanation};
 use crate::args::{Request, UsageError};
 use cli_scripts::map::MapRequest;
-use std::alloc::{AllocError, Global};
 
-const PAGE: Page = Page {
+const SCRIPT: &str = "The script, or '-' for standard input";
+
+const SVG: &str = "Also writes a drawing to this file, an SVG document";
+
+const LAYOUT: &str = "Prints the one layout that serves every configuration";
+
+/// The command `map`.
+pub(crate) const PAGE: Page = Page {
     name: "map",
     about: "Shows which capacity units each sub-channel has in a plan",
-    long_about: LONG,
-    usage: USAGE,
-    after: AFTER,
-};
-
-const LONG: &str = "\
+    long_about: "\
 Shows which capacity units each sub-channel has in a plan.
 
 Prints the configuration that the script begins with, and that of each commit, in the order of the
 script. With --svg the same is drawn to scale, as a document that any browser shows. With --layout
-the one layout of sub-channels is printed that serves all of them.";
-
-const USAGE: &str = "dabplan map <SCRIPT> [--svg <OUT>] [--layout] [--quiet]";
-
-const AFTER: &str = "\
+the one layout of sub-channels is printed that serves all of them.",
+    usage: "dabplan map <SCRIPT> [--svg <OUT>] [--layout] [--quiet]",
+    arguments: &[
+        Argument("script", Operand("SCRIPT"), &[], SCRIPT),
+        Argument("svg", Text("OUT", None), &[], SVG),
+        Argument("layout", Flag, &[], LAYOUT),
+        Argument("quiet", Flag, &[], QUIET),
+    ],
+    after: "\
 The lines (shortened here):
   commit 12 (until 21:59:54): free 792
                        the statement and its line in the script, 'in NAME' where it is in a block;
@@ -72,42 +78,23 @@ Example: a lower rate at night
 Exit status:
   0  the map or the layout was printed, and OUT holds the drawing
   1  the script is refused, there is no one layout, or a file can't be read or written
-  2  the command line is wrong";
-
-/// The command `map`.
-pub(crate) fn grammar<'a>(alloc: Global) -> Result<Grammar<'a>, AllocError> {
-    Grammar::of_command(alloc, PAGE)
-        .argument(file("script", "SCRIPT", "The script, or '-' for standard input"))?
-        .argument(drawing())?
-        .argument(flag(
-            "layout",
-            "Prints the one layout that serves every configuration",
-        ))?
-        .argument(quiet())
-}
-
-/// The option for the drawing.
-fn drawing() -> Argument {
-    Argument {
-        name: "svg",
-        value_name: "OUT",
-        help: "Also writes a drawing to this file, an SVG document",
-        kind: Kind::Text(None),
-        rule: Rule::Free,
-    }
-}
+  2  the command line is wrong",
+};
 
 /// Reads the arguments of `map`.
-pub(crate) fn request<'a>(values: &Values<'_, 'a>) -> Result<Request<'a>, UsageError<'a>> {
-    let script = values.some_text("script")?;
-    let drawing = values.text("svg");
+pub(crate) fn request<'a>(values: &Values<'a>) -> Result<Request<'a>, UsageError<'a>> {
+    let drawing = values.some_text("svg");
     if drawing == Some("-") {
-        return Err(UsageError::DrawingOutput);
+        return Err(UsageError::Value {
+            option: "--svg <OUT>",
+            value: "-",
+            reason: "standard output has the map",
+        });
     }
     Ok(Request::Map(MapRequest {
-        script,
+        script: values.text("script"),
         drawing,
         layout: values.flag("layout"),
-        explanation: explanation_on_error(values),
+        explanation: explanation(values),
     }))
 }

@@ -1,20 +1,20 @@
 //! The command line of `merge`.
 
-use crate::args::UsageError;
-use crate::args::parser::{Grammar, Page, Values};
-use crate::args::shared::{file, mode, some_mode};
+use crate::args::parser::Kind::Operand;
+use crate::args::parser::{Argument, Page, Values};
+use crate::args::shared::{MODE, mode_of};
+use crate::args::{FramesRequest, UsageError};
 use cli_streams::merge::MergeRequest;
-use std::alloc::{AllocError, Global};
 
-const PAGE: Page = Page {
+const PLAN: &str = "The file of the plan's frames, or '-' for standard input";
+
+const OTHER: &str = "The file of the multiplexer's frames, or '-' for standard input";
+
+/// The command `merge`.
+pub(crate) const PAGE: Page = Page {
     name: "merge",
     about: "Carries the labels and other FIGs of a multiplexer in the frames of a plan",
-    long_about: LONG,
-    usage: USAGE,
-    after: AFTER,
-};
-
-const LONG: &str = "\
+    long_about: "\
 Carries the labels and other FIGs of a multiplexer in the frames of a plan.
 
 A plan sends FIG 0/0 to 0/3 alone, and a receiver shows no service without its label. PLAN has the
@@ -28,11 +28,14 @@ room for them, the one that has waited longest first, 256 at most. FIG 0/0 to 0/
 the ensemble itself are left out, and a FIG of which a copy waits already. A FIG that names a
 service, a component or a sub-channel that the plan has not when its turn comes is stale, and left
 out. All frames so far are written before more of either file is read. All messages go to standard
-error.";
-
-const USAGE: &str = "dabplan merge <PLAN> <OTHER> [--mode <M>]";
-
-const AFTER: &str = "\
+error.",
+    usage: "dabplan merge <PLAN> <OTHER> [--mode <M>]",
+    arguments: &[
+        Argument("plan", Operand("PLAN"), &[], PLAN),
+        Argument("other", Operand("OTHER"), &[], OTHER),
+        MODE,
+    ],
+    after: "\
 The messages:
   frames 252 carried 500 waiting 3 dropped 0 stale 0 damaged 0
                                the last line. carried: FIGs of OTHER that were sent; waiting: FIGs
@@ -57,25 +60,19 @@ Exit status:
   0  PLAN came to its end
   1  PLAN can't be read or has no whole frames, OTHER can't be opened, can't be read on or has no
      whole frames, or standard output failed
-  2  the command line is wrong";
-
-/// The command `merge`.
-pub(crate) fn grammar<'a>(alloc: Global) -> Result<Grammar<'a>, AllocError> {
-    let plan_help = "The file of the plan's frames, or '-' for standard input";
-    let other_help = "The file of the multiplexer's frames, or '-' for standard input";
-    Grammar::of_command(alloc, PAGE)
-        .argument(file("plan", "PLAN", plan_help))?
-        .argument(file("other", "OTHER", other_help))?
-        .argument(mode())
-}
+  2  the command line is wrong",
+};
 
 /// Reads the arguments of `merge`.
-pub(crate) fn request<'a>(values: &Values<'_, 'a>) -> Result<MergeRequest<'a>, UsageError<'a>> {
-    let plan = values.some_text("plan")?;
-    let other = values.some_text("other")?;
+pub(crate) fn request<'a>(values: &Values<'a>) -> Result<FramesRequest<'a>, UsageError<'a>> {
+    let plan = values.text("plan");
+    let other = values.text("other");
     if plan == "-" && other == "-" {
         return Err(UsageError::TwiceInput);
     }
-    let mode = some_mode(values)?;
-    Ok(MergeRequest { plan, other, mode })
+    Ok(FramesRequest::Merge(MergeRequest {
+        plan,
+        other,
+        mode: mode_of(values),
+    }))
 }

@@ -1,14 +1,15 @@
 //! The command-line grammar and its parsed values. Only this file names the kit's parser, `clap`.
 
-use crate::args::UsageError;
-use clap::builder::ValueParser;
+use crate::args::{PAGES, UsageError, help};
 use clap::error::ErrorKind;
-use clap::{Arg, ArgAction, ArgMatches, Command, value_parser};
+use clap::{Arg, ArgAction, ArgMatches, Command, Error, value_parser};
+use console::escaped::Escaped;
 use std::alloc::{AllocError, Global};
 use std::convert::AsStr;
 use std::fmt;
+use std::str::FromStr;
 
-/// The help of a command.
+/// A command: its help, and its arguments.
 #[derive(Clone, Copy)]
 pub(crate) struct Page {
     /// The command's name.
@@ -19,161 +20,103 @@ pub(crate) struct Page {
     pub long_about: &'static str,
     /// Its usage lines.
     pub usage: &'static str,
+    /// Its arguments, in the order of the help.
+    pub arguments: &'static [Argument],
     /// The text after its options: inputs, printed lines, an example, exit statuses.
     pub after: &'static str,
 }
 
-/// The kind of an argument.
+/// An argument of a command: its name, which is also that of its option; its kind; its rules; and
+/// its line of help.
+#[derive(Clone, Copy)]
+pub(crate) struct Argument(
+    pub &'static str,
+    pub Kind,
+    pub &'static [Rule],
+    pub &'static str,
+);
+
+/// The kind of an argument, with the name of its value in the help.
 #[derive(Clone, Copy)]
 pub(crate) enum Kind {
     /// A required value without an option.
-    Operand,
+    Operand(&'static str),
     /// An option without a value.
     Flag,
     /// An option with a text, and its default.
-    Text(Option<&'static str>),
+    Text(&'static str, Option<&'static str>),
     /// An option with a number: its lowest and highest value, and its default.
-    Number(i64, i64, Option<&'static str>),
+    Number(&'static str, i64, i64, Option<&'static str>),
 }
 
-/// How an argument depends on other arguments.
+/// A rule of an argument; one without rules is optional.
 #[derive(Clone, Copy)]
 pub(crate) enum Rule {
-    /// It is optional.
-    Free,
     /// It is required.
     Required,
     /// It is required unless this one is present.
     RequiredUnless(&'static str),
-    /// It requires the first, and conflicts with the second. Where those two conflict with each
-    /// other, the parser would else waive the first.
-    NeedsWithout(&'static str, &'static str),
-    /// It requires this one.
+    /// It requires this one. The parser waives that where an argument is present that conflicts with
+    /// this one: such an argument is to be excluded too.
     Needs(&'static str),
     /// It conflicts with this one.
     Excludes(&'static str),
-    /// It conflicts with both of these.
-    ExcludesBoth(&'static str, &'static str),
 }
 
-/// An argument of a command.
-#[derive(Clone, Copy)]
-pub(crate) struct Argument {
-    /// Its name, which is also that of its option.
-    pub name: &'static str,
-    /// The name of its value in the help.
-    pub value_name: &'static str,
-    /// Its line of help.
-    pub help: &'static str,
-    /// Its kind.
-    pub kind: Kind,
-    /// How it depends on others.
-    pub rule: Rule,
+/// The program with its commands.
+fn program<'a>(alloc: Global) -> Result<Command<'a>, AllocError> {
+    let mut program = Command::new(alloc, "dabplan")
+        .no_binary_name(true)
+        .version(help::VERSION)
+        .about(help::PROGRAM)
+        .after_help(help::AFTER_PROGRAM)
+        .override_usage("dabplan <COMMAND>");
+    for page in &PAGES {
+        program = program.subcommand(command(alloc, page)?)?;
+    }
+    Ok(program)
 }
 
-/// The grammar of a command line.
-#[derive(Drop)]
-pub(crate) struct Grammar<'a> {
-    alloc: Global,
-    command: Command<'a>,
+/// A command with its arguments.
+fn command<'a>(alloc: Global, page: &Page) -> Result<Command<'a>, AllocError> {
+    let mut command = Command::new(alloc, page.name)
+        .about(page.about)
+        .long_about(page.long_about)
+        .after_long_help(page.after)
+        .override_usage(page.usage);
+    for argument in page.arguments {
+        command = command.arg(arg_of(alloc, *argument)?)?;
+    }
+    Ok(command)
 }
 
-impl<'a> Grammar<'a> {
-    /// The grammar of a program, before its commands are added.
-    pub fn of_program(
-        alloc: Global,
-        name: &'static str,
-        version: &'static str,
-        about: &'static str,
-        after: &'static str,
-        usage: &'static str,
-    ) -> Self {
-        let command = Command::new(alloc, name)
-            .no_binary_name(true)
-            .version(version)
-            .about(about)
-            .after_help(after)
-            .override_usage(usage);
-        Grammar { alloc, command }
+/// An argument under its rules.
+fn arg_of<'a>(alloc: Global, argument: Argument) -> Result<Arg<'a>, AllocError> {
+    let Argument(name, kind, rules, help) = argument;
+    let mut arg = of_kind(Arg::new(alloc, name).help(help), name, kind);
+    for rule in rules {
+        arg = match *rule {
+            Rule::Required => arg.required(true),
+            Rule::RequiredUnless(other) => arg.required_unless_present(other)?,
+            Rule::Needs(other) => arg.requires_arg(other)?,
+            Rule::Excludes(other) => arg.conflicts_with(other)?,
+        };
     }
-
-    /// The grammar of a command, before its arguments are added.
-    pub fn of_command(alloc: Global, page: Page) -> Self {
-        let command = Command::new(alloc, page.name)
-            .about(page.about)
-            .long_about(page.long_about)
-            .after_long_help(page.after)
-            .override_usage(page.usage);
-        Grammar { alloc, command }
-    }
-
-    /// Adds a command.
-    pub fn command(self, other: Grammar<'a>) -> Result<Self, AllocError> {
-        let alloc = self.alloc;
-        let command = self.command.subcommand(other.command)?;
-        Ok(Grammar { alloc, command })
-    }
-
-    /// Adds an argument.
-    pub fn argument(self, argument: Argument) -> Result<Self, AllocError> {
-        let alloc = self.alloc;
-        let arg = with_rule(arg_of(alloc, argument), argument.rule)?;
-        let command = self.command.arg(arg)?;
-        Ok(Grammar { alloc, command })
-    }
-
-    /// Parses a command line. Help on `help` is help: `help -h` and `help help` are `help`.
-    pub fn parsed<S: AsStr>(self, args: &'a [S]) -> Result<Parsed<'a>, UsageError<'a>> {
-        match self
-            .command
-            .try_get_matches_from(without_help_of_help(args))
-        {
-            Ok(matches) => Ok(Parsed { matches }),
-            Err(error) => Err(usage_error(error)),
-        }
-    }
+    Ok(arg)
 }
 
-/// The arguments without the last one, where it asks for help after `help`.
-fn without_help_of_help<S: AsStr>(args: &[S]) -> &[S] {
-    let Some((last, rest)) = args.split_last() else {
-        return args;
-    };
-    let Some(first) = rest.first() else {
-        return args;
-    };
-    if first.as_str() == "help" && asks_for_help(last.as_str()) {
-        rest
-    } else {
-        args
-    }
-}
-
-/// Whether this argument asks for help.
-fn asks_for_help(arg: &str) -> bool {
-    matches!(arg, "help" | "-h" | "--help")
-}
-
-/// An argument, without its dependence on others.
-fn arg_of<'a>(alloc: Global, argument: Argument) -> Arg<'a> {
-    let arg = Arg::new(alloc, argument.name).help(argument.help);
-    match argument.kind {
-        Kind::Operand => arg.value_name(argument.value_name).required(true),
-        Kind::Flag => arg.long(argument.name).action(ArgAction::SetTrue),
-        Kind::Text(default) => {
-            let arg = arg.long(argument.name).value_name(argument.value_name);
+/// The argument of this name as one of a kind.
+fn of_kind<'a>(arg: Arg<'a>, name: &'static str, kind: Kind) -> Arg<'a> {
+    match kind {
+        Kind::Operand(value) => arg.value_name(value).required(true),
+        Kind::Flag => arg.long(name).action(ArgAction::SetTrue),
+        Kind::Text(value, default) => with_default(arg.long(name).value_name(value), default),
+        Kind::Number(value, lowest, highest, default) => {
+            let range = value_parser!(u32).range(lowest..=highest);
+            let arg = arg.long(name).value_name(value).value_parser(range);
             with_default(arg, default)
         }
-        Kind::Number(lowest, highest, default) => {
-            let arg = arg.long(argument.name).value_name(argument.value_name);
-            with_default(arg.value_parser(between(lowest, highest)), default)
-        }
     }
-}
-
-/// What a number from the lowest to the highest has to be.
-fn between<'a>(lowest: i64, highest: i64) -> ValueParser<'a> {
-    value_parser!(u32).range(lowest..=highest)
 }
 
 /// Adds a default value.
@@ -184,94 +127,91 @@ fn with_default<'a>(arg: Arg<'a>, default: Option<&'static str>) -> Arg<'a> {
     }
 }
 
-/// Adds the dependence on other arguments.
-fn with_rule<'a>(arg: Arg<'a>, rule: Rule) -> Result<Arg<'a>, AllocError> {
-    match rule {
-        Rule::Free => Ok(arg),
-        Rule::Required => Ok(arg.required(true)),
-        Rule::RequiredUnless(other) => arg.required_unless_present(other),
-        Rule::NeedsWithout(one, other) => arg.requires_arg(one)?.conflicts_with(other),
-        Rule::Needs(other) => arg.requires_arg(other),
-        Rule::Excludes(other) => arg.conflicts_with(other),
-        Rule::ExcludesBoth(one, other) => arg.conflicts_with(one)?.conflicts_with(other),
+/// Parses a command line. A mistake shows the control bytes of arguments as `\xHH`.
+pub(crate) fn parse<'a, S: AsStr>(
+    alloc: Global,
+    args: &'a [S],
+) -> Result<Values<'a>, UsageError<'a>> {
+    match matches_of(alloc, args) {
+        Ok(matches) => Ok(Values { matches }),
+        Err(error) => Err(usage_error(alloc, args, error)),
     }
 }
 
-/// A command line that matches the grammar.
+/// The matches of a command line. Help on `help` is help: `help -h` and `help help` are `help`.
+fn matches_of<'a, S: AsStr>(alloc: Global, args: &'a [S]) -> Result<ArgMatches<'a>, Error> {
+    program(alloc)?.try_get_matches_from(without_help_of_help(args))
+}
+
+/// The arguments without the last one, where it asks for help after `help`.
+fn without_help_of_help<S: AsStr>(args: &[S]) -> &[S] {
+    match args {
+        [first, .., last] if first.as_str() == "help" && asks_for_help(last.as_str()) => {
+            &args[..args.len() - 1]
+        }
+        _ => args,
+    }
+}
+
+/// Whether this argument asks for help.
+fn asks_for_help(arg: &str) -> bool {
+    matches!(arg, "help" | "-h" | "--help")
+}
+
+/// A command line that matches the grammar: its command, and the values of its arguments.
 #[derive(Drop)]
-pub(crate) struct Parsed<'a> {
+pub(crate) struct Values<'a> {
     matches: ArgMatches<'a>,
 }
 
-impl<'a> Parsed<'a> {
-    /// Its command, with the values of the arguments; `None` if it names none.
-    pub fn command(&self) -> Option<(&'a str, Values<'_, 'a>)> {
-        let (name, matches) = self.matches.subcommand()?;
-        Some((name, Values { matches }))
+impl<'a> Values<'a> {
+    /// The name of the command; `None` if none is named.
+    pub fn command(&self) -> Option<&'a str> {
+        self.matches.subcommand_name()
     }
-}
 
-/// The values of a command's arguments.
-#[derive(Clone, Copy)]
-pub(crate) struct Values<'m, 'a> {
-    matches: &'m ArgMatches<'a>,
-}
-
-impl<'m, 'a> Values<'m, 'a> {
     /// The text of an argument; `None` if it has none.
-    pub fn text(&self, name: &'static str) -> Option<&'a str> {
-        self.matches.get_str(name)
+    pub fn some_text(&self, name: &'static str) -> Option<&'a str> {
+        let (_command, matches) = self.matches.subcommand()?;
+        matches.get_str(name)
     }
 
-    /// The text of an argument that is required or has a default.
-    pub fn some_text(&self, name: &'static str) -> Result<&'a str, UsageError<'a>> {
-        match self.text(name) {
-            Some(text) => Ok(text),
-            None => Err(UsageError::Nothing),
-        }
+    /// The text of an argument that is required or has a default; another one that has none is
+    /// empty.
+    pub fn text(&self, name: &'static str) -> &'a str {
+        self.some_text(name).unwrap_or("")
     }
 
     /// The number of an argument; `None` if it has none.
-    pub fn number(&self, name: &'static str) -> Option<u32> {
-        self.matches.get_one::<u32>(name)
+    pub fn some_number<T: FromStr>(&self, name: &'static str) -> Option<T>
+    where
+        T::Err: Drop,
+    {
+        let (_command, matches) = self.matches.subcommand()?;
+        matches.get_one::<T>(name)
     }
 
-    /// The number of an argument that is required or has a default.
-    pub fn some_number(&self, name: &'static str) -> Result<u32, UsageError<'a>> {
-        match self.number(name) {
-            Some(number) => Ok(number),
-            None => Err(UsageError::Nothing),
-        }
-    }
-
-    /// [`some_number`](Self::some_number), below 65,536.
-    pub fn some_u16(&self, name: &'static str) -> Result<u16, UsageError<'a>> {
-        let number = self.some_number(name)?;
-        match u16::try_from(number) {
-            Ok(number) => Ok(number),
-            Err(_) => Err(UsageError::Nothing),
-        }
-    }
-
-    /// [`some_number`](Self::some_number), below 256.
-    pub fn some_u8(&self, name: &'static str) -> Result<u8, UsageError<'a>> {
-        let number = self.some_number(name)?;
-        match u8::try_from(number) {
-            Ok(number) => Ok(number),
-            Err(_) => Err(UsageError::Nothing),
-        }
+    /// The number of an argument that is required or has a default; another one that has none is 0.
+    pub fn number<T: FromStr + Default>(&self, name: &'static str) -> T
+    where
+        T::Err: Drop,
+    {
+        self.some_number(name).unwrap_or_default()
     }
 
     /// Whether a flag is present.
     pub fn flag(&self, name: &'static str) -> bool {
-        self.matches.get_flag(name)
+        match self.matches.subcommand() {
+            Some((_command, matches)) => matches.get_flag(name),
+            None => false,
+        }
     }
 }
 
 /// A text of the parser for the user.
-#[derive(Debug, Drop)]
+#[derive(Drop)]
 pub struct Message {
-    error: clap::Error,
+    error: Error,
 }
 
 impl fmt::Display for Message {
@@ -280,12 +220,38 @@ impl fmt::Display for Message {
     }
 }
 
-/// What is reported of an error of the parser.
-fn usage_error<'a>(error: clap::Error) -> UsageError<'a> {
+/// What is reported of an error of the parser about these arguments.
+fn usage_error<'a, S: AsStr>(alloc: Global, args: &[S], error: Error) -> UsageError<'a> {
     match error.kind() {
         ErrorKind::OutOfMemory => UsageError::Memory,
-        ErrorKind::DisplayHelp => UsageError::Help(Message { error }),
-        ErrorKind::DisplayVersion => UsageError::Help(Message { error }),
-        _ => UsageError::Mistake(Message { error }),
+        ErrorKind::DisplayHelp | ErrorKind::DisplayVersion => UsageError::Help(Message { error }),
+        _ => match shown(alloc, args, error) {
+            Ok(error) => UsageError::Mistake(Message { error }),
+            Err(_) => UsageError::Memory,
+        },
     }
+}
+
+/// The error about these arguments, with their control bytes as `\xHH`.
+fn shown<S: AsStr>(alloc: Global, args: &[S], error: Error) -> Result<Error, AllocError> {
+    if args.iter().all(|arg| !has_control(arg.as_str())) {
+        return Ok(error);
+    }
+    let mut escaped: Vec<String> = Vec::new(alloc);
+    for arg in args {
+        escaped.push(Escaped::in_line(arg.as_str()).to_string(alloc)?)?;
+    }
+    let Err(shown) = matches_of(alloc, escaped.as_slice()) else {
+        return Ok(error);
+    };
+    match shown.kind() {
+        ErrorKind::OutOfMemory => Err(AllocError),
+        ErrorKind::DisplayHelp | ErrorKind::DisplayVersion => Ok(error),
+        _ => Ok(shown),
+    }
+}
+
+/// Whether a text has a control byte.
+fn has_control(text: &str) -> bool {
+    text.as_bytes().iter().any(|byte| byte.is_ascii_control())
 }

@@ -1,33 +1,37 @@
 //! The command line of `play`.
 
-use crate::args::parser::{Grammar, Page, Values};
-use crate::args::shared::file;
-use crate::args::start::{start_options, with_start};
+use crate::args::parser::Kind::Operand;
+use crate::args::parser::{Argument, Page, Values};
+use crate::args::start::{CONTACTS, COUNT, DAY, TIME, start_options};
 use crate::args::{Request, UsageError};
 use cli_plans::play::PlayRequest;
-use std::alloc::{AllocError, Global};
 
-const PAGE: Page = Page {
+const OUT: &str = "The file to write the frames to";
+
+/// The command `play`.
+pub(crate) const PAGE: Page = Page {
     name: "play",
     about: "Plays a plan of reconfigurations, frame by frame",
-    long_about: LONG,
-    usage: USAGE,
-    after: AFTER,
-};
-
-const LONG: &str = "\
+    long_about: "\
 Plays a plan of reconfigurations, frame by frame.
 
 CODE is a code file, the binary form of a plan. EVENTS is a text: how many frames of 24 ms to play,
 and which contacts are closed and opened between them. The FIBs of the frames are written to OUT,
 frame after frame: three FIBs of 32 bytes each, in transmission mode 3 four. One line says how many
-frames were written.";
-
-const USAGE: &str = "\
+frames were written.",
+    usage: "\
 dabplan play <CODE> <EVENTS> <OUT> [--count <N>] [--day <N> | --time <HH:MM:SS>]
-                           [--contacts <HHHH>]";
-
-const AFTER: &str = "\
+                           [--contacts <HHHH>]",
+    arguments: &[
+        Argument("code", Operand("CODE"), &[], "The code file"),
+        Argument("events", Operand("EVENTS"), &[], "The event file"),
+        Argument("out", Operand("OUT"), &[], OUT),
+        COUNT,
+        DAY,
+        TIME,
+        CONTACTS,
+    ],
+    after: "\
 The events, in order, with blanks, line ends and comments ('#' to the end of the line) between:
   frames N             N frames are played, 1 to 3600000
   contact C closed     contact C, 0 to 15, is closed
@@ -55,24 +59,15 @@ Example: contact 3 is closed and opened again; a lower rate is announced and mad
 Exit status:
   0  all frames were written
   1  the plan, the start or the events are refused, or a file can't be read or written
-  2  the command line is wrong";
-
-/// The command `play`.
-pub(crate) fn grammar<'a>(alloc: Global) -> Result<Grammar<'a>, AllocError> {
-    let files = Grammar::of_command(alloc, PAGE)
-        .argument(file("code", "CODE", "The code file"))?
-        .argument(file("events", "EVENTS", "The event file"))?
-        .argument(file("out", "OUT", "The file to write the frames to"))?;
-    with_start(files)
-}
+  2  the command line is wrong",
+};
 
 /// Reads the arguments of `play`.
-pub(crate) fn request<'a>(values: &Values<'_, 'a>) -> Result<Request<'a>, UsageError<'a>> {
-    let start = start_options(values)?;
+pub(crate) fn request<'a>(values: &Values<'a>) -> Result<Request<'a>, UsageError<'a>> {
     Ok(Request::Play(PlayRequest {
-        code: values.some_text("code")?,
-        events: values.some_text("events")?,
-        out: values.some_text("out")?,
-        start,
+        start: start_options(values)?,
+        code: values.text("code"),
+        events: values.text("events"),
+        out: values.text("out"),
     }))
 }

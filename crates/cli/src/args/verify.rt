@@ -1,31 +1,33 @@
 //! The command line of `verify`.
 
-use crate::args::parser::{Grammar, Page, Rule, Values};
-use crate::args::shared::{explain, explanation, file, quiet, with_rule};
-use crate::args::{Request, UsageError};
+use crate::args::Request;
+use crate::args::parser::Kind::{Flag, Operand};
+use crate::args::parser::Rule::Excludes;
+use crate::args::parser::{Argument, Page, Values};
+use crate::args::shared::{EXPLAIN, QUIET, explanation};
 use cli_scripts::verify::VerifyRequest;
-use std::alloc::{AllocError, Global};
 
-const PAGE: Page = Page {
+const CODE: &str = "The code file, or '-' for standard input";
+
+/// The command `verify`.
+pub(crate) const PAGE: Page = Page {
     name: "verify",
     about: "Checks whether a plan of reconfigurations can be played",
-    long_about: LONG,
-    usage: USAGE,
-    after: AFTER,
-};
-
-const LONG: &str = "\
+    long_about: "\
 Checks whether a plan of reconfigurations can be played.
 
 A code file is the binary form of a plan: instructions that edit the configuration of the multiplex,
 commit it, and wait for frames, times of day and contacts. One line says 'accepted', or where the
 plan is refused and why. An accepted plan never goes wrong, whatever the contacts do: each
 configuration that it commits is sound, each swap can be announced in time and comes when it was
-announced, and no frame takes more instructions than the plan's budget.";
-
-const USAGE: &str = "dabplan verify <CODE> [--explain | --quiet]";
-
-const AFTER: &str = "\
+announced, and no frame takes more instructions than the plan's budget.",
+    usage: "dabplan verify <CODE> [--explain | --quiet]",
+    arguments: &[
+        Argument("code", Operand("CODE"), &[], CODE),
+        EXPLAIN,
+        Argument("quiet", Flag, &[Excludes("explain")], QUIET),
+    ],
+    after: "\
 The line:
   accepted
   refused at 3 line 10: Notice  instruction 3, counted from 0, which comes from line 10 of the
@@ -66,20 +68,13 @@ Example: a plan that lowers a rate while contact 3 is closed
 Exit status:
   0  the plan is accepted
   1  it is refused, CODE is not a code file, or CODE can't be read
-  2  the command line is wrong";
-
-/// The command `verify`.
-pub(crate) fn grammar<'a>(alloc: Global) -> Result<Grammar<'a>, AllocError> {
-    Grammar::of_command(alloc, PAGE)
-        .argument(file("code", "CODE", "The code file, or '-' for standard input"))?
-        .argument(explain())?
-        .argument(with_rule(quiet(), Rule::Excludes("explain")))
-}
+  2  the command line is wrong",
+};
 
 /// Reads the arguments of `verify`.
-pub(crate) fn request<'a>(values: &Values<'_, 'a>) -> Result<Request<'a>, UsageError<'a>> {
-    Ok(Request::Verify(VerifyRequest {
-        code: values.some_text("code")?,
+pub(crate) fn request<'a>(values: &Values<'a>) -> Request<'a> {
+    Request::Verify(VerifyRequest {
+        code: values.text("code"),
         explanation: explanation(values),
-    }))
+    })
 }
