@@ -41,9 +41,7 @@ impl<'a, R: Read + Drop> OtherFrames<'a, R> {
             status: Status::Done,
         }
     }
-}
 
-impl<'a, R: Read + Drop> OtherFrames<'a, R> {
     /// Writes the frames that are held, unless the next frame is buffered, or there may be none.
     pub(crate) fn make_way<W: Write>(
         &self,
