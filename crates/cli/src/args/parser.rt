@@ -56,8 +56,8 @@ pub(crate) enum Rule {
     Required,
     /// It is required unless this one is present.
     RequiredUnless(&'static str),
-    /// It requires this one. The parser waives that where an argument is present that conflicts with
-    /// this one: such an argument is to be excluded too.
+    /// It requires this one. The parser waives that where an argument is present that conflicts
+    /// with this one: such an argument is to be excluded too.
     Needs(&'static str),
     /// It conflicts with this one.
     Excludes(&'static str),
