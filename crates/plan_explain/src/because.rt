@@ -6,29 +6,72 @@ use crate::source::{Source, Spot, number_in};
 use crate::stop::{Refused, Stop, cause_of};
 use crate::trial::{TextPatch, Verdict, patched};
 use crate::trier::Trier;
-use crate::words::{Part, edit_words};
-use mux_config::{Carrier, Edit, Sid, Store, SubId};
+use crate::words::edit_words;
+use mux_config::{Carrier, Edit, Store, SubId};
 use plan_code::{Code, Instr};
 use script_front::{ScriptFault, parse};
 use std::alloc::{AllocError, Global};
 
 /// What a statement does.
-#[derive(Clone, Copy, Debug, PartialEq, Eq)]
+#[derive(Clone, Copy)]
 pub(crate) enum ExecutedStatement {
     /// Adds a sub-channel or a packet component.
     Adds(Carrier),
-    /// Drops it.
-    Drops(Carrier),
-    /// Drops a service.
-    DropsService(Sid),
-    /// Drops the component of a service on a carrier.
-    DropsComponent(Sid, Carrier),
+    /// Drops a member, as this edit does.
+    Drops(Edit),
     /// Moves a sub-channel, or gives it another rate.
     Changes(SubId),
 }
 
+impl ExecutedStatement {
+    /// Drops a sub-channel or a packet component.
+    pub(crate) fn drops(carrier: Carrier) -> ExecutedStatement {
+        ExecutedStatement::Drops(match carrier {
+            Carrier::Sub(id) => Edit::DropSub(id),
+            Carrier::Packet(scid) => Edit::DropPacket(scid),
+        })
+    }
+
+    /// Whether an edit does this.
+    pub(crate) fn is_done_by(&self, edit: &Edit) -> bool {
+        match (self, *edit) {
+            (ExecutedStatement::Adds(Carrier::Sub(id)), Edit::AddSub(sub)) => sub.get().id == *id,
+            (ExecutedStatement::Adds(Carrier::Packet(scid)), Edit::AddPacket(packet)) => {
+                packet.scid == *scid
+            }
+            (ExecutedStatement::Drops(drop), edit) => *drop == edit,
+            (ExecutedStatement::Changes(of), Edit::MoveSub { id, .. } | Edit::RateSub { id, .. }) =>
+                { id == *of }
+            _ => false,
+        }
+    }
+
+    /// The words of the statements that do this, where `_` stands for any: of one kind, or of two.
+    fn patterns(&self, alloc: Global) -> Result<[String; 2], AllocError> {
+        let none = String::new(alloc);
+        match *self {
+            ExecutedStatement::Adds(Carrier::Sub(id)) => {
+                Ok([format!(in alloc; "sub {} at _ eep _ _", id.get())?, none])
+            }
+            ExecutedStatement::Adds(Carrier::Packet(scid)) => {
+                let scid = scid.get();
+                Ok([
+                    format!(in alloc; "packet {scid} _ type _ sub _ address _")?,
+                    none,
+                ])
+            }
+            ExecutedStatement::Drops(drop) => Ok([edit_words(alloc, drop)?, none]),
+            ExecutedStatement::Changes(id) => {
+                let id = id.get();
+                let moves = format!(in alloc; "move sub {id} at _")?;
+                Ok([moves, format!(in alloc; "rate sub {id} _")?])
+            }
+        }
+    }
+}
+
 /// A line that is to blame.
-#[derive(Clone, Copy, Debug, PartialEq, Eq)]
+#[derive(Clone, Copy)]
 pub(crate) struct Blame {
     pub(crate) line: usize,
     /// Whether the refusal is passed without it. Otherwise all that is known is what the line does.
@@ -37,60 +80,6 @@ pub(crate) struct Blame {
 
 /// The most lines that are tried.
 const MOST: u32 = 8;
-
-/// The words of the statements that do something, where `_` stands for any: of one kind, or of two.
-fn patterns_of(alloc: Global, executed: &ExecutedStatement) -> Result<[String; 2], AllocError> {
-    let none = String::new(alloc);
-    match *executed {
-        ExecutedStatement::Adds(Carrier::Sub(id)) => {
-            Ok([format!(in alloc; "sub {} at _ eep _ _", id.get())?, none])
-        }
-        ExecutedStatement::Adds(Carrier::Packet(scid)) => {
-            let scid = scid.get();
-            let groups = format!(in alloc; "packet {scid} groups type _ sub _ address _")?;
-            let raw = format!(in alloc; "packet {scid} raw type _ sub _ address _")?;
-            Ok([groups, raw])
-        }
-        ExecutedStatement::Drops(carrier) => Ok([
-            format!(in alloc; "drop {}", Part::Carrier(carrier))?,
-            none,
-        ]),
-        ExecutedStatement::DropsService(sid) => Ok([
-            edit_words(alloc, Edit::DropService(sid))?,
-            none,
-        ]),
-        ExecutedStatement::DropsComponent(sid, carrier) => {
-            Ok([
-                edit_words(alloc, Edit::DropComponent { sid, carrier })?,
-                none,
-            ])
-        }
-        ExecutedStatement::Changes(id) => {
-            let id = id.get();
-            let moves = format!(in alloc; "move sub {id} at _")?;
-            let rates = format!(in alloc; "rate sub {id} _")?;
-            Ok([moves, rates])
-        }
-    }
-}
-
-/// The last statement of one of two patterns before a token.
-fn last_of(
-    trier: &Trier,
-    patterns: &[String; 2],
-    before: usize,
-) -> Result<Option<Spot>, AllocError> {
-    let [one, other] = patterns;
-    let first = Source::new(trier.alloc, one.as_str())?;
-    let second = Source::new(trier.alloc, other.as_str())?;
-    let here = trier.source.last_before(before, &first);
-    let there = trier.source.last_before(before, &second);
-    match (here, there) {
-        (Some(a), Some(b)) if a.index < b.index => Ok(Some(b)),
-        (None, _) => Ok(there),
-        _ => Ok(here),
-    }
-}
 
 /// Where the same statement is refused with other words in the place of these tokens, and what is
 /// known there; none if it is not.
@@ -109,27 +98,12 @@ fn stop_with(
         Err(ScriptFault::Memory) => return Err(AllocError),
         Err(_fault) => None,
     };
-    Ok(there.filter(|there| is_same_statement(stop, there)))
-}
-
-/// Whether two refusals are of one statement.
-fn is_same_statement(one: &Stop, other: &Stop) -> bool {
-    if one.line != other.line {
-        return false;
-    }
-    match (&one.refused, &other.refused) {
-        (Refused::Instr(a, _), Refused::Instr(b, _)) => *a == *b,
+    Ok(there.filter(|there| match (stop.refused, there.refused) {
+        _ if stop.line != there.line => false,
+        (Refused::Instr(a, _), Refused::Instr(b, _)) => a == b,
         (Refused::Opening(_), Refused::Opening(_)) => true,
         _ => false,
-    }
-}
-
-/// Whether without these tokens the same statement is refused for another cause.
-fn has_other_cause(trier: &Trier, stop: &Stop, spot: &Spot) -> Result<bool, AllocError> {
-    match stop_with(trier, stop, spot, "")? {
-        Some(there) => Ok(cause_of(there.refused) != cause_of(stop.refused)),
-        None => Ok(false),
-    }
+    }))
 }
 
 /// Another protection profile, of the same set, than this one: the one that takes least, if it is
@@ -174,25 +148,33 @@ fn is_due(
         (Some(Verdict::Other), ExecutedStatement::Adds(Carrier::Sub(id))) => {
             is_added_by(trier, stop, *id, spot)
         }
-        (Some(Verdict::Other), _) => has_other_cause(trier, stop, spot),
+        (Some(Verdict::Other), _) => {
+            let there = stop_with(trier, stop, spot, "")?;
+            Ok(there.is_some_and(|there| cause_of(there.refused) != cause_of(stop.refused)))
+        }
         _ => Ok(false),
     }
 }
 
-/// The line before a token that is to blame for a refusal by what it does: the last one for which
-/// this is found. Or else the last one without which the text is refused otherwise, of which
+/// The line before the refused one that is to blame by what it does: the last one for which this is
+/// found. Or else the last one without which the text is refused otherwise, or of a code, of which
 /// nothing is known but what it does.
 pub(crate) fn blamed_line(
     trier: &Trier,
     stop: &Stop,
-    before: usize,
     executed: &ExecutedStatement,
 ) -> Result<Option<Blame>, AllocError> {
-    let patterns = patterns_of(trier.alloc, executed)?;
-    let mut before = before;
+    if let Some((code, pc)) = trier.code {
+        return Ok(last_in(code, pc, executed));
+    }
+    let patterns = executed.patterns(trier.alloc)?;
+    let [one, two] = &patterns;
+    let first = Source::new(trier.alloc, one.as_str())?;
+    let words = [first, Source::new(trier.alloc, two.as_str())?];
+    let mut before = trier.before;
     let mut other = None;
     for _line in 0..MOST {
-        let Some(spot) = last_of(trier, &patterns, before)? else {
+        let Some(spot) = trier.source.last_before(before, &words) else {
             return Ok(other);
         };
         let verdict = trier.without(&spot)?;
@@ -222,21 +204,15 @@ fn is_pending_by(trier: &Trier, stop: &Stop, spot: &Spot) -> Result<bool, AllocE
         source.number_after("notice")
     };
     let words = format!(in trier.alloc; "commit in {delay}")?;
-    match stop_with(trier, stop, spot, words.as_str())? {
-        Some(there) => Ok(there.here.pending != stop.here.pending),
-        None => Ok(false),
-    }
+    let there = stop_with(trier, stop, spot, words.as_str())?;
+    Ok(there.is_some_and(|there| there.here.pending != stop.here.pending))
 }
 
-/// The line of the commit before a token by which a swap is or may be pending where a plan is
-/// refused; none if it is not found, or there are several.
-pub(crate) fn commit_of(
-    trier: &Trier,
-    before: usize,
-    stop: &Stop,
-) -> Result<Option<usize>, AllocError> {
-    let commit = Source::new(trier.alloc, "commit _ _")?;
-    let mut before = before;
+/// The line of the commit by which a swap is or may be pending where a plan is refused; none if it
+/// is not found, or there are several.
+pub(crate) fn commit_of(trier: &Trier, stop: &Stop) -> Result<Option<usize>, AllocError> {
+    let commit = [Source::new(trier.alloc, "commit _ _")?];
+    let mut before = trier.before;
     let mut found = None;
     for _line in 0..MOST {
         let Some(spot) = trier.source.last_before(before, &commit) else {
@@ -253,31 +229,13 @@ pub(crate) fn commit_of(
     Ok(found)
 }
 
-/// Whether an instruction does something.
-fn does(instr: &Instr, executed: &ExecutedStatement) -> bool {
-    let Instr::Edit(edit) = instr else {
-        return false;
-    };
-    let done = match *edit {
-        Edit::AddSub(sub) => ExecutedStatement::Adds(Carrier::Sub(sub.get().id)),
-        Edit::AddPacket(packet) => ExecutedStatement::Adds(Carrier::Packet(packet.scid)),
-        Edit::DropSub(id) => ExecutedStatement::Drops(Carrier::Sub(id)),
-        Edit::DropPacket(scid) => ExecutedStatement::Drops(Carrier::Packet(scid)),
-        Edit::DropService(sid) => ExecutedStatement::DropsService(sid),
-        Edit::DropComponent { sid, carrier } => ExecutedStatement::DropsComponent(sid, carrier),
-        Edit::MoveSub { id, .. } | Edit::RateSub { id, .. } => ExecutedStatement::Changes(id),
-        Edit::AddService(_) | Edit::AddComponent { .. } => return false,
-    };
-    done == *executed
-}
-
 /// The line of the last instruction before a pc that does something.
-pub(crate) fn last_in(code: &Code, pc: u16, executed: &ExecutedStatement) -> Option<Blame> {
+fn last_in(code: &Code, pc: u16, executed: &ExecutedStatement) -> Option<Blame> {
     let before = code.lines().get(..usize::from(pc))?;
-    let line = before
-        .iter()
-        .rev()
-        .find(|line| does(&line.instr, executed))?;
+    let line = before.iter().rev().find(|line| match &line.instr {
+        Instr::Edit(edit) => executed.is_done_by(edit),
+        _ => false,
+    })?;
     Some(Blame {
         line: usize::from(line.number),
         is_tried: false,

@@ -1,300 +1,212 @@
 //! Explains why a code is refused, by what is known at the instruction.
 
-use crate::edits::Place;
 use crate::facts::facts_of;
-use crate::hint::{hint_on_instr, hint_on_opening};
+use crate::hint::explain_known;
 use crate::list::push_owned;
 use crate::note::Note;
-use crate::reach::{Reach, declared_at, flow_of};
-use crate::sentence::{Case, Search, put_instr, put_opening};
+use crate::reach::{Reach, declared_at};
 use crate::stop::{Refused, Stop, copied};
 use crate::trial::Refusal;
 use crate::trier::Trier;
-use crate::words::{Sides, put_fact};
-use plan_code::{Code, CounterId, Counters, Instr};
+use crate::words::put_fact;
+use mux_config::Config;
+use plan_code::{Code, CounterId, Instr, Label};
 use plan_verifier::flow::{is_idle, is_same};
 use plan_verifier::properties::target_of;
-use plan_verifier::{Cause, test_opening};
+use plan_verifier::{Cause, Flow, test_opening};
 use std::alloc::Global;
 use std::io::{self, Write};
 
-/// The target of the instruction at this pc, if it jumps.
-fn target_at(code: &Code, pc: u16) -> Option<u16> {
-    match code.instr(pc) {
-        Some(instr) => target_of(instr),
-        None => None,
-    }
+/// An instruction at which a code is refused, and what is known there.
+#[derive(Drop)]
+struct Place<'a> {
+    alloc: Global,
+    code: &'a Code,
+    pc: u16,
+    reach: Reach,
 }
 
-/// Explains an instruction that jumps to a pc without a label.
-fn explain_target<W: Write>(code: &Code, pc: u16, out: &mut W) -> io::Result<()> {
-    match target_at(code, pc) {
-        Some(target) => write!(
-            out,
-            "instruction {pc} jumps to {target}, which has no label"
-        ),
-        None => write!(out, "the target of instruction {pc} has no label"),
+impl Place<'_> {
+    /// The target of the instruction, if it jumps.
+    fn target(&self) -> Option<u16> {
+        self.code.instr(self.pc).and_then(|instr| target_of(instr))
     }
-}
 
-/// Explains a missing label at an instruction that needs one.
-fn explain_table<W: Write>(code: &Code, pc: u16, out: &mut W) -> io::Result<()> {
-    if pc == 0 {
-        return out.write_all(b"instruction 0, where a code begins, has no label");
+    /// A refusal there, with what is known on another path.
+    fn stop(&self, refused: Refused, other: &Flow<Config>) -> Stop {
+        Stop {
+            line: 0,
+            refused,
+            in_opening: false,
+            plan: self.code.plan(),
+            here: copied(&self.reach.flow),
+            other: copied(other),
+        }
     }
-    let before = pc - 1;
-    match code.line_at(before) {
-        Some(line) => write!(
+
+    /// Explains a missing label at an instruction that needs one.
+    fn explain_table(&self, out: &mut Vec<u8>) -> io::Result<()> {
+        let pc = self.pc;
+        let Some(before) = pc.checked_sub(1) else {
+            return out.write_all(b"instruction 0, where a code begins, has no label");
+        };
+        let line = self.code.line_at(before).unwrap_or(0);
+        write!(
             out,
             "instruction {pc} can't be reached: instruction {before}, of line {line}, does not \
              continue to it, and it has no label"
-        ),
-        None => write!(out, "instruction {pc} has no label, and needs one"),
+        )
     }
-}
 
-/// Explains a loop on a counter that may not be set.
-fn explain_counter<W: Write>(pc: u16, instr: &Instr, out: &mut W) -> io::Result<()> {
-    match instr {
-        Instr::Loop { counter, .. } => write!(
-            out,
-            "instruction {pc} loops on counter {}, which may not be set here",
-            counter.get()
-        ),
-        _ => write!(
-            out,
-            "instruction {pc} loops on a counter that may not be set"
-        ),
+    /// Whether what is known does not match the label there, if there is one.
+    fn is_unfit(&self) -> bool {
+        let Some((label, flow)) = declared_at(self.code, self.pc) else {
+            return false;
+        };
+        !self.reach.counters.includes(label.counters)
+            || !self
+                .reach
+                .flow
+                .fits(&flow.current, &flow.next, flow.pending)
     }
-}
 
-/// The first counter in one set that is missing in the other.
-fn counter_missing(counters: Counters, declared: Counters) -> Option<u8> {
-    (0u8..8).find(|id| match CounterId::new(*id) {
-        Some(counter) => declared.has(counter) && !counters.has(counter),
-        None => false,
-    })
-}
+    /// Whether the code can't begin with what its first label declares, whatever its configuration.
+    fn has_no_beginning(&self) -> bool {
+        let Some((label, flow)) = declared_at(self.code, 0) else {
+            return false;
+        };
+        !is_idle(label.pending) || label.counters.0 != 0 || !is_same(&flow.current, &flow.next)
+    }
 
-/// Whether what is known does not match the label at an instruction, if it has one.
-fn is_unfit(code: &Code, reach: &Reach, pc: u16) -> bool {
-    let Some(label) = code.label_at(pc) else {
-        return false;
-    };
-    if !reach.counters.includes(label.counters) {
-        return true;
-    }
-    match flow_of(code, label) {
-        Some(flow) => !reach.flow.fits(&flow.current, &flow.next, flow.pending),
-        None => false,
-    }
-}
-
-/// Explains what does not match the label at an instruction.
-fn explain_unfit(
-    alloc: Global,
-    code: &Code,
-    reach: &Reach,
-    pc: u16,
-    note: &mut Note,
-) -> io::Result<()> {
-    write!(&mut note.text, "at the label of instruction {pc}: ")?;
-    let Some((label, declared)) = declared_at(code, pc) else {
-        return note.text.write_all(b"what is known does not fit it");
-    };
-    if let Some(counter) = counter_missing(reach.counters, label.counters) {
-        return write!(
-            &mut note.text,
-            "the label declares that counter {counter} is set, and it may not be"
-        );
-    }
-    let stop = Stop {
-        line: 0,
-        refused: Refused::Loop,
-        in_opening: false,
-        plan: code.plan(),
-        here: copied(&reach.flow),
-        other: declared,
-    };
-    let sides = Sides {
-        here: " as it is known",
-        there: " as the label declares",
-    };
-    note.text
-        .write_all(b"what is known does not fit the label: ")?;
-    let facts = facts_of(alloc, &stop)?;
-    match facts.as_slice().first() {
-        Some(fact) => put_fact(fact, &stop, &sides, &mut note.text),
-        None => Ok(()),
-    }
-}
-
-/// Whether a code can't begin with what its first label declares, whatever its configuration.
-fn has_no_beginning(code: &Code, pc: u16) -> bool {
-    let Some(label) = code.label_at(pc) else {
-        return false;
-    };
-    if pc > 0 || !is_idle(label.pending) || label.counters.0 != 0 {
-        return pc == 0;
-    }
-    match flow_of(code, label) {
-        Some(flow) => !is_same(&flow.current, &flow.next),
-        None => false,
-    }
-}
-
-/// Explains the difference between what is known and what a label declares: the first label of the
-/// code, the one at the instruction, or the one at its jump target.
-fn explain_mismatch(
-    alloc: Global,
-    code: &Code,
-    reach: &mut Reach,
-    pc: u16,
-    note: &mut Note,
-) -> io::Result<()> {
-    if has_no_beginning(code, pc) {
-        return note.text.write_all(
-            b"the first label has to declare one configuration, both current and next, no pending \
-             swap and no counter",
-        );
-    }
-    if reach.comes && is_unfit(code, reach, pc) {
-        return explain_unfit(alloc, code, reach, pc, note);
-    }
-    reach.enter(code, pc);
-    match target_at(code, pc) {
-        Some(target) => explain_unfit(alloc, code, reach, target, note),
-        None => note.text.write_all(b"what is known does not fit the label"),
-    }
-}
-
-/// The cost of the label at an instruction, if it has one.
-fn cost_at(code: &Code, pc: u16) -> Option<u8> {
-    Some(code.label_at(pc)?.cost)
-}
-
-/// Explains a label whose cost is more than the remaining allowance.
-fn explain_allowance<W: Write>(
-    reach: &Reach,
-    pc: u16,
-    left: u8,
-    cost: u8,
-    out: &mut W,
-) -> io::Result<()> {
-    let source = reach.source();
-    write!(
-        out,
-        "the label of instruction {pc} declares that {cost} instructions may run from there in one \
-         frame; {left} may still run, {source}"
-    )
-}
-
-/// Explains a cost over the budget, or over the allowance of the label before.
-fn explain_cost<W: Write>(code: &Code, reach: &mut Reach, pc: u16, out: &mut W) -> io::Result<()> {
-    let budget = code.plan().budget;
-    if let Some(cost) = cost_at(code, pc) {
-        if reach.comes && reach.left < cost {
-            return explain_allowance(reach, pc, reach.left, cost, out);
-        }
-        if budget < cost {
+    /// Explains what does not match the label at a pc.
+    fn explain_unfit(&self, pc: u16, out: &mut Vec<u8>) -> io::Result<()> {
+        write!(out, "at the label of instruction {pc}: ")?;
+        let Some((label, declared)) = declared_at(self.code, pc) else {
+            return Ok(());
+        };
+        let counters = self.reach.counters;
+        let mut all = (0u8..8).filter_map(|id| CounterId::new(id));
+        if let Some(counter) = all.find(|id| label.counters.has(*id) && !counters.has(*id)) {
             return write!(
                 out,
-                "the label of instruction {pc} declares that {cost} instructions may run from \
-                 there in one frame; the budget is {budget}"
+                "the label declares that counter {} is set, and it may not be",
+                counter.get()
             );
         }
-    }
-    reach.enter(code, pc);
-    if let Some(left) = reach.left.checked_sub(1) {
-        if let Some(target) = target_at(code, pc) {
-            if let Some(cost) = cost_at(code, target) {
-                return explain_allowance(reach, target, left, cost, out);
-            }
+        let stop = self.stop(Refused::Loop, &declared);
+        let facts = facts_of(self.alloc, &stop)?;
+        out.write_all(b"what is known does not fit the label: ")?;
+        let sides = [" as it is known", " as the label declares"];
+        match facts.first() {
+            Some(fact) => put_fact(fact, &stop, sides, out),
+            None => Ok(()),
         }
     }
-    let source = reach.source();
-    write!(
-        out,
-        "no more instructions may run in this frame before instruction {pc}, {source}; the budget \
-         is {budget}"
-    )
-}
 
-/// Explains a cause by what is known at the instruction.
-fn explain_known(
-    alloc: Global,
-    code: &Code,
-    reach: &Reach,
-    pc: u16,
-    instr: &Instr,
-    cause: &Cause,
-    note: &mut Note,
-) -> io::Result<()> {
-    let plan = code.plan();
-    let is_opening = pc == 0 && test_opening(&plan, &reach.flow.current).is_err();
-    let refused = if is_opening {
-        Refused::Opening(*cause)
-    } else {
-        Refused::Instr(*instr, *cause)
-    };
-    let stop = Stop {
-        line: 0,
-        refused,
-        in_opening: is_opening,
-        plan,
-        here: copied(&reach.flow),
-        other: copied(&reach.flow),
-    };
-    let refusal = Refusal::Plan {
-        line: 0,
-        cause: *cause,
-        is_defined: false,
-    };
-    let mut trier = Trier::new(alloc, "", refusal)?;
-    if is_opening && *cause == Cause::Round {
-        put_opening(&stop, &mut note.text)?;
-        return hint_on_opening(&mut trier, &stop, &mut note.hint);
+    /// Explains the difference between what is known and what a label declares: the first label of
+    /// the code, the one at the instruction, or the one at its jump target.
+    fn explain_mismatch(&mut self, out: &mut Vec<u8>) -> io::Result<()> {
+        if self.pc == 0 && self.has_no_beginning() {
+            return out.write_all(
+                b"the first label has to declare one configuration, both current and next, no \
+                 pending swap and no counter",
+            );
+        }
+        if self.reach.comes && self.is_unfit() {
+            return self.explain_unfit(self.pc, out);
+        }
+        self.reach.enter(self.code, self.pc);
+        self.explain_unfit(self.target().unwrap_or(self.pc), out)
     }
-    let facts = facts_of(alloc, &stop)?;
-    let case = Case {
-        stop: &stop,
-        instr,
-        cause,
-        facts: facts.as_slice(),
-        commit: None,
-    };
-    put_instr(&case, &Search::Code(code, pc), &mut note.text)?;
-    let place = Place {
-        spot: None,
-        before: 0,
-        config: &stop.here.next,
-    };
-    hint_on_instr(&mut trier, place, &case, &mut note.hint)
-}
 
-/// Explains a cause at an instruction of a code.
-fn explain_at(
-    alloc: Global,
-    code: &Code,
-    pc: u16,
-    instr: &Instr,
-    cause: &Cause,
-    note: &mut Note,
-) -> io::Result<()> {
-    let mut reach = Reach::at(code, pc);
-    match cause {
-        Cause::Mismatch => explain_mismatch(alloc, code, &mut reach, pc, note),
-        Cause::Cost => explain_cost(code, &mut reach, pc, &mut note.text),
-        Cause::Target => explain_target(code, pc, &mut note.text),
-        Cause::Table => explain_table(code, pc, &mut note.text),
-        Cause::CounterUnset => explain_counter(pc, instr, &mut note.text),
-        Cause::FallsOff => write!(
-            &mut note.text,
-            "the last instruction, {pc}, continues to one that is not there"
-        ),
-        _ => {
-            reach.enter(code, pc);
-            explain_known(alloc, code, &reach, pc, instr, cause, note)
+    /// Explains a label whose cost is more than what may still run.
+    fn explain_allowance(&self, label: &Label, left: u8, out: &mut Vec<u8>) -> io::Result<()> {
+        let (pc, cost, source) = (label.pc, label.cost, self.reach.source());
+        write!(
+            out,
+            "the label of instruction {pc} declares that {cost} instructions may run from there in \
+             one frame; {left} may still run, {source}"
+        )
+    }
+
+    /// Explains a cost over the budget, or over the allowance of the label before.
+    fn explain_cost(&mut self, out: &mut Vec<u8>) -> io::Result<()> {
+        let (pc, budget) = (self.pc, self.code.plan().budget);
+        if let Some(label) = self.code.label_at(pc) {
+            let cost = label.cost;
+            if self.reach.comes && self.reach.left < cost {
+                return self.explain_allowance(&label, self.reach.left, out);
+            }
+            if budget < cost {
+                return write!(
+                    out,
+                    "the label of instruction {pc} declares that {cost} instructions may run from \
+                     there in one frame; the budget is {budget}"
+                );
+            }
+        }
+        self.reach.enter(self.code, pc);
+        let target = self.target().and_then(|target| self.code.label_at(target));
+        if let (Some(left), Some(label)) = (self.reach.left.checked_sub(1), target) {
+            return self.explain_allowance(&label, left, out);
+        }
+        let source = self.reach.source();
+        write!(
+            out,
+            "no more instructions may run in this frame before instruction {pc}, {source}; the \
+             budget is {budget}"
+        )
+    }
+
+    /// Explains a cause by what is known at the instruction: in the first one it may be that of the
+    /// configuration with which the code begins.
+    fn explain_known(&self, instr: Instr, cause: Cause, note: &mut Note) -> io::Result<()> {
+        let (plan, flow) = (self.code.plan(), &self.reach.flow);
+        let refused = if self.pc == 0 && test_opening(&plan, &flow.current).is_err() {
+            Refused::Opening(cause)
+        } else {
+            Refused::Instr(instr, cause)
+        };
+        let stop = self.stop(refused, flow);
+        let refusal = Refusal::Plan {
+            line: 0,
+            cause,
+            is_defined: false,
+        };
+        let mut trier = Trier::new(self.alloc, "", refusal)?;
+        trier.code = Some((self.code, self.pc));
+        let facts = facts_of(self.alloc, &stop)?;
+        explain_known(&mut trier, &stop, facts.as_slice(), note)?;
+        trier.put_hint(note)
+    }
+
+    /// Explains a cause at the instruction.
+    fn explain(&mut self, instr: Instr, cause: Cause, note: &mut Note) -> io::Result<()> {
+        let (pc, out) = (self.pc, &mut note.text);
+        match (cause, instr) {
+            (Cause::Mismatch, _) => self.explain_mismatch(out),
+            (Cause::Cost, _) => self.explain_cost(out),
+            (Cause::Table, _) => self.explain_table(out),
+            (Cause::Target, _) => {
+                let target = target_of(instr).unwrap_or(pc);
+                write!(
+                    out,
+                    "instruction {pc} jumps to {target}, which has no label"
+                )
+            }
+            (Cause::CounterUnset, Instr::Loop { counter, .. }) => write!(
+                out,
+                "instruction {pc} loops on counter {}, which may not be set here",
+                counter.get()
+            ),
+            (Cause::FallsOff, _) => write!(
+                out,
+                "the last instruction, {pc}, continues to one that is not there"
+            ),
+            _ => {
+                self.reach.enter(self.code, pc);
+                self.explain_known(instr, cause, note)
+            }
         }
     }
 }
@@ -307,8 +219,14 @@ fn explain_at(
 /// `OutOfMemory`.
 pub fn notes_on_code(alloc: Global, code: &Code, pc: u16, cause: Cause) -> io::Result<Vec<Note>> {
     let mut note = Note::on_line(alloc, code.line_at(pc).unwrap_or(0));
+    let mut place = Place {
+        alloc,
+        code,
+        pc,
+        reach: Reach::at(code, pc),
+    };
     match code.instr(pc) {
-        Some(instr) => explain_at(alloc, code, pc, &instr, &cause, &mut note)?,
+        Some(instr) => place.explain(instr, cause, &mut note)?,
         None => write!(
             &mut note.text,
             "a label is at {pc}, past the last instruction"

@@ -5,6 +5,7 @@ ghost use Rattle.script_compiler.specs.Compiled.{placed_instrs, lines_of_placed}
 ghost use Rattle.script_compiler.specs.FrameCosts.{IsFrameCost};
 
 use crate::note::Note;
+use crate::source::Source;
 use crate::trier::Trier;
 use script_compiler::{CompileFault, FrameCost, LongestPath, frame_cost};
 use script_front::Script;
@@ -43,12 +44,11 @@ fn explain_path(
         "the longest path runs {instructions} instructions in one frame, from line {first} to line \
          {last}; the budget is {budget}"
     )?;
-    let old = format!(in trier.alloc; "budget {budget}")?;
     let new = format!(in trier.alloc; "budget {instructions}")?;
-    let spot = trier.header_spot("budget", old.as_str())?;
-    trier.write(spot, new.as_str())?;
+    let spot = trier.header_spot("budget", budget)?;
+    trier.write_at(spot, new.as_str())?;
     write!(
-        &mut note.hint,
+        &mut trier.advice,
         "a budget of {instructions}, or a 'wait 1' between line {first} and line {last}"
     )
 }
@@ -63,7 +63,7 @@ fn explain_repeated(trier: &mut Trier, first: u16, note: &mut Note) -> io::Resul
              instructions in one frame have no bound"
         )?;
         return write!(
-            &mut note.hint,
+            &mut trier.advice,
             "a 'wait 1' on each path through the loops that begin in line {first}"
         );
     };
@@ -81,11 +81,13 @@ fn explain_repeated(trier: &mut Trier, first: u16, note: &mut Note) -> io::Resul
              instructions in one frame have no bound"
         )?;
     }
-    trier.put(Some(braces.last), "wait 1")?;
-    let spot = trier.after_open(&braces.first);
-    trier.put(spot, "wait 1")?;
+    trier.put_at(Some(braces.last), "wait 1")?;
+    let brace = Source::new(trier.alloc, "{")?;
+    let open = trier.source.first_after(braces.first.index, &brace);
+    let spot = open.and_then(|open| trier.source.spot(open.index.saturating_add(1), 1));
+    trier.put_at(spot, "wait 1")?;
     write!(
-        &mut note.hint,
+        &mut trier.advice,
         "a 'wait 1' in lines {first} to {last}, on each path through the loop"
     )
 }
@@ -103,7 +105,7 @@ pub(crate) fn explain_cost(trier: &mut Trier, script: &Script, note: &mut Note) 
                  budget allows; the budget is {budget}"
             )?;
             write!(
-                &mut note.hint,
+                &mut trier.advice,
                 "a 'wait 1' among the statements from line {line} on"
             )
         }

@@ -106,11 +106,8 @@ pub(crate) fn has_other_swap(known: Swap, declared: Swap) -> bool
 /// these before packet components.
 pub(crate) fn first_differing(a: &Config, b: &Config) -> Option<Difference> {
     let is_other = |one: &Difference| differs(a, b, *one);
-    let subs = a
-        .subs()
-        .iter()
-        .chain(b.subs().iter())
-        .map(|sub| Difference::Sub(sub.id));
+    let subs = a.subs().iter().chain(b.subs().iter());
+    let subs = subs.map(|sub| Difference::Sub(sub.id));
     let services = a.services().iter().chain(b.services().iter());
     let services = services.map(|service| Difference::Service(service.sid));
     let packets = a.packets().iter().chain(b.packets().iter());

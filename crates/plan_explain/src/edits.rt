@@ -2,192 +2,127 @@
 //! where none of them helps.
 
 use crate::fact::{Fact, is_missing};
-use crate::room::{
-    edited_sub, free_address, free_id, has_room, latest_start, most_rate, near_rates, rate_step,
-    room_for,
-};
-use crate::source::Spot;
+use crate::room::{edited_sub, free_address, has_room, most_rate, near_rates, rate_step, room_for};
 use crate::trier::Trier;
 use crate::words::{Digits, Part, edit_words};
-use mux_config::{Carrier, Component, Config, Edit, EditFault, Packet, Sid, Store, Sub};
-use mux_eep::{EepFault, size_of};
-use script_front::Position;
+use mux_config::{Carrier, Component, Config, Edit, EditFault, Packet, Sid, Store, Sub, SubId};
+use mux_eep::{CAPACITY_UNITS, EepFault, size_of};
 use std::alloc::AllocError;
 use std::io::{self, Write};
 
-/// A refused statement, if its words stand once in its line; the token before which earlier ones
-/// are looked for; and the configuration that corrections look at.
-#[derive(Clone, Copy)]
-pub(crate) struct Place<'a> {
-    pub(crate) spot: Option<Spot>,
-    pub(crate) before: usize,
-    pub(crate) config: &'a Config,
-}
-
-impl<'a> Place<'a> {
-    /// That of these words in a line.
-    pub(crate) fn of(
-        trier: &Trier,
-        line: u16,
-        words: &str,
-        config: &'a Config,
-    ) -> Result<Place<'a>, AllocError> {
-        let line = usize::from(line);
-        let spot = trier.spot_of(line, words)?;
-        let before = match spot {
-            Some(spot) => spot.index,
-            None => trier.source.count_before(Position {
-                line: line.saturating_add(1),
-                column: 1,
-            }),
-        };
-        Ok(Place {
-            spot,
-            before,
-            config,
-        })
-    }
-}
-
 /// Tries an edit before the refused statement.
-fn put_edit(trier: &mut Trier, place: Place, edit: Edit) -> Result<(), AllocError> {
+fn put_edit(trier: &mut Trier, edit: Edit) -> Result<(), AllocError> {
     let words = edit_words(trier.alloc, edit)?;
-    trier.put(place.spot, words.as_str())
+    trier.put(words.as_str())
+}
+
+/// Tries to move a sub-channel to its start before the refused statement.
+fn put_move(trier: &mut Trier, sub: &Sub) -> Result<(), AllocError> {
+    let words = format!(in trier.alloc; "move sub {} at {}", sub.id.get(), sub.start)?;
+    trier.put(words.as_str())
 }
 
 /// Tries the same edit so that the sub-channel is this one.
-fn write_sub(trier: &mut Trier, place: Place, edit: &Edit, sub: &Sub) -> Result<(), AllocError> {
+fn write_sub(trier: &mut Trier, edit: &Edit, sub: &Sub) -> Result<(), AllocError> {
     let (id, start, kbits) = (sub.id.get(), sub.start, sub.kbits);
     let words = match edit {
         Edit::MoveSub { .. } => format!(in trier.alloc; "move sub {id} at {start}")?,
         Edit::RateSub { .. } => format!(in trier.alloc; "rate sub {id} {kbits}")?,
         _ => format!(in trier.alloc; "{}", Part::Sub(*sub))?,
     };
-    trier.write(place.spot, words.as_str())
-}
-
-/// Tries to leave out an edit before the refused statement.
-fn leave_out_before(trier: &mut Trier, place: Place, edit: Edit) -> Result<(), AllocError> {
-    let words = edit_words(trier.alloc, edit)?;
-    let spot = trier.last_spot(place.before, words.as_str())?;
-    trier.leave_out(spot)
+    trier.write(words.as_str())
 }
 
 /// Tries other words in the place of some before the refused statement.
-fn write_before(trier: &mut Trier, place: Place, old: Part, new: Part) -> Result<(), AllocError> {
+fn write_before(trier: &mut Trier, old: Part, new: &str) -> Result<(), AllocError> {
     let old = format!(in trier.alloc; "{old}")?;
-    let new = format!(in trier.alloc; "{new}")?;
-    let spot = trier.last_spot(place.before, old.as_str())?;
-    trier.write(spot, new.as_str())
+    let spot = trier.last_spot(old.as_str())?;
+    trier.write_at(spot, new)
+}
+
+/// Tries to leave out an edit before the refused statement.
+fn leave_out_before(trier: &mut Trier, edit: Edit) -> Result<(), AllocError> {
+    let words = edit_words(trier.alloc, edit)?;
+    let spot = trier.last_spot(words.as_str())?;
+    trier.write_at(spot, "")
 }
 
 /// The component of a service on a carrier, if it has one.
 fn component_on(config: &Config, sid: Sid, carrier: Carrier) -> Option<Component> {
-    let components = config.service(sid)?.components.as_slice();
-    components
-        .iter()
-        .copied()
-        .find(|component| component.carrier() == carrier)
-}
-
-/// Whether a service has a component whose carrier is there.
-fn has_component_there(config: &Config, sid: Sid) -> bool {
-    match config.service(sid) {
-        Some(service) => {
-            let mut components = service.components.as_slice().iter();
-            components.any(|component| !is_missing(config, component.carrier()))
-        }
-        None => false,
-    }
-}
-
-/// Corrections of an addition of a sub-channel that is there.
-fn try_used_sub(trier: &mut Trier, place: Place, edit: &Edit, sub: &Sub) -> Result<(), AllocError> {
-    if place.config.sub(sub.id) == Some(*sub) {
-        trier.leave_out(place.spot)?;
-    }
-    put_edit(trier, place, Edit::DropSub(sub.id))?;
-    match free_id(place.config) {
-        Some(id) => write_sub(trier, place, edit, &Sub { id, ..*sub }),
-        None => Ok(()),
-    }
+    let mut components = config.service(sid)?.components.as_slice().iter().copied();
+    components.find(|component| component.carrier() == carrier)
 }
 
 /// The hint on an addition of what is there.
-fn hint_on_used(trier: &mut Trier, place: Place, edit: &Edit, out: &mut Vec<u8>) -> io::Result<()> {
-    let config = place.config;
-    let advice = match edit {
+fn hint_on_used(trier: &mut Trier, config: &Config, edit: &Edit) -> io::Result<()> {
+    let advice = match *edit {
         Edit::AddSub(sub) => {
-            try_used_sub(trier, place, edit, &sub.get())?;
+            let sub = sub.get();
+            if config.sub(sub.id) == Some(sub) {
+                trier.leave_out()?;
+            }
+            put_edit(trier, Edit::DropSub(sub.id))?;
+            let mut ids = (0u8..64).filter_map(|number| SubId::new(number));
+            if let Some(id) = ids.find(|id| config.sub(*id).is_none()) {
+                write_sub(trier, edit, &Sub { id, ..sub })?;
+            }
             "'drop' it first, or take another number"
         }
         Edit::AddPacket(packet) => {
-            put_edit(trier, place, Edit::DropPacket(packet.scid))?;
+            put_edit(trier, Edit::DropPacket(packet.scid))?;
             "'drop' it first, or take another number"
         }
         Edit::AddService(_) => {
-            trier.leave_out(place.spot)?;
+            trier.leave_out()?;
             "'drop service' first, or take another SId"
         }
         Edit::AddComponent { sid, component } => {
-            if component_on(config, *sid, component.carrier()) == Some(*component) {
-                trier.leave_out(place.spot)?;
+            let carrier = component.carrier();
+            if component_on(config, sid, carrier) == Some(component) {
+                trier.leave_out()?;
             }
-            let (sid, carrier) = (*sid, component.carrier());
-            put_edit(trier, place, Edit::DropComponent { sid, carrier })?;
+            put_edit(trier, Edit::DropComponent { sid, carrier })?;
             "'drop component' first, or name another sub-channel or packet component"
         }
         _ => "",
     };
-    out.write_all(advice.as_bytes())
-}
-
-/// Tries the same edit of the only sub-channel, if there is only one.
-fn try_only_sub(trier: &mut Trier, place: Place, edit: &Edit) -> Result<(), AllocError> {
-    let [only] = place.config.subs() else {
-        return Ok(());
-    };
-    let meant = match edit {
-        Edit::MoveSub { start, .. } => Sub {
-            start: start.get(),
-            ..*only
-        },
-        Edit::RateSub { kbits, .. } => Sub {
-            kbits: *kbits,
-            ..*only
-        },
-        _ => *only,
-    };
-    write_sub(trier, place, edit, &meant)
+    trier.advice.write_all(advice.as_bytes())
 }
 
 /// The hint on an edit of what is not there.
-fn hint_on_absent(
-    trier: &mut Trier,
-    place: Place,
-    edit: &Edit,
-    out: &mut Vec<u8>,
-) -> io::Result<()> {
+fn hint_on_absent(trier: &mut Trier, config: &Config, edit: &Edit) -> io::Result<()> {
     match edit {
-        Edit::DropSub(_) | Edit::DropService(_) | Edit::DropPacket(_) => {
-            trier.leave_out(place.spot)?
-        }
+        Edit::DropSub(_) | Edit::DropService(_) | Edit::DropPacket(_) => trier.leave_out()?,
         Edit::DropComponent { sid, .. } => {
-            trier.leave_out(place.spot)?;
-            match place.config.service(*sid) {
-                Some(service) if service.components.len() == 0 => {
-                    out.write_all(b"there is no component in it")?
-                }
-                Some(_) => out.write_all(b"name one that it has")?,
-                None => {}
+            trier.leave_out()?;
+            let advice = match config.service(*sid) {
+                Some(service) if service.components.len() == 0 => "there is no component in it",
+                Some(_) => "name one that it has",
+                None => "",
+            };
+            trier.advice.write_all(advice.as_bytes())?;
+        }
+        Edit::MoveSub { .. } | Edit::RateSub { .. } => {
+            if let [only] = config.subs() {
+                let meant = match edit {
+                    Edit::MoveSub { start, .. } => Sub {
+                        start: start.get(),
+                        ..*only
+                    },
+                    Edit::RateSub { kbits, .. } => Sub {
+                        kbits: *kbits,
+                        ..*only
+                    },
+                    _ => *only,
+                };
+                write_sub(trier, edit, &meant)?;
             }
         }
-        Edit::MoveSub { .. } | Edit::RateSub { .. } => try_only_sub(trier, place, edit)?,
         Edit::AddComponent { sid, .. } => {
             let service = edit_words(trier.alloc, Edit::AddService(*sid))?;
-            trier.move_behind(place.spot, service.as_str())?;
-            trier.put(place.spot, service.as_str())?;
-            write!(out, "add it first, as '{service}' does")?;
+            trier.move_behind(service.as_str())?;
+            trier.put(service.as_str())?;
+            write!(&mut trier.advice, "add it first, as '{service}' does")?;
         }
         _ => {}
     }
@@ -196,149 +131,133 @@ fn hint_on_absent(
 
 /// The hint on an edit that would make a sub-channel end after the multiplex: a start at which it
 /// fits.
-fn hint_on_end(
-    trier: &mut Trier,
-    place: Place,
-    edit: &Edit,
-    sub: &Sub,
-    out: &mut Vec<u8>,
-) -> io::Result<()> {
-    let latest = latest_start(sub);
-    let start = if has_room(place.config, sub, u32::from(latest)) {
+fn hint_on_end(trier: &mut Trier, config: &Config, edit: &Edit, sub: &Sub) -> io::Result<()> {
+    let units = size_of(sub.protection, sub.kbits).unwrap_or(0);
+    let latest = CAPACITY_UNITS.saturating_sub(units);
+    let start = if has_room(config, sub, u32::from(latest)) {
         latest
     } else {
-        room_for(place.config, sub).unwrap_or(latest)
+        room_for(config, sub).unwrap_or(latest)
     };
+    let moved = Sub { start, ..*sub };
     if let Edit::RateSub { .. } = edit {
-        let words = format!(in trier.alloc; "move sub {} at {start}", sub.id.get())?;
-        trier.put(place.spot, words.as_str())?;
+        put_move(trier, &moved)?;
     } else {
-        write_sub(trier, place, edit, &Sub { start, ..*sub })?;
+        write_sub(trier, edit, &moved)?;
     }
     write!(
-        out,
+        &mut trier.advice,
         "it can begin at {latest} at most; where its start and its rate change, 'move' before a \
          rate that grows"
     )
 }
 
 /// The hint on an edit that gives a sub-channel a rate without a size: the nearest rates with one.
-fn hint_on_rate(
-    trier: &mut Trier,
-    place: Place,
-    edit: &Edit,
-    sub: &Sub,
-    out: &mut Vec<u8>,
-) -> io::Result<()> {
+fn hint_on_rate(trier: &mut Trier, edit: &Edit, sub: &Sub) -> io::Result<()> {
     match size_of(sub.protection, sub.kbits) {
         Ok(_size) => Ok(()),
-        Err(EepFault::ZeroRate) => out.write_all(b"'drop sub' takes a sub-channel away"),
+        Err(EepFault::ZeroRate) => {
+            trier
+                .advice
+                .write_all(b"'drop sub' takes a sub-channel away")
+        }
         Err(EepFault::NotMultiple) => {
             for kbits in near_rates(sub) {
-                write_sub(trier, place, edit, &Sub { kbits, ..*sub })?;
+                write_sub(trier, edit, &Sub { kbits, ..*sub })?;
             }
             let step = rate_step(sub.protection);
             let low = sub.kbits.saturating_sub(sub.kbits % step);
             let high = u32::from(low) + u32::from(step);
             if low == 0 {
-                return write!(out, "{high} is");
+                return write!(&mut trier.advice, "{high} is");
             }
-            write!(out, "{low} and {high} are")
+            write!(&mut trier.advice, "{low} and {high} are")
         }
         Err(EepFault::PastMultiplex) => {
             let kbits = most_rate(sub.protection);
-            write_sub(trier, place, edit, &Sub { kbits, ..*sub })?;
-            write!(out, "{kbits} kbit/s is the most at this profile")
+            write_sub(trier, edit, &Sub { kbits, ..*sub })?;
+            write!(
+                &mut trier.advice,
+                "{kbits} kbit/s is the most at this profile"
+            )
         }
     }
 }
 
-/// The hint on a refused edit: corrections, and advice for where none of them helps.
+/// The hint on a refused edit: corrections, and advice for where none of them helps. The
+/// corrections look at this configuration.
 pub(crate) fn hint_on_edit(
     trier: &mut Trier,
-    place: Place,
+    config: &Config,
     edit: &Edit,
     fault: EditFault,
-    out: &mut Vec<u8>,
 ) -> io::Result<()> {
-    match (fault, edited_sub(place.config, edit)) {
-        (EditFault::IdUsed, _) => hint_on_used(trier, place, edit, out),
-        (EditFault::IdAbsent, _) => hint_on_absent(trier, place, edit, out),
-        (EditFault::PastEnd, Some(sub)) => hint_on_end(trier, place, edit, &sub, out),
-        (EditFault::BadRate, Some(sub)) => hint_on_rate(trier, place, edit, &sub, out),
-        (EditFault::PastEnd | EditFault::BadRate, None) => Ok(()),
-        (EditFault::TooManyComponents, _) => {
-            out.write_all(b"put some of them into another service")
-        }
-        (EditFault::TableFull, _) => out.write_all(b"'drop' one first"),
-        (EditFault::BadAddress, _) => out.write_all(b"packet addresses are 1 to 1023"),
-    }
+    let advice = match (fault, edited_sub(config, edit)) {
+        (EditFault::IdUsed, _) => return hint_on_used(trier, config, edit),
+        (EditFault::IdAbsent, _) => return hint_on_absent(trier, config, edit),
+        (EditFault::PastEnd, Some(sub)) => return hint_on_end(trier, config, edit, &sub),
+        (EditFault::BadRate, Some(sub)) => return hint_on_rate(trier, edit, &sub),
+        (EditFault::PastEnd | EditFault::BadRate, None) => "",
+        (EditFault::TooManyComponents, _) => "put some of them into another service",
+        (EditFault::TableFull, _) => "'drop' one first",
+        (EditFault::BadAddress, _) => "packet addresses are 1 to 1023",
+    };
+    trier.advice.write_all(advice.as_bytes())
 }
 
 /// Corrections of a sub-channel that shares capacity units: a start at which it has room.
-fn try_room(trier: &mut Trier, place: Place, sub: &Sub) -> Result<(), AllocError> {
-    let Some(start) = room_for(place.config, sub) else {
+fn try_room(trier: &mut Trier, config: &Config, sub: &Sub) -> Result<(), AllocError> {
+    let Some(start) = room_for(config, sub) else {
         return Ok(());
     };
-    write_before(
-        trier,
-        place,
-        Part::Sub(*sub),
-        Part::Sub(Sub { start, ..*sub }),
-    )?;
-    let words = format!(in trier.alloc; "move sub {} at {start}", sub.id.get())?;
-    trier.put(place.spot, words.as_str())
+    let moved = Sub { start, ..*sub };
+    let words = format!(in trier.alloc; "{}", Part::Sub(moved))?;
+    write_before(trier, Part::Sub(*sub), words.as_str())?;
+    put_move(trier, &moved)
 }
 
 /// The hint on a service with a component on a carrier that is not there.
 fn hint_on_orphan(
     trier: &mut Trier,
-    place: Place,
-    sid: &Sid,
-    carrier: &Carrier,
-    out: &mut Vec<u8>,
+    config: &Config,
+    sid: Sid,
+    carrier: Carrier,
 ) -> io::Result<()> {
-    let has_others = has_component_there(place.config, *sid);
-    let drop = if has_others {
-        Edit::DropComponent {
-            sid: *sid,
-            carrier: *carrier,
-        }
-    } else {
-        Edit::DropService(*sid)
-    };
-    put_edit(trier, place, drop)?;
-    if let Some(component) = component_on(place.config, *sid, *carrier) {
-        let sid = *sid;
-        leave_out_before(trier, place, Edit::AddComponent { sid, component })?;
+    let mut has_others = false;
+    if let Some(service) = config.service(sid) {
+        let mut components = service.components.as_slice().iter();
+        has_others = components.any(|component| !is_missing(config, component.carrier()));
     }
-    let (on, of) = (Part::Carrier(*carrier), Digits(*sid));
+    let drop = if has_others {
+        Edit::DropComponent { sid, carrier }
+    } else {
+        Edit::DropService(sid)
+    };
+    put_edit(trier, drop)?;
+    if let Some(component) = component_on(config, sid, carrier) {
+        leave_out_before(trier, Edit::AddComponent { sid, component })?;
+    }
+    let (on, of) = (Part::Carrier(carrier), Digits(sid));
     if has_others {
         return write!(
-            out,
+            &mut trier.advice,
             "'drop component {on} in {of}' as well, or add what it names"
         );
     }
     write!(
-        out,
+        &mut trier.advice,
         "'drop service {of}' as well, which has no other component; or 'drop component {on} in \
          {of}' and give it another one; or add what it names"
     )
 }
 
 /// The hint on a configuration that is not sound, by the fact that it has this.
-pub(crate) fn hint_on_config(
-    trier: &mut Trier,
-    place: Place,
-    fact: &Fact,
-    out: &mut Vec<u8>,
-) -> io::Result<()> {
-    let config = place.config;
-    match fact {
+pub(crate) fn hint_on_config(trier: &mut Trier, config: &Config, fact: &Fact) -> io::Result<()> {
+    match *fact {
         Fact::Shared(overlap) => {
-            try_room(trier, place, &overlap.second)?;
-            try_room(trier, place, &overlap.first)?;
-            let id = overlap.second.id.get();
+            try_room(trier, config, &overlap.second)?;
+            try_room(trier, config, &overlap.first)?;
+            let (id, out) = (overlap.second.id.get(), &mut trier.advice);
             match room_for(config, &overlap.second) {
                 Some(start) => write!(out, "sub {id} has room at {start}"),
                 None => write!(
@@ -347,23 +266,33 @@ pub(crate) fn hint_on_config(
                 ),
             }
         }
-        Fact::Orphan(sid, carrier) => hint_on_orphan(trier, place, sid, carrier, out),
+        Fact::Orphan(sid, carrier) => hint_on_orphan(trier, config, sid, carrier),
         Fact::OrphanPacket(packet) => {
-            put_edit(trier, place, Edit::DropPacket(packet.scid))?;
-            leave_out_before(trier, place, Edit::AddPacket(*packet))?;
+            put_edit(trier, Edit::DropPacket(packet.scid))?;
+            leave_out_before(trier, Edit::AddPacket(packet))?;
             let scid = packet.scid.get();
-            write!(out, "'drop packet {scid}' as well, or add the sub-channel")
+            write!(
+                &mut trier.advice,
+                "'drop packet {scid}' as well, or add the sub-channel"
+            )
         }
         Fact::SameAddress(_, twin) => {
             let address = free_address(config, twin.sub);
-            let other = Part::Packet(Packet { address, ..*twin });
-            write_before(trier, place, Part::Packet(*twin), other)?;
-            out.write_all(b"give one of them another address, 1 to 1023")
+            let other = Packet { address, ..twin };
+            let words = edit_words(trier.alloc, Edit::AddPacket(other))?;
+            write_before(trier, Part::Packet(twin), words.as_str())?;
+            trier
+                .advice
+                .write_all(b"give one of them another address, 1 to 1023")
         }
         Fact::Empty(sid) => {
-            put_edit(trier, place, Edit::DropService(*sid))?;
-            leave_out_before(trier, place, Edit::AddService(*sid))?;
-            write!(out, "'drop {}', or add a component", Part::Service(*sid))
+            put_edit(trier, Edit::DropService(sid))?;
+            leave_out_before(trier, Edit::AddService(sid))?;
+            write!(
+                &mut trier.advice,
+                "'drop service {}', or add a component",
+                Digits(sid)
+            )
         }
         _ => Ok(()),
     }

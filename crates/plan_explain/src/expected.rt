@@ -2,13 +2,14 @@
 
 use crate::keywords::{HEADER, ITEMS, OTHERS, WAITS};
 use crate::list::push_owned;
-use crate::probe::{Answer, Front};
-use std::alloc::{AllocError, Global};
+use crate::probe::Front;
+use std::alloc::AllocError;
 use std::io::{self, Write};
 
-/// What is valid at a position, as phrases.
+/// What is valid after a front, as phrases.
 #[derive(Drop)]
-pub(crate) struct Expected {
+pub(crate) struct Expected<'a> {
+    front: &'a Front<'a>,
     phrases: Vec<String>,
 }
 
@@ -31,89 +32,81 @@ const KINDS: [(&str, &str); 4] = [
 const NAME: &str =
     "the name of a block: a lower-case letter, then lower-case letters, digits or '_', and no keyword";
 
-impl Expected {
-    /// Adds a phrase.
-    fn add(&mut self, alloc: Global, phrase: &str) -> Result<(), AllocError> {
-        push_owned(&mut self.phrases, String::from_str(alloc, phrase)?)
-    }
-
+impl<'a> Expected<'a> {
     /// Adds those of some keywords that are valid.
-    fn add_tokens(
-        &mut self,
-        alloc: Global,
-        front: &Front,
-        words: &[&str],
-    ) -> Result<(), AllocError> {
+    fn add_tokens(&mut self, words: &[&str]) -> Result<(), AllocError> {
         for word in words {
-            if front.passes(alloc, word)? {
-                push_owned(&mut self.phrases, format!(in alloc; "'{word}'")?)?;
+            if self.front.passes(word)? {
+                push_owned(&mut self.phrases, format!(in self.front.alloc; "'{word}'")?)?;
             }
         }
         Ok(())
     }
 
+    /// Adds a phrase, if what it says is valid.
+    fn add_if(&mut self, is_valid: bool, phrase: &str) -> Result<(), AllocError> {
+        if is_valid {
+            push_owned(
+                &mut self.phrases,
+                String::from_str(self.front.alloc, phrase)?,
+            )?;
+        }
+        Ok(())
+    }
+
     /// Adds the first of some kinds of tokens that is valid.
-    fn add_kind(
-        &mut self,
-        alloc: Global,
-        front: &Front,
-        kinds: &[(&str, &str)],
-    ) -> Result<(), AllocError> {
+    fn add_kind(&mut self, kinds: &[(&str, &str)]) -> Result<(), AllocError> {
         for (token, phrase) in kinds {
-            if front.passes(alloc, token)? {
-                return self.add(alloc, phrase);
+            if self.front.passes(token)? {
+                return self.add_if(true, phrase);
             }
         }
         Ok(())
     }
 
     /// Adds a decimal, with its range.
-    fn add_number(&mut self, alloc: Global, front: &Front) -> Result<(), AllocError> {
-        let Some((low, high)) = front.range(alloc)? else {
+    fn add_number(&mut self) -> Result<(), AllocError> {
+        let Some((low, high)) = self.front.range()? else {
             return Ok(());
         };
-        let what = number_after(front.last().as_bytes(), high);
-        let high = if high == 1023 && front.last() == "at" {
+        let last = self.front.last;
+        let what = number_after(last.as_bytes(), high);
+        let high = if high == 1023 && last == "at" {
             863
         } else {
             high
         };
         let phrase = if low == high {
-            format!(in alloc; "{what}, {low}")?
+            format!(in self.front.alloc; "{what}, {low}")?
         } else {
-            format!(in alloc; "{what}, {low} to {high}")?
+            format!(in self.front.alloc; "{what}, {low} to {high}")?
         };
         push_owned(&mut self.phrases, phrase)
     }
 
     /// Collects what is valid after the front. Where a statement is, neither the keywords of items
     /// are named nor those with which a wait may go on.
-    pub(crate) fn at(alloc: Global, front: &Front) -> Result<Expected, AllocError> {
+    pub(crate) fn at(front: &'a Front<'a>) -> Result<Expected<'a>, AllocError> {
         let mut found = Expected {
-            phrases: Vec::new(alloc),
+            front,
+            phrases: Vec::new(front.alloc),
         };
-        let takes_statement = front.passes(alloc, "join")?;
-        found.add_kind(alloc, front, &KINDS[..2])?;
-        found.add_number(alloc, front)?;
-        found.add_kind(alloc, front, &KINDS[2..])?;
-        if front.ask(alloc, "zz_name")? != Answer::Refused {
-            found.add(alloc, NAME)?;
-        }
-        if takes_statement {
-            found.add(alloc, "a statement")?;
-        } else {
-            found.add_tokens(alloc, front, &ITEMS)?;
-        }
-        found.add_tokens(alloc, front, &HEADER)?;
-        found.add_tokens(alloc, front, &OTHERS)?;
+        let takes_statement = front.passes("join")?;
+        found.add_kind(&KINDS[..2])?;
+        found.add_number()?;
+        found.add_kind(&KINDS[2..])?;
+        found.add_if(front.takes_name()?, NAME)?;
+        found.add_if(takes_statement, "a statement")?;
         if !takes_statement {
-            found.add_tokens(alloc, front, &["until"])?;
-            found.add_tokens(alloc, front, &WAITS)?;
+            found.add_tokens(&ITEMS)?;
         }
-        found.add_tokens(alloc, front, &["{", "}"])?;
-        if front.may_end(alloc)? {
-            found.add(alloc, "the end of the script")?;
+        found.add_tokens(&HEADER)?;
+        found.add_tokens(&OTHERS)?;
+        if !takes_statement {
+            found.add_tokens(&WAITS)?;
         }
+        found.add_tokens(&["{", "}"])?;
+        found.add_if(front.may_end()?, "the end of the script")?;
         Ok(found)
     }
 
@@ -126,12 +119,6 @@ impl Expected {
             [b'\'', .., b'\''] => only.as_str().get(1..only.len().saturating_sub(1)),
             _ => None,
         }
-    }
-
-    /// Whether a statement, or else an item or the beginning of the statements, is expected: what
-    /// precedes is complete.
-    pub(crate) fn follows_whole(alloc: Global, front: &Front) -> Result<bool, AllocError> {
-        Ok(front.passes(alloc, "join")? || front.passes(alloc, "begin")?)
     }
 
     /// Writes the phrases as a list.

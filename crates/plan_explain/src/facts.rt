@@ -6,16 +6,12 @@ ghost use Rattle.plan_explain.specs.Facts.{Holds};
 
 use crate::difference::{first_contrast, has_other_swap};
 use crate::fact::{Fact, holds, is_missing, overlap_of, pages_of};
-use crate::stop::{Refused, Stop};
+use crate::list::push;
+use crate::stop::{Refused, Stop, cause_of};
 use mux_config::{Carrier, Config, ConfigFault, Edit, EditFault, Store};
 use plan_code::Instr;
 use plan_verifier::Cause;
 use std::alloc::{AllocError, Global};
-
-/// Appends a fact.
-fn push(facts: &mut Vec<Fact>, fact: Fact) -> Result<(), AllocError> {
-    facts.extend_from_slice(&[fact])
-}
 
 /// Appends a fact that holds of a refusal.
 fn push_true(facts: &mut Vec<Fact>, fact: &Fact, stop: &Stop) -> Result<(), AllocError>
@@ -28,54 +24,33 @@ fn push_true(facts: &mut Vec<Fact>, fact: &Fact, stop: &Stop) -> Result<(), Allo
     facts.extend_from_slice(&[*fact])
 }
 
-/// What is there of that which an edit adds.
-fn used(config: &Config, edit: &Edit) -> Option<Fact> {
-    match edit {
-        Edit::AddSub(sub) => Some(Fact::HasSub(config.sub(sub.get().id)?)),
-        Edit::AddPacket(packet) => Some(Fact::HasPacket(config.packet(packet.scid)?)),
-        Edit::AddService(sid) => Some(Fact::HasService(*sid)),
-        Edit::AddComponent { sid, component } => {
-            Some(Fact::HasComponent(*sid, component.carrier()))
+/// Why an edit has a fault, if a fact explains it: what is there of that which it adds, or is not
+/// there of that which it names.
+fn of_edit(config: &Config, edit: Edit, fault: EditFault) -> Option<Fact> {
+    Some(match (fault, edit) {
+        (EditFault::IdUsed, Edit::AddSub(sub)) => Fact::HasSub(config.sub(sub.get().id)?),
+        (EditFault::IdUsed, Edit::AddPacket(packet)) => {
+            Fact::HasPacket(config.packet(packet.scid)?)
         }
-        _ => None,
-    }
-}
-
-/// What is not there of that which an edit names.
-fn absent(config: &Config, edit: &Edit) -> Option<Fact> {
-    match edit {
-        Edit::DropSub(id) | Edit::MoveSub { id, .. } | Edit::RateSub { id, .. } => {
-            Some(Fact::Lacks(Carrier::Sub(*id)))
+        (EditFault::IdUsed, Edit::AddService(sid)) => Fact::HasService(sid),
+        (EditFault::IdUsed, Edit::AddComponent { sid, component }) => {
+            Fact::HasComponent(sid, component.carrier())
         }
-        Edit::DropPacket(scid) => Some(Fact::Lacks(Carrier::Packet(*scid))),
-        Edit::DropService(sid) | Edit::AddComponent { sid, .. } => Some(Fact::LacksService(*sid)),
-        Edit::DropComponent { sid, carrier } => {
-            if config.service(*sid).is_some() {
-                Some(Fact::LacksComponent(*sid, *carrier))
-            } else {
-                Some(Fact::LacksService(*sid))
-            }
-        }
-        _ => None,
-    }
-}
-
-/// Appends the fact that explains why an edit has a fault, if one does.
-fn push_edit(
-    facts: &mut Vec<Fact>,
-    config: &Config,
-    edit: &Edit,
-    fault: EditFault,
-) -> Result<(), AllocError> {
-    let fact = match fault {
-        EditFault::IdUsed => used(config, edit),
-        EditFault::IdAbsent => absent(config, edit),
-        _ => None,
-    };
-    match fact {
-        Some(fact) => push(facts, fact),
-        None => Ok(()),
-    }
+        (
+            EditFault::IdAbsent,
+            Edit::DropSub(id) | Edit::MoveSub { id, .. } | Edit::RateSub { id, .. },
+        ) => Fact::Lacks(Carrier::Sub(id)),
+        (EditFault::IdAbsent, Edit::DropPacket(scid)) => Fact::Lacks(Carrier::Packet(scid)),
+        (EditFault::IdAbsent, Edit::DropComponent { sid, carrier })
+            if config.service(sid).is_some() => { Fact::LacksComponent(sid, carrier) }
+        (
+            EditFault::IdAbsent,
+            Edit::DropService(sid)
+            | Edit::AddComponent { sid, .. }
+            | Edit::DropComponent { sid, .. },
+        ) => Fact::LacksService(sid),
+        _ => return None,
+    })
 }
 
 /// Appends each two sub-channels that share capacity units, those with the lowest numbers first.
@@ -132,56 +107,59 @@ fn push_twins(facts: &mut Vec<Fact>, config: &Config) -> Result<(), AllocError> 
     Ok(())
 }
 
+/// Appends what is not sound in a configuration in this way, other than shared capacity units.
+fn push_kind(facts: &mut Vec<Fact>, config: &Config, kind: ConfigFault) -> Result<(), AllocError> {
+    match kind {
+        ConfigFault::Orphan => push_orphans(facts, config),
+        ConfigFault::EmptyService => push_empty(facts, config),
+        ConfigFault::AddressUsed => push_twins(facts, config),
+        ConfigFault::Overlap(_, _) => Ok(()),
+    }
+}
+
 /// Appends what is not sound in a configuration, this kind of it first.
 fn push_unsound(
     facts: &mut Vec<Fact>,
     config: &Config,
     first: Option<ConfigFault>,
 ) -> Result<(), AllocError> {
-    match first {
-        Some(ConfigFault::Orphan) => push_orphans(facts, config)?,
-        Some(ConfigFault::EmptyService) => push_empty(facts, config)?,
-        Some(ConfigFault::AddressUsed) => push_twins(facts, config)?,
-        Some(ConfigFault::Overlap(_, _)) | None => {}
+    if let Some(kind) = first {
+        push_kind(facts, config, kind)?;
     }
     push_overlaps(facts, config)?;
-    if first != Some(ConfigFault::EmptyService) {
-        push_empty(facts, config)?;
-    }
-    if first != Some(ConfigFault::Orphan) {
-        push_orphans(facts, config)?;
-    }
-    if first != Some(ConfigFault::AddressUsed) {
-        push_twins(facts, config)?;
+    let others = [
+        ConfigFault::EmptyService,
+        ConfigFault::Orphan,
+        ConfigFault::AddressUsed,
+    ];
+    for kind in others {
+        if first != Some(kind) {
+            push_kind(facts, config, kind)?;
+        }
     }
     Ok(())
 }
 
-/// Appends what explains a cause.
-fn push_cause(
-    facts: &mut Vec<Fact>,
-    stop: &Stop,
-    instr: Option<Instr>,
-    cause: Cause,
-) -> Result<(), AllocError> {
+/// Appends what explains the cause of a refused instruction or opening.
+fn push_cause(facts: &mut Vec<Fact>, stop: &Stop) -> Result<(), AllocError> {
     let config = &stop.here.next;
-    match cause {
-        Cause::Edit(fault) => match instr {
-            Some(Instr::Edit(edit)) => push_edit(facts, config, &edit, fault),
-            _ => Ok(()),
+    match (cause_of(stop.refused), stop.instr()) {
+        (Cause::Edit(fault), Some(Instr::Edit(edit))) => match of_edit(config, edit, fault) {
+            Some(fact) => push(facts, fact),
+            None => Ok(()),
         },
-        Cause::Config(fault) => push_unsound(facts, config, Some(fault)),
-        Cause::Pending | Cause::JoinIdle | Cause::SwapUncertain => {
+        (Cause::Config(fault), _) => push_unsound(facts, config, Some(fault)),
+        (Cause::Pending | Cause::JoinIdle | Cause::SwapUncertain, _) => {
             push(facts, Fact::Swap(stop.here.pending))
         }
-        Cause::Round => push(facts, Fact::Pages(pages_of(stop.plan.layout, &stop.here))),
+        (Cause::Round, _) => push(facts, Fact::Pages(pages_of(stop.plan.layout, &stop.here))),
         _ => Ok(()),
     }
 }
 
 /// Appends what differs between two paths: the swaps, if they are compared and do not fit, or else
 /// the first member.
-pub(crate) fn push_contrast(
+fn push_contrast(
     facts: &mut Vec<Fact>,
     stop: &Stop,
     compares_swaps: bool,
@@ -199,8 +177,7 @@ pub(crate) fn push_contrast(
 fn candidates(alloc: Global, stop: &Stop) -> Result<Vec<Fact>, AllocError> {
     let mut facts = Vec::new(alloc);
     match stop.refused {
-        Refused::Instr(instr, cause) => push_cause(&mut facts, stop, Some(instr), cause)?,
-        Refused::Opening(cause) => push_cause(&mut facts, stop, None, cause)?,
+        Refused::Instr(_, _) | Refused::Opening(_) => push_cause(&mut facts, stop)?,
         Refused::Loop => push_contrast(&mut facts, stop, true)?,
         Refused::Paths => push_contrast(&mut facts, stop, false)?,
         Refused::Unreached { .. } => {}

@@ -13,19 +13,19 @@ use std::alloc::{AllocError, Global};
 /// The most steps: more than any script takes whose code is within its limits.
 const MOST: u32 = 200_000;
 
-/// What is done at the end of a list of statements.
+/// What a list of statements is, and the line of the statement that it belongs to.
 #[derive(Clone, Copy)]
 enum End<'a> {
-    /// It is a defined block, or the whole script.
+    /// A defined block, or the whole script.
     Block,
-    /// It is the block of an `if`.
-    If { line: u16 },
-    /// It is the first block of an `if` with this second one.
-    First { line: u16, second: &'a [Statement] },
-    /// It is that second one; `falls` is whether the first reaches its end.
-    Second { line: u16, falls: bool },
-    /// It is the body of a loop; `ends` is whether the loop does.
-    Loop { line: u16, ends: bool },
+    /// The block of an `if`.
+    If(u16),
+    /// The first block of an `if` with this second one.
+    First(u16, &'a [Statement]),
+    /// That second one; whether the first reaches its end.
+    Second(u16, bool),
+    /// The body of a loop; whether the loop ends.
+    Loop(u16, bool),
 }
 
 /// Statements that are still to be followed.
@@ -55,28 +55,12 @@ struct Walk<'a> {
     falls: bool,
 }
 
-/// Whether statements have no instruction: they apply only blocks that have none.
-fn is_silent(silent: &[bool], statements: &[Statement]) -> bool {
-    statements.iter().all(|statement| match statement {
-        Statement::Apply { block, .. } => silent.get(usize::from(block.get())) != Some(&false),
-        _ => false,
-    })
-}
-
 /// Nothing pending, and this configuration both current and next.
 pub(crate) fn beginning(config: &Config) -> Flow<Config> {
     Flow {
         current: Config::from_config(config),
         next: Config::from_config(config),
         pending: Swap::Idle,
-    }
-}
-
-/// The act of a statement that is one.
-fn act_of(statement: &Statement) -> Option<Act> {
-    match statement {
-        Statement::Act { act, .. } => Some(*act),
-        _ => None,
     }
 }
 
@@ -116,46 +100,28 @@ impl<'a> Walk<'a> {
         None
     }
 
-    /// Ends a first block, and begins the second with what was known before both.
-    fn turn(
-        &mut self,
-        frame: Frame<'a>,
-        line: u16,
-        second: &'a [Statement],
-        entry: Flow<Config>,
-    ) -> Result<(), AllocError> {
-        let falls = self.falls;
-        push_owned(&mut self.saved, copied(&self.here))?;
-        self.here = entry;
-        self.falls = true;
-        let end = End::Second { line, falls };
-        push_owned(
-            &mut self.frames,
-            Frame {
-                rest: second,
-                end,
-                ..frame
-            },
-        )
-    }
-
-    /// Ends a list of statements.
+    /// Ends a list of statements: a first block with the second one, which begins with what was
+    /// known before both.
     fn close(&mut self, frame: Frame<'a>) -> Result<Option<Stop>, AllocError> {
-        if let End::Block = frame.end {
-            return Ok(None);
-        }
-        let Some(entry) = self.saved.pop() else {
+        let entry = match frame.end {
+            End::Block => None,
+            _ => self.saved.pop(),
+        };
+        let Some(entry) = entry else {
             return Ok(None);
         };
         match frame.end {
-            End::Block => Ok(None),
-            End::If { line } => Ok(self.join(line, entry)),
-            End::First { line, second } => {
-                self.turn(frame, line, second, entry)?;
+            End::Block | End::Second(_, false) => Ok(None),
+            End::If(line) | End::Second(line, true) => Ok(self.join(line, entry)),
+            End::Loop(line, ends) => Ok(self.close_loop(line, ends, entry)),
+            End::First(line, second) => {
+                push_owned(&mut self.saved, copied(&self.here))?;
+                let end = End::Second(line, self.falls);
+                self.here = entry;
+                self.falls = true;
+                self.enter(second, frame.blocks, end)?;
                 Ok(None)
             }
-            End::Second { line, falls } => Ok(if falls { self.join(line, entry) } else { None }),
-            End::Loop { line, ends } => Ok(self.close_loop(line, ends, entry)),
         }
     }
 
@@ -166,26 +132,23 @@ impl<'a> Walk<'a> {
         blocks: usize,
         end: End<'a>,
     ) -> Result<(), AllocError> {
-        push_owned(
-            &mut self.frames,
-            Frame {
-                rest,
-                blocks,
-                after: 0,
-                end,
-            },
-        )
+        let frame = Frame {
+            rest,
+            blocks,
+            after: 0,
+            end,
+        };
+        push_owned(&mut self.frames, frame)
     }
 
     /// Begins a defined block, if it has an instruction.
     fn apply(&mut self, number: usize, blocks: usize) -> Result<(), AllocError> {
-        if number >= blocks || self.silent.get(number) == Some(&true) {
-            return Ok(());
+        match self.blocks.get(number) {
+            Some(block) if number < blocks && self.silent.get(number) != Some(&true) => {
+                self.enter(block.as_slice(), number, End::Block)
+            }
+            _ => Ok(()),
         }
-        let Some(block) = self.blocks.get(number) else {
-            return Ok(());
-        };
-        self.enter(block.as_slice(), number, End::Block)
     }
 
     /// Executes an act.
@@ -212,36 +175,15 @@ impl<'a> Walk<'a> {
                 self.apply(usize::from(block.get()), blocks)?;
                 return Ok(None);
             }
-            Statement::If { line, first, .. } => (first, End::If { line: *line }),
+            Statement::If { line, first, .. } => (first, End::If(*line)),
             Statement::IfElse {
                 line,
                 first,
                 second,
                 ..
-            } => {
-                let second = second.as_slice();
-                (
-                    first,
-                    End::First {
-                        line: *line,
-                        second,
-                    },
-                )
-            }
-            Statement::Repeat { line, body, .. } => (
-                body,
-                End::Loop {
-                    line: *line,
-                    ends: true,
-                },
-            ),
-            Statement::Forever { line, body } => (
-                body,
-                End::Loop {
-                    line: *line,
-                    ends: false,
-                },
-            ),
+            } => (first, End::First(*line, second.as_slice())),
+            Statement::Repeat { line, body, .. } => (body, End::Loop(*line, true)),
+            Statement::Forever { line, body } => (body, End::Loop(*line, false)),
         };
         push_owned(&mut self.saved, copied(&self.here))?;
         self.enter(block.as_slice(), blocks, end)?;
@@ -255,17 +197,20 @@ impl<'a> Walk<'a> {
         };
         let line = line_of(statement);
         if !self.falls {
-            let refused = Refused::Unreached {
-                act: act_of(statement),
-                after: frame.after,
+            let act = match statement {
+                Statement::Act { act, .. } => Some(*act),
+                _ => None,
             };
+            let after = frame.after;
+            let refused = Refused::Unreached { act, after };
             return Ok(self.stop(line, refused, &self.here));
         }
+        let after = line;
         push_owned(
             &mut self.frames,
             Frame {
                 rest,
-                after: line,
+                after,
                 ..frame
             },
         )?;
@@ -273,11 +218,14 @@ impl<'a> Walk<'a> {
     }
 }
 
-/// Whether each of these blocks has no instruction.
+/// Whether each of these blocks has no instruction: it applies only blocks that have none.
 fn silent_blocks(alloc: Global, blocks: &[Vec<Statement>]) -> Result<Vec<bool>, AllocError> {
-    let mut silent = Vec::new(alloc);
+    let mut silent: Vec<bool> = Vec::new(alloc);
     for block in blocks {
-        let is_silent = is_silent(silent.as_slice(), block.as_slice());
+        let is_silent = block.as_slice().iter().all(|statement| match statement {
+            Statement::Apply { block, .. } => silent.get(usize::from(block.get())) != Some(&false),
+            _ => false,
+        });
         push_owned(&mut silent, is_silent)?;
     }
     Ok(silent)
@@ -304,13 +252,9 @@ fn first_of_opening(script: &Script, opening: &mut Config) -> Option<Stop> {
             return Some(opening_stop(script, item.line, refused, opening));
         }
     }
-    match test_opening(&script.header(), opening) {
-        Ok(()) => None,
-        Err(cause) => {
-            let refused = Refused::Opening(cause);
-            Some(opening_stop(script, script.begin_line(), refused, opening))
-        }
-    }
+    let cause = test_opening(&script.header(), opening).err()?;
+    let refused = Refused::Opening(cause);
+    Some(opening_stop(script, script.begin_line(), refused, opening))
 }
 
 /// The first refusal of a script, and what is known there; none if no statement is refused, or none

@@ -8,14 +8,14 @@ pub(crate) const ITEMS: [&str; 7] = [
     "sub", "service", "audio", "data", "carry", "packet", "define",
 ];
 
-/// Those that begin a statement and no item.
-pub(crate) const STATEMENTS: [&str; 13] = [
-    "drop", "move", "rate", "wait", "until", "commit", "join", "settle", "end", "if", "repeat",
-    "forever", "apply",
+/// Those that begin a statement and no item; `until` is also in `WAITS`.
+pub(crate) const STATEMENTS: [&str; 12] = [
+    "drop", "move", "rate", "wait", "commit", "join", "settle", "end", "if", "repeat", "forever",
+    "apply",
 ];
 
 /// Those with which a wait goes on.
-pub(crate) const WAITS: [&str; 2] = ["or", "early"];
+pub(crate) const WAITS: [&str; 3] = ["until", "or", "early"];
 
 /// The others.
 pub(crate) const OTHERS: [&str; 15] = [

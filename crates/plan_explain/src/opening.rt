@@ -1,43 +1,47 @@
 //! Explains why the items of a script are refused, or the configuration that they make.
 
-use crate::edits::{Place, hint_on_config, hint_on_edit};
+use crate::because::ExecutedStatement;
+use crate::edits::hint_on_edit;
 use crate::fact::Fact;
 use crate::facts::{facts_of, unsound};
 use crate::follow::opening_stop;
-use crate::hint::hint_on_opening;
+use crate::hint::explain_known;
 use crate::list::push_owned;
 use crate::note::Note;
-use crate::sentence::{Case, Search, put_instr, put_member, put_opening, put_plain};
-use crate::stop::{Refused, Stop};
+use crate::sentence::{put_plain, put_refused};
+use crate::stop::{Refused, Stop, cause_of};
 use crate::trier::Trier;
-use crate::words::edit_words;
 use mux_config::{Carrier, Config, Edit, EditFault, Sid};
 use plan_code::Instr;
 use plan_verifier::Cause;
-use script_front::Script;
+use script_front::{Item, Script};
 use std::alloc::{AllocError, Global};
 use std::io::{self, Write};
 
-/// An item with a fault, and the configuration of the items before it that have none.
-#[derive(Drop)]
+/// An item with a fault.
+#[derive(Clone, Copy)]
 struct ItemFault {
     line: u16,
     edit: Edit,
     fault: EditFault,
 }
 
-/// The items of a script that have a fault.
+/// The items of a script, those that have a fault apart.
 #[derive(Drop)]
-struct Items {
+struct Items<'a> {
+    alloc: Global,
+    script: &'a Script,
     faults: Vec<ItemFault>,
     /// The configuration that the others make.
     config: Config,
 }
 
-impl Items {
+impl<'a> Items<'a> {
     /// Those of a script.
-    fn of(alloc: Global, script: &Script) -> Result<Items, AllocError> {
+    fn of(alloc: Global, script: &'a Script) -> Result<Items<'a>, AllocError> {
         let mut items = Items {
+            alloc,
+            script,
             faults: Vec::new(alloc),
             config: Config::new(),
         };
@@ -70,11 +74,9 @@ impl Items {
 
     /// Whether an item with a fault adds this carrier.
     fn refuses(&self, carrier: Carrier) -> bool {
-        self.faults.as_slice().iter().any(|item| match item.edit {
-            Edit::AddSub(sub) => Carrier::Sub(sub.get().id) == carrier,
-            Edit::AddPacket(packet) => Carrier::Packet(packet.scid) == carrier,
-            _ => false,
-        })
+        let adds = ExecutedStatement::Adds(carrier);
+        let mut items = self.faults.as_slice().iter();
+        items.any(|item| adds.is_done_by(&item.edit))
     }
 
     /// Whether a fact about the other items may be due to those with a fault.
@@ -85,6 +87,64 @@ impl Items {
             Fact::OrphanPacket(packet) => self.refuses(Carrier::Sub(packet.sub)),
             _ => false,
         }
+    }
+
+    /// The line of the item that adds what a fact is about; that of `begin` if there is none.
+    fn line_of(&self, fact: &Fact) -> u16 {
+        let mut items = self.script.items().iter();
+        let item = items.find(|item| makes(&item.edit, fact));
+        item.map_or(self.script.begin_line(), |item| item.line)
+    }
+
+    /// The line of a later item that adds the service which a refused one misses.
+    fn later_service(&self, stop: &Stop) -> Option<u16> {
+        let (Some(Instr::Edit(Edit::AddComponent { sid, .. })), Cause::Edit(EditFault::IdAbsent)) =
+            (stop.instr(), cause_of(stop.refused)) else {
+            return None;
+        };
+        let mut items = self.script.items().iter();
+        let is_it = |item: &&Item| item.line >= stop.line && item.edit == Edit::AddService(sid);
+        Some(items.find(is_it)?.line)
+    }
+
+    /// Says why an item is refused.
+    fn put_item(&self, trier: &Trier, stop: &Stop, out: &mut Vec<u8>) -> io::Result<()> {
+        let facts = facts_of(self.alloc, stop)?;
+        let Some(later) = self.later_service(stop) else {
+            return put_refused(trier, stop, facts.first(), out);
+        };
+        match facts.first() {
+            Some(fact) => put_plain(fact, stop, out)?,
+            None => out.write_all(b"the service is not there yet")?,
+        }
+        write!(out, "; it comes in line {later}")
+    }
+
+    /// Appends a note on each further item with a fault, except those that may be due to others.
+    fn note_others(&self, trier: &Trier, notes: &mut Vec<Note>) -> io::Result<()> {
+        for (at, item) in self.faults.as_slice().iter().enumerate() {
+            if at > 0 && !self.is_due(at, item) {
+                let refused = Refused::Instr(Instr::Edit(item.edit), Cause::Edit(item.fault));
+                let stop = opening_stop(self.script, item.line, refused, &self.config);
+                let mut note = Note::on_line(self.alloc, item.line);
+                self.put_item(trier, &stop, &mut note.text)?;
+                push_owned(notes, note)?;
+            }
+        }
+        Ok(())
+    }
+
+    /// Appends a note on each of these facts about the configuration of the items, in the line of
+    /// the item that it is about, except those that may be due to items with a fault.
+    fn note_facts(&self, stop: &Stop, facts: &[Fact], notes: &mut Vec<Note>) -> io::Result<()> {
+        for fact in facts {
+            if !self.explain(fact) {
+                let mut note = Note::on_line(self.alloc, self.line_of(fact));
+                put_plain(fact, stop, &mut note.text)?;
+                push_owned(notes, note)?;
+            }
+        }
+        Ok(())
     }
 }
 
@@ -102,152 +162,6 @@ fn makes(edit: &Edit, fact: &Fact) -> bool {
     }
 }
 
-/// The line of the item that adds what a fact is about; that of `begin` if there is none.
-fn line_of_fact(script: &Script, fact: &Fact) -> u16 {
-    match script.items().iter().find(|item| makes(&item.edit, fact)) {
-        Some(item) => item.line,
-        None => script.begin_line(),
-    }
-}
-
-/// The line of a later item that adds the service which an edit in this line misses.
-fn later_service(script: &Script, line: u16, edit: &Edit, fault: EditFault) -> Option<u16> {
-    let (Edit::AddComponent { sid, .. }, EditFault::IdAbsent) = (edit, fault) else {
-        return None;
-    };
-    let service = Edit::AddService(*sid);
-    let mut items = script.items().iter();
-    Some(
-        items
-            .find(|item| item.line >= line && item.edit == service)?
-            .line,
-    )
-}
-
-/// Says why an item is refused.
-fn put_item(
-    script: &Script,
-    stop: &Stop,
-    edit: &Edit,
-    fault: EditFault,
-    search: &Search,
-    alloc: Global,
-    note: &mut Note,
-) -> io::Result<()> {
-    let facts = facts_of(alloc, stop)?;
-    if let Some(later) = later_service(script, stop.line, edit, fault) {
-        match facts.first() {
-            Some(fact) => put_plain(fact, stop, &mut note.text)?,
-            None => note.text.write_all(b"the service is not there yet")?,
-        }
-        return write!(&mut note.text, "; it comes in line {later}");
-    }
-    let (instr, cause) = (Instr::Edit(*edit), Cause::Edit(fault));
-    let case = Case {
-        stop,
-        instr: &instr,
-        cause: &cause,
-        facts: facts.as_slice(),
-        commit: None,
-    };
-    put_instr(&case, search, &mut note.text)
-}
-
-/// Explains the first item with a fault.
-fn explain_item(
-    trier: &mut Trier,
-    script: &Script,
-    stop: &Stop,
-    edit: &Edit,
-    fault: EditFault,
-    items: &Items,
-    note: &mut Note,
-) -> io::Result<()> {
-    let words = edit_words(trier.alloc, *edit)?;
-    let place = Place::of(trier, stop.line, words.as_str(), &items.config)?;
-    let search = Search::Text(trier, place.before);
-    put_item(script, stop, edit, fault, &search, trier.alloc, note)?;
-    hint_on_edit(trier, place, edit, fault, &mut note.hint)
-}
-
-/// Explains the configuration of a script's items.
-fn explain_opening(
-    trier: &mut Trier,
-    stop: &Stop,
-    cause: Cause,
-    facts: &[Fact],
-    note: &mut Note,
-) -> io::Result<()> {
-    if cause == Cause::Round {
-        put_opening(stop, &mut note.text)?;
-        return hint_on_opening(trier, stop, &mut note.hint);
-    }
-    let Some(fact) = facts.first() else {
-        return note.text.write_all(b"the script can't begin so");
-    };
-    let place = Place::of(trier, stop.line, "begin", &stop.here.next)?;
-    put_member(
-        fact,
-        stop,
-        &Search::Text(trier, place.before),
-        &mut note.text,
-    )?;
-    hint_on_config(trier, place, fact, &mut note.hint)
-}
-
-/// A note on an item with a fault.
-fn note_on_item(
-    alloc: Global,
-    script: &Script,
-    items: &Items,
-    item: &ItemFault,
-) -> io::Result<Note> {
-    let refused = Refused::Instr(Instr::Edit(item.edit), Cause::Edit(item.fault));
-    let stop = opening_stop(script, item.line, refused, &items.config);
-    let mut note = Note::on_line(alloc, item.line);
-    let search = Search::Nowhere;
-    put_item(
-        script, &stop, &item.edit, item.fault, &search, alloc, &mut note,
-    )?;
-    Ok(note)
-}
-
-/// Appends a note on each further item with a fault, except those that may be due to others.
-fn note_items(
-    alloc: Global,
-    script: &Script,
-    items: &Items,
-    notes: &mut Vec<Note>,
-) -> io::Result<()> {
-    for (at, item) in items.faults.as_slice().iter().enumerate() {
-        if at > 0 && !items.is_due(at, item) {
-            let note = note_on_item(alloc, script, items, item)?;
-            push_owned(notes, note)?;
-        }
-    }
-    Ok(())
-}
-
-/// Appends a note on each of these facts about the configuration of a script's items, in the line
-/// of the item that it is about, except those that may be due to items with a fault.
-fn note_facts(
-    alloc: Global,
-    script: &Script,
-    items: &Items,
-    stop: &Stop,
-    facts: &[Fact],
-    notes: &mut Vec<Note>,
-) -> io::Result<()> {
-    for fact in facts {
-        if !items.explain(fact) {
-            let mut note = Note::on_line(alloc, line_of_fact(script, fact));
-            put_plain(fact, stop, &mut note.text)?;
-            push_owned(notes, note)?;
-        }
-    }
-    Ok(())
-}
-
 /// Notes on a refused opening: its first item with a fault, or else the configuration; and each
 /// other fault.
 pub(crate) fn notes_on_opening(
@@ -256,32 +170,23 @@ pub(crate) fn notes_on_opening(
     stop: &Stop,
     notes: &mut Vec<Note>,
 ) -> io::Result<()> {
-    let alloc = trier.alloc;
-    let items = Items::of(alloc, script)?;
-    let mut note = Note::on_line(alloc, stop.line);
-    match stop.refused {
-        Refused::Instr(Instr::Edit(edit), Cause::Edit(fault)) => {
-            explain_item(trier, script, stop, &edit, fault, &items, &mut note)?;
-            trier.put_hint(&mut note)?;
-            push_owned(notes, note)?;
-            note_items(alloc, script, &items, notes)?;
-            let refused = Refused::Opening(Cause::NoChange);
-            let whole = opening_stop(script, script.begin_line(), refused, &items.config);
-            let facts = unsound(alloc, &whole)?;
-            note_facts(alloc, script, &items, &whole, facts.as_slice(), notes)
-        }
-        Refused::Opening(cause) => {
-            let facts = facts_of(alloc, stop)?;
-            explain_opening(trier, stop, cause, facts.as_slice(), &mut note)?;
-            trier.put_hint(&mut note)?;
-            push_owned(notes, note)?;
-            match facts.as_slice().split_first() {
-                Some((_first, rest)) if cause != Cause::Round => {
-                    note_facts(alloc, script, &items, stop, rest, notes)
-                }
-                _ => Ok(()),
-            }
-        }
-        _ => Ok(()),
+    let items = Items::of(trier.alloc, script)?;
+    let mut note = Note::on_line(trier.alloc, stop.line);
+    if let Some(item) = items.faults.first() {
+        items.put_item(trier, stop, &mut note.text)?;
+        hint_on_edit(trier, &items.config, &item.edit, item.fault)?;
+        trier.put_hint(&mut note)?;
+        push_owned(notes, note)?;
+        trier.before = 0;
+        items.note_others(trier, notes)?;
+        let refused = Refused::Opening(Cause::NoChange);
+        let whole = opening_stop(script, script.begin_line(), refused, &items.config);
+        let facts = unsound(trier.alloc, &whole)?;
+        return items.note_facts(&whole, facts.as_slice(), notes);
     }
+    let facts = facts_of(trier.alloc, stop)?;
+    explain_known(trier, stop, facts.as_slice(), &mut note)?;
+    trier.put_hint(&mut note)?;
+    push_owned(notes, note)?;
+    items.note_facts(stop, facts.as_slice().get(1..).unwrap_or(&[]), notes)
 }

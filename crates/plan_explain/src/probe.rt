@@ -9,20 +9,10 @@ use std::alloc::{AllocError, Global};
 /// on texts and lines.
 #[derive(Drop)]
 pub(crate) struct Front<'a> {
+    pub(crate) alloc: Global,
     text: String,
     /// The last of the tokens; empty if there is none.
-    last: &'a str,
-}
-
-/// The verdict of `parse` on a token after the front.
-#[derive(Clone, Copy, PartialEq, Eq)]
-pub(crate) enum Answer {
-    /// It is valid.
-    Passes,
-    /// A name is valid, but this one is used or unknown.
-    Name,
-    /// It is invalid.
-    Refused,
+    pub(crate) last: &'a str,
 }
 
 impl<'a> Front<'a> {
@@ -33,82 +23,78 @@ impl<'a> Front<'a> {
         count: usize,
     ) -> Result<Front<'a>, AllocError> {
         let mut front = Front {
+            alloc,
             text: String::new(alloc),
             last: "",
         };
         for index in 0..count {
-            let word = source.word(index);
-            front.text.push_str(word)?;
+            front.last = source.word(index);
+            front.text.push_str(front.last)?;
             front.text.push_str(" ")?;
-            front.last = word;
         }
         Ok(front)
     }
 
-    /// The last token of the front; empty if it has none.
-    pub(crate) fn last(&self) -> &'a str {
-        self.last
-    }
-
-    /// Tests a token after the front: it is valid if `parse` finds no fault at its position.
-    pub(crate) fn ask(&self, alloc: Global, token: &str) -> Result<Answer, AllocError> {
-        let mut text = String::from_str(alloc, self.text.as_str())?;
-        text.push_str(token)?;
-        let fault = match parse(alloc, text.as_str()) {
-            Ok(_script) => return Ok(Answer::Passes),
+    /// The fault that `parse` finds at a token after the front, if it finds one.
+    fn fault_at(&self, token: &str) -> Result<Option<ScriptFault>, AllocError> {
+        let text = format!(in self.alloc; "{}{token}", self.text)?;
+        let fault = match parse(self.alloc, text.as_str()) {
+            Ok(_script) => return Ok(None),
             Err(fault) => fault,
         };
         let Some(at) = position_of(fault) else {
             return Err(AllocError);
         };
-        if at.line != 1 || at.column != self.text.len().saturating_add(1) {
-            return Ok(Answer::Passes);
-        }
-        match fault {
-            ScriptFault::NameUsed(_) | ScriptFault::NameUnknown(_) => Ok(Answer::Name),
-            _ => Ok(Answer::Refused),
-        }
+        let is_there = at.line == 1 && at.column == self.text.len().saturating_add(1);
+        Ok(is_there.then_some(fault))
+    }
+
+    /// Whether a token is valid after the front.
+    pub(crate) fn passes(&self, token: &str) -> Result<bool, AllocError> {
+        Ok(self.fault_at(token)?.is_none())
+    }
+
+    /// Whether a name is valid after the front, be this one used or unknown.
+    pub(crate) fn takes_name(&self) -> Result<bool, AllocError> {
+        Ok(match self.fault_at("zz_name")? {
+            None | Some(ScriptFault::NameUsed(_) | ScriptFault::NameUnknown(_)) => true,
+            Some(_) => false,
+        })
     }
 
     /// Whether the script may end after the front.
-    pub(crate) fn may_end(&self, alloc: Global) -> Result<bool, AllocError> {
-        match parse(alloc, self.text.as_str()) {
+    pub(crate) fn may_end(&self) -> Result<bool, AllocError> {
+        match parse(self.alloc, self.text.as_str()) {
             Ok(_script) => Ok(true),
             Err(ScriptFault::Memory) => Err(AllocError),
             Err(_fault) => Ok(false),
         }
     }
 
-    /// Whether a token passes.
-    pub(crate) fn passes(&self, alloc: Global, token: &str) -> Result<bool, AllocError> {
-        Ok(self.ask(alloc, token)? == Answer::Passes)
+    /// Whether a decimal is valid after the front.
+    fn passes_number(&self, number: u32) -> Result<bool, AllocError> {
+        let token = format!(in self.alloc; "{number}")?;
+        self.passes(token.as_str())
     }
 
-    /// Whether a decimal passes.
-    fn passes_number(&self, alloc: Global, number: u32) -> Result<bool, AllocError> {
-        let token = format!(in alloc; "{number}")?;
-        self.passes(alloc, token.as_str())
-    }
-
-    /// The least and the greatest decimal that pass, if any does: the ranges of the grammar begin
-    /// at 0, 1, 2 or 12 and end at or below 65,535.
-    pub(crate) fn range(&self, alloc: Global) -> Result<Option<(u32, u32)>, AllocError> {
+    /// The least and the greatest decimal that are valid, if any is: the ranges of the grammar
+    /// begin at 0, 1, 2 or 12 and end at or below 65,535.
+    pub(crate) fn range(&self) -> Result<Option<(u32, u32)>, AllocError> {
         for low in [0u32, 1, 2, 12] {
-            if self.passes_number(alloc, low)? {
-                let high = self.last_number(alloc, low)?;
-                return Ok(Some((low, high)));
+            if self.passes_number(low)? {
+                return Ok(Some((low, self.last_number(low)?)));
             }
         }
         Ok(None)
     }
 
-    /// The greatest decimal that passes, found by bisection from one that passes.
-    fn last_number(&self, alloc: Global, first: u32) -> Result<u32, AllocError> {
+    /// The greatest decimal that is valid, found by bisection from one that is.
+    fn last_number(&self, first: u32) -> Result<u32, AllocError> {
         let mut low = first;
         let mut step = 65_536u32;
         for _halving in 0..17 {
             let tested = low.saturating_add(step);
-            if tested <= 65_535 && self.passes_number(alloc, tested)? {
+            if tested <= 65_535 && self.passes_number(tested)? {
                 low = tested;
             }
             step /= 2;

@@ -20,29 +20,15 @@ pub(crate) struct Reach {
     pub(crate) comes: bool,
 }
 
-/// The configurations and the swap that a label declares.
-pub(crate) fn flow_of(code: &Code, label: Label) -> Option<Flow<Config>> {
-    Some(Flow {
+/// A label of a code, and what it declares of the configurations and the swap.
+pub(crate) fn declared_at(code: &Code, pc: u16) -> Option<(Label, Flow<Config>)> {
+    let label = code.label_at(pc)?;
+    let flow = Flow {
         current: Config::from_config(code.config(label.cur)?),
         next: Config::from_config(code.config(label.next)?),
         pending: label.pending,
-    })
-}
-
-/// A label of a code that can be looked up, and what it declares of the configurations and the
-/// swap.
-pub(crate) fn declared_at(code: &Code, pc: u16) -> Option<(Label, Flow<Config>)> {
-    let label = code.label_at(pc)?;
-    Some((label, flow_of(code, label)?))
-}
-
-/// The counters after an instruction.
-fn counters_after(counters: Counters, instr: &Instr) -> Counters {
-    match instr {
-        Instr::Set { counter, .. } => counters.with(*counter),
-        Instr::Loop { counter, .. } => counters.without(*counter),
-        _ => counters,
-    }
+    };
+    Some((label, flow))
 }
 
 impl Reach {
@@ -60,7 +46,11 @@ impl Reach {
     /// Applies an instruction.
     fn pass(&mut self, plan: &Plan, instr: &Instr) {
         let _ = self.flow.apply(plan, *instr);
-        self.counters = counters_after(self.counters, instr);
+        self.counters = match instr {
+            Instr::Set { counter, .. } => self.counters.with(*counter),
+            Instr::Loop { counter, .. } => self.counters.without(*counter),
+            _ => self.counters,
+        };
         if suspends(*instr) {
             self.left = plan.budget;
             self.is_of_budget = true;

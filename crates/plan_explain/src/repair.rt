@@ -9,27 +9,13 @@ use std::alloc::{AllocError, Global};
 /// Words for a state of a contact that do not say whether it is closed or open.
 const LEVELS: [&str; 6] = ["on", "off", "high", "low", "true", "false"];
 
-/// The number of letters that two words have in common at the beginning.
-fn common_front(a: &[u8], b: &[u8]) -> usize {
-    a.iter()
-        .zip(b.iter())
-        .take_while(|(one, other)| **one == **other)
-        .count()
-}
-
-/// The number of letters that two words have in common at the end.
-fn common_back(a: &[u8], b: &[u8]) -> usize {
-    a.iter()
-        .rev()
-        .zip(b.iter().rev())
-        .take_while(|(one, other)| **one == **other)
-        .count()
-}
-
 /// Whether two words are equal except for two adjacent letters.
 pub(crate) fn is_close(a: &[u8], b: &[u8]) -> bool {
-    let longest = a.len().max(b.len());
-    let common = common_front(a, b).saturating_add(common_back(a, b));
+    let pairs = a.iter().zip(b.iter());
+    let front = pairs.take_while(|(one, other)| **one == **other).count();
+    let pairs = a.iter().rev().zip(b.iter().rev());
+    let back = pairs.take_while(|(one, other)| **one == **other).count();
+    let (common, longest) = (front.saturating_add(back), a.len().max(b.len()));
     longest >= 3 && longest <= common.saturating_add(2)
 }
 
@@ -56,7 +42,7 @@ pub(crate) struct Wrong<'a> {
 impl<'a> Wrong<'a> {
     /// Tries a token that is valid after the front.
     fn attempt(&self, trier: &mut Trier, token: &str) -> Result<(), AllocError> {
-        if !trier.is_done() && self.front.passes(trier.alloc, token)? {
+        if !trier.is_done() && self.front.passes(token)? {
             return trier.write_token(self.spot, token);
         }
         Ok(())
@@ -68,9 +54,8 @@ impl<'a> Wrong<'a> {
             [b'0', b'x' | b'X', rest @ ..] => rest,
             _ => self.token,
         };
-        let digits = text_of(trier.alloc, bare)?
-            .as_str()
-            .to_ascii_uppercase(trier.alloc)?;
+        let digits = text_of(trier.alloc, bare)?;
+        let digits = digits.as_str().to_ascii_uppercase(trier.alloc)?;
         self.attempt(trier, digits.as_str())?;
         let short = text_of(trier.alloc, without_zeros(self.token))?;
         self.attempt(trier, short.as_str())
@@ -95,10 +80,9 @@ impl<'a> Wrong<'a> {
             [first, last] | [first, b'-' | b'_', last] => (*first, *last),
             _ => return Ok(()),
         };
-        let (level, set) = if first.is_ascii_digit() {
-            (first, last)
-        } else {
-            (last, first)
+        let (level, set) = match first {
+            b'0'..=b'9' => (first, last),
+            _ => (last, first),
         };
         let token = text_of(trier.alloc, &[level, b'-', set.to_ascii_uppercase()])?;
         self.attempt(trier, token.as_str())
@@ -106,9 +90,8 @@ impl<'a> Wrong<'a> {
 
     /// Tries the keywords that are like the token.
     fn attempt_keyword(&self, trier: &mut Trier) -> Result<(), AllocError> {
-        let lower = text_of(trier.alloc, self.token)?
-            .as_str()
-            .to_ascii_lowercase(trier.alloc)?;
+        let token = text_of(trier.alloc, self.token)?;
+        let lower = token.as_str().to_ascii_lowercase(trier.alloc)?;
         let lists: [&[&str]; 5] = [&HEADER, &ITEMS, &OTHERS, &WAITS, &STATEMENTS];
         for words in lists {
             for word in words {
@@ -149,8 +132,9 @@ impl<'a> Wrong<'a> {
     /// Tries statements that may have been meant by the words up to this one: a commit at a time of
     /// day, and one without `in`.
     fn attempt_statement(&self, trier: &mut Trier) -> Result<(), AllocError> {
+        let last = self.spot.index.saturating_sub(1);
         let before = self.spot.index.saturating_sub(2);
-        match (self.front.last(), self.token) {
+        match (self.front.last, self.token) {
             ("at", token) if token.contains(&b':') => {
                 if trier.source.word(before) != "commit" {
                     return Ok(());
@@ -158,16 +142,11 @@ impl<'a> Wrong<'a> {
                 let token = text_of(trier.alloc, token)?;
                 let notice = trier.source.number_after("notice");
                 let words = format!(in trier.alloc; "until {token}; commit in {notice}")?;
-                let spot = trier.source.spot(before, 3);
-                trier.write(spot, words.as_str())
+                trier.write_at(trier.source.spot(before, 3), words.as_str())
             }
-            ("commit", token) if leading_number(token).0 > 0 => trier.put(Some(self.spot), "in"),
-            (_, b"to") => trier.leave_out(Some(self.spot)),
-            ("mode", b"1") => {
-                let index = self.spot.index.saturating_sub(1);
-                let spot = trier.source.spot(index, 2);
-                trier.leave_out(spot)
-            }
+            ("commit", token) if leading_number(token).0 > 0 => trier.put("in"),
+            (_, b"to") => trier.leave_out(),
+            ("mode", b"1") => trier.write_at(trier.source.spot(last, 2), ""),
             _ => Ok(()),
         }
     }
@@ -187,19 +166,17 @@ impl<'a> Wrong<'a> {
 /// Tries `until` in the place of `wait until` without an alternative, directly before the token
 /// with this index, or the end of the text.
 pub(crate) fn attempt_until(trier: &mut Trier, index: usize) -> Result<(), AllocError> {
+    let source = &trier.source;
     let plain = index.saturating_sub(3);
     let early = index.saturating_sub(5);
-    let source = &trier.source;
     if index >= 3 && source.word(plain) == "wait" && source.word(plain + 1) == "until" {
         let words = format!(in trier.alloc; "until {}", source.word(plain + 2))?;
-        let spot = source.spot(plain, 3);
-        return trier.write(spot, words.as_str());
+        return trier.write_at(source.spot(plain, 3), words.as_str());
     }
     if index >= 5 && source.word(early) == "wait" && source.word(early + 3) == "early" {
         let (time, frames) = (source.word(early + 2), source.word(early + 4));
         let words = format!(in trier.alloc; "until {time} early {frames}")?;
-        let spot = source.spot(early, 5);
-        return trier.write(spot, words.as_str());
+        return trier.write_at(source.spot(early, 5), words.as_str());
     }
     Ok(())
 }

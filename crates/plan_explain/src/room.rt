@@ -5,6 +5,7 @@ ghost use Rattle.std.specs.Prelude.{◌≤◌};
 use crate::fact::{end_of, overlap_of};
 use mux_config::{Config, Edit, Store, Sub, SubId};
 use mux_eep::{CAPACITY_UNITS, EepSet, Protection, size_of};
+use std::iter;
 
 /// The sub-channel that an edit would make.
 pub(crate) fn edited_sub(config: &Config, edit: &Edit) -> Option<Sub> {
@@ -36,25 +37,11 @@ pub(crate) fn has_room(config: &Config, sub: &Sub, start: u32) -> bool {
 /// A capacity unit at which a sub-channel would fit: the first one, or one after another
 /// sub-channel.
 pub(crate) fn room_for(config: &Config, sub: &Sub) -> Option<u16> {
-    if has_room(config, sub, 0) {
-        return Some(0);
-    }
-    for other in config.subs() {
-        if has_room(config, sub, end_of(other)) {
-            return u16::try_from(end_of(other)).ok();
-        }
-    }
-    None
-}
-
-/// The size of a sub-channel; 0 if it has none.
-pub(crate) fn units_of(sub: &Sub) -> u16 {
-    size_of(sub.protection, sub.kbits).unwrap_or(0)
-}
-
-/// The last capacity unit at which a sub-channel can begin.
-pub(crate) fn latest_start(sub: &Sub) -> u16 {
-    CAPACITY_UNITS.saturating_sub(units_of(sub))
+    let ends = config.subs().iter().map(|other| end_of(other));
+    let start = iter::once(0)
+        .chain(ends)
+        .find(|start| has_room(config, sub, *start))?;
+    u16::try_from(start).ok()
 }
 
 /// The rates of a set are multiples of this.
@@ -94,17 +81,6 @@ pub(crate) fn near_rates(sub: &Sub) -> [u16; 2] {
     } else {
         [low, high]
     }
-}
-
-/// The least number that no sub-channel has.
-pub(crate) fn free_id(config: &Config) -> Option<SubId> {
-    for number in 0u8..64 {
-        let id = SubId::new(number)?;
-        if config.sub(id).is_none() {
-            return Some(id);
-        }
-    }
-    None
 }
 
 /// The least packet address that no packet component of a sub-channel has.

@@ -1,145 +1,89 @@
 //! Explains why a script is not compiled.
 
+use crate::because::commit_of;
 use crate::cost::explain_cost;
-use crate::edits::Place;
 use crate::facts::facts_of;
 use crate::follow::follow;
-use crate::hint::{advise_paths, hint_on_instr, hint_on_loop};
+use crate::hint::{advise_paths, explain_known, hint_on_loop};
 use crate::limit::explain_limit;
 use crate::list::push_owned;
 use crate::note::Note;
 use crate::opening::notes_on_opening;
-use crate::sentence::{Case, Search, put_instr};
-use crate::stop::{Refused, Stop};
+use crate::stop::{Refused, Stop, cause_of};
 use crate::trial::Refusal;
 use crate::trier::Trier;
-use crate::words::{Sides, put_fact};
+use crate::words::{act_words, put_fact};
 use plan_code::Instr;
 use plan_verifier::Cause;
 use script_compiler::CompileFault;
-use script_front::lexemes::put_act;
 use script_front::{Act, Script};
 use std::alloc::{AllocError, Global};
 use std::io::{self, Write};
 
-/// The act of an instruction that is one.
-fn act_of(instr: &Instr) -> Option<Act> {
-    match instr {
-        Instr::Edit(edit) => Some(Act::Edit(*edit)),
-        Instr::Wait(frames) => Some(Act::Wait(*frames)),
-        Instr::CommitIn(delay) => Some(Act::CommitIn(*delay)),
-        Instr::CommitAt(count) => Some(Act::CommitAt(*count)),
-        Instr::Join => Some(Act::Join),
-        _ => None,
-    }
-}
-
-/// The words of an act.
-fn act_words(alloc: Global, act: Option<Act>) -> Result<String, AllocError> {
-    let mut words = String::new(alloc);
-    if let Some(act) = act {
-        put_act(&mut words, act)?;
-    }
-    Ok(words)
+/// The words of what is refused, or of the beginning of the statements; empty if it is no act.
+fn refused_words(alloc: Global, refused: Refused) -> Result<String, AllocError> {
+    let act = match refused {
+        Refused::Instr(Instr::Edit(edit), _) => Act::Edit(edit),
+        Refused::Instr(Instr::Wait(frames), _) => Act::Wait(frames),
+        Refused::Instr(Instr::CommitIn(delay), _) => Act::CommitIn(delay),
+        Refused::Instr(Instr::CommitAt(count), _) => Act::CommitAt(count),
+        Refused::Instr(Instr::Join, _) => Act::Join,
+        Refused::Unreached { act: Some(act), .. } => act,
+        Refused::Opening(_) => return String::from_str(alloc, "begin"),
+        _ => return Ok(String::new(alloc)),
+    };
+    act_words(alloc, act)
 }
 
 /// Explains a refused statement.
-fn explain_act(
-    trier: &mut Trier,
-    stop: &Stop,
-    instr: &Instr,
-    cause: &Cause,
-    note: &mut Note,
-) -> io::Result<()> {
+fn explain_act(trier: &mut Trier, stop: &Stop, note: &mut Note) -> io::Result<()> {
+    if let Cause::Pending | Cause::SwapUncertain = cause_of(stop.refused) {
+        trier.commit = commit_of(trier, stop)?;
+    }
     let facts = facts_of(trier.alloc, stop)?;
-    let words = act_words(trier.alloc, act_of(instr))?;
-    let place = Place::of(trier, stop.line, words.as_str(), &stop.here.next)?;
-    let search = Search::Text(trier, place.before);
-    let commit = match cause {
-        Cause::Pending | Cause::SwapUncertain => search.commit(stop)?,
-        _ => None,
-    };
-    let case = Case {
-        stop,
-        instr,
-        cause,
-        facts: facts.as_slice(),
-        commit,
-    };
-    put_instr(&case, &search, &mut note.text)?;
-    hint_on_instr(trier, place, &case, &mut note.hint)
+    explain_known(trier, stop, facts.as_slice(), note)
 }
 
 /// Explains two paths that differ: at a loop, which does not come back to what was known at its
 /// beginning, or at an `if`, which can't be merged.
 fn explain_paths(trier: &mut Trier, stop: &Stop, is_loop: bool, note: &mut Note) -> io::Result<()> {
-    let (words, here, there) = if is_loop {
-        (
-            "the loop does not come back as it began: ",
-            " at its end",
-            " at its beginning",
-        )
+    let (words, sides) = if is_loop {
+        let sides = [" at its end", " at its beginning"];
+        ("the loop does not come back as it began: ", sides)
     } else {
-        (
-            "the two paths through the 'if' differ: ",
-            " on one path",
-            " on the other",
-        )
+        let sides = [" on one path", " on the other"];
+        ("the two paths through the 'if' differ: ", sides)
     };
     let facts = facts_of(trier.alloc, stop)?;
     let fact = facts.first();
     note.text.write_all(words.as_bytes())?;
     if let Some(fact) = fact {
-        put_fact(fact, stop, &Sides { here, there }, &mut note.text)?;
+        put_fact(fact, stop, sides, &mut note.text)?;
     }
     if is_loop {
-        return hint_on_loop(trier, stop, fact, &mut note.hint);
+        return hint_on_loop(trier, stop, fact);
     }
-    advise_paths(trier, stop, &mut note.hint)
+    advise_paths(trier, stop)
 }
 
 /// Explains an unreachable statement after one in another line.
-fn explain_unreached(
-    trier: &mut Trier,
-    line: u16,
-    act: Option<Act>,
-    after: u16,
-    note: &mut Note,
-) -> io::Result<()> {
+fn explain_unreached(trier: &mut Trier, line: u16, after: u16, note: &mut Note) -> io::Result<()> {
+    trier.leave_out()?;
+    write!(&mut trier.advice, "leave out the statement in line {line}")?;
     write!(
         &mut note.text,
         "it can't be reached: the statement in line {after} does not continue to it"
-    )?;
-    if act.is_some() {
-        let words = act_words(trier.alloc, act)?;
-        let spot = trier.spot_of(usize::from(line), words.as_str())?;
-        trier.leave_out(spot)?;
-    }
-    write!(&mut note.hint, "leave out the statement in line {line}")
+    )
 }
 
-/// Notes on a refusal, of which it is known where the script stops.
-fn notes_on_stop(
-    trier: &mut Trier,
-    script: &Script,
-    stop: &Stop,
-    notes: &mut Vec<Note>,
-) -> io::Result<()> {
-    if stop.in_opening {
-        return notes_on_opening(trier, script, stop, notes);
-    }
-    let mut note = Note::on_line(trier.alloc, stop.line);
+/// Explains a refused statement, of which it is known where the script stops.
+fn explain_stop(trier: &mut Trier, stop: &Stop, note: &mut Note) -> io::Result<()> {
     match stop.refused {
-        Refused::Instr(instr, cause) => explain_act(trier, stop, &instr, &cause, &mut note)?,
-        Refused::Loop => explain_paths(trier, stop, true, &mut note)?,
-        Refused::Paths => explain_paths(trier, stop, false, &mut note)?,
-        Refused::Unreached { act, after } => {
-            explain_unreached(trier, stop.line, act, after, &mut note)?
-        }
-        Refused::Opening(_) => {}
+        Refused::Loop => explain_paths(trier, stop, true, note),
+        Refused::Paths => explain_paths(trier, stop, false, note),
+        Refused::Unreached { after, .. } => explain_unreached(trier, stop.line, after, note),
+        Refused::Instr(_, _) | Refused::Opening(_) => explain_act(trier, stop, note),
     }
-    trier.put_hint(&mut note)?;
-    Ok(push_owned(notes, note)?)
 }
 
 /// Notes on a refusal in a line for a cause.
@@ -164,15 +108,17 @@ fn notes_on_refusal(
     };
     let mut trier = Trier::new(alloc, text, refusal)?;
     if let Some(stop) = &stop {
-        return notes_on_stop(&mut trier, script, stop, notes);
+        let words = refused_words(alloc, stop.refused)?;
+        trier.turn_to(stop.line, words.as_str())?;
     }
     let mut note = Note::on_line(alloc, line);
-    if cause == Cause::Cost {
-        explain_cost(&mut trier, script, &mut note)?;
-        trier.put_hint(&mut note)?;
-    } else {
-        note.text.write_all(b"the plan is refused here")?;
+    match &stop {
+        Some(stop) if in_opening => return notes_on_opening(&mut trier, script, stop, notes),
+        Some(stop) => explain_stop(&mut trier, stop, &mut note)?,
+        None if cause == Cause::Cost => explain_cost(&mut trier, script, &mut note)?,
+        None => note.text.write_all(b"the plan is refused here")?,
     }
+    trier.put_hint(&mut note)?;
     Ok(push_owned(notes, note)?)
 }
 

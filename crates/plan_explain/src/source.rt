@@ -55,6 +55,11 @@ impl<'a> Source<'a> {
         }
     }
 
+    /// The text of a spot.
+    pub(crate) fn shown(&self, spot: &Spot) -> &'a str {
+        self.text.get(spot.start..spot.end).unwrap_or("")
+    }
+
     /// The position of the token at an index, if there is one.
     pub(crate) fn position(&self, index: usize) -> Option<Position> {
         Some(self.tokens.get(index)?.position)
@@ -62,23 +67,16 @@ impl<'a> Source<'a> {
 
     /// The line of the token at this index; 0 if there is none.
     pub(crate) fn line(&self, index: usize) -> usize {
-        match self.tokens.get(index) {
-            Some(token) => token.position.line,
-            None => 0,
-        }
+        self.position(index).map_or(0, |at| at.line)
     }
 
     /// Whether tokens in a row in one line, from this index on, are those of some words, `_` being
     /// any.
     fn has_at(&self, index: usize, words: &Source) -> bool {
-        for offset in 0..words.len() {
-            let at = index.saturating_add(offset);
-            let word = words.word(offset);
-            if (word != "_" && word != self.word(at)) || self.line(at) != self.line(index) {
-                return false;
-            }
-        }
-        true
+        (0..words.len()).all(|offset| {
+            let (at, word) = (index.saturating_add(offset), words.word(offset));
+            (word == "_" || word == self.word(at)) && self.line(at) == self.line(index)
+        })
     }
 
     /// The token at this index and those that follow it, in all so many; none if there are fewer,
@@ -99,27 +97,25 @@ impl<'a> Source<'a> {
         })
     }
 
-    /// Where some words are in a line; none if they are not, or in two places.
+    /// Where some words are in a line; none if they are not, or in two places, or no words.
     pub(crate) fn find(&self, line: usize, words: &Source) -> Option<Spot> {
         let is_it = |at: &usize| self.line(*at) == line && self.has_at(*at, words);
         let mut found = (0..self.len()).filter(is_it);
         let index = found.next()?;
-        if found.next().is_some() {
+        if words.len() == 0 || found.next().is_some() {
             return None;
         }
         self.spot(index, words.len())
     }
 
-    /// Where some words are last, of those whose first token is before an index; none if they are
-    /// nowhere, or no words.
-    pub(crate) fn last_before(&self, before: usize, words: &Source) -> Option<Spot> {
-        if words.len() == 0 {
-            return None;
-        }
-        let index = (0..before.min(self.len()))
-            .rev()
-            .find(|index| self.has_at(*index, words))?;
-        self.spot(index, words.len())
+    /// Where some of these words are last, of those whose first token is before an index; none if
+    /// they are nowhere, or no words.
+    pub(crate) fn last_before(&self, before: usize, words: &[Source]) -> Option<Spot> {
+        (0..before.min(self.len())).rev().find_map(|index| {
+            let is_it = |words: &&Source| words.len() > 0 && self.has_at(index, *words);
+            let found = words.iter().find(is_it)?;
+            self.spot(index, found.len())
+        })
     }
 
     /// Where some words are first after an index.
@@ -130,10 +126,8 @@ impl<'a> Source<'a> {
 
     /// The decimal after a word, the first one of the text; 0 if there is none.
     pub(crate) fn number_after(&self, word: &str) -> u32 {
-        match self.index_of(word) {
-            Some(index) => number_in(self.word(index.saturating_add(1))),
-            None => 0,
-        }
+        let number = |index: usize| number_in(self.word(index.saturating_add(1)));
+        self.index_of(word).map_or(0, number)
     }
 
     /// The index of the first token that is this word, in any line.
@@ -148,11 +142,7 @@ impl<'a> Source<'a> {
         };
         let mut found = (0..self.len()).filter(is_it);
         let index = found.next()?;
-        if found.next().is_some() {
-            None
-        } else {
-            Some(index)
-        }
+        found.next().is_none().then_some(index)
     }
 
     /// The index of the brace that closes the last block of a statement that begins at this index.
@@ -167,26 +157,20 @@ impl<'a> Source<'a> {
 
     /// Whether a block of a statement that begins in a line ends in another line or after it.
     pub(crate) fn reaches(&self, first: usize, line: usize) -> bool {
-        for index in 0..self.len() {
-            let has_block = matches!(self.word(index), "if" | "repeat" | "forever");
-            if has_block && self.line(index) == first {
-                if let Some(last) = self.last_brace(index) {
-                    if self.line(last) >= line {
-                        return true;
-                    }
-                }
-            }
-        }
-        false
+        (0..self.len()).any(|index| {
+            self.line(index) == first
+                && matches!(self.word(index), "if" | "repeat" | "forever")
+                && self
+                    .last_brace(index)
+                    .is_some_and(|last| self.line(last) >= line)
+        })
     }
 
     /// The number of tokens before a position.
     pub(crate) fn count_before(&self, position: Position) -> usize {
-        let tokens = self.tokens.as_slice();
-        let first = tokens
-            .iter()
-            .position(|token| !is_before(token.position, position));
-        first.unwrap_or(tokens.len())
+        let mut tokens = self.tokens.as_slice().iter();
+        let first = tokens.position(|token| !is_before(token.position, position));
+        first.unwrap_or(self.len())
     }
 
     /// The index of the brace that closes the first block after this index.
@@ -219,31 +203,21 @@ impl<'a> Source<'a> {
 
     /// The column of the token at an index; 0 if there is none.
     fn column(&self, index: usize) -> usize {
-        match self.tokens.get(index) {
-            Some(token) => token.position.column,
-            None => 0,
-        }
-    }
-
-    /// The column of the first token of the line of the token at an index.
-    fn indentation(&self, index: usize) -> usize {
-        let line = self.line(index);
-        match (0..index).rev().find(|before| self.line(*before) != line) {
-            Some(before) => self.column(before.saturating_add(1)),
-            None => self.column(0),
-        }
+        self.position(index).map_or(0, |at| at.column)
     }
 
     /// The first line after a brace at this index, before the one that closes it, that is indented
     /// no more than the line of that brace and does not begin with a brace.
     fn unindented_after(&self, index: usize) -> Option<usize> {
-        let first = self.line(index);
-        let column = self.indentation(index);
+        let line = self.line(index);
+        let start = (0..index)
+            .find(|at| self.line(*at) == line)
+            .unwrap_or(index);
         let end = self.closing(index).unwrap_or(self.len());
         let at = (index..end).find(|at| {
-            let line = self.line(*at);
-            let is_new = line > first && line != self.line(at.saturating_sub(1));
-            is_new && self.column(*at) <= column && self.word(*at) != "}"
+            let new = self.line(*at);
+            let is_new = new > line && new != self.line(at.saturating_sub(1));
+            is_new && self.column(*at) <= self.column(start) && self.word(*at) != "}"
         })?;
         Some(self.line(at))
     }
@@ -251,15 +225,9 @@ impl<'a> Source<'a> {
     /// The lines of the innermost block that ends by its indentation before its brace is closed:
     /// where it begins, and the next line.
     pub(crate) fn unindented(&self) -> Option<(usize, usize)> {
-        let mut found = None;
-        for index in 0..self.len() {
-            if self.word(index) == "{" {
-                if let Some(next) = self.unindented_after(index) {
-                    found = Some((self.line(index), next));
-                }
-            }
-        }
-        found
+        let braces = (0..self.len()).filter(|index| self.word(*index) == "{");
+        let lines = |index: usize| Some((self.line(index), self.unindented_after(index)?));
+        braces.filter_map(lines).last()
     }
 }
 
@@ -295,19 +263,12 @@ const SHOWN: usize = 160;
 
 /// The offset of the first byte of a line, from 1; none if the text has no such line.
 pub(crate) fn line_start(text: &[u8], number: usize) -> Option<usize> {
-    let mut line = 1usize;
-    if line == number {
+    if number == 1 {
         return Some(0);
     }
-    for (offset, byte) in text.iter().enumerate() {
-        if *byte == b'\n' {
-            line = line.saturating_add(1);
-            if line == number {
-                return Some(offset + 1);
-            }
-        }
-    }
-    None
+    let mut ends = text.iter().enumerate().filter(|(_, byte)| **byte == b'\n');
+    let (end, _) = ends.nth(number.checked_sub(2)?)?;
+    Some(end.saturating_add(1))
 }
 
 /// The bytes of a text from a position on; none past its end.

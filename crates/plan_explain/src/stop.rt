@@ -129,6 +129,14 @@ impl Stop {
         line == self.line && Some(cause) == Some(cause_of(self.refused))
     }
 
+    /// The refused instruction, if it is one.
+    pub(crate) fn instr(&self) -> Option<Instr> {
+        match self.refused {
+            Refused::Instr(instr, _) => Some(instr),
+            _ => None,
+        }
+    }
+
     /// This stop, if it is the refusal with which the compiler refuses the script, by what is known
     /// there.
     pub(crate) fn of(self, fault: CompileFault) -> Option<Stop>

@@ -37,39 +37,32 @@ fn put_found<W: Write>(text: &str, position: Position, word: &str, out: &mut W) 
 }
 
 /// Whether a token is a header keyword where another one is expected.
-fn is_out_of_order(alloc: Global, front: &Front, token: &[u8]) -> Result<bool, AllocError> {
-    let mut is_header = false;
+fn is_out_of_order(front: &Front, token: &[u8]) -> Result<bool, AllocError> {
     let mut is_wanted = false;
     for word in HEADER {
-        if word.as_bytes() == token {
-            is_header = true;
-        } else if front.passes(alloc, word)? {
-            is_wanted = true;
-        }
+        is_wanted = is_wanted || (word.as_bytes() != token && front.passes(word)?);
     }
-    Ok(is_header && is_wanted)
+    Ok(is_wanted && HEADER.iter().any(|word| word.as_bytes() == token))
 }
 
 /// The line of the token before one at fault, if it is another one, and that token does not end an
 /// item or a statement.
 fn line_before(
-    alloc: Global,
     source: &Source,
     front: &Front,
     index: usize,
     position: Position,
 ) -> Result<Option<usize>, AllocError> {
-    if index == 0 || position.line == source.line(index - 1) {
+    let line = source.line(index.saturating_sub(1));
+    if index == 0 || position.line == line {
         return Ok(None);
     }
-    let is_in_header = match source.index_of("budget") {
-        Some(at) => index <= at.saturating_add(2),
-        None => true,
-    };
-    if is_in_header || Expected::follows_whole(alloc, front)? {
+    let budget = source.index_of("budget");
+    let is_in_header = budget.is_none_or(|at| index <= at.saturating_add(2));
+    if is_in_header || front.passes("join")? || front.passes("begin")? {
         return Ok(None);
     }
-    Ok(Some(source.line(index - 1)))
+    Ok(Some(line))
 }
 
 /// Writes what is expected of the token at a position, and what is found.
@@ -99,7 +92,7 @@ fn put_more(wrong: &Wrong, note: &mut Note) -> io::Result<()> {
             ": a frame is 24 ms, so {seconds} s are {frames} frames"
         );
     }
-    let more = match (wrong.front.last(), wrong.token) {
+    let more = match (wrong.front.last, wrong.token) {
         ("mode", b"1") => ": mode I is the default",
         (_, b"uep") => ": plans have equal error protection only",
         ("at", token) if token.contains(&b':') => {
@@ -112,14 +105,11 @@ fn put_more(wrong: &Wrong, note: &mut Note) -> io::Result<()> {
 
 /// Advises on the end of a text within braces: which brace is open, and which block ends before it
 /// by its indentation.
-fn advise_brace(source: &Source, line: usize, note: &mut Note) -> io::Result<()> {
-    write!(
-        &mut note.hint,
-        "the brace opened in line {line} is not closed"
-    )?;
+fn advise_brace(source: &Source, line: usize, out: &mut Vec<u8>) -> io::Result<()> {
+    write!(out, "the brace opened in line {line} is not closed")?;
     match source.unindented() {
         Some((first, next)) => write!(
-            &mut note.hint,
+            out,
             "; by its indentation, the block of line {first} ends before line {next}"
         ),
         None => Ok(()),
@@ -133,21 +123,20 @@ fn advise_token(
     expected: &Expected,
     note: &mut Note,
 ) -> io::Result<()> {
-    let alloc = trier.alloc;
-    if is_out_of_order(alloc, wrong.front, wrong.token)? {
+    if is_out_of_order(wrong.front, wrong.token)? {
         return note.hint.write_all(
             b"the header's order: 'ensemble', 'mode', which may be left out, 'period', 'notice', \
              'budget'",
         );
     }
-    if is_level(wrong.token) && wrong.front.passes(alloc, "closed")? {
+    if is_level(wrong.token) && wrong.front.passes("closed")? {
         return note.hint.write_all(
             b"write 'closed' where the input's circuit is closed, 'open' where it is not",
         );
     }
     wrong.attempt_all(trier)?;
     if let Some(keyword) = expected.only_keyword() {
-        trier.put(Some(wrong.spot), keyword)?;
+        trier.put(keyword)?;
     }
     put_more(wrong, note)?;
     trier.put_hint(note)
@@ -157,9 +146,10 @@ fn advise_token(
 fn explain_token(alloc: Global, text: &str, position: Position, note: &mut Note) -> io::Result<()> {
     let mut trier = Trier::new(alloc, text, Refusal::Token(position))?;
     let index = trier.source.count_before(position);
+    trier.spot = trier.source.spot(index, 1);
     let front = Front::new(alloc, &trier.source, index)?;
-    let expected = Expected::at(alloc, &front)?;
-    let after = line_before(alloc, &trier.source, &front, index, position)?;
+    let expected = Expected::at(&front)?;
+    let after = line_before(&trier.source, &front, index, position)?;
     put_expected(text, position, &expected, after, note)?;
     let token = token_of(text, position);
     attempt_until(&mut trier, index)?;
@@ -169,18 +159,14 @@ fn explain_token(alloc: Global, text: &str, position: Position, note: &mut Note)
         }
         return trier.put_hint(note);
     }
-    if let Some(spot) = trier.source.spot(index, 1) {
-        let wrong = Wrong {
-            front: &front,
-            spot,
-            token,
-        };
-        return advise_token(&mut trier, &wrong, &expected, note);
+    if let Some(spot) = trier.spot {
+        let front = &front;
+        return advise_token(&mut trier, &Wrong { front, spot, token }, &expected, note);
     }
     match trier.source.open_brace() {
         Some(brace) if token.is_empty() => {
             note.shown = Some(brace);
-            advise_brace(&trier.source, brace.line, note)
+            advise_brace(&trier.source, brace.line, &mut note.hint)
         }
         _ => Ok(()),
     }
@@ -206,23 +192,8 @@ fn explain_byte(text: &str, position: Position, note: &mut Note) -> io::Result<(
     )
 }
 
-/// Tries the names of defined blocks that are like an unknown one.
-fn try_names(trier: &mut Trier, position: Position, token: &[u8]) -> Result<(), AllocError> {
-    let count = trier.source.count_before(position);
-    let Some(spot) = trier.source.spot(count, 1) else {
-        return Ok(());
-    };
-    for index in 1..count {
-        let name = trier.source.word(index);
-        let is_name = trier.source.word(index.saturating_sub(1)) == "define";
-        if is_name && is_close(name.as_bytes(), token) {
-            trier.write_token(spot, name)?;
-        }
-    }
-    Ok(())
-}
-
-/// Explains a name that is not defined before.
+/// Explains a name that is not defined before; the names of defined blocks that are like it are
+/// tried.
 fn explain_unknown(
     alloc: Global,
     text: &str,
@@ -233,10 +204,20 @@ fn explain_unknown(
     note.text
         .write_all(b" is not the name of a block that is defined before")?;
     let mut trier = Trier::new(alloc, text, Refusal::Token(position))?;
-    try_names(&mut trier, position, token_of(text, position))?;
-    note.hint.write_all(
+    trier.advice.write_all(
         b"'define' the block above the line that applies it; a block does not apply itself",
     )?;
+    let count = trier.source.count_before(position);
+    let Some(spot) = trier.source.spot(count, 1) else {
+        return trier.put_hint(note);
+    };
+    for index in 1..count {
+        let name = trier.source.word(index);
+        let is_name = trier.source.word(index.saturating_sub(1)) == "define";
+        if is_name && is_close(name.as_bytes(), token_of(text, position)) {
+            trier.write_token(spot, name)?;
+        }
+    }
     trier.put_hint(note)
 }
 
@@ -275,24 +256,6 @@ fn explain_limit(text: &str, position: Position, note: &mut Note) -> io::Result<
     note.text.write_all(what.as_bytes())
 }
 
-/// A text with a valid token in the place of an invalid one, if one is found.
-fn with_stand_in(
-    alloc: Global,
-    source: &Source,
-    front: &Front,
-    index: usize,
-) -> Result<Option<String>, AllocError> {
-    let Some(spot) = source.spot(index, 1) else {
-        return Ok(None);
-    };
-    for token in STAND_INS {
-        if front.passes(alloc, token)? {
-            return patched(alloc, source.text, &TextPatch::at(alloc, &spot, token)?);
-        }
-    }
-    Ok(None)
-}
-
 /// The position of the first number out of range in the header and the items of a text, if it is
 /// the text's first fault.
 fn bad_number(alloc: Global, source: &Source) -> Result<Option<Position>, AllocError> {
@@ -301,14 +264,12 @@ fn bad_number(alloc: Global, source: &Source) -> Result<Option<Position>, AllocE
         Err(ScriptFault::Number(position)) => position,
         _ => return Ok(None),
     };
-    match source.index_of("begin") {
-        Some(begin) if begin < source.count_before(position) => Ok(None),
-        _ => Ok(Some(position)),
-    }
+    let begin = source.index_of("begin").unwrap_or(source.len());
+    Ok((begin >= source.count_before(position)).then_some(position))
 }
 
 /// The text with a valid token in the place of its first number out of range, on which a note is
-/// appended if `is_new`; none if it has no such number first.
+/// appended if `is_new`; none if it has no such number first, or no token is valid there.
 fn correct_one(
     alloc: Global,
     original: &Source,
@@ -323,12 +284,25 @@ fn correct_one(
     let index = source.count_before(position);
     let front = Front::new(alloc, &source, index)?;
     if let (true, Some(position)) = (is_new, original.position(index)) {
-        let expected = Expected::at(alloc, &front)?;
         let mut note = Note::at(alloc, position);
-        put_expected(original.text, position, &expected, None, &mut note)?;
+        put_expected(
+            original.text,
+            position,
+            &Expected::at(&front)?,
+            None,
+            &mut note,
+        )?;
         push_owned(notes, note)?;
     }
-    Ok(with_stand_in(alloc, &source, &front, index)?)
+    let Some(spot) = source.spot(index, 1) else {
+        return Ok(None);
+    };
+    for token in STAND_INS {
+        if front.passes(token)? {
+            return Ok(patched(alloc, text, &TextPatch::at(alloc, &spot, token)?)?);
+        }
+    }
+    Ok(None)
 }
 
 /// Appends a note on each number that is out of range in the header and the items of a text after

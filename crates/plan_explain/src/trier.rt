@@ -3,6 +3,8 @@
 use crate::note::Note;
 use crate::source::{Source, Spot, line_start};
 use crate::trial::{Change, Refusal, TextPatch, Touched, Verdict, try_change};
+use plan_code::Code;
+use script_front::Position;
 use std::alloc::{AllocError, Global};
 use std::io::{self, Write};
 
@@ -19,8 +21,18 @@ struct Found {
 #[derive(Drop)]
 pub(crate) struct Trier<'a> {
     pub(crate) alloc: Global,
-    /// The text, with its tokens.
+    /// The text, with its tokens; empty for a code.
     pub(crate) source: Source<'a>,
+    /// The code, and the pc at which it is refused.
+    pub(crate) code: Option<(&'a Code, u16)>,
+    /// The refused statement, if its words stand once in its line.
+    pub(crate) spot: Option<Spot>,
+    /// The token before which earlier statements are looked for.
+    pub(crate) before: usize,
+    /// The line of the commit by which a swap is pending there, if it is known.
+    pub(crate) commit: Option<usize>,
+    /// What is advised where no correction is found.
+    pub(crate) advice: Vec<u8>,
     refusal: Refusal,
     found: Option<Found>,
 }
@@ -32,9 +44,10 @@ pub(crate) struct Braces {
     pub(crate) last: Spot,
 }
 
-/// A correction in one place.
+/// A change in one place.
 #[derive(Drop)]
 struct Step {
+    /// What to do; empty if that is said of the step before it.
     sentence: String,
     patch: TextPatch,
     /// The line that it touches, and how many it puts before that.
@@ -54,49 +67,80 @@ impl<'a> Trier<'a> {
         Ok(Trier {
             alloc,
             source: Source::new(alloc, text)?,
+            code: None,
+            spot: None,
+            before: 0,
+            commit: None,
+            advice: Vec::new(alloc),
             refusal,
             found: None,
         })
     }
 
-    /// What becomes of the refusal with a change.
-    fn verdict(&self, change: &Change, touched: &Touched) -> Result<Option<Verdict>, AllocError> {
-        let source = &self.source;
-        try_change(
-            self.alloc,
-            source.text,
-            source,
-            self.refusal,
-            touched,
-            change,
-        )
+    /// Turns to the refused statement, which has these words in a line.
+    pub(crate) fn turn_to(&mut self, line: u16, words: &str) -> Result<(), AllocError> {
+        let line = usize::from(line);
+        self.spot = self.spot_of(line, words)?;
+        self.before = match self.spot {
+            Some(spot) => spot.index,
+            None => self.source.count_before(Position {
+                line: line.saturating_add(1),
+                column: 1,
+            }),
+        };
+        Ok(())
+    }
+
+    /// How many lines a step puts before the refused one.
+    fn shift(&self, step: &Step) -> u16 {
+        let refused = match self.refusal {
+            Refusal::Token(position) => position.line,
+            Refusal::Plan { line, .. } => usize::from(line),
+        };
+        if step.line <= refused { step.added } else { 0 }
+    }
+
+    /// What becomes of the refusal with a step, or with two, the first of which is before the
+    /// second in the text.
+    fn verdict(&self, one: Step, other: Option<Step>) -> Result<Option<Verdict>, AllocError> {
+        let mut touched = Touched {
+            added: self.shift(&one),
+            columns: one.columns,
+            lines: [one.line, one.line],
+        };
+        let mut second = None;
+        if let Some(other) = other {
+            touched = Touched {
+                added: touched.added.saturating_add(self.shift(&other)),
+                columns: one.columns.saturating_add(other.columns),
+                lines: [one.line, other.line.saturating_add(usize::from(one.added))],
+            };
+            second = Some(other.patch);
+        }
+        let change = Change {
+            first: one.patch,
+            second,
+        };
+        let (source, text) = (&self.source, self.source.text);
+        try_change(self.alloc, text, source, self.refusal, &touched, &change)
     }
 
     /// What becomes of the refusal without the tokens of a spot.
     pub(crate) fn without(&self, spot: &Spot) -> Result<Option<Verdict>, AllocError> {
-        let change = Change {
-            first: TextPatch::at(self.alloc, spot, "")?,
-            second: None,
-        };
-        let touched = Touched {
-            added: 0,
-            columns: 0,
-            lines: [spot.line, spot.line],
-        };
-        self.verdict(&change, &touched)
+        self.verdict(self.step_instead(spot, "")?, None)
     }
 
-    /// Tries a correction, unless one was found before with which the text is accepted.
-    fn attempt(
-        &mut self,
-        sentence: String,
-        change: &Change,
-        touched: &Touched,
-    ) -> Result<(), AllocError> {
+    /// Tries a step, or two, unless a correction was found before with which the text is accepted.
+    fn attempt(&mut self, one: Step, other: Option<Step>) -> Result<(), AllocError> {
         if self.is_done() {
             return Ok(());
         }
-        let tried = self.verdict(change, touched)?;
+        let (and, second) = match &other {
+            Some(other) if !other.sentence.is_empty() => (", and ", other.sentence.as_str()),
+            _ => ("", ""),
+        };
+        let sentence = format!(in self.alloc; "{}{and}{second}", one.sentence)?;
+        let tried = self.verdict(one, other)?;
         let is_accepted = tried == Some(Verdict::Accepted);
         if is_accepted || (tried == Some(Verdict::Passed) && self.found.is_none()) {
             self.found = Some(Found {
@@ -109,54 +153,12 @@ impl<'a> Trier<'a> {
 
     /// Whether a correction was found with which the text is accepted.
     pub(crate) fn is_done(&self) -> bool {
-        match &self.found {
-            Some(found) => found.is_accepted,
-            None => false,
-        }
+        matches!(&self.found, Some(found) if found.is_accepted)
     }
 
-    /// How many lines a step puts before the refused one.
-    fn shift(&self, step: &Step) -> u16 {
-        let refused = match self.refusal {
-            Refusal::Token(position) => position.line,
-            Refusal::Plan { line, .. } => usize::from(line),
-        };
-        if step.line <= refused { step.added } else { 0 }
-    }
-
-    /// Tries a step alone, if there is one.
-    fn attempt_step(&mut self, step: Option<Step>) -> Result<(), AllocError> {
-        let Some(step) = step else {
-            return Ok(());
-        };
-        let touched = Touched {
-            added: self.shift(&step),
-            columns: step.columns,
-            lines: [step.line, step.line],
-        };
-        let change = Change {
-            first: step.patch,
-            second: None,
-        };
-        self.attempt(step.sentence, &change, &touched)
-    }
-
-    /// Tries two steps together, the first of which is before the second in the text.
-    fn attempt_both(&mut self, one: Option<Step>, other: Option<Step>) -> Result<(), AllocError> {
-        let (Some(one), Some(other)) = (one, other) else {
-            return Ok(());
-        };
-        let touched = Touched {
-            added: self.shift(&one).saturating_add(self.shift(&other)),
-            columns: one.columns.saturating_add(other.columns),
-            lines: [one.line, other.line.saturating_add(usize::from(one.added))],
-        };
-        let sentence = format!(in self.alloc; "{}, and {}", one.sentence, other.sentence)?;
-        let change = Change {
-            first: one.patch,
-            second: Some(other.patch),
-        };
-        self.attempt(sentence, &change, &touched)
+    /// Whether no correction was found that removes the refusal.
+    pub(crate) fn is_at_loss(&self) -> bool {
+        self.found.is_none()
     }
 
     /// Where words are in a line, once.
@@ -165,27 +167,21 @@ impl<'a> Trier<'a> {
         Ok(self.source.find(line, &words))
     }
 
-    /// Where words of the header are, the first of which is `first`; none if they are in two lines.
-    pub(crate) fn header_spot(&self, first: &str, words: &str) -> Result<Option<Spot>, AllocError> {
-        match self.source.index_of(first) {
-            Some(index) => self.spot_of(self.source.line(index), words),
-            None => Ok(None),
-        }
+    /// Where a word of the header is with its number; none if they are in two lines.
+    pub(crate) fn header_spot(&self, word: &str, number: u8) -> Result<Option<Spot>, AllocError> {
+        let Some(index) = self.source.index_of(word) else {
+            return Ok(None);
+        };
+        let words = format!(in self.alloc; "{word} {number}")?;
+        self.spot_of(self.source.line(index), words.as_str())
     }
 
-    /// Where a statement of these words is last before a token, in a line in which it is once.
-    pub(crate) fn last_spot(&self, before: usize, words: &str) -> Result<Option<Spot>, AllocError> {
-        let words = Source::new(self.alloc, words)?;
-        match self.source.last_before(before, &words) {
-            Some(spot) => Ok(self.source.find(spot.line, &words)),
-            None => Ok(None),
-        }
-    }
-
-    /// The token after the brace that opens the first block from a spot on.
-    pub(crate) fn after_open(&self, spot: &Spot) -> Option<Spot> {
-        let open = (spot.index..self.source.len()).find(|at| self.source.word(*at) == "{")?;
-        self.source.spot(open.saturating_add(1), 1)
+    /// Where a statement of these words is last before the refused one, in a line in which it is
+    /// once.
+    pub(crate) fn last_spot(&self, words: &str) -> Result<Option<Spot>, AllocError> {
+        let words = [Source::new(self.alloc, words)?];
+        let last = self.source.last_before(self.before, &words);
+        Ok(last.and_then(|spot| self.source.find(spot.line, &words[0])))
     }
 
     /// The loop or `if` that begins in a line, the only one there.
@@ -201,100 +197,104 @@ impl<'a> Trier<'a> {
     /// Putting words before other ones: as a line of their own if those are the first of their
     /// line.
     fn step_before(&self, spot: &Spot, what: &str) -> Result<Option<Step>, AllocError> {
-        let Spot { start, line, .. } = *spot;
-        if spot.is_first {
-            let text = self.source.text.as_bytes();
-            let Some(start) = line_start(text, line) else {
-                return Ok(None);
-            };
-            return Ok(Some(Step {
-                sentence: format!(in self.alloc; "put '{what}' before line {line}")?,
-                patch: TextPatch {
-                    start,
-                    end: start,
-                    part: format!(in self.alloc; "{what}\n")?,
-                },
-                line,
-                added: 1,
-                columns: 0,
-            }));
-        }
-        let words = self.source.text.get(start..spot.end).unwrap_or("");
-        if self.spot_of(line, words)?.is_none() {
+        let (alloc, line, words) = (self.alloc, spot.line, self.source.shown(spot));
+        if !spot.is_first && self.spot_of(line, words)?.is_none() {
             return Ok(None);
         }
-        Ok(Some(Step {
-            sentence: format!(in self.alloc; "put '{what}' before '{words}' in line {line}")?,
-            patch: TextPatch {
-                start,
-                end: start,
-                part: format!(in self.alloc; "{what}; ")?,
-            },
-            line,
-            added: 0,
-            columns: what.len().saturating_add(2),
-        }))
+        if spot.is_first {
+            let start = line_start(self.source.text.as_bytes(), line).unwrap_or(spot.start);
+            let part = format!(in alloc; "{what}\n")?;
+            let sentence = format!(in alloc; "put '{what}' before line {line}")?;
+            let mut step = self.step(line, [start, start], part.as_str(), sentence)?;
+            step.added = 1;
+            return Ok(Some(step));
+        }
+        let part = format!(in alloc; "{what}; ")?;
+        let sentence = format!(in alloc; "put '{what}' before '{words}' in line {line}")?;
+        let mut step = self.step(line, [spot.start, spot.start], part.as_str(), sentence)?;
+        step.columns = part.len();
+        Ok(Some(step))
     }
 
-    /// Writing words in the place of others, as a sentence says.
-    fn step_at(
+    /// Writing `new` in the place of the bytes between two offsets, in a line, as a sentence says.
+    fn step(
         &self,
-        spot: &Spot,
+        line: usize,
+        [start, end]: [usize; 2],
         new: &str,
         sentence: String,
-    ) -> Result<Option<Step>, AllocError> {
-        Ok(Some(Step {
+    ) -> Result<Step, AllocError> {
+        let part = String::from_str(self.alloc, new)?;
+        Ok(Step {
             sentence,
-            patch: TextPatch::at(self.alloc, spot, new)?,
-            line: spot.line,
+            patch: TextPatch { start, end, part },
+            line,
             added: 0,
             columns: 0,
-        }))
+        })
     }
 
-    /// Writing words in the place of others, which stand once in their line.
-    fn step_instead(&self, spot: &Spot, new: &str) -> Result<Option<Step>, AllocError> {
-        let old = self.source.text.get(spot.start..spot.end).unwrap_or("");
-        let line = spot.line;
-        let sentence = format!(in self.alloc; "write '{new}' in place of '{old}' in line {line}")?;
-        self.step_at(spot, new, sentence)
+    /// Writing words in the place of others, which stand once in their line, or leaving these out.
+    fn step_instead(&self, spot: &Spot, new: &str) -> Result<Step, AllocError> {
+        let (old, line) = (self.source.shown(spot), spot.line);
+        let sentence = if new.is_empty() {
+            format!(in self.alloc; "leave out '{old}' in line {line}")?
+        } else {
+            format!(in self.alloc; "write '{new}' in place of '{old}' in line {line}")?
+        };
+        self.step(line, [spot.start, spot.end], new, sentence)
     }
 
     /// Tries `what` before the tokens of a spot.
-    pub(crate) fn put(&mut self, spot: Option<Spot>, what: &str) -> Result<(), AllocError> {
+    pub(crate) fn put_at(&mut self, spot: Option<Spot>, what: &str) -> Result<(), AllocError> {
         let Some(spot) = spot else {
             return Ok(());
         };
-        let step = self.step_before(&spot, what)?;
-        self.attempt_step(step)
+        match self.step_before(&spot, what)? {
+            Some(step) => self.attempt(step, None),
+            None => Ok(()),
+        }
     }
 
-    /// Tries `what` before the tokens of a spot together with the same before those of a later one.
-    pub(crate) fn put_both(
-        &mut self,
-        here: Spot,
-        there: Spot,
-        what: &str,
-    ) -> Result<(), AllocError> {
-        let first = self.step_before(&here, what)?;
-        let second = self.step_before(&there, what)?;
-        self.attempt_both(first, second)
+    /// Tries `what` before the refused statement.
+    pub(crate) fn put(&mut self, what: &str) -> Result<(), AllocError> {
+        self.put_at(self.spot, what)
     }
 
-    /// Tries `new` in the place of the tokens of a spot.
-    pub(crate) fn write(&mut self, spot: Option<Spot>, new: &str) -> Result<(), AllocError> {
+    /// Tries `what` before both spots of braces together.
+    pub(crate) fn put_both(&mut self, braces: &Braces, what: &str) -> Result<(), AllocError> {
+        let first = self.step_before(&braces.first, what)?;
+        let second = self.step_before(&braces.last, what)?;
+        match (first, second) {
+            (Some(first), Some(second)) => self.attempt(first, Some(second)),
+            _ => Ok(()),
+        }
+    }
+
+    /// Tries `new` in the place of the tokens of a spot; leaves them out if it is empty.
+    pub(crate) fn write_at(&mut self, spot: Option<Spot>, new: &str) -> Result<(), AllocError> {
         let Some(spot) = spot else {
             return Ok(());
         };
         let step = self.step_instead(&spot, new)?;
-        self.attempt_step(step)
+        self.attempt(step, None)
+    }
+
+    /// Tries `new` in the place of the refused statement.
+    pub(crate) fn write(&mut self, new: &str) -> Result<(), AllocError> {
+        self.write_at(self.spot, new)
+    }
+
+    /// Tries to leave out the refused statement.
+    pub(crate) fn leave_out(&mut self) -> Result<(), AllocError> {
+        self.write_at(self.spot, "")
     }
 
     /// Tries a token in the place of the one at the position of the fault.
     pub(crate) fn write_token(&mut self, spot: Spot, token: &str) -> Result<(), AllocError> {
         let sentence = format!(in self.alloc; "write '{token}'")?;
-        let step = self.step_at(&spot, token, sentence)?;
-        self.attempt_step(step)
+        let step = self.step(spot.line, [spot.start, spot.end], token, sentence)?;
+        self.attempt(step, None)
     }
 
     /// Tries `one` in the place of the tokens of a spot together with `other` in the place of those
@@ -308,30 +308,14 @@ impl<'a> Trier<'a> {
     ) -> Result<(), AllocError> {
         let first = self.step_instead(&here, one)?;
         let second = self.step_instead(&there, other)?;
-        self.attempt_both(first, second)
+        self.attempt(first, Some(second))
     }
 
-    /// Tries to leave out the tokens of a spot, which stand once in their line.
-    pub(crate) fn leave_out(&mut self, spot: Option<Spot>) -> Result<(), AllocError> {
-        let Some(spot) = spot else {
-            return Ok(());
-        };
-        let old = self.source.text.get(spot.start..spot.end).unwrap_or("");
-        let line = spot.line;
-        let sentence = format!(in self.alloc; "leave out '{old}' in line {line}")?;
-        let step = self.step_at(&spot, "", sentence)?;
-        self.attempt_step(step)
-    }
-
-    /// Tries to move a statement, the only one of its line, behind the line of a later one of other
-    /// words.
-    pub(crate) fn move_behind(
-        &mut self,
-        spot: Option<Spot>,
-        target: &str,
-    ) -> Result<(), AllocError> {
+    /// Tries to move the refused statement, the only one of its line, behind the line of a later
+    /// one of other words.
+    pub(crate) fn move_behind(&mut self, target: &str) -> Result<(), AllocError> {
         let target = Source::new(self.alloc, target)?;
-        let Some(spot) = spot else {
+        let Some(spot) = self.spot else {
             return Ok(());
         };
         match self.source.first_after(spot.index, &target) {
@@ -350,44 +334,23 @@ impl<'a> Trier<'a> {
         let (Some(start), Some(end), Some(behind)) = (start, end, behind) else {
             return Ok(());
         };
-        let change = Change {
-            first: TextPatch {
-                start,
-                end,
-                part: String::new(self.alloc),
-            },
-            second: Some(TextPatch {
-                start: behind,
-                end: behind,
-                part: String::from_str(self.alloc, text.get(start..end).unwrap_or(""))?,
-            }),
-        };
-        let touched = Touched {
-            added: 0,
-            columns: 0,
-            lines: [to, to],
-        };
         let sentence = format!(in self.alloc; "move line {from} behind line {to}")?;
-        self.attempt(sentence, &change, &touched)
+        let taken = self.step(to, [start, end], "", sentence)?;
+        let line = text.get(start..end).unwrap_or("");
+        let put = self.step(to, [behind, behind], line, String::new(self.alloc))?;
+        self.attempt(taken, Some(put))
     }
 
-    /// Whether no correction was found that removes the refusal.
-    pub(crate) fn is_at_loss(&self) -> bool {
-        self.found.is_none()
-    }
-
-    /// Writes the correction that was found, if one was, as the hint of a note, in the place of
-    /// advice.
+    /// Writes the correction that was found, or else the advice, as the hint of a note.
     pub(crate) fn put_hint(&self, note: &mut Note) -> io::Result<()> {
         let Some(found) = &self.found else {
-            return Ok(());
+            return note.hint.write_all(self.advice.as_slice());
         };
         let then = if found.is_accepted {
             "; then it is accepted"
         } else {
             ""
         };
-        note.hint = Vec::new(self.alloc);
         write!(&mut note.hint, "{}{then}", found.sentence)
     }
 }

@@ -1,11 +1,10 @@
 //! Writes warnings about accepted plans.
 
-use crate::words::{Digits, Part};
+use crate::words::{Digits, Part, act_words};
 use crate::{DayWait, Flaw, LateUntil, Warning};
 use plan_code::limits::FRAMES_A_DAY;
-use script_front::lexemes::put_act;
-use script_front::{Act, Moment};
-use std::alloc::{AllocError, Global};
+use script_front::Act;
+use std::alloc::Global;
 use std::fmt::{self, Display, Formatter};
 use std::io::{self, Write};
 
@@ -19,13 +18,6 @@ impl Display for TimeOf {
         let (hours, minutes, seconds) = (second / 3600, second / 60 % 60, second % 60);
         write!(f, "{hours:02}:{minutes:02}:{seconds:02}")
     }
-}
-
-/// The words of `until`.
-fn until_words(alloc: Global, until: Moment) -> Result<String, AllocError> {
-    let mut words = String::new(alloc);
-    put_act(&mut words, Act::Until(until))?;
-    Ok(words)
 }
 
 /// Writes what a configuration has.
@@ -49,9 +41,8 @@ fn put_late<W: Write>(alloc: Global, late: &LateUntil, out: &mut W) -> io::Resul
         until,
         ..
     } = *late;
-    let mut wait = String::new(alloc);
-    put_act(&mut wait, Act::WaitContact { contact, closed })?;
-    let until = until_words(alloc, until)?;
+    let wait = act_words(alloc, Act::WaitContact { contact, closed })?;
+    let until = act_words(alloc, Act::Until(until))?;
     write!(
         out,
         "until comes after the wait; for whichever comes first write '{wait} or {until}'"
@@ -64,7 +55,7 @@ fn put_day<W: Write>(alloc: Global, wait: &DayWait, out: &mut W) -> io::Result<(
         Some(swap) => ("the swap before it comes at", swap),
         None => ("what is before it lasts until", wait.way.frames),
     };
-    let until = until_words(alloc, wait.until)?;
+    let until = act_words(alloc, Act::Until(wait.until))?;
     let time = TimeOf(wait.way.from.get().saturating_add(frames));
     write!(out, "waits {until} of the next day: {what} {time}")
 }

@@ -5,17 +5,23 @@ use crate::fact::{Fact, Pages, end_of};
 use crate::stop::Stop;
 use mux_config::{Carrier, Component, Config, Edit, Packet, Sid, Store, Sub};
 use mux_eep::{EepSet, Protection};
-use plan_code::Swap;
-use script_front::lexemes;
+use plan_code::{Plan, Swap};
+use script_front::Act;
+use script_front::lexemes::put_act;
 use std::alloc::{AllocError, Global};
 use std::fmt::{self, Display, Formatter};
 use std::io::{self, Write};
 
+/// The words of an act.
+pub(crate) fn act_words(alloc: Global, act: Act) -> Result<String, AllocError> {
+    let mut words = String::new(alloc);
+    put_act(&mut words, act)?;
+    Ok(words)
+}
+
 /// The words of an edit.
 pub(crate) fn edit_words(alloc: Global, edit: Edit) -> Result<String, AllocError> {
-    let mut words = String::new(alloc);
-    lexemes::put_edit(&mut words, edit)?;
-    Ok(words)
+    act_words(alloc, Act::Edit(edit))
 }
 
 /// An SId: four digits of a short one, eight of a long one.
@@ -47,9 +53,13 @@ impl Display for Profile {
 
 /// A member of a configuration or a part of one, or a swap.
 #[derive(Clone, Copy)]
-pub(crate) enum Part {
+pub(crate) enum Part<'a> {
+    /// No words.
+    Nothing,
     /// A service by its SId.
     Service(Sid),
+    /// A service with its components in a configuration, if it is there.
+    ServiceOf(&'a Config, Sid),
     /// The carrier of a component.
     Carrier(Carrier),
     /// A component.
@@ -64,60 +74,44 @@ pub(crate) enum Part {
     Swap(Swap),
 }
 
-impl Display for Part {
+impl Display for Part<'_> {
     fn fmt<W: fmt::Write>(&self, f: &mut Formatter<W>) -> fmt::Result {
         match *self {
+            Part::Nothing => Ok(()),
             Part::Service(sid) => write!(f, "service {}", Digits(sid)),
+            Part::ServiceOf(config, sid) => put_service(config, sid, f),
             Part::Carrier(Carrier::Sub(id)) => write!(f, "sub {}", id.get()),
             Part::Carrier(Carrier::Packet(scid)) => write!(f, "packet {}", scid.get()),
             Part::Component(component) => put_component(component, f),
             Part::Sub(sub) => put_sub(&sub, f),
             Part::Units(sub) => {
                 put_sub(&sub, f)?;
-                write!(
-                    f,
-                    " has CU {} to {}",
-                    sub.start,
-                    end_of(&sub).saturating_sub(1)
-                )
+                let last = end_of(&sub).saturating_sub(1);
+                write!(f, " has CU {} to {last}", sub.start)
             }
-            Part::Packet(packet) => {
-                let (scid, ty, sub) = (packet.scid.get(), packet.ty.get(), packet.sub.get());
-                let word = if packet.dg { "raw" } else { "groups" };
-                write!(
-                    f,
-                    "packet {scid} {word} type {ty} sub {sub} address {}",
-                    packet.address
-                )
-            }
-            Part::Swap(Swap::Idle) => f.write_str("no swap is pending"),
-            Part::Swap(Swap::Within(low, high)) if low == high => {
-                write!(f, "a swap is pending that comes after {low} frames")
-            }
-            Part::Swap(Swap::Within(low, high)) => {
-                write!(
-                    f,
-                    "a swap is pending that comes after {low} to {high} frames"
-                )
-            }
-            Part::Swap(Swap::Perhaps(high)) => {
-                write!(
-                    f,
-                    "a swap may be pending, that comes after {high} frames at most"
-                )
-            }
+            Part::Packet(packet) => put_packet(&packet, f),
+            Part::Swap(swap) => put_swap(swap, f),
         }
     }
 }
 
-/// Writes a sub-channel: its start, profile and rate.
-fn put_sub<W: fmt::Write>(sub: &Sub, f: &mut Formatter<W>) -> fmt::Result {
-    let (id, start, kbits) = (sub.id.get(), sub.start, sub.kbits);
-    write!(
-        f,
-        "sub {id} at {start} eep {} {kbits}",
-        Profile(sub.protection)
-    )
+/// Writes a service, with its components in a configuration if it is there.
+fn put_service<W: fmt::Write>(config: &Config, sid: Sid, f: &mut Formatter<W>) -> fmt::Result {
+    write!(f, "service {}", Digits(sid))?;
+    let Some(service) = config.service(sid) else {
+        return Ok(());
+    };
+    let mut before = " (";
+    for component in service.components.as_slice() {
+        f.write_str(before)?;
+        put_component(*component, f)?;
+        before = ", ";
+    }
+    f.write_str(if before == ", " {
+        ")"
+    } else {
+        " (no component)"
+    })
 }
 
 /// Writes a component.
@@ -129,75 +123,67 @@ fn put_component<W: fmt::Write>(component: Component, f: &mut Formatter<W>) -> f
     }
 }
 
-/// The service of a configuration, with its components if it is there.
-#[derive(Clone, Copy)]
-pub(crate) struct ServiceOf<'a>(pub(crate) &'a Config, pub(crate) Sid);
-
-impl Display for ServiceOf<'_> {
-    fn fmt<W: fmt::Write>(&self, f: &mut Formatter<W>) -> fmt::Result {
-        let ServiceOf(config, sid) = *self;
-        write!(f, "{}", Part::Service(sid))?;
-        let Some(service) = config.service(sid) else {
-            return Ok(());
-        };
-        let mut before = " (";
-        for component in service.components.as_slice() {
-            write!(f, "{before}{}", Part::Component(*component))?;
-            before = ", ";
-        }
-        f.write_str(if before == ", " {
-            ")"
-        } else {
-            " (no component)"
-        })
-    }
+/// Writes a sub-channel: its start, profile and rate.
+fn put_sub<W: fmt::Write>(sub: &Sub, f: &mut Formatter<W>) -> fmt::Result {
+    let (id, start, kbits, profile) = (sub.id.get(), sub.start, sub.kbits, Profile(sub.protection));
+    write!(f, "sub {id} at {start} eep {profile} {kbits}")
 }
 
-/// A member of a configuration, or that it is not there.
-#[derive(Clone, Copy)]
-struct MemberOf<'a>(&'a Config, &'a Difference);
+/// Writes a packet component.
+fn put_packet<W: fmt::Write>(packet: &Packet, f: &mut Formatter<W>) -> fmt::Result {
+    let word = if packet.dg { "raw" } else { "groups" };
+    let (scid, ty, sub) = (packet.scid.get(), packet.ty.get(), packet.sub.get());
+    let address = packet.address;
+    write!(
+        f,
+        "packet {scid} {word} type {ty} sub {sub} address {address}"
+    )
+}
 
-impl Display for MemberOf<'_> {
-    fn fmt<W: fmt::Write>(&self, f: &mut Formatter<W>) -> fmt::Result {
-        let config = self.0;
-        match self.1 {
-            Difference::Sub(id) => match config.sub(*id) {
-                Some(sub) => write!(f, "{}", Part::Sub(sub)),
-                None => write!(f, "no {}", Part::Carrier(Carrier::Sub(*id))),
-            },
-            Difference::Packet(scid) => match config.packet(*scid) {
-                Some(packet) => write!(f, "{}", Part::Packet(packet)),
-                None => write!(f, "no {}", Part::Carrier(Carrier::Packet(*scid))),
-            },
-            Difference::Service(sid) => {
-                if config.service(*sid).is_none() {
-                    f.write_str("no ")?;
-                }
-                write!(f, "{}", ServiceOf(config, *sid))
+/// Writes whether a swap is pending, and when it is due.
+fn put_swap<W: fmt::Write>(swap: Swap, f: &mut Formatter<W>) -> fmt::Result {
+    match swap {
+        Swap::Idle => f.write_str("no swap is pending"),
+        Swap::Within(low, high) => {
+            write!(f, "a swap is pending that comes after {low}")?;
+            if low != high {
+                write!(f, " to {high}")?;
             }
+            f.write_str(" frames")
+        }
+        Swap::Perhaps(high) => {
+            write!(
+                f,
+                "a swap may be pending, that comes after {high} frames at most"
+            )
         }
     }
 }
 
-/// What follows the words on each of two paths.
-#[derive(Clone, Copy)]
-pub(crate) struct Sides {
-    pub(crate) here: &'static str,
-    pub(crate) there: &'static str,
+/// A member of a configuration, or that it is not there: `no` before it.
+fn member_of(config: &Config, member: Difference) -> (&'static str, Part) {
+    match member {
+        Difference::Sub(id) => match config.sub(id) {
+            Some(sub) => ("", Part::Sub(sub)),
+            None => ("no ", Part::Carrier(Carrier::Sub(id))),
+        },
+        Difference::Packet(scid) => match config.packet(scid) {
+            Some(packet) => ("", Part::Packet(packet)),
+            None => ("no ", Part::Carrier(Carrier::Packet(scid))),
+        },
+        Difference::Service(sid) => match config.service(sid) {
+            Some(_) => ("", Part::ServiceOf(config, sid)),
+            None => ("no ", Part::Service(sid)),
+        },
+    }
 }
-
-/// What follows the words on each path, where there are none.
-pub(crate) const NO_SIDES: Sides = Sides {
-    here: "",
-    there: "",
-};
 
 /// Writes a member as it is on each of two paths.
 fn put_both<W: Write>(
     stop: &Stop,
     which: Compared,
-    member: &Difference,
-    sides: &Sides,
+    member: Difference,
+    [on, on_other]: [&str; 2],
     out: &mut W,
 ) -> io::Result<()> {
     let name = match which {
@@ -205,15 +191,17 @@ fn put_both<W: Write>(
         Compared::AfterSwap => "the configuration after the swap",
         Compared::Next => "the next configuration",
     };
-    let one = configuration_of(which, stop.other.pending, &stop.here);
-    let other = configuration_of(which, stop.here.pending, &stop.other);
-    write!(out, "in {name} {}{}, ", MemberOf(one, member), sides.here)?;
-    write!(out, "{}{}", MemberOf(other, member), sides.there)
+    let here = configuration_of(which, stop.other.pending, &stop.here);
+    let there = configuration_of(which, stop.here.pending, &stop.other);
+    let (no, one) = member_of(here, member);
+    write!(out, "in {name} {no}{one}{on}, ")?;
+    let (no, other) = member_of(there, member);
+    write!(out, "{no}{other}{on_other}")
 }
 
 /// Writes how many pages the configurations take in a plan.
-fn put_pages<W: Write>(stop: &Stop, pages: &Pages, out: &mut W) -> io::Result<()> {
-    let (period, notice) = (stop.plan.period, stop.plan.notice);
+fn put_pages<W: Write>(plan: &Plan, pages: &Pages, out: &mut W) -> io::Result<()> {
+    let (period, notice) = (plan.period, plan.notice);
     let Pages {
         current,
         next,
@@ -231,72 +219,65 @@ fn put_pages<W: Write>(stop: &Stop, pages: &Pages, out: &mut W) -> io::Result<()
 pub(crate) fn put_fact<W: Write>(
     fact: &Fact,
     stop: &Stop,
-    sides: &Sides,
+    sides: [&str; 2],
     out: &mut W,
 ) -> io::Result<()> {
-    let config = &stop.here.next;
-    match *fact {
-        Fact::HasSub(sub) => write!(out, "{} is there already", Part::Sub(sub)),
-        Fact::HasPacket(packet) => write!(out, "{} is there already", Part::Packet(packet)),
-        Fact::HasService(sid) => write!(out, "{} is there already", ServiceOf(config, sid)),
+    let of = |sid: Sid| Part::ServiceOf(&stop.here.next, sid);
+    let (there, gone, nothing) = (" is there already", ", which is not there", Part::Nothing);
+    let (one, has, other, end) = match *fact {
+        Fact::HasSub(sub) => (Part::Sub(sub), there, nothing, ""),
+        Fact::HasPacket(packet) => (Part::Packet(packet), there, nothing, ""),
+        Fact::HasService(sid) => (of(sid), there, nothing, ""),
         Fact::HasComponent(sid, carrier) => {
-            let service = ServiceOf(config, sid);
-            write!(
-                out,
-                "{service} has a component on {} already",
-                Part::Carrier(carrier)
-            )
+            let on = Part::Carrier(carrier);
+            (of(sid), " has a component on ", on, " already")
         }
-        Fact::Lacks(carrier) => write!(out, "{} is not there", Part::Carrier(carrier)),
-        Fact::LacksService(sid) => write!(out, "{} is not there", Part::Service(sid)),
+        Fact::Lacks(carrier) => (Part::Carrier(carrier), " is not there", nothing, ""),
+        Fact::LacksService(sid) => (Part::Service(sid), " is not there", nothing, ""),
         Fact::LacksComponent(sid, carrier) => {
-            let service = ServiceOf(config, sid);
-            write!(
-                out,
-                "{service} has no component on {}",
-                Part::Carrier(carrier)
-            )
+            let on = Part::Carrier(carrier);
+            (of(sid), " has no component on ", on, "")
         }
         Fact::Orphan(sid, carrier) => {
-            let (service, carrier) = (Part::Service(sid), Part::Carrier(carrier));
-            write!(
-                out,
-                "{service} has a component on {carrier}, which is not there"
-            )
+            let (service, on) = (Part::Service(sid), Part::Carrier(carrier));
+            (service, " has a component on ", on, gone)
         }
         Fact::OrphanPacket(packet) => {
-            let carrier = Part::Carrier(Carrier::Sub(packet.sub));
-            write!(
-                out,
-                "{} names {carrier}, which is not there",
-                Part::Packet(packet)
-            )
+            let sub = Part::Carrier(Carrier::Sub(packet.sub));
+            (Part::Packet(packet), " names ", sub, gone)
         }
         Fact::SameAddress(packet, other) => {
-            let (packet, other) = (Part::Packet(packet), Part::Packet(other));
-            write!(
-                out,
-                "{packet} and {other} have one address on one sub-channel"
-            )
+            let (one, other) = (Part::Packet(packet), Part::Packet(other));
+            (one, " and ", other, " have one address on one sub-channel")
         }
-        Fact::Empty(sid) => write!(out, "{} has no component", Part::Service(sid)),
+        Fact::Empty(sid) => (Part::Service(sid), " has no component", nothing, ""),
+        Fact::Swap(swap) => (Part::Swap(swap), "", nothing, ""),
+        _ => return put_numbers(fact, stop, sides, out),
+    };
+    write!(out, "{one}{has}{other}{end}")
+}
+
+/// Writes a fact with numbers, or of two paths.
+fn put_numbers<W: Write>(
+    fact: &Fact,
+    stop: &Stop,
+    sides: [&str; 2],
+    out: &mut W,
+) -> io::Result<()> {
+    let (here, there) = (
+        Part::Swap(stop.here.pending),
+        Part::Swap(stop.other.pending),
+    );
+    let [on, on_other] = sides;
+    match *fact {
         Fact::Shared(overlap) => {
             let (one, other) = (Part::Units(overlap.first), Part::Units(overlap.second));
-            write!(
-                out,
-                "{one}, {other}: they share CU {} to {}",
-                overlap.low, overlap.high
-            )
+            let (low, high) = (overlap.low, overlap.high);
+            write!(out, "{one}, {other}: they share CU {low} to {high}")
         }
-        Fact::Swap(swap) => write!(out, "{}", Part::Swap(swap)),
-        Fact::Pages(pages) => put_pages(stop, &pages, out),
-        Fact::Differ(which, member) => put_both(stop, which, &member, sides, out),
-        Fact::OtherSwap => {
-            let (one, other) = (
-                Part::Swap(stop.here.pending),
-                Part::Swap(stop.other.pending),
-            );
-            write!(out, "{one}{}; {other}{}", sides.here, sides.there)
-        }
+        Fact::Pages(pages) => put_pages(&stop.plan, &pages, out),
+        Fact::Differ(which, member) => put_both(stop, which, member, sides, out),
+        Fact::OtherSwap => write!(out, "{here}{on}; {there}{on_other}"),
+        _ => Ok(()),
     }
 }
