@@ -12,7 +12,7 @@ use script_front::{Act, Alternative, Moment};
 
 /// An `until` that waits for its time of the next day, since the way to it takes longer than it is
 /// from the last wait for a time of day to its time.
-#[derive(Clone, Copy, Debug, PartialEq, Eq)]
+#[derive(Clone, Copy, PartialEq, Eq)]
 pub struct DayWait {
     /// The line of `until`.
     pub line: u16,
@@ -81,34 +81,26 @@ pub(crate) fn new_way(from: DayFrame) -> Way
 pub(crate) fn further(way: Way, act: &Act) -> Way
     ensures { result ≡ further way act.now }
 {
-    let Way { from, frames, swap } = way;
+    let frames = way.frames;
     match act {
         Act::Wait(wait) => Way {
-            from,
             frames: more(frames, u32::from(wait.get())),
-            swap,
+            ..way
         },
         Act::WaitContact { .. } | Act::WaitAny(_) | Act::Until(_) => Way {
-            from,
             frames: more(frames, 1),
-            swap,
+            ..way
         },
         Act::CommitIn(delay) => Way {
-            from,
-            frames,
             swap: Some(more(frames, u32::from(delay.get()))),
+            ..way
         },
-        Act::CommitAt(_) => Way {
-            from,
-            frames,
-            swap: None,
-        },
+        Act::CommitAt(_) => Way { swap: None, ..way },
         Act::Join => Way {
-            from,
-            frames: swapped(frames, swap),
-            swap,
+            frames: swapped(frames, way.swap),
+            ..way
         },
-        Act::Settle | Act::Edit(_) => Way { from, frames, swap },
+        Act::Settle | Act::Edit(_) => way,
     }
 }
 
