@@ -7,7 +7,7 @@ use plan_code::{DayFrame, Instr, Line};
 
 /// An `until` before anything else: the plan shows its opening until then, at whatever time of day
 /// it starts.
-#[derive(Clone, Copy, Debug, PartialEq, Eq)]
+#[derive(Clone, Copy, PartialEq, Eq)]
 pub struct FirstWait {
     /// The line of the script.
     pub line: u16,

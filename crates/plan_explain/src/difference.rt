@@ -12,7 +12,7 @@ use plan_verifier::Flow;
 use plan_verifier::flow::is_idle;
 
 /// Which configurations of two paths are compared.
-#[derive(Clone, Copy, Debug, PartialEq, Eq)]
+#[derive(Clone, Copy)]
 pub(crate) enum Compared {
     /// The current ones.
     Current,
@@ -24,7 +24,7 @@ pub(crate) enum Compared {
 
 /// A member that differs between two configurations: one of them does not have it, or has it
 /// otherwise.
-#[derive(Clone, Copy, Debug, PartialEq, Eq)]
+#[derive(Clone, Copy)]
 pub(crate) enum Difference {
     /// A sub-channel.
     Sub(SubId),

@@ -27,7 +27,7 @@ pub(crate) struct Overlap {
 }
 
 /// The numbers of pages of the current and the next configuration, each alone and both together.
-#[derive(Clone, Copy, Debug, PartialEq, Eq)]
+#[derive(Clone, Copy, PartialEq, Eq)]
 pub(crate) struct Pages {
     pub(crate) current: usize,
     pub(crate) next: usize,

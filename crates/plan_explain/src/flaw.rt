@@ -12,7 +12,7 @@ use mux_config::{Carrier, Component, Config, Packet, Service, Sid, Sub, SubId};
 use std::alloc::{AllocError, Global};
 
 /// Something that a configuration has, though it is sound.
-#[derive(Clone, Copy, Debug, PartialEq, Eq)]
+#[derive(Clone, Copy, PartialEq, Eq)]
 pub enum Flaw {
     /// A sub-channel that no component of a service and no packet component names.
     Unnamed(SubId),

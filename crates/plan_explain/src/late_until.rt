@@ -10,7 +10,7 @@ use script_front::{Act, Moment};
 
 /// An `until` directly behind a `wait contact` in one block: the plan waits for both, one after the
 /// other.
-#[derive(Clone, Copy, Debug, PartialEq, Eq)]
+#[derive(Clone, Copy, PartialEq, Eq)]
 pub struct LateUntil {
     /// The line of `until`.
     pub line: u16,

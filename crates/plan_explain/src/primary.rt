@@ -12,7 +12,7 @@ use std::alloc::{AllocError, Global};
 
 /// A service with another first component than before, which is its primary one (EN 300 401 clause
 /// 6.3.1).
-#[derive(Clone, Copy, Debug, PartialEq, Eq)]
+#[derive(Clone, Copy, PartialEq, Eq)]
 pub struct Primary {
     /// The service.
     pub sid: Sid,

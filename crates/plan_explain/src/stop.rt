@@ -12,7 +12,7 @@ use script_compiler::CompileFault;
 use script_front::Act;
 
 /// What is refused.
-#[derive(Clone, Copy, Debug, PartialEq, Eq)]
+#[derive(Clone, Copy)]
 pub(crate) enum Refused {
     /// An instruction, for this cause.
     Instr(Instr, Cause),

@@ -17,7 +17,7 @@ use script_front::{Act, Moment, Script, Statement};
 use std::alloc::{AllocError, Global};
 
 /// A wait for a contact.
-#[derive(Clone, Copy, Debug, PartialEq, Eq)]
+#[derive(Clone, Copy)]
 pub struct ContactWait {
     /// The contact.
     pub contact: ContactId,
@@ -26,7 +26,7 @@ pub struct ContactWait {
 }
 
 /// How far a plan is at least behind a wait for a time of day.
-#[derive(Clone, Copy, Debug, PartialEq, Eq)]
+#[derive(Clone, Copy, PartialEq, Eq)]
 pub struct Way {
     /// The frame of the day for which it waits.
     pub from: DayFrame,

@@ -39,7 +39,7 @@ pub(crate) struct Change {
 }
 
 /// What a text is.
-#[derive(Clone, Copy, Debug, PartialEq, Eq)]
+#[derive(Clone, Copy)]
 pub(crate) enum Outcome {
     /// An accepted script.
     Accepted,
@@ -64,7 +64,7 @@ pub(crate) enum Refusal {
 }
 
 /// What becomes of a refusal where the text is changed.
-#[derive(Clone, Copy, Debug, PartialEq, Eq)]
+#[derive(Clone, Copy, PartialEq, Eq)]
 pub(crate) enum Verdict {
     /// The text is accepted.
     Accepted,

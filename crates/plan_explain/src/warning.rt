@@ -7,7 +7,7 @@ use crate::late_until::LateUntil;
 use crate::primary::Primary;
 
 /// A warning about an accepted plan, with the line of the script that it is about.
-#[derive(Clone, Copy, Debug, PartialEq, Eq)]
+#[derive(Clone, Copy, PartialEq, Eq)]
 pub enum Warning {
     /// A configuration that comes in this line has a flaw, which the one before it did not have:
     /// the opening in the line of `begin`, another one in that of its commit.
