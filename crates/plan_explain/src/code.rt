@@ -29,7 +29,10 @@ struct Place<'a> {
 impl Place<'_> {
     /// The target of the instruction, if it jumps.
     fn target(&self) -> Option<u16> {
-        self.code.instr(self.pc).and_then(|instr| target_of(instr))
+        match self.code.instr(self.pc) {
+            Some(instr) => target_of(instr),
+            None => None,
+        }
     }
 
     /// A refusal there, with what is known on another path.
@@ -160,17 +163,17 @@ impl Place<'_> {
 
     /// Explains a cause by what is known at the instruction: in the first one it may be that of the
     /// configuration with which the code begins.
-    fn explain_known(&self, instr: Instr, cause: Cause, note: &mut Note) -> io::Result<()> {
+    fn explain_known(&self, instr: &Instr, cause: &Cause, note: &mut Note) -> io::Result<()> {
         let (plan, flow) = (self.code.plan(), &self.reach.flow);
         let refused = if self.pc == 0 && test_opening(&plan, &flow.current).is_err() {
-            Refused::Opening(cause)
+            Refused::Opening(*cause)
         } else {
-            Refused::Instr(instr, cause)
+            Refused::Instr(*instr, *cause)
         };
         let stop = self.stop(refused, flow);
         let refusal = Refusal::Plan {
             line: 0,
-            cause,
+            cause: *cause,
             is_defined: false,
         };
         let mut trier = Trier::new(self.alloc, "", refusal)?;
@@ -205,7 +208,7 @@ impl Place<'_> {
             ),
             _ => {
                 self.reach.enter(self.code, pc);
-                self.explain_known(instr, cause, note)
+                self.explain_known(&instr, &cause, note)
             }
         }
     }

@@ -4,7 +4,7 @@
 use crate::fact::{Fact, is_missing};
 use crate::room::{edited_sub, free_address, has_room, most_rate, near_rates, rate_step, room_for};
 use crate::trier::Trier;
-use crate::words::{Digits, Part, edit_words};
+use crate::words::{Digits, Part, edit_words, part_words, sub_words};
 use mux_config::{Carrier, Component, Config, Edit, EditFault, Packet, Sid, Store, Sub, SubId};
 use mux_eep::{CAPACITY_UNITS, EepFault, size_of};
 use std::alloc::AllocError;
@@ -28,15 +28,14 @@ fn write_sub(trier: &mut Trier, edit: &Edit, sub: &Sub) -> Result<(), AllocError
     let words = match edit {
         Edit::MoveSub { .. } => format!(in trier.alloc; "move sub {id} at {start}")?,
         Edit::RateSub { .. } => format!(in trier.alloc; "rate sub {id} {kbits}")?,
-        _ => format!(in trier.alloc; "{}", Part::Sub(*sub))?,
+        _ => sub_words(trier.alloc, sub)?,
     };
     trier.write(words.as_str())
 }
 
 /// Tries other words in the place of some before the refused statement.
-fn write_before(trier: &mut Trier, old: Part, new: &str) -> Result<(), AllocError> {
-    let old = format!(in trier.alloc; "{old}")?;
-    let spot = trier.last_spot(old.as_str())?;
+fn write_before(trier: &mut Trier, old: &str, new: &str) -> Result<(), AllocError> {
+    let spot = trier.last_spot(old)?;
     trier.write_at(spot, new)
 }
 
@@ -53,19 +52,30 @@ fn component_on(config: &Config, sid: Sid, carrier: Carrier) -> Option<Component
     components.find(|component| component.carrier() == carrier)
 }
 
+/// Corrections of an added sub-channel whose number is used: without it, if it is there as it is
+/// added; with the other dropped before; with the first free number.
+fn try_used_sub(
+    trier: &mut Trier,
+    config: &Config,
+    edit: &Edit,
+    sub: &Sub,
+) -> Result<(), AllocError> {
+    if config.sub(sub.id) == Some(*sub) {
+        trier.leave_out()?;
+    }
+    put_edit(trier, Edit::DropSub(sub.id))?;
+    let mut ids = (0u8..64).filter_map(|number| SubId::new(number));
+    match ids.find(|id| config.sub(*id).is_none()) {
+        Some(id) => write_sub(trier, edit, &Sub { id, ..*sub }),
+        None => Ok(()),
+    }
+}
+
 /// The hint on an addition of what is there.
 fn hint_on_used(trier: &mut Trier, config: &Config, edit: &Edit) -> io::Result<()> {
-    let advice = match *edit {
+    let advice = match edit {
         Edit::AddSub(sub) => {
-            let sub = sub.get();
-            if config.sub(sub.id) == Some(sub) {
-                trier.leave_out()?;
-            }
-            put_edit(trier, Edit::DropSub(sub.id))?;
-            let mut ids = (0u8..64).filter_map(|number| SubId::new(number));
-            if let Some(id) = ids.find(|id| config.sub(*id).is_none()) {
-                write_sub(trier, edit, &Sub { id, ..sub })?;
-            }
+            try_used_sub(trier, config, edit, &sub.get())?;
             "'drop' it first, or take another number"
         }
         Edit::AddPacket(packet) => {
@@ -77,10 +87,10 @@ fn hint_on_used(trier: &mut Trier, config: &Config, edit: &Edit) -> io::Result<(
             "'drop service' first, or take another SId"
         }
         Edit::AddComponent { sid, component } => {
-            let carrier = component.carrier();
-            if component_on(config, sid, carrier) == Some(component) {
+            if component_on(config, *sid, component.carrier()) == Some(*component) {
                 trier.leave_out()?;
             }
+            let (sid, carrier) = (*sid, component.carrier());
             put_edit(trier, Edit::DropComponent { sid, carrier })?;
             "'drop component' first, or name another sub-channel or packet component"
         }
@@ -211,8 +221,9 @@ fn try_room(trier: &mut Trier, config: &Config, sub: &Sub) -> Result<(), AllocEr
         return Ok(());
     };
     let moved = Sub { start, ..*sub };
-    let words = format!(in trier.alloc; "{}", Part::Sub(moved))?;
-    write_before(trier, Part::Sub(*sub), words.as_str())?;
+    let old = sub_words(trier.alloc, sub)?;
+    let new = sub_words(trier.alloc, &moved)?;
+    write_before(trier, old.as_str(), new.as_str())?;
     put_move(trier, &moved)
 }
 
@@ -220,24 +231,28 @@ fn try_room(trier: &mut Trier, config: &Config, sub: &Sub) -> Result<(), AllocEr
 fn hint_on_orphan(
     trier: &mut Trier,
     config: &Config,
-    sid: Sid,
-    carrier: Carrier,
+    sid: &Sid,
+    carrier: &Carrier,
 ) -> io::Result<()> {
     let mut has_others = false;
-    if let Some(service) = config.service(sid) {
+    if let Some(service) = config.service(*sid) {
         let mut components = service.components.as_slice().iter();
         has_others = components.any(|component| !is_missing(config, component.carrier()));
     }
     let drop = if has_others {
-        Edit::DropComponent { sid, carrier }
+        Edit::DropComponent {
+            sid: *sid,
+            carrier: *carrier,
+        }
     } else {
-        Edit::DropService(sid)
+        Edit::DropService(*sid)
     };
     put_edit(trier, drop)?;
-    if let Some(component) = component_on(config, sid, carrier) {
+    if let Some(component) = component_on(config, *sid, *carrier) {
+        let sid = *sid;
         leave_out_before(trier, Edit::AddComponent { sid, component })?;
     }
-    let (on, of) = (Part::Carrier(carrier), Digits(sid));
+    let (on, of) = (Part::Carrier(*carrier), Digits(*sid));
     if has_others {
         return write!(
             &mut trier.advice,
@@ -253,7 +268,7 @@ fn hint_on_orphan(
 
 /// The hint on a configuration that is not sound, by the fact that it has this.
 pub(crate) fn hint_on_config(trier: &mut Trier, config: &Config, fact: &Fact) -> io::Result<()> {
-    match *fact {
+    match fact {
         Fact::Shared(overlap) => {
             try_room(trier, config, &overlap.second)?;
             try_room(trier, config, &overlap.first)?;
@@ -269,7 +284,7 @@ pub(crate) fn hint_on_config(trier: &mut Trier, config: &Config, fact: &Fact) ->
         Fact::Orphan(sid, carrier) => hint_on_orphan(trier, config, sid, carrier),
         Fact::OrphanPacket(packet) => {
             put_edit(trier, Edit::DropPacket(packet.scid))?;
-            leave_out_before(trier, Edit::AddPacket(packet))?;
+            leave_out_before(trier, Edit::AddPacket(*packet))?;
             let scid = packet.scid.get();
             write!(
                 &mut trier.advice,
@@ -278,20 +293,21 @@ pub(crate) fn hint_on_config(trier: &mut Trier, config: &Config, fact: &Fact) ->
         }
         Fact::SameAddress(_, twin) => {
             let address = free_address(config, twin.sub);
-            let other = Packet { address, ..twin };
+            let other = Packet { address, ..*twin };
+            let old = part_words(trier.alloc, Part::Packet(*twin))?;
             let words = edit_words(trier.alloc, Edit::AddPacket(other))?;
-            write_before(trier, Part::Packet(twin), words.as_str())?;
+            write_before(trier, old.as_str(), words.as_str())?;
             trier
                 .advice
                 .write_all(b"give one of them another address, 1 to 1023")
         }
         Fact::Empty(sid) => {
-            put_edit(trier, Edit::DropService(sid))?;
-            leave_out_before(trier, Edit::AddService(sid))?;
+            put_edit(trier, Edit::DropService(*sid))?;
+            leave_out_before(trier, Edit::AddService(*sid))?;
             write!(
                 &mut trier.advice,
                 "'drop service {}', or add a component",
-                Digits(sid)
+                Digits(*sid)
             )
         }
         _ => Ok(()),

@@ -26,31 +26,41 @@ fn push_true(facts: &mut Vec<Fact>, fact: &Fact, stop: &Stop) -> Result<(), Allo
 
 /// Why an edit has a fault, if a fact explains it: what is there of that which it adds, or is not
 /// there of that which it names.
-fn of_edit(config: &Config, edit: Edit, fault: EditFault) -> Option<Fact> {
-    Some(match (fault, edit) {
-        (EditFault::IdUsed, Edit::AddSub(sub)) => Fact::HasSub(config.sub(sub.get().id)?),
-        (EditFault::IdUsed, Edit::AddPacket(packet)) => {
-            Fact::HasPacket(config.packet(packet.scid)?)
+fn of_edit(config: &Config, edit: &Edit, fault: EditFault) -> Option<Fact> {
+    match fault {
+        EditFault::IdUsed => of_used(config, edit),
+        EditFault::IdAbsent => of_absent(config, edit),
+        _ => None,
+    }
+}
+
+/// What is there of that which an edit adds.
+fn of_used(config: &Config, edit: &Edit) -> Option<Fact> {
+    match edit {
+        Edit::AddSub(sub) => config.sub(sub.get().id).map(Fact::HasSub),
+        Edit::AddPacket(packet) => config.packet(packet.scid).map(Fact::HasPacket),
+        Edit::AddService(sid) => Some(Fact::HasService(*sid)),
+        Edit::AddComponent { sid, component } => {
+            Some(Fact::HasComponent(*sid, component.carrier()))
         }
-        (EditFault::IdUsed, Edit::AddService(sid)) => Fact::HasService(sid),
-        (EditFault::IdUsed, Edit::AddComponent { sid, component }) => {
-            Fact::HasComponent(sid, component.carrier())
+        _ => None,
+    }
+}
+
+/// What is not there of that which an edit names.
+fn of_absent(config: &Config, edit: &Edit) -> Option<Fact> {
+    match edit {
+        Edit::DropSub(id) | Edit::MoveSub { id, .. } | Edit::RateSub { id, .. } => {
+            Some(Fact::Lacks(Carrier::Sub(*id)))
         }
-        (
-            EditFault::IdAbsent,
-            Edit::DropSub(id) | Edit::MoveSub { id, .. } | Edit::RateSub { id, .. },
-        ) => Fact::Lacks(Carrier::Sub(id)),
-        (EditFault::IdAbsent, Edit::DropPacket(scid)) => Fact::Lacks(Carrier::Packet(scid)),
-        (EditFault::IdAbsent, Edit::DropComponent { sid, carrier })
-            if config.service(sid).is_some() => { Fact::LacksComponent(sid, carrier) }
-        (
-            EditFault::IdAbsent,
-            Edit::DropService(sid)
-            | Edit::AddComponent { sid, .. }
-            | Edit::DropComponent { sid, .. },
-        ) => Fact::LacksService(sid),
-        _ => return None,
-    })
+        Edit::DropPacket(scid) => Some(Fact::Lacks(Carrier::Packet(*scid))),
+        Edit::DropComponent { sid, carrier } if config.service(*sid).is_some() => {
+            Some(Fact::LacksComponent(*sid, *carrier))
+        }
+        Edit::DropService(sid) | Edit::AddComponent { sid, .. } | Edit::DropComponent { sid, .. } =>
+            Some(Fact::LacksService(*sid)),
+        _ => None,
+    }
 }
 
 /// Appends each two sub-channels that share capacity units, those with the lowest numbers first.
@@ -107,35 +117,27 @@ fn push_twins(facts: &mut Vec<Fact>, config: &Config) -> Result<(), AllocError> 
     Ok(())
 }
 
-/// Appends what is not sound in a configuration in this way, other than shared capacity units.
-fn push_kind(facts: &mut Vec<Fact>, config: &Config, kind: ConfigFault) -> Result<(), AllocError> {
-    match kind {
-        ConfigFault::Orphan => push_orphans(facts, config),
-        ConfigFault::EmptyService => push_empty(facts, config),
-        ConfigFault::AddressUsed => push_twins(facts, config),
-        ConfigFault::Overlap(_, _) => Ok(()),
-    }
-}
-
 /// Appends what is not sound in a configuration, this kind of it first.
 fn push_unsound(
     facts: &mut Vec<Fact>,
     config: &Config,
     first: Option<ConfigFault>,
 ) -> Result<(), AllocError> {
-    if let Some(kind) = first {
-        push_kind(facts, config, kind)?;
+    match first {
+        Some(ConfigFault::Orphan) => push_orphans(facts, config)?,
+        Some(ConfigFault::EmptyService) => push_empty(facts, config)?,
+        Some(ConfigFault::AddressUsed) => push_twins(facts, config)?,
+        Some(ConfigFault::Overlap(_, _)) | None => {}
     }
     push_overlaps(facts, config)?;
-    let others = [
-        ConfigFault::EmptyService,
-        ConfigFault::Orphan,
-        ConfigFault::AddressUsed,
-    ];
-    for kind in others {
-        if first != Some(kind) {
-            push_kind(facts, config, kind)?;
-        }
+    if first != Some(ConfigFault::EmptyService) {
+        push_empty(facts, config)?;
+    }
+    if first != Some(ConfigFault::Orphan) {
+        push_orphans(facts, config)?;
+    }
+    if first != Some(ConfigFault::AddressUsed) {
+        push_twins(facts, config)?;
     }
     Ok(())
 }
@@ -144,7 +146,7 @@ fn push_unsound(
 fn push_cause(facts: &mut Vec<Fact>, stop: &Stop) -> Result<(), AllocError> {
     let config = &stop.here.next;
     match (cause_of(stop.refused), stop.instr()) {
-        (Cause::Edit(fault), Some(Instr::Edit(edit))) => match of_edit(config, edit, fault) {
+        (Cause::Edit(fault), Some(Instr::Edit(edit))) => match of_edit(config, &edit, fault) {
             Some(fact) => push(facts, fact),
             None => Ok(()),
         },

@@ -8,7 +8,7 @@ use crate::note::Note;
 use crate::sentence::{put_plain, put_refused};
 use crate::stop::{Stop, cause_of};
 use crate::trier::{Braces, Trier};
-use crate::words::Part;
+use crate::words::{Part, put_part};
 use fib_codec::FrameLayout;
 use mux_config::{Config, Store};
 use plan_code::{Instr, Plan, Swap};
@@ -27,7 +27,7 @@ fn put_commit(trier: &Trier, out: &mut Vec<u8>) -> io::Result<()> {
 
 /// Explains an instruction before which a swap is pending.
 fn explain_pending(trier: &mut Trier, pending: Swap, out: &mut Vec<u8>) -> io::Result<()> {
-    write!(out, "{}", Part::Swap(pending))?;
+    put_part(Part::Swap(pending), out)?;
     put_commit(trier, out)?;
     out.write_all(b"; until then the next configuration stays as it is")?;
     trier.put("join")?;
@@ -49,7 +49,7 @@ fn explain_commit(
     out: &mut Vec<u8>,
 ) -> io::Result<()> {
     let notice = plan.notice;
-    match instr {
+    match &instr {
         Some(Instr::CommitIn(delay)) => {
             let delay = delay.get();
             write!(
@@ -96,8 +96,8 @@ fn explain_join(trier: &mut Trier, pending: Swap, out: &mut Vec<u8>) -> io::Resu
 
 /// Explains a wait that may end before the swap or after it.
 fn explain_wait(trier: &mut Trier, stop: &Stop, out: &mut Vec<u8>) -> io::Result<()> {
-    let (Some(Instr::Wait(frames)), Swap::Within(low, high)) = (stop.instr(), stop.here.pending)
-    else {
+    let instr = stop.instr();
+    let (Some(Instr::Wait(frames)), Swap::Within(low, high)) = (&instr, stop.here.pending) else {
         return Ok(());
     };
     let (frames, shorter) = (frames.get(), low.saturating_sub(1));
@@ -222,10 +222,11 @@ pub(crate) fn explain_known(
 /// The edits that undo the first difference of a configuration from what it was, if it is one of a
 /// sub-channel's start or rate.
 fn undoing(alloc: Global, now: &Config, before: &Config) -> Result<Option<String>, AllocError> {
-    let Some(Difference::Sub(id)) = first_differing(now, before) else {
+    let difference = first_differing(now, before);
+    let Some(Difference::Sub(id)) = &difference else {
         return Ok(None);
     };
-    let (Some(now), Some(before)) = (now.sub(id), before.sub(id)) else {
+    let (Some(now), Some(before)) = (now.sub(*id), before.sub(*id)) else {
         return Ok(None);
     };
     let (id, start, kbits) = (id.get(), before.start, before.kbits);

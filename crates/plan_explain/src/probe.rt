@@ -28,9 +28,10 @@ impl<'a> Front<'a> {
             last: "",
         };
         for index in 0..count {
-            front.last = source.word(index);
-            front.text.push_str(front.last)?;
+            let word = source.word(index);
+            front.text.push_str(word)?;
             front.text.push_str(" ")?;
+            front.last = word;
         }
         Ok(front)
     }

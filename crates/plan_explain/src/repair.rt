@@ -142,11 +142,15 @@ impl<'a> Wrong<'a> {
                 let token = text_of(trier.alloc, token)?;
                 let notice = trier.source.number_after("notice");
                 let words = format!(in trier.alloc; "until {token}; commit in {notice}")?;
-                trier.write_at(trier.source.spot(before, 3), words.as_str())
+                let spot = trier.source.spot(before, 3);
+                trier.write_at(spot, words.as_str())
             }
             ("commit", token) if leading_number(token).0 > 0 => trier.put("in"),
             (_, b"to") => trier.leave_out(),
-            ("mode", b"1") => trier.write_at(trier.source.spot(last, 2), ""),
+            ("mode", b"1") => {
+                let spot = trier.source.spot(last, 2);
+                trier.write_at(spot, "")
+            }
             _ => Ok(()),
         }
     }
@@ -166,17 +170,19 @@ impl<'a> Wrong<'a> {
 /// Tries `until` in the place of `wait until` without an alternative, directly before the token
 /// with this index, or the end of the text.
 pub(crate) fn attempt_until(trier: &mut Trier, index: usize) -> Result<(), AllocError> {
-    let source = &trier.source;
     let plain = index.saturating_sub(3);
     let early = index.saturating_sub(5);
+    let source = &trier.source;
     if index >= 3 && source.word(plain) == "wait" && source.word(plain + 1) == "until" {
         let words = format!(in trier.alloc; "until {}", source.word(plain + 2))?;
-        return trier.write_at(source.spot(plain, 3), words.as_str());
+        let spot = source.spot(plain, 3);
+        return trier.write_at(spot, words.as_str());
     }
     if index >= 5 && source.word(early) == "wait" && source.word(early + 3) == "early" {
         let (time, frames) = (source.word(early + 2), source.word(early + 4));
         let words = format!(in trier.alloc; "until {time} early {frames}")?;
-        return trier.write_at(source.spot(early, 5), words.as_str());
+        let spot = source.spot(early, 5);
+        return trier.write_at(spot, words.as_str());
     }
     Ok(())
 }

@@ -22,17 +22,28 @@ use std::io::{self, Write};
 
 /// The words of what is refused, or of the beginning of the statements; empty if it is no act.
 fn refused_words(alloc: Global, refused: Refused) -> Result<String, AllocError> {
-    let act = match refused {
-        Refused::Instr(Instr::Edit(edit), _) => Act::Edit(edit),
-        Refused::Instr(Instr::Wait(frames), _) => Act::Wait(frames),
-        Refused::Instr(Instr::CommitIn(delay), _) => Act::CommitIn(delay),
-        Refused::Instr(Instr::CommitAt(count), _) => Act::CommitAt(count),
-        Refused::Instr(Instr::Join, _) => Act::Join,
-        Refused::Unreached { act: Some(act), .. } => act,
+    let act = match &refused {
+        Refused::Instr(instr, _) => act_of(instr),
+        Refused::Unreached { act, .. } => *act,
         Refused::Opening(_) => return String::from_str(alloc, "begin"),
-        _ => return Ok(String::new(alloc)),
+        _ => None,
     };
-    act_words(alloc, act)
+    match act {
+        Some(act) => act_words(alloc, act),
+        None => Ok(String::new(alloc)),
+    }
+}
+
+/// The act that is compiled to an instruction, if one is that is explained by its words.
+fn act_of(instr: &Instr) -> Option<Act> {
+    Some(match instr {
+        Instr::Edit(edit) => Act::Edit(*edit),
+        Instr::Wait(frames) => Act::Wait(*frames),
+        Instr::CommitIn(delay) => Act::CommitIn(*delay),
+        Instr::CommitAt(count) => Act::CommitAt(*count),
+        Instr::Join => Act::Join,
+        _ => return None,
+    })
 }
 
 /// Explains a refused statement.

@@ -53,13 +53,9 @@ impl Display for Profile {
 
 /// A member of a configuration or a part of one, or a swap.
 #[derive(Clone, Copy)]
-pub(crate) enum Part<'a> {
-    /// No words.
-    Nothing,
+pub(crate) enum Part {
     /// A service by its SId.
     Service(Sid),
-    /// A service with its components in a configuration, if it is there.
-    ServiceOf(&'a Config, Sid),
     /// The carrier of a component.
     Carrier(Carrier),
     /// A component.
@@ -74,12 +70,25 @@ pub(crate) enum Part<'a> {
     Swap(Swap),
 }
 
-impl Display for Part<'_> {
+/// The words of a part.
+pub(crate) fn part_words(alloc: Global, part: Part) -> Result<String, AllocError> {
+    format!(in alloc; "{part}")
+}
+
+/// The words of a sub-channel.
+pub(crate) fn sub_words(alloc: Global, sub: &Sub) -> Result<String, AllocError> {
+    part_words(alloc, Part::Sub(*sub))
+}
+
+/// Writes a part.
+pub(crate) fn put_part<W: Write>(part: Part, out: &mut W) -> io::Result<()> {
+    write!(out, "{part}")
+}
+
+impl Display for Part {
     fn fmt<W: fmt::Write>(&self, f: &mut Formatter<W>) -> fmt::Result {
         match *self {
-            Part::Nothing => Ok(()),
             Part::Service(sid) => write!(f, "service {}", Digits(sid)),
-            Part::ServiceOf(config, sid) => put_service(config, sid, f),
             Part::Carrier(Carrier::Sub(id)) => write!(f, "sub {}", id.get()),
             Part::Carrier(Carrier::Packet(scid)) => write!(f, "packet {}", scid.get()),
             Part::Component(component) => put_component(component, f),
@@ -95,23 +104,29 @@ impl Display for Part<'_> {
     }
 }
 
-/// Writes a service, with its components in a configuration if it is there.
-fn put_service<W: fmt::Write>(config: &Config, sid: Sid, f: &mut Formatter<W>) -> fmt::Result {
-    write!(f, "service {}", Digits(sid))?;
-    let Some(service) = config.service(sid) else {
-        return Ok(());
-    };
-    let mut before = " (";
-    for component in service.components.as_slice() {
-        f.write_str(before)?;
-        put_component(*component, f)?;
-        before = ", ";
+/// A service with its components in a configuration, if it is there.
+#[derive(Clone, Copy)]
+struct ServiceOf<'a>(&'a Config, Sid);
+
+impl Display for ServiceOf<'_> {
+    fn fmt<W: fmt::Write>(&self, f: &mut Formatter<W>) -> fmt::Result {
+        let (config, sid) = (self.0, self.1);
+        write!(f, "service {}", Digits(sid))?;
+        let Some(service) = config.service(sid) else {
+            return Ok(());
+        };
+        let mut before = " (";
+        for component in service.components.as_slice() {
+            f.write_str(before)?;
+            put_component(*component, f)?;
+            before = ", ";
+        }
+        f.write_str(if before == ", " {
+            ")"
+        } else {
+            " (no component)"
+        })
     }
-    f.write_str(if before == ", " {
-        ")"
-    } else {
-        " (no component)"
-    })
 }
 
 /// Writes a component.
@@ -160,30 +175,12 @@ fn put_swap<W: fmt::Write>(swap: Swap, f: &mut Formatter<W>) -> fmt::Result {
     }
 }
 
-/// A member of a configuration, or that it is not there: `no` before it.
-fn member_of(config: &Config, member: Difference) -> (&'static str, Part) {
-    match member {
-        Difference::Sub(id) => match config.sub(id) {
-            Some(sub) => ("", Part::Sub(sub)),
-            None => ("no ", Part::Carrier(Carrier::Sub(id))),
-        },
-        Difference::Packet(scid) => match config.packet(scid) {
-            Some(packet) => ("", Part::Packet(packet)),
-            None => ("no ", Part::Carrier(Carrier::Packet(scid))),
-        },
-        Difference::Service(sid) => match config.service(sid) {
-            Some(_) => ("", Part::ServiceOf(config, sid)),
-            None => ("no ", Part::Service(sid)),
-        },
-    }
-}
-
 /// Writes a member as it is on each of two paths.
 fn put_both<W: Write>(
     stop: &Stop,
     which: Compared,
-    member: Difference,
-    [on, on_other]: [&str; 2],
+    member: &Difference,
+    sides: [&str; 2],
     out: &mut W,
 ) -> io::Result<()> {
     let name = match which {
@@ -193,10 +190,31 @@ fn put_both<W: Write>(
     };
     let here = configuration_of(which, stop.other.pending, &stop.here);
     let there = configuration_of(which, stop.here.pending, &stop.other);
-    let (no, one) = member_of(here, member);
-    write!(out, "in {name} {no}{one}{on}, ")?;
-    let (no, other) = member_of(there, member);
-    write!(out, "{no}{other}{on_other}")
+    let [on, on_other] = sides;
+    write!(out, "in {name} ")?;
+    put_member(here, member, out)?;
+    write!(out, "{on}, ")?;
+    put_member(there, member, out)?;
+    out.write_all(on_other.as_bytes())
+}
+
+/// Writes a member as it is in a configuration, or that it is not there: `no` before it.
+fn put_member<W: Write>(config: &Config, member: &Difference, out: &mut W) -> io::Result<()> {
+    let missing = match member {
+        Difference::Sub(id) => match config.sub(*id) {
+            Some(sub) => return put_part(Part::Sub(sub), out),
+            None => Part::Carrier(Carrier::Sub(*id)),
+        },
+        Difference::Packet(scid) => match config.packet(*scid) {
+            Some(packet) => return put_part(Part::Packet(packet), out),
+            None => Part::Carrier(Carrier::Packet(*scid)),
+        },
+        Difference::Service(sid) => match config.service(*sid) {
+            Some(_) => return write!(out, "{}", ServiceOf(config, *sid)),
+            None => Part::Service(*sid),
+        },
+    };
+    write!(out, "no {missing}")
 }
 
 /// Writes how many pages the configurations take in a plan.
@@ -222,39 +240,65 @@ pub(crate) fn put_fact<W: Write>(
     sides: [&str; 2],
     out: &mut W,
 ) -> io::Result<()> {
-    let of = |sid: Sid| Part::ServiceOf(&stop.here.next, sid);
-    let (there, gone, nothing) = (" is there already", ", which is not there", Part::Nothing);
+    let (there, gone) = (" is there already", ", which is not there");
     let (one, has, other, end) = match *fact {
-        Fact::HasSub(sub) => (Part::Sub(sub), there, nothing, ""),
-        Fact::HasPacket(packet) => (Part::Packet(packet), there, nothing, ""),
-        Fact::HasService(sid) => (of(sid), there, nothing, ""),
-        Fact::HasComponent(sid, carrier) => {
-            let on = Part::Carrier(carrier);
-            (of(sid), " has a component on ", on, " already")
-        }
-        Fact::Lacks(carrier) => (Part::Carrier(carrier), " is not there", nothing, ""),
-        Fact::LacksService(sid) => (Part::Service(sid), " is not there", nothing, ""),
-        Fact::LacksComponent(sid, carrier) => {
-            let on = Part::Carrier(carrier);
-            (of(sid), " has no component on ", on, "")
-        }
+        Fact::HasSub(sub) => (Part::Sub(sub), there, None, ""),
+        Fact::HasPacket(packet) => (Part::Packet(packet), there, None, ""),
+        Fact::Lacks(carrier) => (Part::Carrier(carrier), " is not there", None, ""),
+        Fact::LacksService(sid) => (Part::Service(sid), " is not there", None, ""),
         Fact::Orphan(sid, carrier) => {
-            let (service, on) = (Part::Service(sid), Part::Carrier(carrier));
-            (service, " has a component on ", on, gone)
+            let on = Some(Part::Carrier(carrier));
+            (Part::Service(sid), " has a component on ", on, gone)
         }
         Fact::OrphanPacket(packet) => {
-            let sub = Part::Carrier(Carrier::Sub(packet.sub));
+            let sub = Some(Part::Carrier(Carrier::Sub(packet.sub)));
             (Part::Packet(packet), " names ", sub, gone)
         }
         Fact::SameAddress(packet, other) => {
-            let (one, other) = (Part::Packet(packet), Part::Packet(other));
-            (one, " and ", other, " have one address on one sub-channel")
+            let end = " have one address on one sub-channel";
+            (
+                Part::Packet(packet),
+                " and ",
+                Some(Part::Packet(other)),
+                end,
+            )
         }
-        Fact::Empty(sid) => (Part::Service(sid), " has no component", nothing, ""),
-        Fact::Swap(swap) => (Part::Swap(swap), "", nothing, ""),
-        _ => return put_numbers(fact, stop, sides, out),
+        Fact::Empty(sid) => (Part::Service(sid), " has no component", None, ""),
+        Fact::Swap(swap) => (Part::Swap(swap), "", None, ""),
+        _ => return put_service_fact(fact, stop, sides, out),
     };
-    write!(out, "{one}{has}{other}{end}")
+    write!(out, "{one}{has}")?;
+    if let Some(other) = &other {
+        write!(out, "{other}")?;
+    }
+    out.write_all(end.as_bytes())
+}
+
+/// Writes a fact about a service that is there, with its components; or one with numbers, or of
+/// two paths.
+fn put_service_fact<W: Write>(
+    fact: &Fact,
+    stop: &Stop,
+    sides: [&str; 2],
+    out: &mut W,
+) -> io::Result<()> {
+    let of = &stop.here.next;
+    match *fact {
+        Fact::HasService(sid) => write!(out, "{} is there already", ServiceOf(of, sid)),
+        Fact::HasComponent(sid, carrier) => {
+            let on = Part::Carrier(carrier);
+            write!(
+                out,
+                "{} has a component on {on} already",
+                ServiceOf(of, sid)
+            )
+        }
+        Fact::LacksComponent(sid, carrier) => {
+            let on = Part::Carrier(carrier);
+            write!(out, "{} has no component on {on}", ServiceOf(of, sid))
+        }
+        _ => put_numbers(fact, stop, sides, out),
+    }
 }
 
 /// Writes a fact with numbers, or of two paths.
@@ -276,7 +320,7 @@ fn put_numbers<W: Write>(
             write!(out, "{one}, {other}: they share CU {low} to {high}")
         }
         Fact::Pages(pages) => put_pages(&stop.plan, &pages, out),
-        Fact::Differ(which, member) => put_both(stop, which, member, sides, out),
+        Fact::Differ(which, member) => put_both(stop, which, &member, sides, out),
         Fact::OtherSwap => write!(out, "{here}{on}; {there}{on_other}"),
         _ => Ok(()),
     }
