@@ -28,9 +28,7 @@ six_by true p q r u x y t z = refl
 six_by false p q r u x y t z = refl
 
 filled_six : (p q r u x y : ℕ) (t : List ℕ) → filled (p ∷ q ∷ r ∷ u ∷ x ∷ y ∷ t) ≡ p ∷ q ∷ r ∷ u ∷ x ∷ y ∷ rest_of t
-filled_six p q r u x y t =
-    six_by (ltb (length (0 ∷ 0 ∷ 0 ∷ 0 ∷ 0 ∷ 0 ∷ t)) 30) p q r u x y t
-    (255 ∷ replicate (29 - length (0 ∷ 0 ∷ 0 ∷ 0 ∷ 0 ∷ 0 ∷ t)) 0)
+filled_six p q r u x y t = six_by _ p q r u x y t _
 
 -- its length and its head, which do not depend on the count
 abbrev fig_len : Header → ℕ
@@ -49,9 +47,7 @@ headed_data h high low figs = fig_len h ∷ fig_head h ∷ h.eid / 256 % 256 ∷
 headed_filled : (h : Header) (c : ℕ) (figs : List Written)
     → filled (figs_bytes (ensemble_figs (Some (ensemble_at h c)) ++ figs))
     ≡ headed_data h (h.change * 64 + 0 * 32 + c / 250) (c % 250) figs
-headed_filled h c figs =
-    filled_six (fig_len h) (fig_head h) (h.eid / 256 % 256) (h.eid % 256) (h.change * 64 + 0 * 32 + c / 250) (c % 250)
-    ((occurrence_bytes h.swap ++ []) ++ figs_bytes figs)
+headed_filled h c figs = filled_six _ _ _ _ _ _ _
 
 -- the first FIB of a page gets another count
 pub page_recounted : (layout : FrameLayout) (h : Header) (c later k : ℕ) (ms : List Marked)
@@ -74,26 +70,19 @@ page_recounted layout h c later k ms pageable before after bytes fib new offset 
     let new_fib : List ℕ = fib_bytes (ensemble_figs (Some (ensemble_at h later)) ++ figs) in
     let x : ℕ = h.change * 64 + 0 * 32 + c / 250 in
     let old_is : old_fib ≡ checked (headed_data h x (c % 250) figs) = ap checked (headed_filled h c figs) in
-    let new_is : new_fib ≡ checked (headed_data h (h.change * 64 + 0 * 32 + later / 250) (later % 250) figs) =
-    ap checked (headed_filled h later figs) in
     let whole = length-filled (figs_bytes (ensemble_figs (Some (ensemble_at h later)) ++ figs)) fits.short in
-    let parts = ap length (headed_filled h later figs) in
-    let rest_long : length (behind h figs) ≡ 24 = omega (arith, whole, parts) in
-    let old_long : length old_fib ≡ 32 = ap length old_is
-    ∙ checked_len (headed_data h x (c % 250) figs) (omega (arith, rest_long)) in
+    let rest_long : length (behind h figs) ≡ 24 = omega (arith, whole, ap length (headed_filled h later figs)) in
+    let old_long = ap length old_is ∙ checked_len (headed_data h x (c % 250) figs) (omega (arith, rest_long)) in
     let text : bytes ≡ before ++ (old_fib ++ (others ++ after)) = rw (← append_assoc old_fib others after) is in
     let front : take offset bytes ≡ before = rw (text) (take_at before (old_fib ++ (others ++ after)) offset long) in
-    let back : drop offset bytes ≡ old_fib ++ (others ++ after) =
-    rw (text) (drop_at before (old_fib ++ (others ++ after)) offset long) in
+    let back : drop offset bytes ≡ old_fib ++ (others ++ after) = rw (text) (drop_at before _ _ long) in
     let past : drop 32 (drop offset bytes) ≡ others ++ after =
     rw (back) (drop_at old_fib (others ++ after) 32 old_long) in
-    let fib_is : fib ≡ checked (headed_data h x (c % 250) figs) =
-    part ∙ ap (λ l. take 32 l) back ∙ take_at old_fib (others ++ after) 32 old_long ∙ old_is in
-    let high_is : high ≡ h.change * 64 + 0 * 32 + later / 250 = omega (arith, is_high) in
+    let fib_is = part ∙ ap (λ l. take 32 l) back ∙ take_at old_fib (others ++ after) 32 old_long ∙ old_is in
     let made : new ≡ new_fib =
     step (fig_len h) (fig_head h) (h.eid / 256 % 256) (h.eid % 256) x (c % 250) (behind h figs) rest_long fib_is
-    ∙ ap₂ (λ m n. checked (headed_data h m n figs)) high_is is_low
-    ∙ sym new_is in
+    ∙ ap₂ (λ m n. checked (headed_data h m n figs)) (omega (arith, is_high)) is_low
+    ∙ sym (ap checked (headed_filled h later figs)) in
     rw (append_assoc new_fib others after) (ap₂ (λ l m. l ++ m) front (ap₂ (λ l m. l ++ m) made past))
 
 -- ---- one frame after another
@@ -125,8 +114,7 @@ mixed_next plan n k s t =
 
 pub mixed_none : (plan : Plan) (n : ℕ) (s t : State) → concat (notice_frames plan n s) ≡ mixed plan n 0 s t
 mixed_none plan n s t =
-    let same : n ≡ n - 0 = omega arith in
-    ap (λ (m : ℕ). concat (notice_frames plan m s)) same
+    ap (λ (m : ℕ). concat (notice_frames plan m s)) (omega arith)
 
 pub mixed_all : (plan : Plan) (n k : ℕ) (s t : State) → k ≡ n → mixed plan n k s t ≡ concat (notice_frames plan n t)
 mixed_all plan n k s t e =
@@ -150,8 +138,7 @@ pub passed_over : (plan : Plan) (header : Header) (n k m : ℕ) (s t : State) �
     → ((j : ℕ) → k ≤ j → j < k + m → ((counted_on plan j t).count % count_step (layout_mode plan.layout) == 0) ≡ false)
     → mixed plan n k s t ≡ mixed plan n (k + m) s t
 passed_over plan header n k zero s t alike fits off =
-    let same : k ≡ k + 0 = omega arith in
-    ap (λ (j : ℕ). mixed plan n j s t) same
+    ap (λ (j : ℕ). mixed plan n j s t) (omega arith)
 passed_over plan header n k (suc m) s t alike fits off =
     let lt : k < n = omega (arith, fits) in
     let next : suc k + m ≡ k + suc m = omega arith in
@@ -167,31 +154,23 @@ passed_over plan header n k (suc m) s t alike fits off =
 with_fig : (plan : Plan) (header : Header) (s : State) → header_of plan s ≡ header
     → (s.count % count_step (layout_mode plan.layout) == 0) ≡ true
     → ensemble_sent plan s ≡ Some (ensemble_at header s.count)
-with_fig plan header s is on =
-    ap (λ (b : Bool). cond b (Some (ensemble_of plan s)) None) on
-    ∙ ap (λ (e : EnsembleInformation). Some e) (ensemble_is plan s ∙ ap (λ (h : Header). ensemble_at h s.count) is)
+with_fig plan header s is on = cc (on, ensemble_is plan s, is)
 
 frame_long : (plan : Plan) (header : Header) (s t : State) → IsAlike plan header s t
     → length (shown_bytes plan t) ≡ 32 * frame_fibs plan.layout
-frame_long plan header s t h =
-    (pages_are_valid plan.layout (ensemble_sent plan t) t.page_index (sent_entries plan t) h.pageable).1
+frame_long plan header s t h = (pages_are_valid _ _ _ _ h.pageable).1
 
 pub all_long : (plan : Plan) (header : Header) (n k : ℕ) (s t : State) → AreAlike plan header n s t → k ≤ n
     → length (concat (notice_frames plan k t)) ≡ k * (32 * frame_fibs plan.layout)
 all_long plan header n zero s t alike le =
-    let none : 0 * (32 * frame_fibs plan.layout) ≡ 0 = omega arith in
-    sym none
+    sym (omega arith)
 all_long plan header n (suc k) s t alike le =
     let size : ℕ = 32 * frame_fibs plan.layout in
     let last : List ℕ = shown_bytes plan (counted_on plan k t) in
-    let long : length last ≡ size =
-    frame_long plan header (counted_on plan k s) (counted_on plan k t) (alike k (omega (arith, le))) in
+    let long = frame_long plan header (counted_on plan k s) (counted_on plan k t) (alike k (omega (arith, le))) in
     let before = all_long plan header n k s t alike (omega (arith, le)) in
     let more : suc k * size ≡ k * size + size = suc-mul k size in
-    ap length (bytes_more plan k t)
-    ∙ length-append (concat (notice_frames plan k t)) last
-    ∙ ap₂ (λ a b. a + b) before long
-    ∙ sym more
+    cc (bytes_more plan k t, length-append (concat (notice_frames plan k t)) last, ap₂ (λ a b. a + b) before long, more)
 
 pub frame_recounted : (plan : Plan) (header : Header) (n k number offset high low : ℕ) (s t : State)
     (bytes fib new : List ℕ) → AreAlike plan header n s t → k < n
@@ -210,22 +189,16 @@ frame_recounted plan header n k number offset high low s t bytes fib new alike l
     let before : List ℕ = concat (notice_frames plan k t) in
     let after : List ℕ = rest_from plan n (suc k) s in
     let there : (b.count % count_step (layout_mode plan.layout) == 0) ≡ true = rw (at, on) refl in
-    let old : ensemble_sent plan a ≡ Some (ensemble_at header a.count) =
-    with_fig plan header a h.first (h.on_step ∙ there) in
-    let late : ensemble_sent plan b ≡ Some (ensemble_at header number) =
-    rw (← at) (with_fig plan header b h.second there) in
+    let old = with_fig plan header a h.first (h.on_step ∙ there) in
+    let late : ensemble_sent plan b ≡ Some (ensemble_at header number) = rw (← at) (with_fig plan _ b h.second there) in
     let old_page : shown_bytes plan a ≡ page_bytes plan.layout (Some (ensemble_at header a.count)) b.page_index
     (sent_entries plan b) = rw (old) (ap₂ (λ (i : ℕ) (ms : List Marked). page_bytes plan.layout
     (Some (ensemble_at header a.count)) i ms) h.page_index h.entries) in
-    let new_page : shown_bytes plan b ≡ page_bytes plan.layout (Some (ensemble_at header number)) b.page_index
-    (sent_entries plan b) = rw (late) refl in
     let pageable : IsPageable (Some (ensemble_at header number)) (sent_entries plan b) = rw (← late) h.pageable in
     let text = is ∙ mixed_at plan n k s t lt ∙ ap (λ (l : List ℕ). before ++ (l ++ after)) old_page in
     let long : length before ≡ offset = all_long plan header n k s t alike (omega (arith, lt)) ∙ sym at_offset in
-    page_recounted plan.layout header a.count number b.page_index (sent_entries plan b) pageable before after bytes fib
-    new offset high low text long is_high is_low part step
-    ∙ ap (λ (l : List ℕ). before ++ (l ++ after)) (sym new_page)
-    ∙ mixed_next plan n k s t
+    page_recounted _ _ _ _ _ _ pageable _ after bytes fib new _ high low text long is_high is_low part step ∙ ap
+    (λ (l : List ℕ). before ++ (l ++ after)) (sym (rw (late) refl)) ∙ mixed_next plan n k s t
 
 -- ---- the counts at which the mode sends FIG 0/0
 
@@ -265,8 +238,7 @@ pub none_before : (plan : Plan) (count j : ℕ) (t : State) → count < COUNTS �
 none_before plan count j t fits at lt =
     let here : (counted_on plan j t).count ≡ (count + j) % COUNTS =
     rw (← at) (count_at plan j t (omega (arith, fits, at))) in
-    rw (here) (ne_eqb ((count + j) % COUNTS % count_step (layout_mode plan.layout)) 0
-    (λ on. off_before (layout_mode plan.layout) count j lt on))
+    rw (here) (ne_eqb ((count + j) % COUNTS % count_step (layout_mode plan.layout)) 0 (λ on. off_before _ _ _ lt on))
 
 pub none_between : (plan : Plan) (count k j : ℕ) (t : State) → count < COUNTS → t.count ≡ count
     → (count + k) % COUNTS % count_step (layout_mode plan.layout) ≡ 0 → k < j
@@ -289,15 +261,12 @@ pub entered : (plan : Plan) (header : Header) (n count at step : ℕ) (s t : Sta
     → bytes ≡ concat (notice_frames plan n s) → bytes ≡ mixed plan n (n - (n - at)) s t
 entered plan header n count at step s t bytes alike counts fits is_step is_at is =
     let k : ℕ = n - (n - at) in
-    let by_mode : at ≡ (count_step (layout_mode plan.layout) - count % count_step (layout_mode plan.layout)) %
-    count_step (layout_mode plan.layout) = rw (← is_step) is_at in
-    let start : 0 + k ≡ k = omega arith in
     is
     ∙ mixed_none plan n s t
     ∙ passed_over plan header n 0 k s t alike (omega arith)
     (λ j from below. none_before plan count j t fits counts
-    (let within : j < at = omega (arith, below) in subst (λ (x : ℕ). j < x) by_mode within))
-    ∙ ap (λ (j : ℕ). mixed plan n j s t) start
+    (let within : j < at = omega (arith, below) in subst (λ (x : ℕ). j < x) (rw (← is_step) is_at) within))
+    ∙ ap (λ (j : ℕ). mixed plan n j s t) (omega arith)
 
 pub continued : (plan : Plan) (header : Header) (n count at number step size offset width high low : ℕ) (s t : State)
     (bytes fib new last : List ℕ) → AreAlike plan header n s t → t.count ≡ count → count < COUNTS
@@ -316,15 +285,13 @@ continued plan header n count at number step size offset width high low s t byte
     let some : 1 ≤ step = omega (arith, is_step, (step_small (layout_mode plan.layout)).0) in
     let all : suc at + m ≡ k = omega (arith, lt, some) in
     let here : n - (n - at) ≡ at = omega (arith, lt) in
-    let old : bytes ≡ mixed plan n at s t = rw (← here) is in
     let there : (counted_on plan at t).count ≡ number =
     count_at plan at t (omega (arith, fits, counts)) ∙ ap (λ (c : ℕ). (c + at) % COUNTS) counts ∙ sym at_number in
-    let now : (count + at) % COUNTS % count_step (layout_mode plan.layout) ≡ 0 = rw (← at_number) on in
     rw (← all) (is_last ∙ ap (λ (w : ℕ). take offset bytes ++ (new ++ drop w (drop offset bytes))) is_width
     ∙ frame_recounted plan header n at number offset high low s t bytes fib new alike lt there on
-    (rw (← is_size) at_offset) is_high is_low old (rw (← is_width) part) made
+    (rw (← is_size) at_offset) is_high is_low (rw (← here) is) (rw (← is_width) part) made
     ∙ passed_over plan header n (suc at) m s t alike (omega (arith, all))
-    (λ j from below. none_between plan count at j t fits counts now (omega (arith, from))
+    (λ j from below. none_between plan count at j t fits counts (rw (← at_number) on) (omega (arith, from))
     (omega (arith, below, all, is_step))))
 
 pub first_near : (mode : Mode) (count : ℕ) → (count_step mode - count % count_step mode) % count_step mode ≤ 4

@@ -30,10 +30,8 @@ at_late_place n (t ∷ ts) k (suc i) h lt =
 
 pub in_lows : (k : ℕ) → k < 256 → get_or LOWS k 0 ≡ later 24 (after 8 k 0)
 in_lows k h =
-    let start : 0 + k ≡ k = omega arith in
-    at_late_place 24 LOWS 0 k low_table h ∙ ap (λ b. later 24 (after 8 b 0)) start
+    at_late_place 24 LOWS 0 k low_table h ∙ ap (λ b. later 24 (after 8 b 0)) (omega arith)
 
 pub in_highs : (k : ℕ) → k < 256 → get_or HIGHS k 0 ≡ later 25 (after 8 k 0)
 in_highs k h =
-    let start : 0 + k ≡ k = omega arith in
-    at_late_place 25 HIGHS 0 k high_table h ∙ ap (λ b. later 25 (after 8 b 0)) start
+    at_late_place 25 HIGHS 0 k high_table h ∙ ap (λ b. later 25 (after 8 b 0)) (omega arith)

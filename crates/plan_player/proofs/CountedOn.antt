@@ -37,8 +37,7 @@ apart plan (suc k) s = apart plan k (with_next_counts plan s)
 left_none : (left : Option ℕ) → left ≡ left_later 0 left
 left_none None = refl
 left_none (Some l) =
-    let same : l ≡ l - 0 = omega arith in
-    ap (λ (k : ℕ). Some k) same
+    ap (λ (k : ℕ). Some k) (omega arith)
 
 left_step : (n : ℕ) (left : Option ℕ) → left_later n (left_after_frame left) ≡ left_later (suc n) left
 left_step n None = refl
@@ -52,8 +51,7 @@ left_on plan (suc k) s = left_on plan k (with_next_counts plan s) ∙ left_step 
 
 hold_none : (hold : Hold) → hold ≡ hold_later 0 hold
 hold_none (Waits n) =
-    let same : n ≡ n - 0 = omega arith in
-    ap (λ (k : ℕ). Waits k) same
+    ap (λ (k : ℕ). Waits k) (omega arith)
 hold_none (WaitsAny closed opened until left) = ap (λ (l : Option ℕ). WaitsAny closed opened until l) (left_none left)
 hold_none _ = refl
 
@@ -85,8 +83,7 @@ turns_by : (pages page_index : ℕ) → page_index < pages → (b : Bool) → lt
     → cond b (page_index + 1) 0 ≡ (page_index + 1) % pages
 turns_by pages page_index lt true e = sym (mod-eq_of_lt (ltb-true (page_index + 1) pages e))
 turns_by pages page_index lt false e =
-    let past = ltb-false (page_index + 1) pages e in
-    let last : page_index + 1 ≡ pages = omega (arith, lt, past) in
+    let last : page_index + 1 ≡ pages = omega (arith, lt, ltb-false (page_index + 1) pages e) in
     sym (rw (last) (mod_self pages))
 
 cycle : (pages page_index : ℕ) → page_index < pages → page_after pages page_index ≡ (page_index + 1) % pages
@@ -98,9 +95,8 @@ turn_on plan zero pages s lt rounds =
     let same : s.page_index + 0 ≡ s.page_index = omega arith in
     sym (rw (same) (mod-eq_of_lt lt))
 turn_on plan (suc k) pages s lt rounds =
-    let first : sent_rounds plan s ≡ pages = rounds 0 (omega arith) in
     let next : (with_next_counts plan s).page_index ≡ (s.page_index + 1) % pages =
-    rw (first) (cycle pages s.page_index lt) in
+    rw ((rounds 0 (omega arith))) (cycle pages s.page_index lt) in
     let some : 0 < pages = omega (arith, lt) in
     let within : (with_next_counts plan s).page_index < pages = rw (next) (mod-lt (s.page_index + 1) some) in
     let later : HasRounds plan k (with_next_counts plan s) pages = λ j below. rounds (suc j) (omega (arith, below)) in

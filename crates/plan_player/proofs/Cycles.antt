@@ -26,12 +26,10 @@ on_split plan (suc a) b s =
 frames_split : (plan : Plan) (a b : ℕ) (s : State) → notice_frames plan a s
     ++ notice_frames plan b (counted_on plan a s) ≡ notice_frames plan (a + b) s
 frames_split plan zero b s =
-    let e : b ≡ 0 + b = omega arith in
-    ap (λ (n : ℕ). notice_frames plan n s) e
+    ap (λ (n : ℕ). notice_frames plan n s) (omega arith)
 frames_split plan (suc a) b s =
     let e : suc (a + b) ≡ suc a + b = omega arith in
-    ap (λ (fs : List (List ℕ)). shown_bytes plan s ∷ fs) (frames_split plan a b (with_next_counts plan s))
-    ∙ ap (λ (n : ℕ). notice_frames plan n s) e
+    cc (frames_split plan a b (with_next_counts plan s), e)
 
 pub bytes_split : (plan : Plan) (a b : ℕ) (s : State) → concat (notice_frames plan a s)
     ++ concat (notice_frames plan b (counted_on plan a s)) ≡ concat (notice_frames plan (a + b) s)
@@ -42,18 +40,14 @@ bytes_split plan a b s =
 pub bytes_long : (plan : Plan) (n k : ℕ) (s : State) (pages : PhasePages) → IsStretch plan n s pages → k ≤ n
     → length (concat (notice_frames plan k s)) ≡ k * (32 * frame_fibs plan.layout)
 bytes_long plan n zero s pages h le =
-    let none : 0 * (32 * frame_fibs plan.layout) ≡ 0 = omega arith in
-    sym none
+    sym (omega arith)
 bytes_long plan n (suc k) s pages h le =
     let size : ℕ = 32 * frame_fibs plan.layout in
     let last : List ℕ = shown_bytes plan (counted_on plan k s) in
     let long : length last ≡ size = frame_size plan n k s pages h (omega (arith, le)) in
     let before = bytes_long plan n k s pages h (omega (arith, le)) in
     let more : suc k * size ≡ k * size + size = suc-mul k size in
-    ap length (bytes_more plan k s)
-    ∙ length-append (concat (notice_frames plan k s)) last
-    ∙ ap₂ (λ a b. a + b) before long
-    ∙ sym more
+    cc (bytes_more plan k s, length-append (concat (notice_frames plan k s)) last, ap₂ (λ a b. a + b) before long, more)
 
 -- ---- what is the same after a cycle
 
@@ -61,9 +55,7 @@ entries_later : (plan : Plan) (n k : ℕ) (s : State) → SwapIsAway plan.notice
     → sent_entries plan (counted_on plan k s) ≡ sent_entries plan s
 entries_later plan n zero s away lt = refl
 entries_later plan n (suc k) s away lt =
-    let t : State = counted_on plan (suc k) s in
-    let on = ap (λ (o : Option ℕ). is_noticed plan.notice o) (left_on plan (suc k) s)
-    ∙ noticed_later plan.notice n (suc k) s.left away lt in
+    let on = ap (λ (o : Option ℕ). is_noticed plan.notice o) (left_on plan (suc k) s) ∙ noticed_later _ _ _ _ away lt in
     rw (apart plan (suc k) s, on) refl
 
 turn_again : (page_index done k pages : ℕ) → done % pages ≡ 0
@@ -88,20 +80,15 @@ one_alike plan n done k s pages header h is cycle steps lt =
     let rounds = stretch_rounds plan n s pages h in
     let counts = (h.ready 0 (omega (arith, lt))).sent.count in
     let page = stretch_page plan n (done + k) s pages h lt in
-    let before : (counted_on plan k s).count ≡ (s.count + k) % COUNTS = count_at plan k s counts in
-    let after : (counted_on plan (done + k) s).count ≡ (s.count + (done + k)) % COUNTS =
-    count_at plan (done + k) s counts in
     record {
-      page_index = turn_on plan k pages.made s inside (fewer_rounds plan k n s pages.made (omega (arith, few)) rounds)
-          ∙ turn_again s.page_index done k pages.made cycle
-          ∙ sym (turn_on plan (done + k) pages.made s inside
-          (fewer_rounds plan (done + k) n s pages.made (omega (arith, lt)) rounds));
+      page_index = turn_on plan k _ s inside (fewer_rounds plan k n s _ (omega (arith, few)) rounds) ∙ turn_again _
+      done k _ cycle ∙ sym (turn_on plan _ _ s inside (fewer_rounds plan _ n s _ (omega (arith, lt)) rounds));
       entries = entries_later plan n k s h.away few ∙ sym (entries_later plan n (done + k) s h.away lt);
       first = header_later plan n k s h.away few ∙ sym is;
       second = header_later plan n (done + k) s h.away lt ∙ sym is;
-      on_step = ap (λ (c : ℕ). c % count_step (layout_mode plan.layout) == 0) before
+      on_step = ap (λ (c : ℕ). c % count_step (layout_mode plan.layout) == 0) (count_at plan k s counts)
           ∙ ap (λ (c : ℕ). c == 0) (step_again (layout_mode plan.layout) s.count done k steps)
-          ∙ sym (ap (λ (c : ℕ). c % count_step (layout_mode plan.layout) == 0) after);
+          ∙ sym (ap (λ (c : ℕ). c % count_step (layout_mode plan.layout) == 0) (count_at plan (done + k) s counts));
       pageable = record { entries = page.kept.sendable; ensemble_within = (h.ready (done + k) lt).sent.ensemble };
     }
 
@@ -128,8 +115,7 @@ turn_on_turn plan n done more number s pages header old new text h is cycle step
     let all : more + (done - more) ≡ done = omega (arith, few) in
     let first : List ℕ = concat (notice_frames plan more s) in
     let others : List ℕ = concat (notice_frames plan (done - more) (counted_on plan more s)) in
-    let parts : old ≡ first ++ others =
-    before ∙ sym (bytes_split plan more (done - more) s ∙ ap (λ (k : ℕ). concat (notice_frames plan k s)) all) in
+    let parts : old ≡ first ++ others = cc (before, bytes_split plan more (done - more) s, all) in
     let front : take (more * size) old ≡ first = rw (parts) (take_at first others (more * size)
     (bytes_long plan n more s pages h (omega (arith, few, le)))) in
     let text_is : text ≡ concat (notice_frames plan more t) =
@@ -142,8 +128,7 @@ turn_on_turn plan n done more number s pages header old new text h is cycle step
 pub twice_whole : (done pages : ℕ) → done % pages ≡ 0 → (done + done) % pages ≡ 0
 twice_whole done pages whole =
     let none : 0 + done ≡ done = omega arith in
-    sym (mod-add-mod done pages done) ∙ ap (λ (x : ℕ). (x + done) % pages) whole ∙ ap (λ (x : ℕ). x % pages) none
-    ∙ whole
+    cc (mod-add-mod done pages done, whole, none)
 
 pub room : (mode : Mode) (done more : ℕ) → done + more ≤ 128
     → done * (32 * fib_count mode) + more * (32 * fib_count mode) ≤ 16384
@@ -171,22 +156,16 @@ appended b copy text last offset len fits is long is_last =
     let same : take offset copy ≡ take offset b = rw (is) (take_at (take offset b) (take len b ++ drop (offset + len) b)
     offset front) in
     let past : List ℕ = drop len (drop offset copy) in
-    ap (λ (l : List ℕ). take (offset + len) l) (is_last ∙ ap (λ (l : List ℕ). l ++ (text ++ past)) same)
-    ∙ ap (λ (k : ℕ). take (k + len) (take offset b ++ (text ++ past))) (sym front)
-    ∙ take-append-add (take offset b) (text ++ past) len
-    ∙ ap (λ (l : List ℕ). take offset b ++ l) (take_at text past len long)
+    cc (is_last, same, front, take-append-add (take offset b) (text ++ past) len, take_at text past len long)
 
 -- the first bytes are removed, and the others moved to the front
 pub moved : (bytes after : List ℕ) (len count : ℕ) → count ≤ length (take len bytes) → len ≤ length bytes
     → after ≡ copy_within bytes count len 0 → take (len - count) after ≡ drop count (take len bytes)
 moved bytes after len count few fits is =
-    let front : length (take len bytes) ≡ len = length-take-le len bytes fits in
     let left : ℕ = len - count in
-    let start : 0 + left ≡ left = omega arith in
-    let all : count + left ≡ len = omega (arith, few, front) in
-    let rest : length (drop count bytes) ≡ length bytes - count = length-drop count bytes in
+    let all : count + left ≡ len = omega (arith, few, length-take-le len bytes fits) in
     ap (λ (l : List ℕ). take left l) is
-    ∙ ap (λ (n : ℕ). take n (paste bytes 0 (drop count bytes) left)) (sym start)
-    ∙ take-paste bytes 0 (drop count bytes) left (omega arith) (omega (arith, rest, fits))
+    ∙ ap (λ (n : ℕ). take n (paste bytes 0 (drop count bytes) left)) (sym (omega arith))
+    ∙ take-paste bytes 0 (drop count bytes) left (omega arith) (omega (arith, length-drop count bytes, fits))
     ∙ sym (drop-take count left bytes)
     ∙ ap (λ (n : ℕ). drop count (take n bytes)) all

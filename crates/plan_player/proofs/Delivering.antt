@@ -52,10 +52,7 @@ pub one_more : (old p q : Playing) (events : List Event) (i : ℕ) (e : Event) (
 one_more old p q events i e before mid after frames n d more state out whole few =
     let es : List Event = take i events in
     let at : Playing = played old es in
-    let bytes : played_bytes p (e ∷ []) ≡ played_bytes at (e ∷ []) =
-    ap (λ (x : Playing). played_bytes x (e ∷ [])) d.state in
-    let all : played_bytes old es ++ played_bytes p (e ∷ []) ≡ played_bytes old (take (i + 1) events) =
-    rw (bytes) (rw (more) (sym (bytes_join old es (e ∷ [])))) in
+    let bytes = ap (λ (x : Playing). played_bytes x (e ∷ [])) d.state in
     let count : length (frames_of old (take (i + 1) events)) ≡ length (frames_of old es)
     + length (frames_of p (e ∷ [])) =
     ap (λ (l : List Event). length (frames_of old l)) more
@@ -65,7 +62,7 @@ one_more old p q events i e before mid after frames n d more state out whole few
     record {
       state = state ∙ ap (λ (x : Playing). played x (e ∷ [])) d.state ∙ sym (played_join old es (e ∷ []))
           ∙ ap (λ (l : List Event). played old l) (sym more);
-      out = subst (λ (l : List ℕ). Appends before after l) all
+      out = subst (λ (l : List ℕ). Appends before after l) (rw (bytes) (rw (more) (sym (bytes_join old es (e ∷ [])))))
           (Appends-trans before mid after (played_bytes old es) (played_bytes p (e ∷ [])) d.out out);
       whole = omega (arith, count, d.whole, whole);
       few = omega (arith, d.few, few);
@@ -80,9 +77,7 @@ pub stopped_here : (old p q : Playing) (events : List Event) (i : ℕ) (e : Even
 stopped_here old p q events i e before mid after frames n d more is state part out =
     let es : List Event = take i events in
     let at : Playing = played old es in
-    let last : e ∷ [] ≡ Frame ∷ [] = rw (is) refl in
-    let bytes : played_bytes old es ++ take n (next_frame p) ≡ played_bytes old es ++ take n (next_frame at) =
-    ap (λ (x : Playing). played_bytes old es ++ take n (next_frame x)) d.state in
+    let bytes = ap (λ (x : Playing). played_bytes old es ++ take n (next_frame x)) d.state in
     record {
       done = es;
       rest = drop (i + 1) events;
@@ -91,7 +86,6 @@ stopped_here old p q events i e before mid after frames n d more is state part o
       whole = d.whole;
       part = subst (λ (x : Playing). n < length (next_frame x)) d.state part;
       state = state ∙ ap (λ (x : Playing). played x (e ∷ [])) d.state ∙ sym (played_join old es (e ∷ []))
-          ∙ ap (λ (l : List Event). played old (es ++ l)) last;
-      out = subst (λ (l : List ℕ). Appends before after l) bytes
-          (Appends-trans before mid after (played_bytes old es) (take n (next_frame p)) d.out out);
+          ∙ ap (λ (l : List Event). played old (es ++ l)) (rw (is) refl);
+      out = rw (← bytes) (Appends-trans before mid after (played_bytes old es) (take n (next_frame p)) d.out out);
     }

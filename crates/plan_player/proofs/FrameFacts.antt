@@ -33,8 +33,7 @@ typed_code_progresses p s h =
     record {
       runs = record { steps = frame.steps; end = after_burst p s; within = frame.within; executes = frame.executes };
       sent = frames_can_be_sent p s h;
-      few = few_by p.plan t.left t.current t.next h.program.planned a.on_air a.committed
-          (is_noticed p.plan.notice t.left) refl;
+      few = few_by _ _ _ _ h.program.planned a.on_air a.committed _ refl;
     }
 
 -- the state after a frame is again one that the code reaches
@@ -70,11 +69,10 @@ first_page : (p : Program) (s : State) → IsPlayed p s → begins_phase p s ≡
 first_page p s h begins =
     let u : State = after_burst p s in
     let frame = (typed_code_runs p s (Frame ∷ []) h).allowed.0 in
-    let carried = frame_carries p h.program s frame.steps frame.executes in
     let same = ap (is_first_noticed p.plan.notice) (left_turned u (is_first_noticed p.plan.notice u.left)) in
     begun u (is_due s.left) (is_first_noticed p.plan.notice (shown p s).left) (is_first_noticed p.plan.notice u.left)
     begins
-    (λ due. carried.page_index ∙ due_turn s (is_due s.left) due) same
+    (λ due. (frame_carries p h.program s frame.steps frame.executes).page_index ∙ due_turn s (is_due s.left) due) same
 
 -- ---- the change flags of a notice
 
@@ -82,9 +80,7 @@ newly_off : (plan : Plan) (count : ℕ) (left : Option ℕ) → IsNewly plan cou
     → is_first_noticed plan.notice left ≡ false → is_noticed plan.notice left ≡ true → ⊥
 newly_off plan count None new other on = absurd cc
 newly_off plan count (Some l) new other on =
-    let apart = eqb-false l plan.notice other in
-    let within = noticed_from plan.notice l on in
-    omega (arith, new.0, apart, within.1)
+    omega (arith, new.0, eqb-false l plan.notice other, (noticed_from plan.notice l on).1)
 
 change_on : (plan : Plan) (count : ℕ) (before left : Option ℕ) (c n m : Configuration) (change : ℕ)
     → LeftBy plan count before n left m → is_first_noticed plan.notice left ≡ false
@@ -100,8 +96,7 @@ change_known : (plan : Plan) (s u : State) (change : ℕ) → Links plan s u →
     → HasChange plan.notice u.left u.current u.next change
 change_known plan s u change link true due other h on = absurd (newly_off plan s.count u.left (link.due due) other on)
 change_known plan s u change link false due other h on =
-    rw (link.current due) (change_on plan s.count s.left u.left s.current s.next u.next change (link.left due) other h
-    on)
+    rw (link.current due) (change_on plan _ _ _ _ _ _ _ (link.left due) other h on)
 
 change_later : (notice : ℕ) (left : Option ℕ) (c n : Configuration) (change : ℕ) → IsAhead left
     → HasChange notice left c n change → KeepsChange notice (left_after_frame left) c n change
@@ -109,10 +104,6 @@ change_later notice None c n change a h = tt
 change_later notice (Some l) c n change a h = λ earlier. h (noticed notice l a (omega (arith, earlier, a)))
 
 -- ---- a frame
-
-same_pages : (layout : FrameLayout) (pages : PhasePages) (ms ns : List Marked) (page_index page : ℕ) → ns ≡ ms
-    → page ≡ page_index → Keeps layout ms page_index pages → Keeps layout ns page pages
-same_pages layout pages ms ns page_index page e f k = rw (e) (rw (f) k)
 
 pub frame_ready : (p : Program) (s : State) (steps : ℕ) (pages : PhasePages) → IsGoing p s steps pages
     → IsFrameReady p s pages
@@ -127,8 +118,7 @@ frame_ready p s steps pages h =
       kept = λ no_phase.
           let sent = sends p h.played.typed.0 (code_of p s h.played) s (played_holds p s h.played) no_phase ms
           s.page_index (record { sent = h.phase.sent; turn_is = refl }) in
-          same_pages p.plan.layout pages ms (sent_entries p.plan (shown p s)) s.page_index (shown p s).page_index
-          sent.entries sent.turn_is h.phase.keeps;
+          rw (sent.entries) (rw (sent.turn_is) h.phase.keeps);
       change = λ other.
           let link = links p h.played.typed.0 (code_of p s h.played) s (played_holds p s h.played) in
           change_known p.plan s (shown p s) pages.change link (is_due s.left) refl other h.phase.change;
@@ -142,12 +132,11 @@ frame_goes p s steps pages after h keeps change =
     let u : State = shown p s in
     let frame = (typed_code_runs p s (Frame ∷ []) h.played).allowed.0 in
     let air = airs p h.played.typed.0 (code_of p s h.played) s (played_holds p s h.played) in
-    let next = after_goes p.plan u air (sent_entries p.plan u) refl in
     record {
       played = frame_plays p s h.played;
       phase = record {
         entries = sent_entries p.plan u;
-        sent = next.sent;
+        sent = (after_goes p.plan u air (sent_entries p.plan u) refl).sent;
         keeps = keeps;
         change = change_later p.plan.notice u.left u.current u.next after.change air.ahead change;
       };
@@ -165,11 +154,7 @@ pub lent_goes : (p q : Program) (s t : State) (steps made : ℕ) (pages after : 
     → HasChange q.plan.notice (shown q s).left (shown q s).current (shown q s).next after.change
     → IsGoing p t made after
 lent_goes p q s t steps made pages after e h state count keeps change =
-    let here : Keeps p.plan.layout (sent_entries p.plan (shown p s)) (after_frame p s).page_index after =
-    rw (← e) keeps in
-    let flags : HasChange p.plan.notice (shown p s).left (shown p s).current (shown p s).next after.change =
-    rw (← e) change in
-    let on = frame_goes p s steps pages after h here flags in
+    let on = frame_goes p s steps pages after h (rw (← e) keeps) (rw (← e) change) in
     let state_is : t ≡ after_frame p s = rw (← e) state in
     let count_is : made ≡ frame_steps p s = rw (← e) count in
     rw (state_is) (rw (count_is) on)
@@ -202,8 +187,7 @@ start_goes p start s pages formed typed range starts none =
         entries = ms;
         sent = rw (starts.left) sent;
         keeps = rw (starts.page_index) (none p.plan.layout ms);
-        change = subst (λ (o : Option ℕ). KeepsChange p.plan.notice o s.current s.next pages.change) (sym starts.left)
-            tt;
+        change = rw starts.left tt;
       };
       within = omega arith;
     }

@@ -16,15 +16,12 @@ counts_join p events more =
 pub joined : (a b c : Playing) (es fs : List Event) (x y z : Option (List ℕ)) (m n : ℕ) → Delivered a b es x y m
     → Delivered b c fs y z n → Delivered a c (es ++ fs) x z (m + n)
 joined a b c es fs x y z m n d e =
-    let bytes : played_bytes a es ++ played_bytes b fs ≡ played_bytes a (es ++ fs) =
-    rw (d.state) (sym (bytes_join a es fs)) in
     let count : length (frames_of b fs) ≡ length (frames_of (played a es) fs) = rw (d.state) refl in
-    let all = counts_join a es fs in
     record {
       state = e.state ∙ ap (λ (p : Playing). played p fs) d.state ∙ sym (played_join a es fs);
-      out = subst (λ (l : List ℕ). Appends x z l) bytes
+      out = subst (λ (l : List ℕ). Appends x z l) (rw (d.state) (sym (bytes_join a es fs)))
           (Appends-trans x y z (played_bytes a es) (played_bytes b fs) d.out e.out);
-      whole = omega (arith, d.whole, e.whole, count, all);
+      whole = omega (arith, d.whole, e.whole, count, counts_join a es fs);
     }
 
 -- ---- the sink fails in the later events
@@ -33,24 +30,21 @@ pub stopped_later : (a b c : Playing) (es fs : List Event) (x y z : Option (List
     → Delivered a b es x y m → Stopped b c fs y z n k → Stopped a c (es ++ fs) x z (m + n) k
 stopped_later a b c es fs x y z m n k d s =
     let at : played b s.done ≡ played a (es ++ s.done) = rw (d.state) (sym (played_join a es s.done)) in
-    let next : next_frame (played b s.done) ≡ next_frame (played a (es ++ s.done)) =
-    ap (λ (p : Playing). next_frame p) at in
+    let next = ap (λ (p : Playing). next_frame p) at in
     let before : played_bytes a es ++ played_bytes b s.done ≡ played_bytes a (es ++ s.done) =
     rw (d.state) (sym (bytes_join a es s.done)) in
     let bytes : played_bytes a es ++ (played_bytes b s.done ++ take k (next_frame (played b s.done))) ≡ played_bytes a
     (es ++ s.done) ++ take k (next_frame (played a (es ++ s.done))) = rw (← next, ← before)
     (sym (append_assoc (played_bytes a es) (played_bytes b s.done) (take k (next_frame (played b s.done))))) in
     let count : length (frames_of b s.done) ≡ length (frames_of (played a es) s.done) = rw (d.state) refl in
-    let all = counts_join a es s.done in
     record {
       done = es ++ s.done;
       rest = s.rest;
       cut = rw (s.cut) (sym (append_assoc es s.done (Frame ∷ s.rest)));
-      whole = omega (arith, d.whole, s.whole, count, all);
+      whole = omega (arith, d.whole, s.whole, count, counts_join a es s.done);
       part = rw (← next) s.part;
-      state = s.state ∙ ap (λ (p : Playing). played p (s.done ++ Frame ∷ [])) d.state
-          ∙ sym (played_join a es (s.done ++ Frame ∷ []))
-          ∙ ap (λ (l : List Event). played a l) (sym (append_assoc es s.done (Frame ∷ [])));
+      state = s.state ∙ ap (λ (p : Playing). played p (s.done ++ Frame ∷ [])) d.state ∙ sym (played_join a es _) ∙ ap
+      (λ (l : List Event). played a l) (sym (append_assoc es s.done (Frame ∷ [])));
       out = subst (λ (l : List ℕ). Appends x z l) bytes
           (Appends-trans x y z (played_bytes a es) (played_bytes b s.done ++ take k (next_frame (played b s.done)))
           d.out s.out);
@@ -105,9 +99,8 @@ length_replicate (suc n) = rw (length_replicate n) refl
 pub stopped_among : (a b : Playing) (n m : ℕ) (x y : Option (List ℕ)) (frames bytes : ℕ) → n ≤ m
     → Stopped a b (replicate n Frame) x y frames bytes → Stopped a b (replicate m Frame) x y frames bytes
 stopped_among a b n m x y frames bytes le s =
-    let all : n + (m - n) ≡ m = omega (arith, le) in
     let cut : replicate n Frame ++ replicate (m - n) Frame ≡ replicate m Frame =
-    sym (replicate_more n (m - n)) ∙ ap (λ (k : ℕ). replicate k Frame) all in
+    sym (replicate_more n (m - n)) ∙ ap (λ (k : ℕ). replicate k Frame) (omega (arith, le)) in
     rw (← cut) (stopped_before a b (replicate n Frame) (replicate (m - n) Frame) x y frames bytes s)
 
 -- n frames were delivered, and then more of the m
@@ -120,15 +113,13 @@ pub stopped_frames : (a b c : Playing) (x y z : Option (List ℕ)) (n m frames b
     → Delivered a b (replicate n Frame) x y n → Stopped b c (replicate (m - n) Frame) y z frames bytes
     → Stopped a c (replicate m Frame) x z (n + frames) bytes
 stopped_frames a b c x y z n m frames bytes le d s =
-    let all : n + (m - n) ≡ m = omega (arith, le) in
     let cut : replicate n Frame ++ replicate (m - n) Frame ≡ replicate m Frame =
-    sym (replicate_more n (m - n)) ∙ ap (λ (k : ℕ). replicate k Frame) all in
+    sym (replicate_more n (m - n)) ∙ ap (λ (k : ℕ). replicate k Frame) (omega (arith, le)) in
     rw (← cut) (stopped_later a b c (replicate n Frame) (replicate (m - n) Frame) x y z n frames bytes d s)
 
 pub few_frames : (a c : Playing) (m : ℕ) (x z : Option (List ℕ)) (frames bytes : ℕ)
     → Stopped a c (replicate m Frame) x z frames bytes → frames ≤ m
-few_frames a c m x z frames bytes s =
-    omega (arith, few_stopped a c (replicate m Frame) x z frames bytes s, length_replicate m)
+few_frames a c m x z frames bytes s = omega (arith, few_stopped a c _ x z _ bytes s, length_replicate m)
 
 -- ---- one frame as a run of one frame event
 

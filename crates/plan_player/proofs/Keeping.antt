@@ -11,10 +11,9 @@ get_set_same (y ∷ ys) zero x lt = refl
 get_set_same (y ∷ ys) (suc i) x lt = get_set_same ys i x (omega (arith, lt))
 
 get_set_other : {X : Type 0} (xs : List X) (i j : ℕ) (x : X) → j < i → slice_get (slice_set xs i x) j ≡ slice_get xs j
-get_set_other [] i j x lt = refl
 get_set_other (y ∷ ys) zero j x lt = absurd (omega (arith, lt))
-get_set_other (y ∷ ys) (suc i) zero x lt = refl
 get_set_other (y ∷ ys) (suc i) (suc j) x lt = get_set_other ys i j x (omega (arith, lt))
+get_set_other _ _ _ x lt = refl
 
 -- one page more is made
 each_more : (layout : FrameLayout) (ms : List Marked) (made : ℕ) (pages : List (Option KeptPage)) (page : KeptPage)
@@ -22,13 +21,9 @@ each_more : (layout : FrameLayout) (ms : List Marked) (made : ℕ) (pages : List
     → ((n : ℕ) → n < made → HasPage layout ms n pages) → (n : ℕ) → n < made + 1 → (b : Bool) → eqb n made ≡ b
     → HasPage layout ms n (slice_set pages made (Some page))
 each_more layout ms made pages page room kept each n below true e =
-    let same : n ≡ made = eqb-true n made e in
-    let here : HasPage layout ms made (slice_set pages made (Some page)) =
-    record { page = page; held = get_set_same pages made (Some page) room; kept = kept } in
-    rw (same) here
+    rw ((eqb-true n made e)) (record { page = page; held = get_set_same pages made (Some page) room; kept = kept })
 each_more layout ms made pages page room kept each n below false e =
-    let apart = eqb-false n made e in
-    let earlier : n < made = omega (arith, below, apart) in
+    let earlier : n < made = omega (arith, below, eqb-false n made e) in
     let old = each n earlier in
     record { page = old.page; held = get_set_other pages made n (Some page) earlier ∙ old.held; kept = old.kept }
 
@@ -77,15 +72,13 @@ page_next : (layout : FrameLayout) (ms : List Marked) (page_index count : ℕ) (
     → page_after count page_index ≡ page_after (rounds layout ms) page_index
 page_next layout ms page_index count p k lt true e whole more = rw (whole e ∙ k.all e) refl
 page_next layout ms page_index count p k lt false e whole more =
-    after_up count page_index (omega (arith, lt, more e))
-    ∙ sym (after_up (rounds layout ms) page_index (omega (arith, lt, k.more e)))
+    after_up count _ (omega (arith, lt, more e)) ∙ sym (after_up _ _ (omega (arith, lt, k.more e)))
 
 pub next_page : (layout : FrameLayout) (ms : List Marked) (page_index count : ℕ) (p : PhasePages)
     → Keeps layout ms page_index p → page_index < p.made
     → (p.is_whole ≡ true → count ≡ p.made) → (p.is_whole ≡ false → count ≡ p.made + 1)
     → page_after count page_index ≡ page_after (rounds layout ms) page_index
-next_page layout ms page_index count p k lt whole more =
-    page_next layout ms page_index count p k lt p.is_whole refl whole more
+next_page layout ms page_index count p k lt whole more = page_next _ _ _ _ _ k lt _ refl whole more
 
 -- the page in turn next is one of those made, or page 0
 next_within : (b : Bool) (page_index made : ℕ) → page_index < made → cond b (page_index + 1) 0 ≤ made
@@ -108,6 +101,5 @@ turned layout ms page_index count p k lt = record {
 pub held_is : (layout : FrameLayout) (ms : List Marked) (n : ℕ) (pages : List (Option KeptPage)) (page : KeptPage)
     → HasPage layout ms n pages → slice_get pages n ≡ Some (Some page) → IsKept layout ms n page
 held_is layout ms n pages page h e =
-    let both : Some (Some h.page) ≡ Some (Some page) = sym h.held ∙ e in
-    let same : h.page ≡ page = cc both in
+    let same : h.page ≡ page = cc (sym h.held ∙ e) in
     rw (← same) h.kept

@@ -23,12 +23,7 @@ arrives_inside p ts ty pc t None e arrives = omega (arith, get_below ts pc t arr
 arrives_inside p ts ty pc t (Some label) e arrives =
     let one = found (λ (l : Label). eqb l.pc pc) p.labels label e in
     let place = ty.labels label one.inside in
-    let here : label.pc ≡ pc = eqb-true label.pc pc one.passes in
-    omega (arith, get_below ts label.pc place.known place.there, ty.each, here)
-
-expects_inside : (p : Program) (ts : List Known) → IsTyping p ts → (pc : ℕ) (counters : List ℕ) (R : Known → Type 0)
-    → Expects p ts pc counters R → IsInside p pc
-expects_inside p ts ty pc counters R h = arrives_inside p ts ty pc h.known (label_at p pc) refl h.arrives
+    omega (arith, get_below ts label.pc place.known place.there, ty.each, eqb-true label.pc pc one.passes)
 
 -- ---- after `End`
 
@@ -39,7 +34,6 @@ line_inside lines pc i (Some l) e h = get_below lines pc l e
 
 not_ended : (hold : Hold) → is_running hold ≡ true → hold ≡ Ended → ⊥
 not_ended hold runs e =
-    let off : is_running hold ≡ false = ap is_running e in
     absurd cc
 
 settle_ends : (s : State) (left : Option ℕ) → is_running s.hold ≡ true → (settle left s).hold ≡ Ended → ⊥
@@ -67,8 +61,7 @@ ends_inside p (suc n) s t h here e =
     let inside : IsInside p s.pc = line_inside p.lines s.pc i (slice_get p.lines s.pc) refl h.1.within in
     let is : step p s ≡ effect p.plan i s = step_is p s i h.1.within in
     let next : (step p s).hold ≡ Ended → IsInside p (step p s).pc =
-    λ ended. subst (λ (u : State). IsInside p u.pc) (sym is) (effect_inside p p.plan i s h.0 inside (rw (← is) ended))
-    in
+    λ ended. rw is (effect_inside p p.plan i s h.0 inside (rw (← is) ended)) in
     ends_inside p n (step p s) t h.2 next e
 
 -- ---- a frame
@@ -82,8 +75,7 @@ held_place s true = refl
 held_place s false = refl
 
 ready_place : (s : State) → (ready s).pc ≡ s.pc
-ready_place s = held_place (with_due_swap s) (is_here (with_due_swap s) (with_due_swap s).hold)
-    ∙ due_place s (is_due s.left)
+ready_place s = held_place _ _ ∙ due_place s _
 
 turned_place : (u : State) (b : Bool) → (cond b (let r : State = record u { page_index = 0 } in r) u).pc ≡ u.pc
 turned_place u true = refl
@@ -93,16 +85,14 @@ suspended_inside : (p : Program) (ts : List Known) → IsTyping p ts → (u : St
     → ResumesBy p ts u.pc (hold_after_frame hold) (left_after_frame u.left) u.current u.next u.counters
     → (u.hold ≡ Ended → IsInside p u.pc) → IsInside p u.pc
 suspended_inside p ts ty u Ended e h ended = ended e
-suspended_inside p ts ty u _ e h ended = expects_inside p ts ty u.pc u.counters _ h
+suspended_inside p ts ty u _ e h ended = arrives_inside p ts ty u.pc h.known (label_at p u.pc) refl h.arrives
 
 frame_inside : (p : Program) (ts : List Known) → IsCode p ts → (s : State) → Holds p ts s → IsInside p s.pc
     → IsInside p (after_frame p s).pc
 frame_inside p ts c s h inside =
     let u : State = after_burst p s in
     let goes = frame_goes p ts c.program c.typing s h.between in
-    let first : IsInside p (ready s).pc = rw (ready_place s) inside in
-    let ended : u.hold ≡ Ended → IsInside p u.pc =
-    ends_inside p goes.allowed.steps (ready s) u goes.allowed.executes (λ e. first) in
+    let ended = ends_inside p goes.allowed.steps (ready s) u goes.allowed.executes (λ e. (rw (ready_place s) inside)) in
     let here : IsInside p u.pc = suspended_inside p ts c.typing u u.hold refl goes.suspends.resumes ended in
     rw (turned_place u (is_first_noticed p.plan.notice u.left)) here
 
@@ -120,7 +110,6 @@ run_inside p ts c s (e ∷ es) h inside =
 pub played_inside : (p : Program) (s : State) → IsPlayed p s → IsInside p s.pc
 played_inside p s h =
     let r = h.reached in
-    let ts : List Known = h.typed.0 in
     let start : IsPlayed p r.first =
     record {
       program = h.program;
@@ -128,7 +117,7 @@ played_inside p s h =
       reached = starts_are_reached p r.start r.first r.in_range r.started;
     } in
     let zero_inside : IsInside p r.first.pc = omega (arith, r.started.pc, h.program.lines_from) in
-    rw (← r.leads) (run_inside p ts (code_of p s h) r.first r.events (played_holds p r.first start) zero_inside)
+    rw (← r.leads) (run_inside p h.typed.0 (code_of p s h) r.first r.events (played_holds p r.first start) zero_inside)
 
 some_line : (lines : List Line) (pc : ℕ) → pc < length lines
     → IsSome (option_map (λ (l : Line). l.number) (slice_get lines pc))

@@ -28,8 +28,7 @@ not_resumed s false e = refl
 is_ready : (p : Program) (s : State) → is_due s.left ≡ false → is_running (ready s).hold ≡ false → ready s ≡ s
 is_ready p s no_swap suspended =
     let unswapped : with_due_swap s ≡ s = no_swap_due s (is_due s.left) no_swap in
-    let stays : is_running (with_hold_ended s).hold ≡ false = rw (← unswapped) suspended in
-    rw (unswapped) (not_resumed s (is_here s s.hold) stays)
+    rw (unswapped) (not_resumed s (is_here s s.hold) (rw (← unswapped) suspended))
 
 held_steps : (most : ℕ) (p : Program) (s : State) → is_running s.hold ≡ false → burst_steps most p s ≡ 0
 held_steps zero p s held = refl
@@ -64,8 +63,7 @@ stays p s quiet =
     let held : is_running s.hold ≡ false = rw (← at) quiet.suspended in
     let ran : after_burst p s ≡ s = rw (at) (burst_stays p.plan.budget p s held) in
     let notice = p.plan.notice in
-    let left : (shown p s).left ≡ s.left = left_kept (after_burst p s) (is_first_noticed notice (after_burst p s).left)
-    ∙ ap (λ (t : State). t.left) ran in
+    let left : (shown p s).left ≡ s.left = left_kept _ _ ∙ ap (λ (t : State). t.left) ran in
     let later : is_first_noticed notice s.left ≡ false = rw (← left)
     (or_false (is_due s.left) (is_first_noticed notice (shown p s).left) quiet.no_phase) in
     let same : shown p s ≡ s = rw (ran) (no_phase_begun s (is_first_noticed notice s.left) later) in
@@ -138,8 +136,7 @@ not_noticed : (notice : ℕ) (left : Option ℕ) (n : ℕ) → SwapIsAway notice
     → is_first_noticed notice left ≡ b → b ≡ false
 not_noticed notice None n away b e = sym e
 not_noticed notice (Some l) n away true e =
-    let same : l ≡ notice = eqb-true l notice e in
-    absurd (omega (arith, same, away.1 (omega (arith, same))))
+    absurd (omega (arith, eqb-true l notice e, away.1 (omega (arith, eqb-true l notice e))))
 not_noticed notice (Some l) n away false e = refl
 
 swap_nearer : (notice : ℕ) (left : Option ℕ) (n : ℕ) → SwapIsAway notice left (suc n)
@@ -149,8 +146,7 @@ swap_nearer notice (Some l) n away = (omega (arith, away.0), λ from. omega (ari
 
 day_not_here : (day t n : ℕ) → (day ≤ t → day + suc n ≤ t) → (b : Bool) → (day == t) ≡ b → b ≡ false
 day_not_here day t n before true e =
-    let same : day ≡ t = eqb-true day t e in
-    absurd (omega (arith, same, before (omega (arith, same))))
+    absurd (omega (arith, eqb-true day t e, before (omega (arith, eqb-true day t e))))
 day_not_here day t n before false e = refl
 
 contact_not_here : (here : Bool) (n : ℕ) → (here ≡ true → suc n ≡ 0) → here ≡ false
@@ -175,8 +171,7 @@ not_here s (WaitsAny closed opened until left) n away =
     (or_from (any_open opened s.contacts) _ (contact_not_here (any_open opened s.contacts) n away.opened_away)
     (or_from (is_day s.day until) _ (until_not_here s.day until n away.until_away)
     (left_not_here left n away.left_away)))
-not_here s WaitsSwap n away = refl
-not_here s Ended n away = refl
+not_here s _ n away = refl
 
 not_ended : (s : State) (b : Bool) → b ≡ false → cond b (resumed s) s ≡ s
 not_ended s true e = absurd cc
@@ -189,13 +184,10 @@ is_quiet p s n swap hold =
     let notice = p.plan.notice in
     let due : is_due s.left ≡ false = not_due notice s.left n swap in
     let here : is_here s s.hold ≡ false = not_here s s.hold n hold in
-    let unswapped : with_due_swap s ≡ s = no_swap_due s (is_due s.left) due in
-    let unheld : with_hold_ended s ≡ s = not_ended s (is_here s s.hold) here in
-    let at : ready s ≡ s = rw (unswapped) unheld in
+    let at : ready s ≡ s = rw ((no_swap_due s (is_due s.left) due)) (not_ended s (is_here s s.hold) here) in
     let held : is_running s.hold ≡ false = still_stops s s.hold here in
     let ran : after_burst p s ≡ s = rw (at) (burst_stays p.plan.budget p s held) in
-    let left : (shown p s).left ≡ s.left = left_kept (after_burst p s) (is_first_noticed notice (after_burst p s).left)
-    ∙ ap (λ (t : State). t.left) ran in
+    let left : (shown p s).left ≡ s.left = left_kept _ _ ∙ ap (λ (t : State). t.left) ran in
     let later : is_first_noticed notice (shown p s).left ≡ false =
     rw (left) (not_noticed notice s.left n swap (is_first_noticed notice s.left) refl) in
     record {
@@ -207,8 +199,7 @@ is_quiet p s n swap hold =
 day_nearer : (day t n : ℕ) → DayIsAway day (suc n) t → DayIsAway ((day + 1) % FRAMES_A_DAY) n t
 day_nearer day t n away = λ some.
     let at = away (omega arith) in
-    let next : (day + 1) % FRAMES_A_DAY ≡ day + 1 = mod-eq_of_lt (omega (arith, some, at.0)) in
-    (omega (arith, next, at.0), λ before. omega (arith, next, at.1 (omega (arith, next, before))))
+    (omega (arith, at.0), λ before. omega (arith, at.1 (omega (arith, before))))
 
 until_nearer : (day : ℕ) (until : Option ℕ) (n : ℕ) → IfSome until (DayIsAway day (suc n))
     → IfSome until (DayIsAway ((day + 1) % FRAMES_A_DAY) n)
@@ -228,16 +219,14 @@ hold_nearer plan s Running n away = absurd (omega (arith, away))
 hold_nearer plan s (Waits k) n away = omega (arith, away)
 hold_nearer plan s (WaitsDay t) n away = day_nearer s.day t n away
 hold_nearer plan s (WaitsContact c closed) n away = λ here.
-    let none : suc n ≡ 0 = away here in
-    absurd (omega (arith, none))
+    absurd (omega (arith, away here))
 hold_nearer plan s (WaitsAny closed opened until left) n away = record {
   closed_away = λ here. none_before n (away.closed_away here);
   opened_away = λ here. none_before n (away.opened_away here);
   until_away = until_nearer s.day until n away.until_away;
   left_away = left_nearer left n away.left_away;
 }
-hold_nearer plan s WaitsSwap n away = tt
-hold_nearer plan s Ended n away = tt
+hold_nearer plan s _ n away = tt
 
 pub are_quiet : (p : Program) (s : State) (n : ℕ) → SwapIsAway p.plan.notice s.left n → HoldIsAway s s.hold n
     → AreQuiet p n s
@@ -245,6 +234,5 @@ are_quiet p s zero swap hold = tt
 are_quiet p s (suc n) swap hold =
     let quiet = is_quiet p s n swap hold in
     let on : State = with_next_counts p.plan s in
-    let later : AreQuiet p n on =
-    are_quiet p on n (swap_nearer p.plan.notice s.left n swap) (hold_nearer p.plan s s.hold n hold) in
+    let later = are_quiet p on n (swap_nearer p.plan.notice s.left n swap) (hold_nearer p.plan s s.hold n hold) in
     (quiet, subst (λ (t : State). AreQuiet p n t) (sym (stays p s quiet).after) later)

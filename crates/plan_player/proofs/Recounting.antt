@@ -16,9 +16,7 @@ nothing a = refl
 -- what is in both terms cancels
 gone : (a b c : ℕ) → bit_xor (bit_xor a b) (bit_xor c a) ≡ bit_xor c b
 gone a b c =
-    xor_comm (bit_xor a b) (bit_xor c a)
-    ∙ xor_assoc c a (bit_xor a b)
-    ∙ ap (bit_xor c) (sym (xor_assoc a a b) ∙ ap (λ z. bit_xor z b) (xor_self a) ∙ nothing b)
+    cc (xor_comm (bit_xor a b) (bit_xor c a), xor_assoc c a (bit_xor a b), xor_assoc a a b, xor_self a, nothing b)
 
 -- the last of three terms before the second
 turned_round : (a b c : ℕ) → bit_xor (bit_xor a b) c ≡ bit_xor (bit_xor a c) b
@@ -30,17 +28,12 @@ high_byte : (k b : ℕ) → after 8 k (b * 256) ≡ after 8 (bit_xor b k) 0
 high_byte k b =
     let none : b * 256 * 256 % 65536 ≡ 0 = omega arith in
     let top : b * 256 / 256 ≡ b = omega arith in
-    one_byte (b * 256) k
-    ∙ ap (λ n. bit_xor n (after 8 (bit_xor (b * 256 / 256) k) 0)) none
-    ∙ nothing (after 8 (bit_xor (b * 256 / 256) k) 0)
-    ∙ ap (λ n. after 8 (bit_xor n k) 0) top
+    cc (one_byte (b * 256) k, none, nothing (after 8 (bit_xor (b * 256 / 256) k) 0), top)
 
 both_bytes : (x y : ℕ) → after 8 (bit_xor x y) 0 ≡ bit_xor (after 8 y 0) (after 8 x 0)
 both_bytes x y =
     let alone : bit_xor x 0 ≡ x = xor_comm x 0 ∙ nothing x in
-    sym (high_byte y x)
-    ∙ apart y (x * 256)
-    ∙ ap (bit_xor (after 8 y 0)) (high_byte 0 x ∙ ap (λ n. after 8 n 0) alone)
+    cc (high_byte y x, apart y (x * 256), high_byte 0 x, alone)
 
 -- changing a byte changes the register by the contribution of the sum of both bytes
 other_byte : (x y r : ℕ) → after 8 y r ≡ bit_xor (after 8 x r) (after 8 (bit_xor x y) 0)
@@ -63,10 +56,7 @@ later_more (suc n) d = ap (after 8 0) (later_more n d)
 
 all_on : (ys : List ℕ) (r d : ℕ) → after_all ys (bit_xor r d) ≡ bit_xor (after_all ys r) (later (length ys) d)
 all_on [] r d = refl
-all_on (k ∷ ys) r d =
-    ap (after_all ys) (one_on k r d)
-    ∙ all_on ys (after 8 k r) (after 8 0 d)
-    ∙ ap (bit_xor (after_all ys (after 8 k r))) (later_more (length ys) d)
+all_on (k ∷ ys) r d = cc (one_on k r d, all_on ys (after 8 k r) (after 8 0 d), later_more (length ys) d)
 
 -- two changed bytes, followed by others
 two_others : (x y high low r : ℕ) (rest : List ℕ)
@@ -78,8 +68,7 @@ two_others x y high low r rest =
     let second = after 8 (bit_xor y low) 0 in
     let both = after 8 y (after 8 x r) in
     let turned : after 8 low (after 8 high r) ≡ bit_xor (bit_xor both (after 8 0 first)) second =
-    rw (← one_on y (after 8 x r) first) (ap (after 8 low) (other_byte x high r)
-    ∙ other_byte y low (bit_xor (after 8 x r) first)) in
+    rw (← one_on y (after 8 x r) first) (ap (after 8 low) (other_byte _ _ _) ∙ other_byte _ _ _) in
     rw (← all_on rest both (after 8 0 first) ∙ ap (bit_xor (after_all rest both)) (later_more (length rest) first))
     (ap (after_all rest) turned ∙ all_on rest (bit_xor both (after 8 0 first)) second)
 
@@ -92,8 +81,7 @@ all_below (k ∷ bytes) r lt = all_below bytes (after 8 k r) (byte_below k r)
 word_is : (bytes : List ℕ) → bit_xor (after_all bytes 65535) 65535 ≡ crc_value bytes
 word_is bytes =
     let r = after_all bytes 65535 in
-    word_checked bytes (bit_xor r 65535) (xor_of_16 r 65535 (all_below bytes 65535 (omega arith)) (omega arith))
-    (word_checks bytes r refl)
+    word_checked _ _ (xor_of_16 r 65535 (all_below bytes 65535 (omega arith)) (omega arith)) (word_checks _ _ refl)
 
 other_word : (a b c d x y high low : ℕ) (rest : List ℕ) → length rest ≡ 24
     → bit_xor (crc_value (a ∷ b ∷ c ∷ d ∷ x ∷ y ∷ rest))
@@ -106,8 +94,7 @@ other_word a b c d x y high low rest long =
     let first = after 8 (bit_xor x high) 0 in
     let second = after 8 (bit_xor y low) 0 in
     let turned : after_all new 65535 ≡ bit_xor (bit_xor before (later 25 first)) (later 24 second) =
-    two_others x y high low (after_all (a ∷ b ∷ c ∷ d ∷ []) 65535) rest
-    ∙ ap (λ n. bit_xor (bit_xor before (later (suc n) first)) (later n second)) long in
+    cc (two_others x y high low (after_all (a ∷ b ∷ c ∷ d ∷ []) 65535) rest, long) in
     rw (← word_is old) (sym (xor_assoc (bit_xor before 65535) (later 25 first) (later 24 second))
     ∙ ap (λ w. bit_xor w (later 24 second)) (turned_round before 65535 (later 25 first))
     ∙ turned_round (bit_xor before (later 25 first)) 65535 (later 24 second) ∙ ap (λ w. bit_xor w 65535) (sym turned)
@@ -137,14 +124,10 @@ recounted fib high low p q hi lo a b c d x y rest long is is_p is_q is_hi is_lo 
     let v = old_word / 256 % 256 in
     let w = old_word % 256 in
     let whole : length old ≡ 30 = omega (arith, long) in
-    let at_p : p ≡ v = is_p ∙ ap (λ l. slice_index_or l 30 0) is
-    ∙ get_or-append_right old (v ∷ w ∷ []) 30 30 0 whole (omega arith) in
-    let at_q : q ≡ w = is_q ∙ ap (λ l. slice_index_or l 31 0) is
-    ∙ get_or-append_right old (v ∷ w ∷ []) 30 31 0 whole (omega arith) in
-    let at_hi : hi ≡ later 25 (after 8 (bit_xor x high) 0) =
-    is_hi ∙ ap (λ l. later 25 (after 8 (bit_xor (slice_index_or l 4 0) high) 0)) is in
-    let at_lo : lo ≡ later 24 (after 8 (bit_xor y low) 0) =
-    is_lo ∙ ap (λ l. later 24 (after 8 (bit_xor (slice_index_or l 5 0) low) 0)) is in
+    let at_p : p ≡ v = cc (is_p, is, get_or-append_right old (v ∷ w ∷ []) 30 30 0 whole (omega arith)) in
+    let at_q : q ≡ w = cc (is_q, is, get_or-append_right old (v ∷ w ∷ []) 30 31 0 whole (omega arith)) in
+    let at_hi = is_hi ∙ ap (λ l. later 25 (after 8 (bit_xor (slice_index_or l 4 0) high) 0)) is in
+    let at_lo = is_lo ∙ ap (λ l. later 24 (after 8 (bit_xor (slice_index_or l 5 0) low) 0)) is in
     let sum : p * 256 + q ≡ old_word = omega (arith, at_p, at_q, check_word_below old) in
     let word = bit_xor (p * 256 + q) (bit_xor hi lo) in
     let same : word ≡ new_word =

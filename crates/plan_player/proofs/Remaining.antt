@@ -13,10 +13,9 @@ pub record Remains (p : Program) (first : State) (steps : ℕ) (s : State) : Typ
 pub remains_all : (p : Program) (s : State) → IsProgram p → CanRun p s → Remains p s 0 s
 remains_all p s program can =
     let one = (bursts_are_one p s can.steps can.end can.executes).computed p.plan.budget can.within in
-    let all : 0 + can.steps ≡ can.steps = omega arith in
     record {
       left = can.steps;
-      counted = all ∙ sym one.1;
+      counted = (omega arith) ∙ sym one.1;
       within = omega (arith, can.within, program.planned.budget_to);
       executes = rw (one.0) can.executes;
     }
@@ -51,8 +50,7 @@ pub record Stops (p : Program) (first : State) (steps : ℕ) (s : State) : Type 
 stops_by : (p : Program) (first s : State) (steps left : ℕ) → steps + left ≡ burst_steps p.plan.budget p first
     → Executes p s left (burst p.plan.budget p first) → is_running s.hold ≡ false → Stops p first steps s
 stops_by p first s steps zero counted executes held =
-    let same : steps ≡ steps + 0 = omega arith in
-    record { state = executes.1; counted = same ∙ counted }
+    record { state = executes.1; counted = (omega arith) ∙ counted }
 stops_by p first s steps (suc left) counted executes held = let runs = executes.0 in absurd cc
 
 pub stops : (p : Program) (first : State) (steps : ℕ) (s : State) → Remains p first steps s → is_running s.hold ≡ false

@@ -25,8 +25,7 @@ quiet_ready p plan s steps pages e h quiet =
     let off : is_first_noticed p.plan.notice (shown p s).left ≡ false = rw (now.shows) now.no_notice in
     let there : IsPageReady p.plan (shown p s) pages =
     record { sent = ready.sent; few = ready.few; keeps = ready.kept quiet.no_phase; change = ready.change off } in
-    let here : IsPageReady p.plan s pages = rw (← now.shows) there in
-    rw (e) here
+    rw (e) (rw (← now.shows) there)
 
 -- and so it can for a player whose fields these are
 pub ready_in : (old : Playing) (p : Program) (plan : Plan) (s : State) (steps : ℕ) (pages : PhasePages)
@@ -39,8 +38,7 @@ ready_in old p plan s steps pages same e quiet h =
 -- the state after it
 quiet_after : (p : Program) (plan : Plan) (s t : State) → plan ≡ p.plan → IsQuiet p s → t ≡ with_next_counts plan s
     → t ≡ after_frame p s
-quiet_after p plan s t e quiet state =
-    state ∙ ap (λ (q : Plan). with_next_counts q s) e ∙ sym (stays p s quiet).after
+quiet_after p plan s t e quiet state = cc (state, e, (stays p s quiet).after)
 
 pub quiet_goes : (p : Program) (plan : Plan) (s t : State) (steps : ℕ) (pages after : PhasePages) → plan ≡ p.plan
     → IsGoing p s steps pages → IsQuiet p s
@@ -50,21 +48,17 @@ pub quiet_goes : (p : Program) (plan : Plan) (s t : State) (steps : ℕ) (pages 
 quiet_goes p plan s t steps pages after e h quiet state keeps same =
     let now = stays p s quiet in
     let ready = quiet_ready p p.plan s steps pages refl h quiet in
-    let mine : Keeps p.plan.layout (sent_entries p.plan s) (page_after (sent_rounds p.plan s) s.page_index) after =
-    rw (← e) keeps in
     let kept : Keeps p.plan.layout (sent_entries p.plan (shown p s)) (after_frame p s).page_index after =
-    rw (now.shows) mine in
-    let flags : HasChange p.plan.notice s.left s.current s.next after.change = rw (same) ready.change in
+    rw (now.shows) (rw (← e) keeps) in
     let change : HasChange p.plan.notice (shown p s).left (shown p s).current (shown p s).next after.change =
-    rw (now.shows) flags in
+    rw (now.shows) (rw (same) ready.change) in
     lent_goes p p s t steps 0 pages after refl h (quiet_after p plan s t e quiet state) (sym now.no_steps) kept change
 
 -- the player after it, and its bytes
 pub quiet_played : (p : Program) (plan : Plan) (s t : State) (steps : ℕ) → plan ≡ p.plan → IsQuiet p s
     → t ≡ with_next_counts plan s
     → (let old : Playing = record { code = p; state = s; steps = steps } in
-    let new : Playing = record { code = p; state = t; steps = 0 } in
-    new ≡ played old (Frame ∷ []))
+    (record { code = p; state = t; steps = 0 }) ≡ played old (Frame ∷ []))
 quiet_played p plan s t steps e quiet state =
     let now = stays p s quiet in
     ap (λ (u : State). let r : Playing = record { code = p; state = u; steps = 0 } in r)
@@ -118,9 +112,8 @@ next_goes : (p : Program) (s : State) (steps : ℕ) (pages : PhasePages) → pag
     → IsQuiet p s → IsGoing p (with_next_counts p.plan s) 0 pages
 next_goes p s steps pages whole h quiet =
     let ready = quiet_ready p p.plan s steps pages refl h quiet in
-    let made = ready.keeps.all whole in
     let keeps = turned p.plan.layout (sent_entries p.plan s) s.page_index (sent_rounds p.plan s) pages ready.keeps
-    (omega (arith, made, ready.sent.page_index)) in
+    (omega (arith, ready.sent.page_index)) in
     quiet_goes p p.plan s (with_next_counts p.plan s) steps pages pages refl h quiet refl keeps refl
 
 pub going_on : (p : Program) (n k : ℕ) (s : State) (steps : ℕ) (pages : PhasePages) → k ≤ n → pages.is_whole ≡ true
@@ -151,8 +144,7 @@ steps_on p (suc n) s steps some quiet = (quiet_frames_are_copied p (suc n) s qui
 
 pub played_on : (p : Program) (n : ℕ) (s : State) (steps : ℕ) → 1 ≤ n → AreQuiet p n s
     → (let old : Playing = record { code = p; state = s; steps = steps } in
-    let new : Playing = record { code = p; state = counted_on p.plan n s; steps = 0 } in
-    new ≡ played old (replicate n Frame))
+    (record { code = p; state = counted_on p.plan n s; steps = 0 }) ≡ played old (replicate n Frame))
 played_on p n s steps some quiet =
     let copied = quiet_frames_are_copied p n s quiet in
     ap (λ (t : State). let r : Playing = record { code = p; state = t; steps = 0 } in r) (sym copied.state)
@@ -166,8 +158,7 @@ bytes_on p n s quiet = ap (λ (fs : List (List ℕ)). concat fs) (sym (quiet_fra
 pub stretch_delivered : (p : Program) (n : ℕ) (s t : State) (steps : ℕ) (x y : Option (List ℕ)) → 1 ≤ n → AreQuiet p n s
     → t ≡ counted_on p.plan n s → Appends x y (concat (notice_frames p.plan n s))
     → (let old : Playing = record { code = p; state = s; steps = steps } in
-    let new : Playing = record { code = p; state = t; steps = 0 } in
-    Delivered old new (replicate n Frame) x y n)
+    Delivered old (record { code = p; state = t; steps = 0 }) (replicate n Frame) x y n)
 stretch_delivered p n s t steps x y some quiet state out = record {
   state = ap (λ (u : State). let r : Playing = record { code = p; state = u; steps = 0 } in r) state
       ∙ played_on p n s steps some quiet;
@@ -180,8 +171,7 @@ stretch_delivered p n s t steps x y some quiet state out = record {
 pub stretch_stopped : (p : Program) (n : ℕ) (s t : State) (steps : ℕ) (x y : Option (List ℕ)) (frames bytes : ℕ)
     → AreQuiet p n s → IsCut p.plan n s t x y frames bytes
     → (let old : Playing = record { code = p; state = s; steps = steps } in
-    let new : Playing = record { code = p; state = t; steps = 0 } in
-    Stopped old new (replicate n Frame) x y frames bytes)
+    Stopped old (record { code = p; state = t; steps = 0 }) (replicate n Frame) x y frames bytes)
 stretch_stopped p n s t steps x y frames bytes quiet cut =
     let old : Playing = record { code = p; state = s; steps = steps } in
     let done : List Event = replicate frames Frame in
@@ -189,20 +179,16 @@ stretch_stopped p n s t steps x y frames bytes quiet cut =
     let at : State = counted_on p.plan frames s in
     let before = fewer_quiet p n frames s (omega (arith, cut.few)) quiet in
     let upto = fewer_quiet p n (suc frames) s (omega (arith, cut.few)) quiet in
-    let copied = quiet_frames_are_copied p frames s before in
     let next : shown_bytes p.plan at ≡ next_frame (played old done) =
-    sym (stays p at (quiet_at p n frames s cut.few quiet)).bytes
-    ∙ ap (λ (u : State). frame_bytes p u) (sym copied.state) in
-    let all : frames + suc r ≡ n = omega (arith, cut.few) in
+    cc ((stays p at (quiet_at p n frames s cut.few quiet)).bytes, (quiet_frames_are_copied p frames s before).state) in
     let one : frames + 1 ≡ suc frames = omega arith in
-    let last : replicate (suc frames) Frame ≡ done ++ Frame ∷ [] =
-    ap (λ (k : ℕ). replicate k Frame) (sym one) ∙ replicate_more frames 1 in
+    let last = ap (λ (k : ℕ). replicate k Frame) (sym one) ∙ replicate_more frames 1 in
     let text : concat (notice_frames p.plan frames s) ++ take bytes (shown_bytes p.plan at) ≡ played_bytes old done ++
     take bytes (next_frame (played old done)) = rw (bytes_on p frames s before, next) refl in
     record {
       done = done;
       rest = replicate r Frame;
-      cut = ap (λ (k : ℕ). replicate k Frame) (sym all) ∙ replicate_more frames (suc r);
+      cut = ap (λ (k : ℕ). replicate k Frame) (sym (omega (arith, cut.few))) ∙ replicate_more frames (suc r);
       whole = all_frames p s frames;
       part = rw (← next) cut.part;
       state = ap (λ (u : State). let q : Playing = record { code = p; state = u; steps = 0 } in q) cut.state
@@ -217,14 +203,10 @@ pub quiet_done : (p : Program) (plan : Plan) (n : ℕ) (s t : State) (steps : �
     (r : Result ℕ Accepted) → plan ≡ p.plan → 1 ≤ n → AreQuiet p n s
     → IfOk r (λ k. k ≡ n) → OnOk r (t ≡ counted_on plan n s) → OnOk r (Appends x y (concat (notice_frames plan n s)))
     → (let old : Playing = record { code = p; state = s; steps = steps } in
-    let new : Playing = record { code = p; state = t; steps = 0 } in
-    IfOk r (λ k. Delivered old new (replicate k Frame) x y k))
+    IfOk r (λ k. Delivered old (record { code = p; state = t; steps = 0 }) (replicate k Frame) x y k))
 quiet_done p plan n s t steps x y (Err cut) e some quiet all state out = tt
 quiet_done p plan n s t steps x y (Ok m) e some quiet all state out =
-    let old : Playing = record { code = p; state = s; steps = steps } in
-    let new : Playing = record { code = p; state = t; steps = 0 } in
-    let whole = stretch_delivered p n s t steps x y some quiet (subst (λ (q : Plan). t ≡ counted_on q n s) e state)
-    (subst (λ (q : Plan). Appends x y (concat (notice_frames q n s))) e out) in
+    let whole = stretch_delivered p n s t steps x y some quiet (rw (← e) state) (rw (← e) out) in
     rw (all) whole
 
 pub quiet_stopped : (p : Program) (plan : Plan) (m n : ℕ) (s t : State) (steps : ℕ) (x y : Option (List ℕ))
@@ -236,10 +218,8 @@ pub quiet_stopped : (p : Program) (plan : Plan) (m n : ℕ) (s t : State) (steps
 quiet_stopped p plan m n s t steps x y (Ok k) e le quiet cut = tt
 quiet_stopped p plan m n s t steps x y (Err c) e le quiet cut =
     let old : Playing = record { code = p; state = s; steps = steps } in
-    let new : Playing = record { code = p; state = t; steps = 0 } in
-    let here = stretch_stopped p n s t steps x y c.frames c.bytes quiet
-    (subst (λ (q : Plan). IsCut q n s t x y c.frames c.bytes) e cut) in
-    stopped_among old new n m x y c.frames c.bytes le here
+    let here = stretch_stopped p n s t steps x y c.frames c.bytes quiet (rw (← e) cut) in
+    stopped_among old (record { code = p; state = t; steps = 0 }) n m x y c.frames c.bytes le here
 
 pub some_quiet : (m n : ℕ) (r : Result ℕ Accepted) → 1 ≤ n → n ≤ m → IfOk r (λ k. k ≡ n)
     → IfOk r (λ k. (1 ≤ k) × (k ≤ m))

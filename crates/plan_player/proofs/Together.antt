@@ -24,8 +24,7 @@ noticed_later notice n k (Some l) away lt =
           noticed notice (l - k) (omega (arith, away.0, lt)) (omega (arith, within))
           ∙ sym (noticed notice l (omega (arith, away.0, lt)) within)
       | inr past ↦
-          let far : notice + n ≤ l = away.1 (omega (arith, past)) in
-          not_noticed notice (l - k) (omega (arith, far, lt)) ∙ sym (not_noticed notice l past)
+          not_noticed notice (l - k) (omega (arith, lt)) ∙ sym (not_noticed notice l past)
     ]
 
 low_later : (n k count : ℕ) (notice : ℕ) (left : Option ℕ) → SwapIsAway notice left n → k < n
@@ -50,9 +49,7 @@ header_later plan n (suc k) s away lt =
     let low = ap (λ (c : ℕ). low_of_swap c t.left) (count_on plan k s)
     ∙ ap (λ (o : Option ℕ). low_of_swap ((s.count + suc k) % COUNTS) o) (left_on plan (suc k) s)
     ∙ low_later n (suc k) s.count plan.notice s.left away lt in
-    let on = ap (λ (o : Option ℕ). is_noticed plan.notice o) (left_on plan (suc k) s)
-    ∙ noticed_later plan.notice n (suc k) s.left away lt in
-    let change : ℕ = bits_of (change_of s.current s.next) in
+    let on = ap (λ (o : Option ℕ). is_noticed plan.notice o) (left_on plan (suc k) s) ∙ noticed_later _ _ _ _ away lt in
     rw (← on, ← low) parts
 
 ensemble_is_by : (plan : Plan) (s : State) (b : Bool)
@@ -91,15 +88,13 @@ pub stretch_page : (plan : Plan) (n k : ℕ) (s : State) (pages : PhasePages) �
     HasPage plan.layout (sent_entries plan t) t.page_index pages.pages)
 stretch_page plan n k s pages h lt =
     let ready = h.ready k lt in
-    let made = ready.keeps.all h.whole in
-    ready.keeps.each (counted_on plan k s).page_index (omega (arith, made, ready.sent.page_index))
+    ready.keeps.each (counted_on plan k s).page_index (omega (arith, ready.sent.page_index))
 
 pub turn_within : (plan : Plan) (n : ℕ) (s : State) (pages : PhasePages) → 1 ≤ n → IsStretch plan n s pages
     → s.page_index < pages.made
 turn_within plan n s pages some h =
     let ready = h.ready 0 (omega (arith, some)) in
-    let made = ready.keeps.all h.whole in
-    omega (arith, made, ready.sent.page_index)
+    omega (arith, ready.sent.page_index)
 
 pub frame_size : (plan : Plan) (n k : ℕ) (s : State) (pages : PhasePages) → IsStretch plan n s pages → k < n
     → length (shown_bytes plan (counted_on plan k s)) ≡ 32 * frame_fibs plan.layout
@@ -116,9 +111,7 @@ pub bytes_more : (plan : Plan) (k : ℕ) (s : State) → concat (notice_frames p
     ≡ concat (notice_frames plan k s) ++ shown_bytes plan (counted_on plan k s)
 bytes_more plan k s =
     let last : List ℕ = shown_bytes plan (counted_on plan k s) in
-    ap (λ (fs : List (List ℕ)). concat fs) (frames_more plan k s)
-    ∙ concat-append (notice_frames plan k s) (last ∷ [])
-    ∙ ap (λ (l : List ℕ). concat (notice_frames plan k s) ++ l) (append-nil last)
+    cc (frames_more plan k s, concat-append (notice_frames plan k s) (last ∷ []), append-nil last)
 
 -- ---- cut at any offset: whole frames, and a part of the next
 
@@ -136,14 +129,12 @@ cut_at plan size zero s taken frames bytes sized split part inside = absurd (ome
 cut_at plan size (suc n) s taken zero bytes sized split part inside =
     let frame : List ℕ = shown_bytes plan s in
     let others : List ℕ = concat (notice_frames plan n (with_next_counts plan s)) in
-    let long : length frame ≡ size = sized 0 (omega arith) in
-    let none : 0 * size ≡ 0 = omega arith in
-    let at : taken ≡ bytes = omega (arith, split, none) in
+    let at : taken ≡ bytes = omega (arith, split) in
     record {
       few = omega arith;
-      part = omega (arith, part, long);
+      part = omega (arith, part, sized 0 (omega arith));
       text = ap (λ (k : ℕ). take k (frame ++ others)) at
-          ∙ take-append-le bytes frame others (omega (arith, part, long));
+          ∙ take-append-le bytes frame others (omega (arith, part, sized 0 (omega arith)));
     }
 cut_at plan size (suc n) s taken (suc k) bytes sized split part inside =
     let on : State = with_next_counts plan s in
@@ -151,11 +142,9 @@ cut_at plan size (suc n) s taken (suc k) bytes sized split part inside =
     let others : List ℕ = concat (notice_frames plan n on) in
     let long : length frame ≡ size = sized 0 (omega arith) in
     let left : ℕ = k * size + bytes in
-    let one_more : suc k * size ≡ k * size + size = suc-mul k size in
-    let at : taken ≡ length frame + left = omega (arith, split, one_more, long) in
-    let lengths : length (frame ++ others) ≡ length frame + length others = length-append frame others in
+    let at : taken ≡ length frame + left = omega (arith, split, long) in
     let later = cut_at plan size n on left k bytes (λ j lt. sized (suc j) (omega (arith, lt))) refl part
-    (omega (arith, inside, lengths, at)) in
+    (omega (arith, inside, length-append frame others, at)) in
     record {
       few = omega (arith, later.few);
       part = later.part;
@@ -194,8 +183,7 @@ pub page_kept : (plan : Plan) (n k : ℕ) (s : State) (pages : PhasePages) (page
     IsKept plan.layout (sent_entries plan t) t.page_index page)
 page_kept plan n k s pages page_index page h lt at held =
     let t : State = counted_on plan k s in
-    held_is plan.layout (sent_entries plan t) t.page_index pages.pages page (stretch_page plan n k s pages h lt)
-    (rw (← at) held)
+    held_is _ _ _ _ _ (stretch_page _ _ _ _ _ h lt) (rw (← at) held)
 
 pub batch_more : (plan : Plan) (n k : ℕ) (s : State) (pages : PhasePages) (header : Header) (number : ℕ)
     (old new : List ℕ) → IsStretch plan n s pages → k < n
@@ -212,11 +200,7 @@ batch_more plan n k s pages header number old new h lt is at before more =
     at
     ∙ ap (λ (o : Option EnsembleInformation). page_bytes plan.layout o t.page_index ms)
     (sym (headed_later plan n k s h.away lt)) in
-    more
-    ∙ ap (λ (l : List ℕ). l ++ page_bytes plan.layout (headed_at (layout_mode plan.layout) header number) t.page_index
-    ms) before
-    ∙ ap (λ (l : List ℕ). concat (notice_frames plan k s) ++ l) frame
-    ∙ sym (bytes_more plan k s)
+    cc (more, before, frame, bytes_more plan k s)
 
 pub turn_more : (plan : Plan) (n k : ℕ) (s : State) (pages : PhasePages) → IsStretch plan n s pages → k < n
     → (counted_on plan (suc k) s).page_index ≡ page_after pages.made (counted_on plan k s).page_index
@@ -232,8 +216,7 @@ pub stretch_cut : (plan : Plan) (n : ℕ) (s : State) (pages : PhasePages) (size
     → size ≡ 32 * frame_fibs plan.layout → 0 < size
     → taken < length (concat (notice_frames plan n s)) → Cut plan n s taken (taken / size) (taken % size)
 stretch_cut plan n s pages size taken h is some inside =
-    let sum = mod-add-div' taken size in
-    let split : taken ≡ taken / size * size + taken % size = omega (arith, sum) in
+    let split : taken ≡ taken / size * size + taken % size = omega arith in
     cut_at plan size n s taken (taken / size) (taken % size) (λ k lt. frame_size plan n k s pages h lt ∙ sym is) split
     (mod-lt taken some) inside
 

@@ -34,10 +34,7 @@ pub agree_same : (a b : Raw) → agree a b ≡ true → a ≡ b
 agree_same a b h =
     let one = both (a.ext == b.ext) (bool_eq a.long b.long && bytes_eq a.bytes b.bytes) h in
     let two = both (bool_eq a.long b.long) (bytes_eq a.bytes b.bytes) one.1 in
-    let ext : a.ext ≡ b.ext = eqb-true a.ext b.ext one.0 in
-    let long : a.long ≡ b.long = bools a.long b.long two.0 in
-    let bytes : a.bytes ≡ b.bytes = (bytes_eq-Decides a.bytes b.bytes).0 two.1 in
-    rw (ext, long, bytes) refl
+    rw ((eqb-true a.ext b.ext one.0), (bools a.long b.long two.0), ((bytes_eq-Decides a.bytes b.bytes).0 two.1)) refl
 
 -- a test of equality decides whether entries agree
 pub agree_where : (b : Bool) (x y : Raw) → (IsTrue b ↔ (x ≡ y)) → b ≡ agree x y

@@ -45,8 +45,7 @@ entries_all : (k : Pictured) (second : ℕ) (entries : List ℕ) → contradicti
     → entries_agree k second entries ≡ true
 entries_all k second [] none = absurd cc
 entries_all k second (b ∷ bs) none =
-    let ms = mentions_of (second % 32) (second / 32 % 2 == 1) (b ∷ bs) in
-    rw (some_entries b bs) (all_among k (second % 32) ms none)
+    rw (some_entries b bs) (all_among k (second % 32) (mentions_of (second % 32) (second / 32 % 2 == 1) (b ∷ bs)) none)
 
 pub agreeing_none : (k : Pictured) (fig : List ℕ) → fig_agrees k fig ≡ true → contradictions_in k fig ≡ []
 agreeing_none k fig = by (is_judged fig)

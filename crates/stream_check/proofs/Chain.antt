@@ -14,29 +14,25 @@ kept_twice : (most : ℕ) (xs ys zs : List Finding) → length xs ≤ length ys 
 kept_twice most xs ys zs le many e =
     let over = leb-false (length xs) most many in
     let same = ap (λ (l : List Finding). length l) e in
-    let few : nat_le (length zs) most ≡ false = lt-leb (length zs) most (omega (arith, le, over, same)) in
-    rw (few) refl
+    rw ((lt-leb (length zs) most (omega (arith, le, over, same)))) refl
 
 more_of : (b : Bool) (most : ℕ) (fs xs ys : List Finding) (x y : Finding) → nat_le (length (fs ++ x ∷ xs)) most ≡ b
     → with_more (cond b (AtMost most (fs ++ x ∷ xs)) Unknown) (y ∷ ys) ≡ kept_findings most (fs ++ (x ∷ xs ++ y ∷ ys))
 more_of true most fs xs ys x y e = ap (kept_findings most) (append_assoc fs (x ∷ xs) (y ∷ ys))
 more_of false most fs xs ys x y e =
     let long = length-append (fs ++ x ∷ xs) (y ∷ ys) in
-    sym (kept_twice most (fs ++ x ∷ xs) ((fs ++ x ∷ xs) ++ y ∷ ys) (fs ++ (x ∷ xs ++ y ∷ ys)) (omega (arith, long)) e
-    (append_assoc fs (x ∷ xs) (y ∷ ys)))
+    sym (kept_twice _ _ _ _ (omega (arith, long)) e (append_assoc fs (x ∷ xs) (y ∷ ys)))
 
 none_more : (o : Reported) → with_more o [] ≡ o
-none_more Unknown = refl
 none_more (All fs) = rw (append-nil fs) refl
-none_more (AtMost most fs) = refl
+none_more _ = refl
 
 pub more_twice : (reported : Reported) (xs ys : List Finding)
     → with_more (with_more reported xs) ys ≡ with_more reported (xs ++ ys)
-more_twice Unknown xs ys = refl
 more_twice (All fs) xs ys = rw (append_assoc fs xs ys) refl
-more_twice (AtMost most fs) [] ys = refl
 more_twice (AtMost most fs) (x ∷ xs) [] = rw (append-nil xs) (none_more (kept_findings most (fs ++ x ∷ xs)))
 more_twice (AtMost most fs) (x ∷ xs) (y ∷ ys) = more_of (nat_le (length (fs ++ x ∷ xs)) most) most fs xs ys x y refl
+more_twice _ _ ys = refl
 
 pub more_none : (reported : Reported) → reported ≡ with_more reported []
 more_none reported = sym (none_more reported)
@@ -57,9 +53,7 @@ pub more_pair : (at : FrameAt) (r a b : Reported) (xs ys : List What)
     → a ≡ with_more r (map (in_frame at) xs) → b ≡ with_more a (map (in_frame at) ys)
     → b ≡ with_more r (map (in_frame at) (xs ++ ys))
 more_pair at r a b xs ys one two =
-    two ∙ ap (λ t. with_more t (map (in_frame at) ys)) one
-    ∙ more_twice r (map (in_frame at) xs) (map (in_frame at) ys)
-    ∙ ap (with_more r) (sym (map-append (in_frame at) xs ys))
+    cc (two, one, more_twice r (map (in_frame at) xs) (map (in_frame at) ys), map-append (in_frame at) xs ys)
 
 -- nothing
 pub hears_nothing : (at : FrameAt) (m : CheckerState) (reported : Reported) → Hears at [] m reported m reported false
@@ -93,8 +87,7 @@ hears_more at xs ys old mid new before reported after full same page_index h g p
           ∙ ap (λ fs. with_more before (map (in_frame at) fs))
           (sym (findings_append old.step old.period xs ys past old.noted one.room));
       room = full_sent old.step old.period xs ys past one.room ∙ two.room;
-      knows = λ e. subst (λ (l : List Moment). Knows old.step old.period l new) (sym (said_sent xs ys past))
-          (two.knows e);
+      knows = λ e. rw (said_sent xs ys past) (two.knows e);
       noted = λ e. two.noted e ∙ sym (noted_append old.period xs ys past old.noted);
     }
 

@@ -40,12 +40,11 @@ last_by : (wanted : List ℕ) (n : ℕ) (frames : List (List ℕ)) (parts : List
 last_by wanted n frames [] count whole each = absurd (omega arith)
 last_by wanted n frames (p ∷ ps) count whole each =
     let last = last_of wanted p ps each in
-    let counts : length last.parts ≡ n = last.count ∙ omega (arith, count) in
     record {
       front = flat_map (λ q. q) last.parts;
       part = last.part;
       is = sym whole ∙ last.is;
-      cut = record { parts = last.parts; count = counts; whole = refl; each = last.each };
+      cut = record { parts = last.parts; count = (last.count ∙ omega (arith, count)); whole = refl; each = last.each };
       whole = last.whole;
     }
 

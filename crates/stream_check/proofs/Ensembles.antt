@@ -27,15 +27,11 @@ eid_is step i (Some eid) e = rw (← ensemble_placed step i e) refl
 
 begins_is : (past : List Moment) (i : Item) (f : Bool) → is_ensemble i ≡ true → is_flagged i ≡ f
     → begins_notice past i ≡ f
-begins_is past i f e fl = ap (λ t. t || (is_member past i && i.next)) fl
-    ∙ ap (λ t. f || (t && i.next)) (ensemble_no_member past i e) ∙ or_false f
+begins_is past i f e fl = cc (fl, ensemble_no_member past i e, or_false f)
 
 begun_is : (past : List Moment) (i : Item) (b f : Bool) → is_ensemble i ≡ true → is_swap past i ≡ b → is_flagged i ≡ f
     → has_begun (Said i ∷ past) ≡ cond b f (has_begun past || f)
-begun_is past i b f e sw fl =
-    ap (λ t. cond t (is_flagged i) (has_begun past || begins_notice past i)) sw
-    ∙ ap (λ t. cond b t (has_begun past || begins_notice past i)) fl
-    ∙ ap (λ t. cond b f (has_begun past || t)) (begins_is past i f e fl)
+begun_is past i b f e sw fl = cc (sw, fl, begins_is past i f e fl)
 
 early_is : (past : List Moment) (i : Item) → is_ensemble i ≡ true → began_early (Said i ∷ past) ≡ false
 early_is past i e = rw (e) refl
@@ -45,10 +41,7 @@ has_is past i e = ap (λ t. t || has_ensemble past) e
 
 cut_is : (past : List Moment) (i : Item) (b f : Bool) → is_ensemble i ≡ true → is_swap past i ≡ b → is_flagged i ≡ f
     → is_cut_off (Said i ∷ past) ≡ cond b false (cond (not (listener_after past).tuned) f (is_cut_off past))
-cut_is past i b f e sw fl =
-    ap (λ t. cond t false (cond (is_ensemble i && not (listener_after past).tuned) (is_flagged i) (is_cut_off past))) sw
-    ∙ ap (λ t. cond b false (cond (t && not (listener_after past).tuned) (is_flagged i) (is_cut_off past))) e
-    ∙ ap (λ t. cond b false (cond (not (listener_after past).tuned) t (is_cut_off past))) fl
+cut_is past i b f e sw fl = cc (sw, e, fl)
 
 times_are : (past : List Moment) (i : Item) (b f : Bool) → is_swap past i ≡ b → is_flagged i ≡ f
     → times_announced (Said i ∷ past) ≡ cond b (cond f 1 0) (times_announced past + cond f 1 0)
@@ -73,12 +66,7 @@ row_is past i b e sw = rw (sw, ensemble_no_member past i e, append-nil (row_at_h
 
 last_is : (key : ℕ) (past : List Moment) (i : Item) (b : Bool) → is_ensemble i ≡ true → is_swap past i ≡ b
     → last_heard key (Said i ∷ past) ≡ cond b (frames_ended past + 1) (last_heard key past)
-last_is key past i b e sw =
-    ap (λ t. cond (t || (is_member past i && (not i.next && (key_of i.raw == key)))) (frames_ended past + 1)
-    (last_heard key past)) sw
-    ∙ ap (λ t. cond (b || (t && (not i.next && (key_of i.raw == key)))) (frames_ended past + 1) (last_heard key past))
-    (ensemble_no_member past i e)
-    ∙ ap (λ t. cond t (frames_ended past + 1) (last_heard key past)) (or_false b)
+last_is key past i b e sw = cc (sw, ensemble_no_member past i e, or_false b)
 
 -- ---- what a listener knows after a FIG 0/0
 
@@ -159,8 +147,7 @@ swapped_last past i m step period e sw k =
     each_in (IsStamped (rows past) (row_at_hand past)) (IsLastHeard (Said i ∷ past) (m.frames + 1)) m.next
     (λ h s.
     let below : h.at ≤ m.frames + 1 = omega (arith, s.0, k.few, k.frames) in
-    later_second h.at (m.frames + 1) below ∙ ap (λ n. n + 1) k.frames ∙ sym (last_is (key_of h.raw) past i true e sw))
-    k.notice.stamps
+    later_second h.at _ below ∙ ap (λ n. n + 1) k.frames ∙ sym (last_is _ past i true e sw)) k.notice.stamps
 
 -- with a swap
 case_swap : (f : Bool) (step period : ℕ) (past : List Moment) (i : Item) (m : CheckerState)
@@ -186,15 +173,11 @@ case_swap true step period past i m s k =
           ∙ ap (λ n. cond (is_cut_off past) (frames_ended past + n) 0) k.page_index
           ∙ sym (settles_is period past i true s.sw);
       untuned = λ u. absurd (false≢true (sym u));
-      few = subst (λ (rs : List (List ℕ)). length rs ≤ frames_ended past) (sym (rows_are past i true s.sw))
-          (omega arith);
+      few = rw (rows_are past i true s.sw) (omega arith);
       swapped = omega (arith, k.frames);
       kinds = (k.kinds.1, (tt, (tt, tt)));
       last = swapped_last past i m step period s.ens s.sw k;
-      notice = subst (λ (rs : List (List ℕ)). HasNotice rs (row_at_hand (Said i ∷ past)) 0 0 0 empty_picture true)
-          (sym (rows_are past i true s.sw))
-          (subst (λ (r : List ℕ). HasNotice [] r 0 0 0 empty_picture true) (sym (row_is past i true s.ens s.sw))
-          (notice_none true));
+      notice = rw (rows_are past i true s.sw) (rw (row_is past i true s.ens s.sw) (notice_none true));
     }
 case_swap false step period past i m s k =
     record {
@@ -220,10 +203,7 @@ case_swap false step period past i m s k =
       swapped = omega (arith, k.frames);
       kinds = (k.kinds.1, (tt, (tt, tt)));
       last = swapped_last past i m step period s.ens s.sw k;
-      notice = subst (λ (rs : List (List ℕ)). HasNotice rs (row_at_hand (Said i ∷ past)) 0 0 0 empty_picture false)
-          (sym (rows_are past i true s.sw))
-          (subst (λ (r : List ℕ). HasNotice [] r 0 0 0 empty_picture false) (sym (row_is past i true s.ens s.sw))
-          (notice_none false));
+      notice = rw (rows_are past i true s.sw) (rw (row_is past i true s.ens s.sw) (notice_none false));
     }
 
 -- without a swap
@@ -241,9 +221,8 @@ case_stay true step period past i m s k =
       has_ensemble = sym (has_is past i s.ens);
       has_begun = sym (begun_is past i false true s.ens s.sw s.fl ∙ or_true (has_begun past));
       began_early = sym (early_is past i s.ens);
-      is_cut_off = cut_kept m.tuned true m.is_cut_off (λ u. (k.untuned u).1)
-          ∙ ap (λ c. cond (not m.tuned) true c) k.is_cut_off
-          ∙ sym (cut_is past i false true s.ens s.sw s.fl ∙ ap (λ t. cond (not t) true (is_cut_off past)) s.tuned);
+      is_cut_off = cut_kept _ true _ (λ u. (k.untuned u).1) ∙ ap (λ c. cond (not m.tuned) true c) k.is_cut_off ∙ sym
+      (cut_is past i false true s.ens s.sw s.fl ∙ ap (λ t. cond (not t) true (is_cut_off past)) s.tuned);
       flags = sym (flags_are past i true s.fl);
       times = ap (λ n. at_most 3 (n + 1)) k.times ∙ at_most_more (times_announced past)
           ∙ sym (ap (at_most 3) (times_are past i false true s.sw s.fl));
@@ -252,8 +231,7 @@ case_stay true step period past i m s k =
       few = rw (rows_are past i false s.sw) k.few;
       swapped = k.swapped;
       kinds = k.kinds;
-      last = each_in (IsLastHeard past m.swapped) (IsLastHeard (Said i ∷ past) m.swapped) m.current
-          (λ h is. is ∙ sym (last_is (key_of h.raw) past i false s.ens s.sw)) k.last;
+      last = each_in _ _ _ (λ h is. is ∙ sym (last_is _ past i false s.ens s.sw)) k.last;
       notice = subst (λ (rs : List (List ℕ)). HasNotice rs (row_at_hand (Said i ∷ past)) m.rows m.since m.parts m.next
           true) (sym (rows_are past i false s.sw))
           (subst (λ (r : List ℕ). HasNotice (rows past) r m.rows m.since m.parts m.next true)
@@ -271,9 +249,8 @@ case_stay false step period past i m s k =
       has_ensemble = sym (has_is past i s.ens);
       has_begun = k.has_begun ∙ sym (begun_is past i false false s.ens s.sw s.fl ∙ or_false (has_begun past));
       began_early = sym (early_is past i s.ens);
-      is_cut_off = cut_kept m.tuned false m.is_cut_off (λ u. (k.untuned u).1)
-          ∙ ap (λ c. cond (not m.tuned) false c) k.is_cut_off
-          ∙ sym (cut_is past i false false s.ens s.sw s.fl ∙ ap (λ t. cond (not t) false (is_cut_off past)) s.tuned);
+      is_cut_off = cut_kept _ false _ (λ u. (k.untuned u).1) ∙ ap (λ c. cond (not m.tuned) false c) k.is_cut_off ∙ sym
+      (cut_is past i false false s.ens s.sw s.fl ∙ ap (λ t. cond (not t) false (is_cut_off past)) s.tuned);
       flags = k.flags ∙ sym (flags_are past i false s.fl);
       times = k.times ∙ ap (at_most 3) (none_more (times_announced past))
           ∙ sym (ap (at_most 3) (times_are past i false false s.sw s.fl));
@@ -282,12 +259,8 @@ case_stay false step period past i m s k =
       few = rw (rows_are past i false s.sw) k.few;
       swapped = k.swapped;
       kinds = k.kinds;
-      last = each_in (IsLastHeard past m.swapped) (IsLastHeard (Said i ∷ past) m.swapped) m.current
-          (λ h is. is ∙ sym (last_is (key_of h.raw) past i false s.ens s.sw)) k.last;
-      notice = subst (λ (rs : List (List ℕ)). HasNotice rs (row_at_hand (Said i ∷ past)) m.rows m.since m.parts m.next
-          m.has_begun) (sym (rows_are past i false s.sw))
-          (subst (λ (r : List ℕ). HasNotice (rows past) r m.rows m.since m.parts m.next m.has_begun)
-          (sym (row_is past i false s.ens s.sw)) k.notice);
+      last = each_in _ _ _ (λ h is. is ∙ sym (last_is (key_of h.raw) past i false s.ens s.sw)) k.last;
+      notice = rw (rows_are past i false s.sw) (rw (row_is past i false s.ens s.sw) k.notice);
     }
 
 pub knows_ensemble : (step period : ℕ) (past : List Moment) (m : CheckerState) (i : Item) → is_ensemble i ≡ true

@@ -26,9 +26,7 @@ ended_frames : (step : ℕ) (frames : List (List Fib)) (past : List Moment)
     → frames_ended (after_frames step past frames) ≡ frames_ended past + length frames
 ended_frames step [] past = omega arith
 ended_frames step (f ∷ fs) past =
-    let rest = ended_frames step fs (past_after_frame step past f) in
-    let one = said_frames (frame_items f) past in
-    omega (arith, rest, one)
+    omega (arith, ended_frames step fs (past_after_frame step past f), said_frames (frame_items f) past)
 
 pub frame_count : (step period : ℕ) (frames : List (List Fib)) (m : CheckerState)
     → Knows step period (after_frames step [] frames) m → m.frames ≡ length frames
@@ -49,19 +47,14 @@ follows_skip r mode period stream start reported c fib none empty silent f =
     let count = frame_count (count_step mode) period f.frames c.state f.knows in
     let nothing : f.frames ≡ [] = no_frames f.frames (sym none ∙ count) in
     let held : map r.read c.held ≡ [] = ap (map r.read) empty in
-    let longer = length-append f.skipped (r.read fib ∷ []) in
-    let one : length (r.read fib ∷ []) ≡ 1 = refl in
     let before : IsFramed (fib_count mode) stream f.skipped [] [] = rw (← held) (rw (← nothing) f.framed) in
     let g : Follows r mode period (stream ++ r.read fib ∷ []) start reported (record c { skipped = c.skipped + 1 }) =
     record {
       skipped = f.skipped ++ r.read fib ∷ [];
       frames = f.frames;
-      framed = subst (λ (fs : List (List Fib)). IsFramed (fib_count mode) (stream ++ r.read fib ∷ [])
-          (f.skipped ++ r.read fib ∷ []) fs (map r.read c.held)) (sym nothing)
-          (subst (λ (h : List Fib). IsFramed (fib_count mode) (stream ++ r.read fib ∷ []) (f.skipped ++ r.read fib ∷ [])
-          [] h) (sym held) (skips_more (fib_count mode) stream f.skipped (r.read fib) silent before));
+      framed = rw nothing (rw held (skips_more (fib_count mode) stream f.skipped (r.read fib) silent before));
       size = f.size;
-      skips = omega (arith, f.skips, longer, one);
+      skips = omega (arith, f.skips, length-append f.skipped (r.read fib ∷ []));
       damages = f.damages;
       room = f.room;
       knows = f.knows;
@@ -77,9 +70,8 @@ first_holds : (size : ℕ) (frames : List (List Fib)) (held : List Fib) (fib : F
     → HoldsFirst (flat frames ++ held) → (frames ≡ [] → held ≡ [] → holds_ensemble fib ≡ true)
     → HoldsFirst ((flat frames ++ held) ++ fib ∷ [])
 first_holds size [] [] fib all first new = new refl refl
-first_holds size [] (x ∷ xs) fib all first new = first
 first_holds size ([] ∷ fs) held fib all first new = absurd all.0
-first_holds size ((g ∷ gs) ∷ fs) held fib all first new = first
+first_holds size _ _ fib all first new = first
 
 map_one : (r : Reading) (held : List (List ℕ)) (fib : List ℕ) → map r.read (held ++ fib ∷ []) ≡ map r.read held
     ++ r.read fib ∷ []
@@ -102,8 +94,7 @@ holds_next : (r : Reading) (mode : Mode) (period : ℕ) (c : Checking) (fib : Li
     → frames ≡ [] → map r.read c.held ≡ [] → holds_ensemble (r.read fib) ≡ true
 holds_next r mode period c fib frames k next none empty =
     let count = frame_count (count_step mode) period frames c.state k in
-    let zero_frames : length frames ≡ 0 = ap length none in
-    next.holds (omega (arith, count, zero_frames)) (empties c.held empty)
+    next.holds (omega (arith, count, ap length none)) (empties c.held empty)
   where
     empties : (held : List (List ℕ)) → map r.read held ≡ [] → held ≡ []
     empties [] e = refl
@@ -122,11 +113,8 @@ follows_hold r mode period stream start reported c fib next later short f =
     let held = map r.read c.held in
     let whole = one_more (map r.read c.held) (r.read fib) (λ some. later (held_some r c.held some))
     (held_of (fib_count mode) f.frames (map r.read c.held) f.framed.cut) in
-    let long = length-append (map r.read c.held) (r.read fib ∷ []) in
-    let one : length (r.read fib ∷ []) ≡ 1 = refl in
-    let same = length-map c.held r.read in
     let few : length (map r.read c.held ++ r.read fib ∷ []) < fib_count mode =
-    omega (arith, long, one, same, short, f.size) in
+    omega (arith, length-append (map r.read c.held) (r.read fib ∷ []), length-map c.held r.read, short, f.size) in
     let g : Follows r mode period (stream ++ r.read fib ∷ []) start reported (record c { held = c.held ++ fib ∷ [] }) =
     record {
       skipped = f.skipped;
@@ -185,18 +173,16 @@ follows_frame r mode period stream start reported after c new frame fib f framed
     let past = after_frames (count_step mode) [] f.frames in
     let noted = noted_in_frames (count_step mode) period [] [] f.frames in
     let all = heard_same mode c frame reported after new.state false period past noted f.size f.knows f.noted h in
-    let more = damaged_append (flat f.frames) frame in
     let g : Follows r mode period (stream ++ r.read fib ∷ []) start after new = record {
       skipped = f.skipped;
       frames = f.frames ++ frame ∷ [];
       framed = framed;
       size = size ∙ f.size;
       skips = skips ∙ f.skips;
-      damages = damages ∙ ap (λ n. n + damaged_in frame) f.damages ∙ sym more
+      damages = damages ∙ ap (λ n. n + damaged_in frame) f.damages ∙ sym (damaged_append (flat f.frames) frame)
           ∙ ap damaged_in (sym (flat_one f.frames frame));
       room = full_more (count_step mode) period [] f.frames frame f.room ∙ all.room;
-      knows = subst (λ (p : List Moment). Knows (count_step mode) period p new.state)
-          (sym (after_more (count_step mode) [] f.frames frame)) (all.knows refl);
+      knows = rw (after_more (count_step mode) [] f.frames frame) (all.knows refl);
       noted = all.noted refl ∙ sym (noted_more (count_step mode) period [] [] f.frames frame);
       findings = all.findings ∙ ap
           (λ t. with_more t (findings_in (fib_count mode) (count_step mode) period past noted frame)) f.findings
@@ -267,8 +253,7 @@ pub adds_frame : (r : Reading) (mode : Mode) (period : ℕ) (stream : List Fib) 
 adds_frame r mode period stream reported after c new frame fib f framed h size skips damages =
     let t = follows_frame r mode period stream Unknown Unknown Unknown c new frame fib f framed
     (unkept c.size frame c.state new.state reported after false h) size skips damages in
-    let all = heard_same mode c frame reported after new.state false period (after_frames (count_step mode) [] f.frames)
-    (noted_in_frames (count_step mode) period [] [] f.frames) f.size f.knows f.noted h in
+    let all = heard_same mode c frame _ after _ false _ _ _ f.size f.knows f.noted h in
     (t.0, (frame, t.1.0, t.1.1, all.findings))
 
 pub ends_at : (r : Reading) (mode : Mode) (period : ℕ) (stream : List Fib) (reported after : Reported) (c : Checking)
@@ -278,10 +263,8 @@ pub ends_at : (r : Reading) (mode : Mode) (period : ℕ) (stream : List Fib) (re
     → (g : EndsFull r mode period (stream ++ r.read fib ∷ []) Unknown Unknown)
     × Adds (fib_count mode) (count_step mode) period true f.skipped g.skipped f.frames g.frames reported after
 ends_at r mode period stream reported after c new frame rest fib f framed h =
-    let t = ends_frame r mode period stream Unknown Unknown Unknown c new frame rest fib f framed
-    (unkept c.size frame c.state new reported after true h) in
-    let all = heard_same mode c frame reported after new true period (after_frames (count_step mode) [] f.frames)
-    (noted_in_frames (count_step mode) period [] [] f.frames) f.size f.knows f.noted h in
+    let t = ends_frame r mode _ _ _ _ _ c new frame rest fib f framed (unkept _ frame _ new _ after true h) in
+    let all = heard_same mode c frame _ after new true _ _ _ f.size f.knows f.noted h in
     (t.0, (frame, t.1.0, t.1.1, all.findings))
 
 -- the buffered FIBs are a frame, as the next FIB begins with a FIG 0/0
@@ -291,8 +274,7 @@ pub cut_before : (r : Reading) (mode : Mode) (period : ℕ) (stream : List Fib) 
     → IsFramed (fib_count mode) (stream ++ r.read fib ∷ []) f.skipped (f.frames ++ map r.read c.held ∷ [])
     (r.read fib ∷ [])
 cut_before r mode period stream start reported c fib some begins two short f =
-    let same = length-map c.held r.read in
-    let le : length (map r.read c.held) ≤ fib_count mode = omega (arith, same, short, f.size) in
+    let le : length (map r.read c.held) ≤ fib_count mode = omega (arith, length-map c.held r.read, short, f.size) in
     goes_on (fib_count mode) stream f.skipped f.frames (map r.read c.held ∷ []) (map r.read c.held) (r.read fib ∷ [])
     (r.read fib)
     (ap (λ l. l ++ r.read fib ∷ []) (append-nil (map r.read c.held)))
@@ -316,13 +298,11 @@ cut_after r mode period stream start reported c fib next later whole f =
     let long = length-append (map r.read c.held) (r.read fib ∷ []) in
     let one : length (r.read fib ∷ []) ≡ 1 = refl in
     let same = length-map c.held r.read in
-    let all : length (map r.read c.held ++ r.read fib ∷ []) ≡ fib_count mode =
-    omega (arith, long, one, same, whole, f.size) in
-    let le : length (map r.read c.held ++ r.read fib ∷ []) ≤ fib_count mode = omega (arith, all) in
+    let le : length (map r.read c.held ++ r.read fib ∷ []) ≤ fib_count mode = omega arith in
     rw (map_one r c.held fib) (goes_on (fib_count mode) stream f.skipped f.frames
     ((map r.read c.held ++ r.read fib ∷ []) ∷ []) (map r.read c.held) [] (r.read fib)
     (append-nil ((map r.read c.held ++ r.read fib ∷ []) ++ []) ∙ append-nil (map r.read c.held ++ r.read fib ∷ []))
-    (one_is, le, (λ lt. absurd (omega (arith, lt, all))), tt)
+    (one_is, le, (λ lt. absurd (omega (arith, lt))), tt)
     (first_holds (fib_count mode) f.frames (map r.read c.held) (r.read fib) f.framed.cut f.framed.begun
     (holds_next r mode period c fib f.frames f.knows next)) f.framed)
 
@@ -363,8 +343,7 @@ skipped_where r c fib first is e =
     (unbegun c (not_true (is_begun c) parts.0), ap is_there (sym is) ∙ not_true (is_there first) parts.1)
 
 begun_not : (c : Checking) → c.state.frames ≡ 0 → c.held ≡ [] → is_begun c ≡ false
-begun_not c none empty = ap (λ n. nat_lt 0 n || not (is_empty c.held)) none
-    ∙ ap (λ h. nat_lt 0 0 || not (is_empty h)) empty
+begun_not c none empty = cc (none, empty)
 
 pub next_where : (r : Reading) (c : Checking) (fib : List ℕ) (first : Option EnsembleInformation)
     → first ≡ first_in (r.read fib) → (not (is_begun c) && not (is_there first)) ≡ false → IsNext r c fib

@@ -23,9 +23,7 @@ rows_are past count b e = rw (e) refl
 few_more : (past : List Moment) (count : ℕ) (b : Bool) → has_begun past ≡ b → length (rows past) ≤ frames_ended past
     → length (rows (Ended count ∷ past)) ≤ frames_ended past + 1
 few_more past count true e few =
-    let longer = length-append (rows past) (row_at_hand past ∷ []) in
-    let one : length (row_at_hand past ∷ []) ≡ 1 = refl in
-    rw (rows_are past count true e) (omega (arith, longer, one, few))
+    rw (rows_are past count true e) (omega (arith, length-append (rows past) (row_at_hand past ∷ []), few))
 few_more past count false e few = rw (rows_are past count false e) (omega arith)
 
 -- the parts after a frame
@@ -44,11 +42,9 @@ noticed : (step period : ℕ) (past : List Moment) (m : CheckerState) (count : �
     → HasNotice (rows (Ended count ∷ past)) [] (row_state begun whole m).rows (row_state begun whole m).since
     (row_state begun whole m).parts m.next m.has_begun
 noticed step period past m count true true b w k =
-    rw (b) (rw (rows_are past count true (sym k.has_begun ∙ b))
-    (notice_closed (rows past) (row_at_hand past) m.rows m.since m.parts m.next w (rw (← b) k.notice)))
+    rw (b) (rw (rows_are _ _ _ (sym k.has_begun ∙ b)) (notice_closed _ _ _ _ _ _ w (rw (← b) k.notice)))
 noticed step period past m count true false b w k =
-    rw (b) (rw (rows_are past count true (sym k.has_begun ∙ b))
-    (notice_open (rows past) (row_at_hand past) m.rows m.since m.parts m.next w (rw (← b) k.notice)))
+    rw (b) (rw (rows_are _ _ _ (sym k.has_begun ∙ b)) (notice_open _ _ _ _ _ _ w (rw (← b) k.notice)))
 noticed step period past m count false whole b w k =
     let idle = k.notice.idle b in
     rw (← idle.0 ∙ sym (rows_are past count false (sym k.has_begun ∙ b))) (rw (← idle.1) k.notice)
@@ -121,8 +117,7 @@ quiet_raws : (period : ℕ) (past : List Moment) (swapped frames : ℕ) (hs : Li
     → quiet_findings swapped period frames hs ≡ map silence (filter (is_silent period past) (raws hs))
 quiet_raws period past swapped frames [] e all = refl
 quiet_raws period past swapped frames (h ∷ hs) e all =
-    let same : is_quiet swapped period frames h ≡ is_silent period past h.raw = rw (all.0, e) refl in
-    ap (λ t. when t (faults.Silent (name_of h.raw)) ++ quiet_findings swapped period frames hs) same
+    ap (λ t. when t (faults.Silent (name_of h.raw)) ++ quiet_findings swapped period frames hs) (rw (all.0, e) refl)
     ∙ ap (λ fs. when (is_silent period past h.raw) (faults.Silent (name_of h.raw)) ++ fs)
     (quiet_raws period past swapped frames hs e all.1)
     ∙ chosen (is_silent period past h.raw) h.raw (filter (is_silent period past) (raws hs))
@@ -227,13 +222,12 @@ pub frame_full : (size : ℕ) (frame : List Fib) (at : FrameAt) (old mid : Check
 frame_full size frame at old mid before reported one place first h past k =
     let all = h past k in
     let room = ap (runs_full old.step old.period past) (sym (frame_has_items frame)) ∙ all.room in
-    let same : at ≡ frame_at old.step past frame = rw (← k.due, ← k.frames) place in
     let items = findings_at_sent old.step old.period past old.noted (frame_sent frame) in
     record {
       findings = all.findings ∙ ap (λ t. with_more t (map (in_frame at) items)) first
           ∙ two at before (frame_findings size old.step old.due frame) items
           ∙ ap (λ a. with_more before (map (in_frame a) (frame_findings size old.step old.due frame ++ (items ++ []))))
-          same
+          (rw (← k.due, ← k.frames) place)
           ∙ ap (λ d. with_more before
           (map (in_frame (frame_at old.step past frame)) (frame_findings size old.step d frame ++ (items ++ []))))
           k.due

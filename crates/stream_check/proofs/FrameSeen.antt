@@ -8,8 +8,7 @@ pub damaged_more : (frame : List Fib) (fib : Fib) → damaged_in (frame ++ fib �
     + cond (is_damaged fib) 1 0
 damaged_more [] fib = omega (arith)
 damaged_more (x ∷ xs) fib =
-    let rest = damaged_more xs fib in
-    omega (arith, rest)
+    omega (arith, damaged_more xs fib)
 
 -- how the frame begins and how many FIBs are damaged, with one more FIB
 pub seen_more : (r : Reading) (fibs : List (List ℕ)) (fib : List ℕ) (summary : FibSummary) (damaged : ℕ)
@@ -21,10 +20,8 @@ pub seen_more : (r : Reading) (fibs : List (List ℕ)) (fib : List ℕ) (summary
 seen_more r fibs fib summary damaged begins lacks are is = record {
   damaged_is =
       let one : cond summary.is_damaged 1 0 ≡ cond (is_damaged (r.read fib)) 1 0 = ap (λ t. cond t 1 0) is.damaged in
-      let all : damaged_in (map r.read fibs ++ r.read fib ∷ []) ≡ damaged_in (map r.read fibs)
-      + cond (is_damaged (r.read fib)) 1 0 = damaged_more (map r.read fibs) (r.read fib) in
       ap (λ n. n + cond summary.is_damaged 1 0) are.damaged_is ∙ ap (λ n. damaged_in (map r.read fibs) + n) one
-      ∙ sym all ∙ sym (ap damaged_in (map-append r.read fibs (fib ∷ [])));
+      ∙ sym (damaged_more (map r.read fibs) (r.read fib)) ∙ sym (ap damaged_in (map-append r.read fibs (fib ∷ [])));
   begins_is = begins_of fibs are;
   lacks_is = lacks_of fibs are;
 }

@@ -27,15 +27,14 @@ pub same_skipped : (a b u v : List Fib) → AllByRecursion (λ fib. holds_ensemb
     → AllByRecursion (λ fib. holds_ensemble fib ≡ false) b → HoldsFirst u → HoldsFirst v → a ++ u ≡ b ++ v
     → AreSplit a b u v
 same_skipped [] [] u v all others first second e = record { one = refl; rest = e }
-same_skipped [] (y ∷ b) [] v all others first second e = absurd cc
 same_skipped [] (y ∷ b) (x ∷ u) v all others first second e =
     absurd (false≢true (sym others.0 ∙ ap holds_ensemble (sym (head_is x y u (b ++ v) e)) ∙ first))
-same_skipped (x ∷ a) [] u [] all others first second e = absurd cc
 same_skipped (x ∷ a) [] u (y ∷ v) all others first second e =
     absurd (false≢true (sym all.0 ∙ ap holds_ensemble (head_is x y (a ++ u) v e) ∙ second))
 same_skipped (x ∷ a) (y ∷ b) u v all others first second e =
     let rest = same_skipped a b u v all.1 others.1 first second (tail_is x y (a ++ u) (b ++ v) e) in
     record { one = ap (λ h. h ∷ a) (head_is x y (a ++ u) (b ++ v) e) ∙ ap (λ t. y ∷ t) rest.one; rest = rest.rest }
+same_skipped _ _ _ _ all others first second e = absurd cc
 
 -- ---- one frame
 
@@ -50,19 +49,16 @@ same_later : (size n : ℕ) (a b u v : List Fib) → AreLater a → AreLater b �
     → (n + length b < size → BeginsAnew v) → n + length a ≤ size → n + length b ≤ size → a ++ u ≡ b ++ v
     → AreSplit a b u v
 same_later size n [] [] u v all others first second fits other e = record { one = refl; rest = e }
-same_later size n [] (y ∷ b) [] v all others first second fits other e = absurd cc
 same_later size n [] (y ∷ b) (x ∷ u) v all others first second fits other e =
     let short : n + 0 < size = omega (arith, other) in
     absurd (false≢true (sym others.0 ∙ ap begins_with_ensemble (sym (head_is x y u (b ++ v) e)) ∙ first short))
-same_later size n (x ∷ a) [] u [] all others first second fits other e = absurd cc
 same_later size n (x ∷ a) [] u (y ∷ v) all others first second fits other e =
-    let short : n + 0 < size = omega (arith, fits) in
-    absurd (false≢true (sym all.0 ∙ ap begins_with_ensemble (head_is x y (a ++ u) v e) ∙ second short))
+    absurd (false≢true (sym all.0 ∙ ap begins_with_ensemble (head_is x y (a ++ u) v e) ∙ second (omega (arith, fits))))
 same_later size n (x ∷ a) (y ∷ b) u v all others first second fits other e =
     let rest = same_later size (suc n) a b u v all.1 others.1 (λ h. first (omega (arith, h)))
-    (λ h. second (omega (arith, h))) (omega (arith, fits)) (omega (arith, other))
-    (tail_is x y (a ++ u) (b ++ v) e) in
+    (λ h. second (omega (arith, h))) (omega (arith, fits)) (omega (arith, other)) (tail_is _ _ _ _ e) in
     record { one = ap (λ h. h ∷ a) (head_is x y (a ++ u) (b ++ v) e) ∙ ap (λ t. y ∷ t) rest.one; rest = rest.rest }
+same_later size n _ _ _ _ all others first second fits other e = absurd cc
 
 pub same_frame : (size : ℕ) (g h u v : List Fib) → IsOneFrame g → IsOneFrame h → length g ≤ size → length h ≤ size
     → (length g < size → BeginsAnew u) → (length h < size → BeginsAnew v) → g ++ u ≡ h ++ v → AreSplit g h u v
@@ -79,8 +75,7 @@ pub no_frame : (size : ℕ) (g u : List Fib) (x : Fib) (rest : List Fib) → IsO
 no_frame size [] u x rest one fits anew later short e = one
 no_frame size (y ∷ g) u x rest one fits anew later short e =
     let same : rest ≡ g ++ u = tail_is x y rest (g ++ u) e in
-    let len : length rest ≡ length g + length u = ap length same ∙ length-append g u in
-    let less : length (y ∷ g) < size = omega (arith, short, len) in
+    let less : length (y ∷ g) < size = omega (arith, short, ap length same ∙ length-append g u) in
     not_later u g (subst AreLater same later) (anew less)
 
 -- ---- frames
@@ -93,8 +88,7 @@ front_cut : (size : ℕ) (f g : List (List Fib)) (r s w : List Fib) → AreFrame
     → (flat f ++ r) ++ w ≡ flat g ++ s → (more : List (List Fib)) × (g ≡ f ++ more)
 front_cut size [] g r s w a b e = (g, refl)
 front_cut size (h ∷ f) [] r [] w a b e =
-    absurd (no_one h (flat f ++ (r ++ w)) a.0 (sym e ∙ append_assoc (h ++ flat f) r w
-    ∙ append_assoc h (flat f) (r ++ w)))
+    absurd (no_one _ _ a.0 (sym e ∙ append_assoc (h ++ flat f) r w ∙ append_assoc h (flat f) (r ++ w)))
 front_cut size (h ∷ f) [] r (x ∷ s) w a b e =
     absurd (no_frame size h ((flat f ++ r) ++ w) x s a.0 a.1 (λ less. begins_more (flat f ++ r) w (a.2 less)) b.0 b.1
     (sym e ∙ ap (λ l. l ++ w) (append_assoc h (flat f) r) ∙ append_assoc h (flat f ++ r) w))
@@ -122,8 +116,7 @@ front_framing size front behind skipped later f g r s a b = chosen (flat f ++ r)
     chosen [] e = (g, ap (λ l. l ++ g) (sym (no_flat size f r a.cut e)))
     chosen (x ∷ held) e =
         let first : HoldsFirst ((flat f ++ r) ++ behind) = rw (e) (subst HoldsFirst e a.begun) in
-        let same : skipped ++ ((flat f ++ r) ++ behind) ≡ later ++ (flat g ++ s) =
-        sym (append_assoc skipped (flat f ++ r) behind) ∙ ap (λ l. l ++ behind) (sym a.whole) ∙ b.whole in
+        let same = sym (append_assoc skipped (flat f ++ r) behind) ∙ ap (λ l. l ++ behind) (sym a.whole) ∙ b.whole in
         front_cut size f g r s behind a.cut b.cut
         (same_skipped skipped later ((flat f ++ r) ++ behind) (flat g ++ s) a.before b.before first b.begun
         same).rest
@@ -149,6 +142,4 @@ room_before step period past (g ∷ gs) more e =
 pub none_more : {X : Type 0} (f g more less : List X) → g ≡ f ++ more → f ≡ g ++ less → f ≡ g
 none_more f g [] less one two = sym (append-nil f) ∙ sym one
 none_more f g (m ∷ ms) less one two =
-    let long : length g ≡ length f + length (m ∷ ms) = ap length one ∙ length-append f (m ∷ ms) in
-    let short : length f ≡ length g + length less = ap length two ∙ length-append g less in
-    absurd (omega (arith, long, short))
+    absurd (omega (arith, ap length one ∙ length-append f (m ∷ ms), ap length two ∙ length-append g less))

@@ -29,11 +29,9 @@ before : (wanted : List ℕ) (k : ℕ) (front back done open_frames : List (List
     → Before wanted k front back done open_frames frame
 before wanted k front back done open_frames frame e c =
     let l = last wanted k front c in
-    let is : l.front ++ (l.part ++ back) ≡ done ++ (open_frames ++ frame ∷ []) =
-    sym (append_assoc l.front l.part back) ∙ ap (λ row. row ++ back) (sym l.is) ∙ e in
-    let some : l.part ++ back ≢ [] = some_left l.part back l.whole.0 in
+    let is = sym (append_assoc l.front l.part back) ∙ ap (λ row. row ++ back) (sym l.is) ∙ e in
     let s = shorter l.front (l.part ++ back) (done ++ open_frames) frame
-    (is ∙ sym (append_assoc done open_frames (frame ∷ []))) some in
+    (is ∙ sym (append_assoc done open_frames (frame ∷ []))) (some_left l.part back l.whole.0) in
     record {
       start = l.front;
       back_before = s.back;
@@ -51,9 +49,8 @@ sooner : (n : ℕ) (wanted : List ℕ) (front back done open_frames : List (List
     → ((b : List (List ℕ)) → front ++ b ≡ done ++ open_frames → P) → P
 sooner n wanted front [] done open_frames frame P e at less = at (sym (append-nil front) ∙ e)
 sooner n wanted front (b ∷ bs) done open_frames frame P e at less =
-    let some : b ∷ bs ≢ [] = λ q. absurd cc in
     let s = shorter front (b ∷ bs) (done ++ open_frames) frame (e ∙ sym (append_assoc done open_frames (frame ∷ [])))
-    some in
+    (λ q. absurd cc) in
     less s.back s.is
 
 -- ---- the part is complete
@@ -65,8 +62,7 @@ closes_most : (wanted : List ℕ) (n : ℕ) (done open_frames : List (List ℕ))
 closes_most wanted n done open_frames frame g zero front back e c = omega arith
 closes_most wanted n done open_frames frame g (suc k) front back e c =
     let b = before wanted k front back done open_frames frame e c in
-    let le : k ≤ n = g.most k b.start b.back_before b.is_before b.cut in
-    omega (arith, le)
+    omega (arith, g.most k b.start b.back_before b.is_before b.cut)
 
 closes_soonest : (wanted : List ℕ) (n : ℕ) (done open_frames : List (List ℕ)) (frame : List ℕ)
     → IsGreedy wanted n done open_frames
@@ -81,8 +77,7 @@ closes_soonest wanted n done open_frames frame g front back e c =
 
 pub greedy_closes : GreedyCloses
 greedy_closes wanted n done open_frames frame g all =
-    let nil : (done ++ (open_frames ++ frame ∷ [])) ++ [] ≡ done ++ (open_frames ++ frame ∷ []) =
-    append-nil (done ++ (open_frames ++ frame ∷ [])) in
+    let nil = append-nil (done ++ (open_frames ++ frame ∷ [])) in
     record {
       cut = more wanted n done (open_frames ++ frame ∷ []) g.cut (is_some open_frames [] frame, all);
       most = λ m front back e c. closes_most wanted n done open_frames frame g m front back (e ∙ nil) c;
@@ -99,17 +94,13 @@ stays_most : (wanted : List ℕ) (n : ℕ) (done open_frames : List (List ℕ)) 
 stays_most wanted n done open_frames frame g short zero front back e c = omega arith
 stays_most wanted n done open_frames frame g short (suc k) front back e c =
     let b = before wanted k front back done open_frames frame e c in
-    let le : k ≤ n = g.most k b.start b.back_before b.is_before b.cut in
     elim (cases_lt k n) [
       | inl lt ↦ omega (arith, lt)
       | inr ge ↦
-          let same : k ≡ n = omega (arith, le, ge) in
-          let cut : IsCutInto wanted n b.start = rw (← same) b.cut in
-          let far : length done ≤ length b.start = g.soonest b.start b.back_before b.is_before cut in
+          let same : k ≡ n = omega (arith, g.most k b.start b.back_before b.is_before b.cut, ge) in
+          let far : length done ≤ length b.start = g.soonest b.start b.back_before b.is_before (rw (← same) b.cut) in
           let at = behind done b.start (b.part ++ back) (open_frames ++ frame ∷ []) b.is far in
-          let all : HasAll wanted (at.mid ++ (b.part ++ back)) =
-          has_right wanted at.mid (b.part ++ back) (has_left wanted b.part back b.whole.1) in
-          absurd (short (rw (at.is) all))
+          absurd (short (rw (at.is) (has_right wanted at.mid (b.part ++ back) (has_left wanted b.part back b.whole.1))))
     ]
 
 stays_soonest : (wanted : List ℕ) (n : ℕ) (done open_frames : List (List ℕ)) (frame : List ℕ)
@@ -138,8 +129,7 @@ cut_all wanted (suc k) done open_frames g some =
     let l = last wanted k done g.cut in
     let whole : IsPart wanted (l.part ++ open_frames) =
     (some_left l.part open_frames l.whole.0, has_left wanted l.part open_frames l.whole.1) in
-    let is : l.front ++ (l.part ++ open_frames) ≡ done ++ open_frames =
-    sym (append_assoc l.front l.part open_frames) ∙ ap (λ row. row ++ open_frames) (sym l.is) in
+    let is = sym (append_assoc l.front l.part open_frames) ∙ ap (λ row. row ++ open_frames) (sym l.is) in
     let one : k + 1 ≡ suc k = omega arith in
     rw (← one) (rw (← is) (more wanted k l.front (l.part ++ open_frames) l.cut whole))
 
@@ -156,9 +146,7 @@ at_most wanted (suc k) m frames one other = let some : 0 < suc k = omega arith i
 
 pub most_is_one : MostIsOne
 most_is_one wanted n m frames one other =
-    let le = at_most wanted n m frames one other in
-    let ge = at_most wanted m n frames other one in
-    omega (arith, le, ge)
+    omega (arith, at_most wanted n m frames one other, at_most wanted m n frames other one)
 
 -- ---- three parts
 
@@ -170,15 +158,10 @@ some_right (x ∷ xs) ys some e = absurd cc
 one_part : (wanted : List ℕ) (n : ℕ) (frames : List (List ℕ)) → IsCutInto wanted (suc n) frames → IsPart wanted frames
 one_part wanted n frames c =
     let l = last wanted n frames c in
-    let whole : IsPart wanted (l.front ++ l.part) =
-    (some_right l.front l.part l.whole.0, has_right wanted l.front l.part l.whole.1) in
-    rw (l.is) whole
+    rw (l.is) (some_right l.front l.part l.whole.0, has_right wanted l.front l.part l.whole.1)
 
 three_of : (wanted : List ℕ) (n : ℕ) (frames : List (List ℕ)) → IsCutInto wanted n frames → 3 ≤ n
     → IsCutInThree wanted frames
-three_of wanted zero frames c three = absurd (omega arith)
-three_of wanted (suc zero) frames c three = absurd (omega arith)
-three_of wanted (suc (suc zero)) frames c three = absurd (omega arith)
 three_of wanted (suc (suc (suc k))) frames c three =
     let third = last wanted (suc (suc k)) frames c in
     let second = last wanted (suc k) third.front third.cut in
@@ -191,11 +174,11 @@ three_of wanted (suc (suc (suc k))) frames c three =
       whole_in_second = second.whole;
       whole_in_third = third.whole;
     }
+three_of wanted _ frames c three = absurd (omega arith)
 
 of_three : (wanted : List ℕ) (frames : List (List ℕ)) → IsCutInThree wanted frames → IsCutInto wanted 3 frames
 of_three wanted frames t =
-    let two = more wanted 1 t.first t.second (more wanted 0 [] t.first (none wanted) t.whole_in_first)
-    t.whole_in_second in
+    let two = more _ _ _ _ (more _ _ _ _ (none wanted) t.whole_in_first) t.whole_in_second in
     rw (t.cut) (more wanted 2 (t.first ++ t.second) t.third two t.whole_in_third)
 
 pub three_or_more : ThreeOrMore
@@ -212,8 +195,7 @@ missing : (wanted : List ℕ) (x : ℕ) (frames : List (List ℕ)) → Contains 
 missing wanted x frames want new zero front back e c = omega arith
 missing wanted x frames want new (suc k) front back e c =
     let l = last wanted k front c in
-    let all : HasAll wanted ((l.front ++ l.part) ++ back) =
-    has_left wanted (l.front ++ l.part) back (has_right wanted l.front l.part l.whole.1) in
+    let all = has_left wanted (l.front ++ l.part) back (has_right wanted l.front l.part l.whole.1) in
     let is : (l.front ++ l.part) ++ back ≡ frames = rw (← l.is) e in
     absurd (new (rw (← is) (all x want)))
 

@@ -17,8 +17,7 @@ use Rattle.stream_check.proofs.Tables.{raw_in, standing_found, each_kept}
 pub keys_differ : (x h : Heard) (e : ℕ) → x.raw.ext ≡ e → h.raw.ext ≡ e → (heard_key x == heard_key h) ≡ false
     → key_of x.raw ≢ key_of h.raw
 keys_differ x h e a b free same =
-    let one : identifier_of x.raw ≡ identifier_of h.raw = omega (arith, a, b, same) in
-    false≢true (sym free ∙ eq-eqb (heard_key x) (heard_key h) one)
+    false≢true (sym free ∙ eq-eqb (heard_key x) (heard_key h) (omega (arith, a, b, same)))
 
 -- two entries of different kinds
 pub kinds_differ : (x h : Heard) (e f : ℕ) → x.raw.ext ≡ e → h.raw.ext ≡ f → e < 4 → f < 4 → e ≢ f
@@ -32,8 +31,7 @@ changed_keys h (x ∷ xs) e k all =
     elim (heard_key x == heard_key h) as (λ t. (heard_key x == heard_key h) ≡ t
     → key_of (cond t h x).raw ∷ keys (with_entry_changed heard_key h xs) ≡ key_of x.raw ∷ keys xs) [
       | true ↦ λ is.
-          let one : heard_key x ≡ heard_key h = eqb-true (heard_key x) (heard_key h) is in
-          let same : key_of h.raw ≡ key_of x.raw = omega (arith, one, k, all.0) in
+          let same : key_of h.raw ≡ key_of x.raw = omega (arith, eqb-true (heard_key x) (heard_key h) is, k, all.0) in
           ap (λ n. n ∷ keys (with_entry_changed heard_key h xs)) same
           ∙ ap (λ ns. key_of x.raw ∷ ns) (changed_keys h xs e k all.1)
       | false ↦ λ is. ap (λ ns. key_of x.raw ∷ ns) (changed_keys h xs e k all.1)
@@ -83,10 +81,6 @@ other_kind (x ∷ xs) h e f k all small less other c =
       | inr rest ↦ other_kind xs h e f k all.1 small less other rest
     ]
 
-kept_as_changed : (h : Heard) (hs : List Heard) → has_entry heard_key (heard_key h) hs ≡ true
-    → heard_kept h hs ≡ with_entry_changed heard_key h hs
-kept_as_changed h hs e = rw (e) refl
-
 kept_as_added : (h : Heard) (hs : List Heard) → has_entry heard_key (heard_key h) hs ≡ false
     → heard_kept h hs ≡ with_entry heard_key h hs
 kept_as_added h hs e = rw (e) refl
@@ -110,9 +104,8 @@ pub absent_where : (raw : Raw) (hs : List Heard) → finds_no_room (lookup raw (
     → is_absent (lookup raw (raws hs)) ≡ not (has_entry heard_key (identifier_of raw) hs)
 absent_where raw hs free =
     let found = standing_found raw hs (entry_at heard_key (identifier_of raw) hs) refl in
-    ap is_absent found ∙ by_standing raw hs (entry_at heard_key (identifier_of raw) hs) refl
-    (ap finds_no_room (sym found) ∙ free)
-    ∙ ap not (is_found heard_key (identifier_of raw) hs (entry_at heard_key (identifier_of raw) hs) refl)
+    ap is_absent found ∙ by_standing raw hs _ refl (ap finds_no_room (sym found) ∙ free) ∙ ap not
+    (is_found heard_key (identifier_of raw) hs (entry_at heard_key (identifier_of raw) hs) refl)
 
 -- ---- pictures
 
@@ -243,7 +236,7 @@ pub record Joined (h : Heard) (p : HeardPicture) : Type 0 where
 
 own_known : (h : Heard) (hs : List Heard) (e : ℕ) → h.raw.ext ≡ e → AllByRecursion (λ x. x.raw.ext ≡ e) hs
     → has_entry heard_key (heard_key h) hs ≡ true → keys (heard_kept h hs) ≡ keys hs
-own_known h hs e k kinds is = ap keys (kept_as_changed h hs is) ∙ changed_keys h hs e k kinds
+own_known h hs e k kinds is = ap keys (rw (is) refl) ∙ changed_keys h hs e k kinds
 
 own_has : (h : Heard) (hs : List Heard) → has_entry heard_key (heard_key h) hs ≡ false
     → Contains (keys (heard_kept h hs)) (key_of h.raw)
@@ -309,8 +302,7 @@ pub new_keys : (h : Heard) (p : HeardPicture) → 0 < h.raw.ext → h.raw.ext < 
 new_keys h p some few kinds room new = elim (by_kind h.raw.ext some few) [
   | inl k ↦
       let s = sub_standing h.raw p k in
-      let is = not_true (has_entry heard_key (heard_key h) p.subs)
-      (sym (absent_where h.raw p.subs (ap finds_no_room (sym s) ∙ room)) ∙ ap is_absent (sym s) ∙ new) in
+      let is = not_true _ (sym (absent_where h.raw _ (ap finds_no_room (sym s) ∙ room)) ∙ ap is_absent (sym s) ∙ new) in
       let kept = sym (ap keys_of (sub_kept h p k)) in
       record {
         new = λ c. of_three (keys p.subs) (keys p.services) (keys p.packets) (key_of h.raw) c
@@ -358,9 +350,7 @@ new_keys h p some few kinds room new = elim (by_kind h.raw.ext some few) [
               (other_kind p.subs h 1 3 k kinds.0 (omega arith) (omega arith) (λ e. omega (arith, e)))
               (other_kind p.services h 2 3 k kinds.1.0 (omega arith) (omega arith) (λ e. omega (arith, e)))
               (none_has p.packets h 3 k kinds.1.1 is);
-          has = subst (λ (l : List ℕ). Contains l (key_of h.raw)) kept
-              (in_third (keys p.subs) (keys p.services) (keys (heard_kept h p.packets)) (key_of h.raw)
-              (own_has h p.packets is));
+          has = subst (λ (l : List ℕ). Contains l (key_of h.raw)) kept (in_third _ _ _ _ (own_has h _ is));
           keeps = λ n c. subst (λ (l : List ℕ). Contains l n) kept
               (of_three (keys p.subs) (keys p.services) (keys p.packets) n c
               (λ a. in_first (keys p.subs) (keys p.services) (keys (heard_kept h p.packets)) n a)
@@ -379,8 +369,7 @@ own_there (x ∷ xs) h e k all is =
     elim (heard_key x == heard_key h) as (λ t. (heard_key x == heard_key h) ≡ t
     → (t || has_entry heard_key (heard_key h) xs) ≡ true → Contains (keys (x ∷ xs)) (key_of h.raw)) [
       | true ↦ λ same more.
-          let one : heard_key x ≡ heard_key h = eqb-true (heard_key x) (heard_key h) same in
-          let key : key_of x.raw ≡ key_of h.raw = omega (arith, one, k, all.0) in
+          let key : key_of x.raw ≡ key_of h.raw = omega (arith, eqb-true (heard_key x) (heard_key h) same, k, all.0) in
           rw (← key) (here (key_of x.raw) (keys xs))
       | false ↦ λ same more. there (key_of x.raw) (key_of h.raw) (keys xs) (own_there xs h e k all.1 more)
     ] refl is

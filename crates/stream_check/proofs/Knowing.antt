@@ -31,11 +31,9 @@ tuned_is step period past m k = rw (after_is past (listener_in m) k.heard) refl
 pub knows_passed : (step period : ℕ) (past : List Moment) (m : CheckerState) (i : Item) → is_ensemble i ≡ false
     → m.tuned ≡ false → Knows step period past m → Knows step period (Said i ∷ past) m
 knows_passed step period past m i e untuned k =
-    let l : Listening = listener_in m in
     let t : (listener_after past).tuned ≡ false = tuned_is step period past m k ∙ untuned in
     let same_row : row_at_hand (Said i ∷ past) ≡ row_at_hand past =
-    member_row past i e ∙ ap (λ b. row_at_hand past ++ cond (b && i.next) (key_of i.raw ∷ []) []) t
-    ∙ append-nil (row_at_hand past) in
+    cc (member_row past i e, t, append-nil (row_at_hand past)) in
     record {
       mode = k.mode;
       page_index = k.page_index;
@@ -63,10 +61,7 @@ knows_passed step period past m i e untuned k =
           (λ h is. is ∙ sym (member_last (key_of h.raw) past i e
           ∙ ap (λ b. cond (b && (not i.next && (key_of i.raw == key_of h.raw))) (frames_ended past + 1)
           (last_heard (key_of h.raw) past)) t)) k.last;
-      notice = subst (λ (rs : List (List ℕ)). HasNotice rs (row_at_hand (Said i ∷ past)) m.rows m.since m.parts m.next
-          m.has_begun) (sym (member_rows past i e))
-          (subst (λ (r : List ℕ). HasNotice (rows past) r m.rows m.since m.parts m.next m.has_begun) (sym same_row)
-          k.notice);
+      notice = rw (member_rows past i e) (rw same_row k.notice);
     }
 
 -- an entry of the current configuration
@@ -77,14 +72,12 @@ pub knows_current : (step period : ℕ) (past : List Moment) (m : CheckerState) 
 knows_current step period past m i e few some tuned nx room k =
     let t : (listener_after past).tuned ≡ true = tuned_is step period past m k ∙ tuned in
     let same_row : row_at_hand (Said i ∷ past) ≡ row_at_hand past =
-    member_row past i e ∙ ap (λ b. row_at_hand past ++ cond (b && i.next) (key_of i.raw ∷ []) []) t
-    ∙ ap (λ b. row_at_hand past ++ cond (true && b) (key_of i.raw ∷ []) []) nx ∙ append-nil (row_at_hand past) in
+    cc (member_row past i e, t, nx, append-nil (row_at_hand past)) in
     let last_is : (key : ℕ) → last_heard key (Said i ∷ past)
     ≡ cond (key_of i.raw == key) (frames_ended past + 1) (last_heard key past) = λ key.
     member_last key past i e ∙ ap (λ b. cond (b && (not i.next && (key_of i.raw == key))) (frames_ended past + 1)
     (last_heard key past)) t
     ∙ ap (λ b. cond (true && (not b && (key_of i.raw == key))) (frames_ended past + 1) (last_heard key past)) nx in
-    let upper : m.swapped ≤ m.frames + 1 = omega (arith, k.swapped, k.frames) in
     record {
       mode = k.mode;
       page_index = k.page_index;
@@ -113,17 +106,14 @@ knows_current step period past m i e few some tuned nx room k =
       kinds = (kinds_kept (record { raw = i.raw; at = m.frames + 1 }) m.current some few k.kinds.0, k.kinds.1);
       last = picture_each (IsLastHeard past m.swapped) (IsLastHeard (Said i ∷ past) m.swapped)
           (record { raw = i.raw; at = m.frames + 1 }) m.current some few k.kinds.0
-          (later_first (m.frames + 1) m.swapped upper ∙ ap (λ n. n + 1) k.frames
+          (later_first (m.frames + 1) m.swapped (omega (arith, k.swapped, k.frames)) ∙ ap (λ n. n + 1) k.frames
           ∙ sym (last_is (key_of i.raw) ∙ ap (λ b. cond b (frames_ended past + 1) (last_heard (key_of i.raw) past))
           (eq-eqb (key_of i.raw) (key_of i.raw) refl)))
           (λ x other is. is ∙ sym (last_is (key_of x.raw)
           ∙ ap (λ b. cond b (frames_ended past + 1) (last_heard (key_of x.raw) past))
           (ne_eqb (key_of i.raw) (key_of x.raw) (λ same. other (sym same)))))
           k.last;
-      notice = subst (λ (rs : List (List ℕ)). HasNotice rs (row_at_hand (Said i ∷ past)) m.rows m.since m.parts m.next
-          m.has_begun) (sym (member_rows past i e))
-          (subst (λ (r : List ℕ). HasNotice (rows past) r m.rows m.since m.parts m.next m.has_begun) (sym same_row)
-          k.notice);
+      notice = rw (member_rows past i e) (rw same_row k.notice);
     }
 
 early : (b x y : Bool) → cond b x y ≡ cond (true && not b) y x
@@ -139,8 +129,7 @@ knows_next step period past m i e few some tuned nx room k =
     let h : Heard = record { raw = i.raw; at = m.rows + 1 } in
     let t : (listener_after past).tuned ≡ true = tuned_is step period past m k ∙ tuned in
     let row_is : row_at_hand (Said i ∷ past) ≡ row_at_hand past ++ key_of i.raw ∷ [] =
-    member_row past i e ∙ ap (λ b. row_at_hand past ++ cond (b && i.next) (key_of i.raw ∷ []) []) t
-    ∙ ap (λ b. row_at_hand past ++ cond (true && b) (key_of i.raw ∷ []) []) nx in
+    cc (member_row past i e, t, nx) in
     let last_is : (key : ℕ) → last_heard key (Said i ∷ past) ≡ last_heard key past = λ key.
     member_last key past i e ∙ ap (λ b. cond (b && (not i.next && (key_of i.raw == key))) (frames_ended past + 1)
     (last_heard key past)) t
@@ -174,13 +163,9 @@ knows_next step period past m i e few some tuned nx room k =
       few = rw (member_rows past i e) k.few;
       swapped = k.swapped;
       kinds = (k.kinds.0, kinds_kept (record { raw = i.raw; at = m.rows + 1 }) m.next some few k.kinds.1);
-      last = each_in (IsLastHeard past m.swapped) (IsLastHeard (Said i ∷ past) m.swapped) m.current
-          (λ x is. is ∙ sym (last_is (key_of x.raw))) k.last;
-      notice = subst (λ (rs : List (List ℕ)). HasNotice rs (row_at_hand (Said i ∷ past)) m.rows
-          (with_next i.raw m).since (with_next i.raw m).parts (picture_kept h m.next) true) (sym (member_rows past i e))
-          (subst (λ (r : List ℕ). HasNotice (rows past) r m.rows (with_next i.raw m).since (with_next i.raw m).parts
-          (picture_kept h m.next) true) (sym row_is)
-          (noticed (is_absent (lookup_in i.raw (picture_of_heard m.next))) refl));
+      last = each_in _ _ _ (λ x is. is ∙ sym (last_is _)) k.last;
+      notice =
+      rw (member_rows past i e) (rw row_is (noticed (is_absent (lookup_in i.raw (picture_of_heard m.next))) refl));
     }
   where
     noticed : (a : Bool) → is_absent (lookup_in i.raw (picture_of_heard m.next)) ≡ a

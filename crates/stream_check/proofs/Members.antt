@@ -44,26 +44,19 @@ member_has_ensemble past i e = sym (ap (λ t. t || has_ensemble past) e)
 
 pub member_begins : (past : List Moment) (i : Item) → is_ensemble i ≡ false
     → begins_notice past i ≡ ((listener_after past).tuned && i.next)
-member_begins past i e =
-    ap (λ t. t || ((not (is_ensemble i) && (listener_after past).tuned) && i.next)) (no_flags i e)
-    ∙ ap (λ t. (not t && (listener_after past).tuned) && i.next) e
+member_begins past i e = cc (no_flags i e, e)
 
 pub member_is : (past : List Moment) (i : Item) → is_ensemble i ≡ false → is_member past i ≡ (listener_after past).tuned
 member_is past i e = rw (e) refl
 
 pub member_has_begun : (past : List Moment) (i : Item) → is_ensemble i ≡ false
     → has_begun (Said i ∷ past) ≡ (has_begun past || ((listener_after past).tuned && i.next))
-member_has_begun past i e =
-    ap (λ t. cond t (is_flagged i) (has_begun past || begins_notice past i)) (no_swap past i e)
-    ∙ ap (λ t. has_begun past || t) (member_begins past i e)
+member_has_begun past i e = cc (no_swap past i e, member_begins past i e)
 
 pub member_began_early : (past : List Moment) (i : Item) → is_ensemble i ≡ false
     → began_early (Said i ∷ past) ≡ cond (((listener_after past).tuned && i.next) && not (has_begun past))
     (not (has_ensemble past)) (began_early past)
-member_began_early past i e =
-    ap (λ t. cond t false (cond (begins_notice past i && not (has_begun past)) (not (has_ensemble past))
-    (began_early past))) e
-    ∙ ap (λ t. cond (t && not (has_begun past)) (not (has_ensemble past)) (began_early past)) (member_begins past i e)
+member_began_early past i e = cc (e, member_begins past i e)
 
 pub member_flags : (past : List Moment) (i : Item) → is_ensemble i ≡ false
     → last_flags past ≡ last_flags (Said i ∷ past)
@@ -73,8 +66,7 @@ pub member_times : (past : List Moment) (i : Item) → is_ensemble i ≡ false
     → times_announced past ≡ times_announced (Said i ∷ past)
 member_times past i e =
     let none : flag_count i ≡ 0 = rw (no_flags i e) refl in
-    let same : times_announced past ≡ times_announced past + flag_count i = omega (arith, none) in
-    rw (no_swap past i e) same
+    rw (no_swap past i e) (omega (arith, none))
 
 pub member_cut_off : (past : List Moment) (i : Item) → is_ensemble i ≡ false
     → is_cut_off past ≡ is_cut_off (Said i ∷ past)
@@ -97,11 +89,7 @@ member_row past i e = rw (no_swap past i e, member_is past i e) refl
 pub member_last : (key : ℕ) (past : List Moment) (i : Item) → is_ensemble i ≡ false
     → last_heard key (Said i ∷ past) ≡ cond ((listener_after past).tuned && (not i.next && (key_of i.raw == key)))
     (frames_ended past + 1) (last_heard key past)
-member_last key past i e =
-    ap (λ t. cond (t || (is_member past i && (not i.next && (key_of i.raw == key)))) (frames_ended past + 1)
-    (last_heard key past)) (no_swap past i e)
-    ∙ ap (λ t. cond (t && (not i.next && (key_of i.raw == key))) (frames_ended past + 1) (last_heard key past))
-    (member_is past i e)
+member_last key past i e = cc (no_swap past i e, member_is past i e)
 
 pub member_heard : (past : List Moment) (i : Item) (l : Listening) → listening past ≡ Some l
     → listening (Said i ∷ past) ≡ hear_entry i.next i.raw l
@@ -128,10 +116,7 @@ ensemble_no_member past i e = rw (e) refl
 
 pub ensemble_heard : (past : List Moment) (i : Item) (l : Listening) → is_ensemble i ≡ true → listening past ≡ Some l
     → listening (Said i ∷ past) ≡ Some (at_ensemble (ensemble_of_item i) l)
-ensemble_heard past i l e h =
-    member_heard past i l h
-    ∙ ap (λ t. cond t (Some (at_ensemble (ensemble_of_item i) l))
-    (cond l.tuned (into i.next l (pictured i.raw (picture_of i.next l))) (Some l))) e
+ensemble_heard past i l e h = cc (member_heard past i l h, e)
 
 pub member_entry : (next : Bool) (raw : Raw) (l : Listening) → (raw.ext == 0) ≡ false
     → hear_entry next raw l ≡ cond l.tuned (into next l (pictured raw (picture_of next l))) (Some l)

@@ -88,8 +88,7 @@ left_more at k ext long all rest size old now then before reported after some is
     let same : take (length rest - size) (drop size rest) ≡ drop (first_entry_length ext long rest) rest =
     rw (← is) (rest_of size rest) in
     let whole : are_whole (mentions_of ext long (drop (first_entry_length ext long rest) rest)) ≡ true =
-    sym (whole_with (entry_mention ext long rest) (mentions_of ext long (drop (first_entry_length ext long rest) rest)))
-    ∙ sym (ap are_whole (of_more ext long rest some fits)) ∙ h.whole in
+    sym (whole_with _ _) ∙ sym (ap are_whole (of_more _ _ _ some fits)) ∙ h.whole in
     let cut : absent_among k ext (mentions_of ext long rest) ≡ absent k ext (entry_mention ext long rest)
     ++ absent_among k ext (mentions_of ext long (drop (first_entry_length ext long rest) rest)) =
     ap (absent_among k ext) (of_more ext long rest some fits)

@@ -41,13 +41,8 @@ first_or_second : (a b : Bool) → b ≡ true → (a || b) ≡ true
 first_or_second true b e = refl
 first_or_second false b e = e
 
-noted_still : (xs ys : List Contradiction) (c : Contradiction) → is_noted xs c ≡ true → is_noted (xs ++ ys) c ≡ true
-noted_still xs ys c e = any_append (is_same c) xs ys ∙ ap (λ b. b || list_any (is_same c) ys) e
-
 noted_here : (xs ys : List Contradiction) (c : Contradiction) → is_noted (xs ++ c ∷ ys) c ≡ true
-noted_here xs ys c =
-    any_append (is_same c) xs (c ∷ ys) ∙ first_or_second (list_any (is_same c) xs)
-    (is_same c c || list_any (is_same c) ys) (ap (λ b. b || list_any (is_same c) ys) (itself_same c))
+noted_here xs ys c = any_append _ xs _ ∙ first_or_second _ _ (ap (λ b. b || list_any (is_same c) ys) (itself_same c))
 
 new_more : (before xs ys : List Contradiction) → AreNew before xs → AreNew (before ++ xs) ys → AreNew before (xs ++ ys)
 new_more before [] ys one other = rw (← append-nil before) other
@@ -97,11 +92,9 @@ few_ones noted [] few = omega (arith, few)
 few_ones noted (c ∷ cs) few = elim (is_new noted c) as (λ t. is_new noted c ≡ t
     → length noted + length (cond t (c ∷ new_among (noted ++ c ∷ []) cs) (new_among noted cs)) ≤ most_noted) [
       | true ↦ λ new.
-          let fresh = (fresh_where noted c new).few in
           let longer = length-append noted (c ∷ []) in
-          let one : length (c ∷ []) ≡ 1 = refl in
-          let rest = few_ones (noted ++ c ∷ []) cs (omega (arith, fresh, longer, one)) in
-          omega (arith, rest, longer, one)
+          let rest = few_ones (noted ++ c ∷ []) cs (omega (arith, (fresh_where noted c new).few, longer)) in
+          omega (arith, rest, longer)
       | false ↦ λ old. few_ones noted cs few
     ] refl
 
@@ -116,7 +109,7 @@ abbrev IsNotedOrMany : List Contradiction → Contradiction → Type 0
 IsNotedOrMany noted c = (is_noted noted c ≡ true) ⊎ (most_noted ≤ length noted)
 
 still : (xs ys : List Contradiction) (c : Contradiction) → IsNotedOrMany xs c → IsNotedOrMany (xs ++ ys) c
-still xs ys c (inl there) = inl (noted_still xs ys c there)
+still xs ys c (inl there) = inl (any_append (is_same c) xs ys ∙ ap (λ b. b || list_any (is_same c) ys) there)
 still xs ys c (inr many) = inr (let long = length-append xs ys in omega (arith, long, many))
 
 first_noted : (noted : List Contradiction) (c : Contradiction) (cs : List Contradiction)

@@ -70,14 +70,10 @@ notice_known frames frame count since parts next begun h some few kinds room kno
     record {
       count_is = n.count_is;
       part = n.part;
-      stamps = picture_each (IsStamped frames frame) (IsStamped frames (frame ++ key_of h.raw ∷ [])) h next some few
-          kinds (stamp_new frames frame h now) (λ x other s. stamp_other frames frame (key_of h.raw) x other s)
-          n.stamps;
+      stamps = picture_each _ _ h next some few kinds (stamp_new _ frame h now)
+      (λ x other s. stamp_other _ frame _ x other s) n.stamps;
       only = λ x c. subst (λ (l : List ℕ). Contains l x) (sym same)
-          (elim (heard_or_new frames frame (key_of h.raw) x c) [
-            | inl before ↦ n.only x before
-            | inr is ↦ rw (is) has
-          ]);
+      (elim (heard_or_new frames frame _ x c) [ | inl before ↦ n.only x before | inr is ↦ rw (is) has ]);
       greedy = rw (same) n.greedy;
       idle = λ e. absurd (false≢true (sym e));
     }
@@ -96,9 +92,8 @@ notice_new frames frame count since parts next begun h some few kinds room new a
     record {
       count_is = n.count_is;
       part = omega arith;
-      stamps = picture_each (IsStamped frames frame) (IsStamped frames (frame ++ key_of h.raw ∷ [])) h next some few
-          kinds (stamp_new frames frame h now) (λ x other s. stamp_other frames frame (key_of h.raw) x other s)
-          n.stamps;
+      stamps = picture_each _ _ h next some few kinds (stamp_new _ frame h now)
+      (λ x other s. stamp_other _ frame _ x other s) n.stamps;
       only = λ x c. elim (heard_or_new frames frame (key_of h.raw) x c) [
         | inl before ↦ j.keeps x (n.only x before)
         | inr is ↦ rw (is) j.has
@@ -116,12 +111,11 @@ wanted_more frames frame = sym (concat-more frames frame) ∙ sym (append-nil (c
 stamp_after : (frames : List (List ℕ)) (frame : List ℕ) (x : Heard) → IsStamped frames frame x
     → IsStamped (frames ++ frame ∷ []) [] x
 stamp_after frames frame x h =
-    let longer = length-append frames (frame ∷ []) in
     let one : length (frame ∷ []) ≡ 1 = refl in (
-      omega (arith, h.0, longer, one),
+      omega (arith, h.0, length-append frames (frame ∷ []), one),
       λ s le. elim (cases_lt (length frames) s) [
         | inl far ↦
-            let past : length (frames ++ frame ∷ []) ≤ s = omega (arith, longer, far, one) in
+            let past : length (frames ++ frame ∷ []) ≤ s = omega (arith, length-append frames (frame ∷ []), far, one) in
             let empty : concat (drop s (frames ++ frame ∷ [])) ++ [] ≡ [] =
             ap (λ r. concat r ++ []) (drop_all s (frames ++ frame ∷ []) past) in (
               λ c. absurd (in_none (key_of x.raw) (subst (λ (l : List ℕ). Contains l (key_of x.raw)) empty c)),
@@ -154,8 +148,7 @@ all_later since (h ∷ hs) e = let both = both_true (nat_lt since h.at) (list_al
 later_all : (since : ℕ) (hs : List Heard) → AllByRecursion (λ h. since < h.at) hs
     → list_all (λ h. nat_lt since h.at) hs ≡ true
 later_all since [] e = refl
-later_all since (h ∷ hs) e = true_both (nat_lt since h.at) (list_all (λ x. nat_lt since x.at) hs)
-    (lt-ltb since h.at e.0) (later_all since hs e.1)
+later_all since (h ∷ hs) e = true_both _ _ (lt-ltb since h.at e.0) (later_all since hs e.1)
 
 each_later : (since : ℕ) (p : HeardPicture) → heard_since since p ≡ true → Each (λ h. since < h.at) p
 each_later since p e =
@@ -166,8 +159,7 @@ each_later since p e =
     (all_later since p.subs one.0, (all_later since p.services two.0, all_later since p.packets two.1))
 
 later_each : (since : ℕ) (p : HeardPicture) → Each (λ h. since < h.at) p → heard_since since p ≡ true
-later_each since p e = true_both _ _ (later_all since p.subs e.0)
-    (true_both _ _ (later_all since p.services e.1.0) (later_all since p.packets e.1.1))
+later_each since p e = true_both _ _ (later_all _ _ e.0) (true_both _ _ (later_all _ _ e.1.0) (later_all _ _ e.1.1))
 
 -- a property of the identifiers
 by_keys : (Q : ℕ → Type 0) (hs : List Heard) → AllByRecursion (λ h. Q (key_of h.raw)) hs → (x : ℕ)
@@ -230,8 +222,7 @@ whole_has_all frames frame count since parts next begun n whole x want =
     let each = each_both (λ h. since < h.at) (IsStamped frames frame)
     (λ h. Contains (concat (drop since frames) ++ frame) (key_of h.raw)) next (λ h lt s. (s.1 since n.part).1 lt)
     (each_later since next whole) n.stamps in
-    rw (concat-more (drop since frames) frame) (picture_by_keys (λ k. Contains (concat (drop since frames) ++ frame) k)
-    next each x want)
+    rw (concat-more _ _) (picture_by_keys (λ k. Contains (concat (drop since frames) ++ frame) k) _ each _ want)
 
 has_all_whole : (frames : List (List ℕ)) (frame : List ℕ) (count since parts : ℕ) (next : HeardPicture) (begun : Bool)
     → HasNotice frames frame count since parts next begun
@@ -268,12 +259,9 @@ notice_closed frames frame count since parts next whole n =
     record {
       count_is = now;
       part = omega (arith, now);
-      stamps = each_in (IsStamped frames frame) (IsStamped (frames ++ frame ∷ []) []) next
-          (λ x s. stamp_after frames frame x s) n.stamps;
+      stamps = each_in _ _ next (λ x s. stamp_after _ frame x s) n.stamps;
       only = only_after frames frame next n.only;
-      greedy = subst (λ (r : List (List ℕ)). IsGreedy (keys_of next) (parts + 1)
-          (take (count + 1) (frames ++ frame ∷ [])) r) (sym (drop_all (count + 1) (frames ++ frame ∷ []) all))
-          (subst (λ (r : List (List ℕ)). IsGreedy (keys_of next) (parts + 1) r []) is closed);
+      greedy = rw (drop_all (count + 1) (frames ++ frame ∷ []) all) (rw (← is) closed);
       idle = λ e. absurd (false≢true (sym e));
     }
 
@@ -288,13 +276,10 @@ notice_open frames frame count since parts next short n =
     record {
       count_is = now;
       part = omega (arith, now, n.part, n.count_is);
-      stamps = each_in (IsStamped frames frame) (IsStamped (frames ++ frame ∷ []) []) next
-          (λ x s. stamp_after frames frame x s) n.stamps;
+      stamps = each_in _ _ next (λ x s. stamp_after _ frame x s) n.stamps;
       only = only_after frames frame next n.only;
-      greedy = subst (λ (r : List (List ℕ)). IsGreedy (keys_of next) parts (take since (frames ++ frame ∷ [])) r)
-          (sym (drop-append-le since frames (frame ∷ []) n.part))
-          (subst (λ (r : List (List ℕ)). IsGreedy (keys_of next) parts r (drop since frames ++ frame ∷ []))
-          (sym (take-append-le since frames (frame ∷ []) n.part)) stays);
+      greedy =
+      rw (drop-append-le since frames (frame ∷ []) n.part) (rw (take-append-le since frames (frame ∷ []) n.part) stays);
       idle = λ e. absurd (false≢true (sym e));
     }
 

@@ -89,10 +89,8 @@ no_frames : (wanted : List ℕ) (m : ℕ) (front back : List (List ℕ)) → fro
 no_frames wanted zero front back e c = omega arith
 no_frames wanted (suc k) front back e c =
     let l = last wanted k front c in
-    let is : l.front ++ (l.part ++ back) ≡ [] = sym (append_assoc l.front l.part back)
-    ∙ ap (λ row. row ++ back) (sym l.is) ∙ e in
-    let nothing : l.part ++ back ≡ [] = empty_right l.front (l.part ++ back) is in
-    absurd (l.whole.0 (empty_left l.part back nothing))
+    let is = sym (append_assoc l.front l.part back) ∙ ap (λ row. row ++ back) (sym l.is) ∙ e in
+    absurd (l.whole.0 (empty_left l.part back (empty_right l.front (l.part ++ back) is)))
 
 pub greedy_at_first : (wanted : List ℕ) → IsGreedy wanted 0 [] []
 greedy_at_first wanted = record {
@@ -117,15 +115,13 @@ along wanted n done part (f ∷ fs) g =
           let rest = along wanted (n + 1) (done ++ (part ++ f ∷ [])) [] fs closed in
           let rows : (done ++ (part ++ f ∷ [])) ++ fs ≡ done ++ (part ++ f ∷ fs) =
           rw (← append_assoc part (f ∷ []) fs) (append_assoc done (part ++ f ∷ []) fs) in
-          let count : n + 1 + parts_from wanted [] fs ≡ n + (parts_from wanted [] fs + 1) = omega arith in
           subst (λ (row : List (List ℕ)). IsMostParts wanted (n + (parts_from wanted [] fs + 1)) row) rows
-          (subst (λ (k : ℕ). IsMostParts wanted k ((done ++ (part ++ f ∷ [])) ++ fs)) count rest)
+          (subst (λ (k : ℕ). IsMostParts wanted k ((done ++ (part ++ f ∷ [])) ++ fs)) (omega arith) rest)
       | false ↦ λ e.
           let stays = greedy_stays wanted n done part f g (λ all.
           false≢true (sym e ∙ told_has_all wanted (part ++ f ∷ []) all)) in
-          let rest = along wanted n done (part ++ f ∷ []) fs stays in
           subst (λ (row : List (List ℕ)). IsMostParts wanted (n + parts_from wanted (part ++ f ∷ []) fs) (done ++ row))
-          (append_assoc part (f ∷ []) fs) rest
+          (append_assoc part (f ∷ []) fs) (along wanted n done (part ++ f ∷ []) fs stays)
     ] refl
 
 pub is_the_most : IsTheMost

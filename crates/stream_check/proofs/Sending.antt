@@ -61,8 +61,7 @@ said_sent xs ys past = rw (items_append xs ys) (said_append (items_in xs) (items
 pub full_sent : (step period : ℕ) (xs ys : List Sent) (past : List Moment)
     → runs_full step period past (items_in xs) ≡ false
     → runs_full step period past (items_in (xs ++ ys)) ≡ runs_full step period (said (items_in xs) past) (items_in ys)
-full_sent step period xs ys past e = ap (runs_full step period past) (items_append xs ys)
-    ∙ full_append step period (items_in xs) (items_in ys) past e
+full_sent step period xs ys past e = cc (items_append xs ys, full_append step period (items_in xs) (items_in ys) past e)
 
 pub full_sent_stays : (step period : ℕ) (xs ys : List Sent) (past : List Moment)
     → runs_full step period past (items_in xs) ≡ true → runs_full step period past (items_in (xs ++ ys)) ≡ true
@@ -102,8 +101,7 @@ pub findings_stay : (step period : ℕ) (xs ys : List Sent) (past : List Moment)
     → findings_at_sent step period past noted (xs ++ ys) ≡ findings_at_sent step period past noted xs
 findings_stay step period [] ys past noted e = absurd (false≢true e)
 findings_stay step period (FigSent fig ∷ xs) ys past noted e =
-    let cs = contradictions_at period past fig in
-    rw (findings_stay step period xs ys past (noted_with noted cs) e) refl
+    rw (findings_stay step period xs ys past (noted_with noted (contradictions_at period past fig)) e) refl
 findings_stay step period (EntrySent x ∷ xs) ys past noted e =
     let now = noted_at past x noted in
     elim (has_no_room (known_of step period past) x) as (λ t.
@@ -138,5 +136,4 @@ noted_twice xs ys noted =
 pub found_twice : (xs ys noted : List Contradiction) → new_findings noted xs
     ++ new_findings (noted_with noted xs) ys ≡ new_findings noted (xs ++ ys)
 found_twice xs ys noted =
-    sym (map-append contradicts (new_among noted xs) (new_among (noted_with noted xs) ys))
-    ∙ ap (map contradicts) (sym (new_append xs ys noted))
+    cc (map-append contradicts (new_among noted xs) (new_among (noted_with noted xs) ys), new_append xs ys noted)

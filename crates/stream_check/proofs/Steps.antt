@@ -89,8 +89,7 @@ pub heard_one : (at : FrameAt) (i : Item) (old new : CheckerState) (before after
     → HearsItems at (i ∷ []) old before new after false
 heard_one at i old new before after room reported next past k =
     let same = known_same old.step old.period past old k in
-    let free : has_no_room (known_of old.step old.period past) i ≡ false =
-    ap (λ t. has_no_room t i) (sym same) ∙ room in
+    let free = ap (λ t. has_no_room t i) (sym same) ∙ room in
     record {
       findings = reported ∙ ap (λ fs. with_more before (map (in_frame at) fs))
           (ap (λ t. findings_at t i) same
@@ -142,9 +141,7 @@ room_of : (old : CheckerState) (first next : Bool) (raw : Raw) (b : Bool) → (r
     → (old.tuned && finds_no_room
     (lookup_in raw (cond next (picture_of_heard old.next) (picture_of_heard old.current)))) ≡ b
     → has_no_room (known_in old) (record { first = first; next = next; raw = raw }) ≡ b
-room_of old first next raw b e is =
-    ap (λ t. cond t false (old.tuned
-    && finds_no_room (lookup_in raw (cond next (picture_of_heard old.next) (picture_of_heard old.current))))) e ∙ is
+room_of old first next raw b e is = cc (e, is)
 
 found_of : (old : CheckerState) (first next : Bool) (raw : Raw) → (raw.ext == 0) ≡ false
     → findings_at (known_in old) (record { first = first; next = next; raw = raw })

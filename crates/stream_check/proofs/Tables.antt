@@ -26,8 +26,7 @@ pub standing_found : (raw : Raw) (hs : List Heard) (found : Option Heard)
     → found ≡ entry_at heard_key (identifier_of raw) hs
     → lookup raw (raws hs) ≡ lookup_among raw (length hs) (raw_in found)
 standing_found raw hs found e =
-    rw (length-map hs (λ h. h.raw)) (ap (lookup_among raw (length hs))
-    (found_raw (identifier_of raw) hs ∙ ap raw_in (sym e)))
+    rw (length-map hs (λ h. h.raw)) (ap (lookup_among raw (length hs)) (found_raw _ hs ∙ ap raw_in (sym e)))
 
 pub standing_known : (raw : Raw) (hs : List Heard) (h : Heard) (b : Bool)
     → Some h ≡ entry_at heard_key (identifier_of raw) hs → b ≡ agree h.raw raw
@@ -166,11 +165,10 @@ each_added P Q h [] one none other all = (one, tt)
 each_added P Q h (x ∷ xs) one none other all =
     let left = or_parts (heard_key x == heard_key h) (has_entry heard_key (heard_key h) xs) none in
     let first : Q x = other x left.0 all.0 in
-    let rest = each_added P Q h xs one left.1 other all.1 in
     elim (nat_lt (heard_key h) (heard_key x)) as (λ b.
     AllByRecursion Q (cond b (h ∷ x ∷ xs) (x ∷ with_entry heard_key h xs))) [
       | true ↦ (one, (first, others xs left.1 all.1))
-      | false ↦ (first, rest)
+      | false ↦ (first, (each_added P Q h xs one left.1 other all.1))
     ]
   where
     others : (ys : List Heard) → has_entry heard_key (heard_key h) ys ≡ false → AllByRecursion P ys

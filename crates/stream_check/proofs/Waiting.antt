@@ -18,9 +18,7 @@ later_grows a b swapped le = elim (cases_lt a swapped) [
         omega (arith, one, other, high)
   ]
   | inr above ↦
-      let one = later_first a swapped above in
-      let other = later_first b swapped (omega (arith, le, above)) in
-      omega (arith, one, other, le)
+      omega (arith, later_first a swapped above, later_first b swapped (omega (arith, le, above)), le)
 ]
 
 pub none_quiet : (swapped period frames oldest : ℕ) (hs : List Heard) → AllByRecursion (λ (h : Heard). oldest ≤ h.at) hs
@@ -28,8 +26,7 @@ pub none_quiet : (swapped period frames oldest : ℕ) (hs : List Heard) → AllB
 none_quiet swapped period frames oldest [] all soon = refl
 none_quiet swapped period frames oldest (h ∷ hs) all soon =
     let grown = later_grows oldest h.at swapped all.0 in
-    let loud : is_quiet swapped period frames h ≡ false =
-    ne_eqb (later h.at swapped + period) (frames + 1) (λ is. omega (arith, is, grown, soon)) in
+    let loud = ne_eqb (later h.at swapped + period) (frames + 1) (λ is. omega (arith, is, grown, soon)) in
     rw (loud) (none_quiet swapped period frames oldest hs all.1 soon)
 
 -- a time before which none was last heard, with one more entry

@@ -11,9 +11,7 @@ returns-in-Err-clause-stopped g c =
     rw (c.event-item.is) (take_more events i e c.loop-event-test.true) in
     let taken = g.K.Sink.taken in
     let h = c.in-Err.ensures in
-    stopped_here c.args.player.now c.loop-event.player c.play_event.new.player events i e (taken c.args.sink.now)
-    (taken c.loop-event.sink) (taken c.play_event.new.sink) c.loop-event.frames c.in-Err.bytes
-    c.loop-event.invariant.done more h.frame h.state h.bound h.part
+    stopped_here _ _ _ _ _ _ _ _ _ _ _ c.loop-event.invariant.done more h.frame h.state h.bound h.part
 
 pub loop-event-preserved : goal.loop-event-preserved
 loop-event-preserved g c =

@@ -4,13 +4,11 @@ use Rattle.plan_player.proofs.frames.play_frames.Goals as goal
 
 pub overflow_add-done-in-Err : goal.overflow_add-done-in-Err
 overflow_add-done-in-Err g c =
-    let few : c.in-Err.cut.frames ≤ c.args.count - c.loop-done.done =
-    few_frames _ _ (c.args.count - c.loop-done.done) _ _ _ _ c.in-Err.ensures.stopped in
+    let few = few_frames _ _ (c.args.count - c.loop-done.done) _ _ _ _ c.in-Err.ensures.stopped in
     omega (arith, few, c.loop-done.invariant.within, c.ranges.count.fits)
 
 pub returns-in-Err-clause-stopped : goal.returns-in-Err-clause-stopped
 returns-in-Err-clause-stopped g c =
-    let taken = g.K.Sink.taken in
     rw (c.from.ensures) (stopped_frames _ _ _ _ _ _ c.loop-done.done c.args.count _ _
     (omega (arith, c.loop-done-test.true)) c.loop-done.invariant.delivered c.in-Err.ensures.stopped)
 

@@ -5,8 +5,7 @@ use Rattle.plan_player.proofs.frames.play_quiet.Goals as goal
 
 pub overflow_add-result : goal.overflow_add-result
 overflow_add-result g c =
-    let few : c.in-Err.cut.frames ≤ c.args.count - c.loop-done.done =
-    few_frames _ _ (c.args.count - c.loop-done.done) _ _ _ _ c.in-Err.ensures.stopped in
+    let few = few_frames _ _ (c.args.count - c.loop-done.done) _ _ _ _ c.in-Err.ensures.stopped in
     omega (arith, few, c.loop-done.invariant.within, c.ranges.count.fits)
 
 pub returns-in-Err-clause-stopped : goal.returns-in-Err-clause-stopped

@@ -5,16 +5,14 @@ use Rattle.plan_player.proofs.frames.play_some.Goals as goal
 pub returns-in-Ok-clause-done : goal.returns-in-Ok-clause-done
 returns-in-Ok-clause-done g c =
     let taken = g.K.Sink.taken in
-    one_delivered c.args.player.now c.put_frame.new.self (taken c.args.sink.now) (taken c.put_frame.new.sink)
-    c.in-Ok.ensures.state c.in-Ok.ensures.bytes
+    one_delivered _ _ _ _ c.in-Ok.ensures.state c.in-Ok.ensures.bytes
 
 pub returns-in-Err-clause-stopped : goal.returns-in-Err-clause-stopped
 returns-in-Err-clause-stopped g c =
     let h = c.in-Err.ensures in
     let x = g.K.Sink.taken c.args.sink.now in
     let y = g.K.Sink.taken c.put_frame.new.sink in
-    stopped_among c.args.player.now c.put_frame.new.self 1 c.args.most x y 0 c.in-Err.bytes c.requires.one
-    (one_stopped c.args.player.now c.put_frame.new.self x y c.in-Err.bytes h.state h.bound h.part)
+    stopped_among _ _ _ _ _ _ _ _ c.requires.one (one_stopped _ _ _ _ _ h.state h.bound h.part)
 
 pub returns-in-Err-play_quiet-clause-stopped : goal.returns-in-Err-play_quiet-clause-stopped
 returns-in-Err-play_quiet-clause-stopped g c =

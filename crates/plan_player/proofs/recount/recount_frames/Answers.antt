@@ -13,13 +13,11 @@ loop-at-init c =
     let is_step : step ≡ count_step (layout_mode plan.layout) = rw (← c.mode.ensures) c.step-step.ensures.value in
     let by_mode : at ≡ (count_step (layout_mode plan.layout) - count % count_step (layout_mode plan.layout)) %
     count_step (layout_mode plan.layout) = rw (← is_step) c.before_step-at.ensures in
-    let small : at ≤ 4 = rw (by_mode) (first_near (layout_mode plan.layout) count) in
     record {
-      near = omega (arith, small);
+      near = omega arith;
       number = c.count_later-number.ensures;
       on_step = ap (λ (n : ℕ). n % count_step (layout_mode plan.layout))
-          (c.count_later-number.ensures ∙ ap (λ (a : ℕ). (count + a) % COUNTS) by_mode)
-          ∙ first_on_step (layout_mode plan.layout) count;
+      (c.count_later-number.ensures ∙ ap (λ (a : ℕ). (count + a) % COUNTS) by_mode) ∙ first_on_step _ _;
       whole = refl;
       bytes = λ s t alike counts is. entered plan c.args.header c.args.frames count at step s t c.args.bytes.now alike
           counts c.requires.count is_step c.before_step-at.ensures is;
@@ -40,23 +38,20 @@ loop-at-preserved c =
     let before = c.loop-at.invariant in
     let is_step : step ≡ count_step (layout_mode plan.layout) = rw (← c.mode.ensures) c.step-step.ensures.value in
     let is_size : size ≡ 32 * frame_fibs plan.layout = rw (c.fibs-size.ensures.value) refl in
-    let is_width : width ≡ 32 = omega arith in
     let at_offset : offset ≡ at * size = rw (c.from.ensures) refl in
     let later = c.count_later-number-in-loop-at.ensures in
-    let behind : count + at + step ≡ count + (at + step) = omega arith in
     record {
       near = omega (arith, c.loop-at-test.true, c.step-step.ensures.in_range);
       number = later ∙ ap (λ (n : ℕ). (n + step) % COUNTS) before.number ∙ mod-add-mod (count + at) COUNTS step
-          ∙ ap (λ (n : ℕ). n % COUNTS) behind;
+          ∙ ap (λ (n : ℕ). n % COUNTS) (omega arith);
       on_step = ap (λ (n : ℕ). n % count_step (layout_mode plan.layout))
-          (later ∙ ap (λ (m : ℕ). (number + m) % COUNTS) is_step)
-          ∙ next_on_step (layout_mode plan.layout) number before.on_step;
+      (later ∙ ap (λ (m : ℕ). (number + m) % COUNTS) is_step) ∙ next_on_step _ _ before.on_step;
       whole = same_len_mid offset width bytes new c.recount.ensures.size ∙ before.whole;
       bytes = λ s t alike counts is.
           continued plan c.args.header c.args.frames count at number step size offset width c.high.result (number % 250)
           s t bytes (mid_of offset width bytes) new (put_mid offset width bytes new)
           alike counts c.requires.count is_step is_size c.loop-at-test.true before.number before.on_step at_offset
-          is_width c.high.ensures refl
+          (omega arith) c.high.ensures refl
           (before.bytes s t alike counts is) refl c.recount.ensures.bytes refl;
     }
 

@@ -9,7 +9,6 @@ loop-taken-preserved g c =
     let bytes = c.args.bytes.now in
     let before = c.loop-taken.invariant in
     let fits = c.in-Some.ensures.bound in
-    let most = length-take (length bytes - done) (drop done bytes) in
     let joined = ap (λ l. take done bytes ++ l) (take-take count (length bytes - done) (drop done bytes) (omega arith))
     ∙ sym (take-add done count bytes) in
     record {

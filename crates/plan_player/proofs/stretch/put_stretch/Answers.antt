@@ -11,39 +11,32 @@ cut : (g : given.Over) (c : After-fibs-size g)
     (c.in-Err.taken / (32 * c.fibs-size.result)) (c.in-Err.taken % (32 * c.fibs-size.result))
 cut g c =
     let s : State = state_of g.S.Store.content c.args.machine.now in
-    let inside : c.in-Err.taken < length (concat (notice_frames c.args.plan.now c.args.count s)) =
-    rw (← c.as_slice.ensures ∙ c.fill.ensures) c.in-Err.ensures.bound in
-    stretch_cut c.args.plan.now c.args.count s c.args.pages.now (32 * c.fibs-size.result) c.in-Err.taken
-    c.requires.stretch (ap (λ (k : ℕ). 32 * k) c.fibs-size.ensures.value)
-    (omega (arith, c.fibs-size.ensures.in_range)) inside
+    stretch_cut _ _ _ _ _ _ c.requires.stretch (ap (λ (k : ℕ). 32 * k) c.fibs-size.ensures.value)
+    (omega (arith, c.fibs-size.ensures.in_range)) (rw (← c.as_slice.ensures ∙ c.fill.ensures) c.in-Err.ensures.bound)
 
 pub overflow_cast-frames : goal.overflow_cast-frames
 overflow_cast-frames g c =
-    let part = cut g (goal.at.overflow_cast-frames g c).After-fibs-size in
-    omega (arith, part.few, c.requires.few)
+    omega (arith, (cut g (goal.at.overflow_cast-frames g c).After-fibs-size).few, c.requires.few)
 
 pub overflow_add-frames : goal.overflow_add-frames
 overflow_add-frames g c =
-    let part = cut g (goal.at.overflow_add-frames g c).After-fibs-size in
-    omega (arith, part.few, c.requires.few)
+    omega (arith, (cut g (goal.at.overflow_add-frames g c).After-fibs-size).few, c.requires.few)
 
 pub returns-in-Err-clause-cut : goal.returns-in-Err-clause-cut
 returns-in-Err-clause-cut g c =
     let plan = c.args.plan.now in
     let n : ℕ = c.args.count in
     let s : State = state_of g.S.Store.content c.args.machine.now in
-    let t : State = state_of g.S.Store.content c.pass_many-in-Err.new.machine in
     let x = g.K.Sink.taken c.args.sink.now in
     let y = g.K.Sink.taken c.put_all.new.sink in
     let frames : ℕ = c.in-Err.taken / (32 * c.fibs-size.result) in
     let bytes : ℕ = c.in-Err.taken % (32 * c.fibs-size.result) in
     let all = cut g (goal.at.returns-in-Err-clause-cut g c).After-fibs-size in
-    let rounds = fewer_rounds plan (frames + 1) n s c.args.pages.now.made (omega (arith, all.few))
-    (stretch_rounds plan n s c.args.pages.now c.requires.stretch) in
+    let rounds = fewer_rounds plan _ n s _ (omega (arith, all.few)) (stretch_rounds plan n s _ c.requires.stretch) in
     let next : frames + 1 ≡ suc frames = omega arith in
     let part : Appends x y (take c.in-Err.taken (concat (notice_frames plan n s))) =
     rw (← c.as_slice.ensures ∙ c.fill.ensures) c.in-Err.ensures.part in
-    let whole : IsCut plan n s t x y frames bytes = record {
+    let whole : IsCut plan n s (state_of g.S.Store.content c.pass_many-in-Err.new.machine) x y frames bytes = record {
       few = all.few;
       part = all.part;
       state = rw (← next) (c.pass_many-in-Err.ensures plan rounds);
@@ -66,6 +59,5 @@ returns-in-Err-clause-counted g c =
     let s : State = state_of g.S.Store.content c.args.machine.now in
     let frames : ℕ = c.in-Err.taken / (32 * c.fibs-size.result) in
     let all = cut g (goal.at.returns-in-Err-clause-counted g c).After-fibs-size in
-    let rounds = fewer_rounds plan (frames + 1) n s c.args.pages.now.made (omega (arith, all.few))
-    (stretch_rounds plan n s c.args.pages.now c.requires.stretch) in
+    let rounds = fewer_rounds plan _ n s _ (omega (arith, all.few)) (stretch_rounds plan n s _ c.requires.stretch) in
     (frames + 1, omega (arith, all.few), c.pass_many-in-Err.ensures plan rounds)

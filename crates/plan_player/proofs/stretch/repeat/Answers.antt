@@ -8,24 +8,20 @@ use Rattle.plan_player.proofs.stretch.repeat.Goals as goal
 -- the bytes of the frames so far
 long : (g : given.Over) (c : After-min-more g) → length c.loop-done.batch ≡ c.loop-done.done
     * (32 * frame_fibs c.args.plan.now.layout)
-long g c =
-    rw (c.loop-done.invariant.bytes) (bytes_long c.args.plan.now c.args.count c.loop-done.done
-    (state_of g.S.Store.content c.args.machine.now) c.args.pages.now c.requires.stretch c.loop-done.invariant.within)
+long g c = rw (c.loop-done.invariant.bytes) (bytes_long _ _ _ _ _ c.requires.stretch c.loop-done.invariant.within)
 
 pub repeat-requires-clause-there : goal.repeat-requires-clause-there
 repeat-requires-clause-there g c =
     let size : ℕ = 32 * frame_fibs c.args.plan.now.layout in
     let few : c.min-more.result ≤ c.loop-done.done = omega (arith, c.min-more.ensures) in
-    let most : c.min-more.result * size ≤ c.loop-done.done * size = mul-le-mul_right size few in
-    omega (arith, long g (goal.at.repeat-requires-clause-there g c).After-min-more, most)
+    omega (arith, long g (goal.at.repeat-requires-clause-there g c).After-min-more, mul-le-mul_right size few)
 
 pub repeat-requires-clause-room : goal.repeat-requires-clause-room
 repeat-requires-clause-room g c =
     let all : c.loop-done.done + c.min-more.result ≤ 128 =
     omega (arith, c.min-more.ensures, c.loop-done-test.true, c.requires.few) in
     let size : ℕ = 32 * frame_fibs c.args.plan.now.layout in
-    let most : c.loop-done.done * size + c.min-more.result * size ≤ 16384 =
-    room (layout_mode c.args.plan.now.layout) c.loop-done.done c.min-more.result all in
+    let most = room (layout_mode c.args.plan.now.layout) c.loop-done.done c.min-more.result all in
     omega (arith, long g (goal.at.repeat-requires-clause-room g c).After-min-more, most)
 
 pub loop-done-preserved : goal.loop-done-preserved
@@ -42,7 +38,6 @@ loop-done-preserved g c =
     let le : done + more ≤ count = omega (arith, c.min-more.ensures, lt) in
     let some : 1 ≤ count = omega (arith, lt) in
     let twice : done + more < count → done + more ≡ done + done = λ below. omega (arith, below, c.min-more.ensures) in
-    let number : c.count_later.result ≡ (s.count + done) % COUNTS = c.count_later.ensures in
     let made = c.repeat.ensures in
     record {
       some = omega (arith, before.some);
@@ -50,7 +45,6 @@ loop-done-preserved g c =
       pages = λ below. ap (λ (x : ℕ). x % pages.made) (twice below) ∙ twice_whole done pages.made (before.pages lt);
       steps = λ below. ap (λ (x : ℕ). x % count_step (layout_mode plan.layout)) (twice below)
           ∙ twice_whole done (count_step (layout_mode plan.layout)) (before.steps lt);
-      bytes = turn_on_turn plan count done more c.count_later.result s pages c.args.header c.loop-done.batch
-          c.repeat.new.self made.0 c.requires.stretch c.requires.header
-          (before.pages lt) (before.steps lt) some few le number before.bytes made.1 made.2;
+      bytes = turn_on_turn _ _ _ _ _ _ _ _ _ _ _ c.requires.stretch c.requires.header (before.pages lt)
+      (before.steps lt) some few le c.count_later.ensures before.bytes made.1 made.2;
     }

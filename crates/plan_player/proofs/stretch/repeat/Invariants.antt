@@ -4,13 +4,12 @@ use Rattle.plan_player.proofs.stretch.repeat.Given as goal
 
 abbrev pub invariant-loop-done : goal.invariant-loop-done
 invariant-loop-done g l =
-    let s : State = state_of g.S.Store.content l.machine in
     record {
       some : 1 ≤ l.done;
       within : l.done ≤ l.count;
       pages : l.done < l.count → l.done % l.pages.made ≡ 0;
       steps : l.done < l.count → l.done % count_step (layout_mode l.plan.layout) ≡ 0;
-      bytes : l.batch ≡ concat (notice_frames l.plan l.done s);
+      bytes : l.batch ≡ concat (notice_frames l.plan l.done (state_of g.S.Store.content l.machine));
     }
 
 abbrev pub decreases-loop-done : goal.decreases-loop-done

@@ -19,12 +19,10 @@ pub returns-then-is : goal.returns-then-is
 returns-then-is c =
     let found : Some c.in-Some.known.now ≡ entry_at heard_key (identifier_of c.args.entry.now) c.args.table.now =
     rw (← c.requires) (ap option_copied (sym c.in-Some.is) ∙ c.get.ensures.value) in
-    sym (standing_known c.args.entry.now c.args.table.now c.in-Some.known.now true found
-    (sym c.if-is.true ∙ c.is.ensures))
+    sym (standing_known _ _ _ _ found (sym c.if-is.true ∙ c.is.ensures))
 
 pub returns-else-is : goal.returns-else-is
 returns-else-is c =
     let found : Some c.in-Some.known.now ≡ entry_at heard_key (identifier_of c.args.entry.now) c.args.table.now =
     rw (← c.requires) (ap option_copied (sym c.in-Some.is) ∙ c.get.ensures.value) in
-    sym (standing_known c.args.entry.now c.args.table.now c.in-Some.known.now false found
-    (sym c.if-is.false ∙ c.is.ensures))
+    sym (standing_known _ _ _ _ found (sym c.if-is.false ∙ c.is.ensures))

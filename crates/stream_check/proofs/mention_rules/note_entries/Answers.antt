@@ -12,17 +12,12 @@ pub slice_bounds-rest-start : goal.slice_bounds-rest-start
 slice_bounds-rest-start g c =
     let some : 0 < length c.loop-rest.rest.now = grind (arith, common_steps, c.loop-rest-test.ensures) in
     let fits = fits_where c.args.ext c.args.long c.loop-rest.rest.now some c.loop-rest.invariant.whole in
-    let bound : c.entry_size.result ≤ length c.loop-rest.rest.now = omega (arith, fits, c.entry_size.ensures.value) in
-    grind (arith, common_steps, bound)
+    grind (arith, common_steps)
 
 pub loop-rest-preserved : goal.loop-rest-preserved
 loop-rest-preserved g c =
     let some : 0 < length c.loop-rest.rest.now = grind (arith, common_steps, c.loop-rest-test.ensures) in
-    left_more c.args.at (picture_of_heard c.args.current.now) c.args.ext c.args.long c.args.entries.now
-    c.loop-rest.rest.now c.entry_size.result c.args.noted.now c.loop-rest.noted c.note_entry.new.noted
-    (g.R.Report.reported c.args.report.now) (g.R.Report.reported c.loop-rest.report)
-    (g.R.Report.reported c.note_entry.new.report)
-    some c.entry_size.ensures.value c.note_entry.ensures c.loop-rest.invariant
+    left_more _ _ _ _ _ _ _ _ _ _ _ _ _ some c.entry_size.ensures.value c.note_entry.ensures c.loop-rest.invariant
 
 pub returns : goal.returns
 returns g c =

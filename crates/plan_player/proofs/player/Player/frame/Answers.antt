@@ -11,17 +11,14 @@ goes : (g : given.Over) (c : After-make_frame-self-inside g)
 goes g c =
     let i = c.self.inside in
     let made = c.make_frame-self-inside in
-    lent_goes i.code.now c.code-code.result.now (state_of g.S.Store.content i.machine)
-    (state_of g.S.Store.content made.new.machine) i.steps made.result i.pages made.new.pages
-    c.code-code.ensures.value c.self.invariant made.ensures.state made.ensures.steps made.ensures.keeps
-    made.ensures.change
+    lent_goes _ _ _ _ _ _ _ _ c.code-code.ensures.value c.self.invariant made.ensures.state made.ensures.steps
+    made.ensures.keeps made.ensures.change
 
 pub make_frame-self-inside-requires : goal.make_frame-self-inside-requires
 make_frame-self-inside-requires g c =
     let i = c.self.inside in
     record {
-      ready = lent_ready i.code.now c.code-code.result.now (state_of g.S.Store.content i.machine) i.steps i.pages
-          c.code-code.ensures.value c.self.invariant;
+      ready = lent_ready _ _ _ _ _ c.code-code.ensures.value c.self.invariant;
     }
 
 pub invariant_of-self : goal.invariant_of-self

@@ -36,15 +36,13 @@ pub put_quiet_frame-requires-clause-quiet : goal.put_quiet_frame-requires-clause
 put_quiet_frame-requires-clause-quiet g c =
     let p : Playing = c.args.self.now in
     let m : ℕ = c.args.most - 1 in
-    let next : c.args.most ≡ suc m = omega (arith, c.requires.one) in
-    (first_quiet p.code p.state c.args.most m next c.requires.quiet).0
+    (first_quiet p.code p.state c.args.most m (omega (arith, c.requires.one)) c.requires.quiet).0
 
 pub returns-in-Ok-clause-done : goal.returns-in-Ok-clause-done
 returns-in-Ok-clause-done g c =
     let taken = g.K.Sink.taken in
     let h = c.in-Ok.ensures in
-    one_delivered c.args.self.now c.put_quiet_frame.new.self (taken c.args.sink.now) (taken c.put_quiet_frame.new.sink)
-    h.state h.bytes
+    one_delivered _ _ _ _ h.state h.bytes
 
 pub returns-in-Ok-clause-some : goal.returns-in-Ok-clause-some
 returns-in-Ok-clause-some g c = (omega arith, c.requires.one)
@@ -63,8 +61,7 @@ returns-in-Err-clause-stopped g c =
     let h = c.in-Err.ensures in
     let x = g.K.Sink.taken c.args.sink.now in
     let y = g.K.Sink.taken c.put_quiet_frame.new.sink in
-    stopped_among c.args.self.now c.put_quiet_frame.new.self 1 c.args.most x y 0 c.in-Err.bytes c.requires.one
-    (one_stopped c.args.self.now c.put_quiet_frame.new.self x y c.in-Err.bytes h.state h.bound h.part)
+    stopped_among _ _ _ _ _ _ _ _ c.requires.one (one_stopped _ _ _ _ _ h.state h.bound h.part)
 
 pub returns-in-Err-clause-fails : goal.returns-in-Err-clause-fails
 returns-in-Err-clause-fails g c = c.in-Err.ensures.fails
@@ -85,17 +82,14 @@ pub put_stretch-requires-clause-stretch : goal.put_stretch-requires-clause-stret
 put_stretch-requires-clause-stretch g c =
     let i = c.self.inside in
     let here = (goal.at.put_stretch-requires-clause-stretch g c).After-min-count in
-    stretch i.code.now c.args.plan.now c.min-count.result (state_of g.S.Store.content i.machine) i.steps i.pages
-    (plan_is g here) (whole g here) c.self.invariant (quiet g here)
+    stretch _ _ _ _ _ _ (plan_is g here) (whole g here) c.self.invariant (quiet g here)
 
 pub invariant_of-self : goal.invariant_of-self
 invariant_of-self g c =
     let i = c.self.inside in
     let here = (goal.at.invariant_of-self g c).After-min-count in
     let counted = c.put_stretch.ensures.counted in
-    goes_quiet i.code.now c.args.plan.now c.min-count.result counted.0 (state_of g.S.Store.content i.machine)
-    (state_of g.S.Store.content c.put_stretch.new.machine) i.steps i.pages
-    (plan_is g here) counted.1 (whole g here) c.self.invariant (quiet g here) counted.2
+    goes_quiet _ _ _ _ _ _ _ _ (plan_is g here) counted.1 (whole g here) c.self.invariant (quiet g here) counted.2
 
 pub returns-clause-done : goal.returns-clause-done
 returns-clause-done g c =
@@ -104,12 +98,9 @@ returns-clause-done g c =
     let x = g.K.Sink.taken c.args.sink.now in
     let y = g.K.Sink.taken c.put_stretch.new.sink in
     let t : State = state_of g.S.Store.content c.put_stretch.new.machine in
-    let new : Playing = record { code = i.code.now; state = t; steps = 0 } in
     let e = c.put_stretch.ensures in
     let some : 1 ≤ c.min-count.result = omega (arith, c.min-count.ensures, c.requires.one, c.from.ensures) in
-    rw (← c.self.view_is) (quiet_done i.code.now c.args.plan.now c.min-count.result
-    (state_of g.S.Store.content i.machine) t i.steps x y c.put_stretch.result (plan_is g here) some (quiet g here) e.all
-    e.state e.bytes)
+    rw (← c.self.view_is) (quiet_done _ _ _ _ t _ x y _ (plan_is g here) some (quiet g here) e.all e.state e.bytes)
 
 pub returns-clause-some : goal.returns-clause-some
 returns-clause-some g c =
@@ -130,7 +121,6 @@ returns-clause-stopped g c =
     let x = g.K.Sink.taken c.args.sink.now in
     let y = g.K.Sink.taken c.put_stretch.new.sink in
     let t : State = state_of g.S.Store.content c.put_stretch.new.machine in
-    let new : Playing = record { code = i.code.now; state = t; steps = 0 } in
     rw (← c.self.view_is) (quiet_stopped i.code.now c.args.plan.now c.args.most c.min-count.result
     (state_of g.S.Store.content i.machine) t i.steps x y c.put_stretch.result (plan_is g here) (few g here)
     (quiet g here) c.put_stretch.ensures.cut)

@@ -18,10 +18,8 @@ sent : (g : given.Over) (c : After-bytes g) → c.bytes.result.now ≡ next_fram
 sent g c =
     let plan = subst (λ (x : Playing). c.args.plan.now ≡ x.code.plan) (sym c.self.view_is) c.requires.plan in
     let still = subst (λ (x : Playing). IsQuiet x.code x.state) (sym c.self.view_is) c.requires.quiet in
-    c.bytes.ensures.value
-    ∙ c.frame.ensures _ c.send.ensures.bytes
-    ∙ quiet_bytes c.self.inside.code.now c.args.plan.now (state_of g.S.Store.content c.self.inside.machine) plan still
-    ∙ ap (λ (x : Playing). frame_bytes x.code x.state) c.self.view_is
+    c.bytes.ensures.value ∙ c.frame.ensures _ c.send.ensures.bytes ∙ quiet_bytes _ _ _ plan still ∙ ap
+    (λ (x : Playing). frame_bytes x.code x.state) c.self.view_is
 
 pub send-requires-clause-sent : goal.send-requires-clause-sent
 send-requires-clause-sent g c =
@@ -52,17 +50,14 @@ invariant_of-self g c =
     let i = c.self.inside in
     let here = (goal.at.invariant_of-self g c).After-send in
     let e = c.send.ensures in
-    quiet_goes i.code.now c.args.plan.now (state_of g.S.Store.content i.machine)
-    (state_of g.S.Store.content c.send.new.machine) i.steps i.pages c.send.new.pages
-    (plan_is g here) c.self.invariant (quiet g here) e.state e.keeps e.change
+    quiet_goes _ _ _ _ _ _ _ (plan_is g here) c.self.invariant (quiet g here) e.state e.keeps e.change
 
 pub returns-clause-state : goal.returns-clause-state
 returns-clause-state g c =
     let i = c.self.inside in
     let here = (goal.at.returns-clause-state g c).After-send in
-    quiet_played i.code.now c.args.plan.now (state_of g.S.Store.content i.machine)
-    (state_of g.S.Store.content c.send.new.machine) i.steps (plan_is g here) (quiet g here) c.send.ensures.state
-    ∙ ap (λ (x : Playing). played x (Frame ∷ [])) c.self.view_is
+    quiet_played _ _ _ _ i.steps (plan_is g here) (quiet g here) c.send.ensures.state ∙ ap
+    (λ (x : Playing). played x (Frame ∷ [])) c.self.view_is
 
 pub returns-clause-bytes : goal.returns-clause-bytes
 returns-clause-bytes g c = rw (← sent g (goal.at.returns-clause-bytes g c).After-bytes) c.put_all.ensures.all

@@ -3,8 +3,7 @@ use Rattle.stream_check.proofs.Loops.{sets_out, goes_on, breaks_off}
 use Rattle.stream_check.proofs.checker_state.CheckerState.hear_entries.Goals as goal
 
 pub loop-entry-init : goal.loop-entry-init
-loop-entry-init g c = sets_out c.args.at (entries_sent c.args.first c.args.next c.args.entries) c.args.self.now
-    (g.R.Report.reported c.args.report.now) c.requires.sane
+loop-entry-init g c = sets_out _ _ _ _ c.requires.sane
 
 pub loop-entry-preserved : goal.loop-entry-preserved
 loop-entry-preserved g c =

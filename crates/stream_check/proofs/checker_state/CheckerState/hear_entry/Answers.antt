@@ -26,6 +26,4 @@ pub returns-clause-heard : goal.returns-clause-heard
 returns-clause-heard g c =
     let other : c.args.entry.now.ext ≢ 0 =
     λ zero. false≢true (sym c.if-is_ensemble.false ∙ c.is_ensemble.ensures.value ∙ ap (λ n. n == 0) zero) in
-    sends_member c.args.at c.args.first c.args.next c.args.entry.now c.args.self.now c.hear_member.new.self
-    (g.R.Report.reported c.args.report.now) (g.R.Report.reported c.hear_member.new.report) _ other
-    c.hear_member.ensures.noted (c.hear_member.ensures.heard c.args.first)
+    sends_member _ _ _ _ _ _ _ _ _ other c.hear_member.ensures.noted (c.hear_member.ensures.heard c.args.first)

@@ -3,8 +3,7 @@ use Rattle.stream_check.proofs.Loops.{sets_out, goes_on, breaks_off}
 use Rattle.stream_check.proofs.checker_state.CheckerState.hear_figs.Goals as goal
 
 pub loop-fig-init : goal.loop-fig-init
-loop-fig-init g c = sets_out c.args.at (figs_sent c.args.first c.args.figs) c.args.self.now
-    (g.R.Report.reported c.args.report.now) c.requires.sane
+loop-fig-init g c = sets_out _ _ _ _ c.requires.sane
 
 pub loop-fig-preserved : goal.loop-fig-preserved
 loop-fig-preserved g c =

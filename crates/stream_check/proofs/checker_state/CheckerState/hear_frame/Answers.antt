@@ -8,8 +8,7 @@ at_of n c = record { frame = n; count = c }
 
 pub returns-clause-heard : goal.returns-clause-heard
 returns-clause-heard g c = λ r.
-    let is : c.count_of-count.result ≡ count_of_frame c.args.self.now.step c.args.self.now.due
-    (map r.read c.args.fibs.now) = c.count_of-count.ensures.value r in
+    let is = c.count_of-count.ensures.value r in
     subst (λ (m : CheckerState). HearsFrame c.args.size (map r.read c.args.fibs.now) c.args.self.now
     (g.R.Report.reported c.args.report.now) m (g.R.Report.reported c.report_silent.new.report) false)
     (ap (λ n. with_frame n c.hear_fibs.new.self) (sym is)
@@ -30,12 +29,10 @@ returns-clause-heard g c = λ r.
 
 pub returns-then-not-hear_fibs-clause-heard : goal.returns-then-not-hear_fibs-clause-heard
 returns-then-not-hear_fibs-clause-heard g c = λ r.
-    let is : c.count_of-count.result ≡ count_of_frame c.args.self.now.step c.args.self.now.due
-    (map r.read c.args.fibs.now) = c.count_of-count.ensures.value r in
     frame_full c.args.size (map r.read c.args.fibs.now) (at_of c.args.self.now.frames c.count_of-count.result)
     c.args.self.now c.hear_fibs.new.self (g.R.Report.reported c.args.report.now)
     (g.R.Report.reported c.hear_fibs.new.report) (g.R.Report.reported c.report_frame.new.report)
-    (ap (at_of c.args.self.now.frames) is) (c.report_frame.ensures r)
+    (ap (at_of c.args.self.now.frames) (c.count_of-count.ensures.value r)) (c.report_frame.ensures r)
     (subst (λ (t : Bool). Hears (at_of c.args.self.now.frames c.count_of-count.result)
     (frame_sent (map r.read c.args.fibs.now)) c.args.self.now (g.R.Report.reported c.report_frame.new.report)
     c.hear_fibs.new.self (g.R.Report.reported c.hear_fibs.new.report) (not t)) c.if-not-hear_fibs.true

@@ -4,6 +4,4 @@ use Rattle.stream_check.proofs.checker_state.CheckerState.report_quiet.Goals as 
 
 pub returns-then-is_too_soon : goal.returns-then-is_too_soon
 returns-then-is_too_soon g c =
-    rw (none_quiet c.args.self.now.swapped c.args.self.now.period c.args.self.now.frames c.oldest.result
-    c.args.table.now c.oldest.ensures (c.is_too_soon.ensures c.if-is_too_soon.true))
-    (more_none (g.R.Report.reported c.args.report.now))
+    rw (none_quiet _ _ _ _ _ c.oldest.ensures (c.is_too_soon.ensures c.if-is_too_soon.true)) (more_none _)
