@@ -209,7 +209,8 @@ table_mark v w one m a b e few fewer table = record {
   few = few;
   labels = let n = ap length e ∙ length-append v.unpriced.items (m ∷ []) in omega (arith, n, fewer);
   room =
-      subst (λ ms. Leaves [] w.unpriced.table ms) (sym e) (leaves_both [] _ _ _ _ table.room (leaves_mark m _ one _ a b));
+      subst (λ ms. Leaves [] w.unpriced.table ms) (sym e) (leaves_both [] _ _ _ _ table.room
+      (leaves_mark m _ one _ a b));
   tabled = rw e (tabled_more v.unpriced.table one w.unpriced.table v.unpriced.items m [] table.tabled a b);
 }
 

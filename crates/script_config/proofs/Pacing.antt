@@ -1,7 +1,8 @@
 -- The paced edits of a plan.
 use Rattle.script_config.proofs.Words.{[], ◌%◌, ◌*◌, ◌++◌, ◌+◌, ◌-◌, ◌<◌, ◌==◌, ◌∙◌, ◌∷◌, ◌≡◌, ◌≤◌, Act, All}
 use Rattle.script_config.proofs.Words.{AllByRecursion, Bool, Configuration, Edit, FitFrames, IsAct, IsConfiguration}
-use Rattle.script_config.proofs.Words.{IsEdit, IsPlan, List, Plan, SizesGrow, Transform, Wait, ap, append-nil, append_assoc, arith}
+use Rattle.script_config.proofs.Words.{IsEdit, IsPlan, List, Plan, SizesGrow, Transform, Wait, ap, append-nil}
+use Rattle.script_config.proofs.Words.{append_assoc, arith}
 use Rattle.script_config.proofs.Words.{cases_eq, committed, edits_between, edits_in, eq-eqb, eqb-true, false, get_or}
 use Rattle.script_config.proofs.Words.{if◌then◌else◌, inl, inr, length, length-append, length-take-le, mod-eq_of_lt}
 use Rattle.script_config.proofs.Words.{mod-lt, mod_self, paced, pause_after, plan_acts, refl, subst, suc, suc-mod, sym}

@@ -18,7 +18,8 @@ packets = record {
 drops : (p : Packet) (c : Configuration) → IsAddressed p → IsConfiguration c → packet_at p.scid c ≡ Some p
     → Turns packets (DropPacket p.scid ∷ []) p.scid None c
 drops p c placed h e =
-    removes packets (DropPacket p.scid) p.scid c placed.named h (ap (λ (o : Option Packet). absent_or o (λ p. None)) e) refl refl
+    removes packets (DropPacket p.scid) p.scid c placed.named h (ap (λ (o : Option Packet). absent_or o (λ p. None)) e)
+    refl refl
 
 pub new_packet : (p : Packet) → IsAddressed p → IsNewPacket p
 new_packet p h = record {

@@ -81,7 +81,8 @@ carrier_formed (InPackets scid) h = h
 drops : (s : Service) (c : Configuration) → IsSid s.sid → IsConfiguration c → service_at s.sid c ≡ Some s
     → Turns services (DropService s.sid ∷ []) (sid_key s.sid) None c
 drops s c named h e =
-    removes services (DropService s.sid) (sid_key s.sid) c named h (ap (λ (o : Option Service). absent_or o (λ s. None)) e)
+    removes services (DropService s.sid) (sid_key s.sid) c named h
+    (ap (λ (o : Option Service). absent_or o (λ s. None)) e)
     refl refl
 
 -- dropping the last component
@@ -154,7 +155,8 @@ comes_new : (t : Service) (c : Configuration) → IsService t → IsConfiguratio
     → Turns services (AddService t.sid ∷ []) (sid_key t.sid) (Some (service_with t.sid [])) c
 comes_new t c formed h room e =
     let full : leb 64 (length c.services) ≡ false = lt-leb 64 (length c.services) (room e) in
-    let fine : add_service_fault t.sid c ≡ None = rw (absent_found service_key (sid_key t.sid) c.services e, full) refl in
+    let fine : add_service_fault t.sid c ≡ None = rw (absent_found service_key (sid_key t.sid) c.services e, full) refl
+    in
     adds services (AddService t.sid) (service_with t.sid []) c formed.named h fine refl refl e
 
 -- ---- the longest common prefix

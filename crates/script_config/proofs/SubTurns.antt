@@ -97,7 +97,8 @@ comes_new t c placed h e =
 
 -- ---- only what differs
 
-rates : (t s : Sub) (c : Configuration) → IsPlaced t → IsConfiguration c → sub_at t.id c ≡ Some s → IsPlaced (at_rate t.kbits s)
+rates : (t s : Sub) (c : Configuration) → IsPlaced t → IsConfiguration c → sub_at t.id c ≡ Some s → IsPlaced
+    (at_rate t.kbits s)
     → Turns subs (rate_altered s t) t.id (Some (at_rate t.kbits s)) c
 rates t s c target h e placed =
     turns_unless subs (s.kbits == t.kbits) (RateSub t.id t.kbits ∷ []) t.id (Some (at_rate t.kbits s)) c h
@@ -109,7 +110,8 @@ rates t s c target h e placed =
     ∙ placed_fine (at_rate t.kbits s) placed)
     refl refl (λ x. refl) e)
 
-moves : (t s : Sub) (c : Configuration) → IsPlaced t → IsConfiguration c → sub_at t.id c ≡ Some s → IsPlaced (at_start t.start s)
+moves : (t s : Sub) (c : Configuration) → IsPlaced t → IsConfiguration c → sub_at t.id c ≡ Some s → IsPlaced
+    (at_start t.start s)
     → Turns subs (start_altered s t) t.id (Some (at_start t.start s)) c
 moves t s c target h e placed =
     turns_unless subs (s.start == t.start) (MoveSub t.id t.start ∷ []) t.id (Some (at_start t.start s)) c h
@@ -183,7 +185,8 @@ rebuilt s t k i = record { id = k.id i; start = t.start; protection = k.protecti
 
 alters_by : SizesGrow → (s t : Sub) (c : Configuration) (b : Bool) → ltb t.kbits s.kbits ≡ b → AreKin s t
     → IsConfiguration c → sub_at t.id c ≡ Some s
-    → Turns subs (cond b (rate_altered s t ++ start_altered s t) (start_altered s t ++ rate_altered s t)) t.id (Some t) c
+    → Turns subs (cond b (rate_altered s t ++ start_altered s t) (start_altered s t ++ rate_altered s t)) t.id (Some t)
+    c
 alters_by grow s t c true is k h e =
     let built = rebuilt s t k in
     let mid : Sub = at_rate t.kbits s in

@@ -88,11 +88,14 @@ between grow from to f t =
     let but_services = v2.rest ∙ v1.rest in
     let p3 = walk packets.packets IsAddressed (λ p. packet_gone (packet_at p.scid to) p) walked
     (joint packets.packet_kept) from.packets to.packets c2 (λ o. (refl, refl))
-    (λ p d member formed room is. packets.goes (packet_at p.scid to) p d member formed is) (packets_walk from f) v2.formed
+    (λ p d member formed room is. packets.goes (packet_at p.scid to) p d member formed is) (packets_walk from f)
+    v2.formed
     (still packets.packets walked from.packets to.packets from c2 (ap (λ (c : Configuration). c.packets) but_services)
     (λ k. refl)) in
-    let s4 = walk subs.subs IsPlaced (λ s. sub_gone (sub_at s.id to) s) walked (joint subs.sub_kept) from.subs to.subs c3
-    (λ o. (refl, refl)) (λ s d member formed room is. subs.goes (sub_at s.id to) s d member formed is) (subs_walk from f)
+    let s4 = walk subs.subs IsPlaced (λ s. sub_gone (sub_at s.id to) s) walked (joint subs.sub_kept) from.subs to.subs
+    c3
+    (λ o. (refl, refl)) (λ s d member formed room is. subs.goes (sub_at s.id to) s d member formed is)
+    (subs_walk from f)
     p3.formed
     (still subs.subs walked from.subs to.subs from c3
     (ap (λ (c : Configuration). c.subs) p3.rest ∙ ap (λ (c : Configuration). c.subs) but_services) (λ k. refl)) in

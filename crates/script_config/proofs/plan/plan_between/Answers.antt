@@ -8,7 +8,8 @@ script_of-requires c =
     record {
       headed = c.requires.headed;
       acts = subst (All IsAct) (sym is)
-          (plan_formed c.sizes.ensures.grow c.args.header c.args.from.now c.args.to.now c.requires.headed c.subs.ensures.configuration
+          (plan_formed c.sizes.ensures.grow c.args.header c.args.from.now c.args.to.now c.requires.headed
+          c.subs.ensures.configuration
           c.subs-2.ensures.configuration);
       few = subst (λ (acts : List Act). length acts ≤ 7000) (sym is)
           (plan_few c.args.header c.args.from.now c.args.to.now c.subs.ensures.configuration
