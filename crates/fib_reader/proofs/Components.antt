@@ -22,8 +22,7 @@ pub component_entries-more :
 component_entries-more [] c = refl
 component_entries-more (x ∷ xs) c =
     let other : (suc (length xs) == 0) ≡ false = ne_eqb (suc (length xs)) 0 (λ e. omega arith) in
-    ap (λ t. component_entry true x ∷ t) (entries_more xs c)
-    ∙ ap (λ b. component_entry true x ∷ (map (component_entry false) xs ++ component_entry b c ∷ [])) (sym other)
+    cc (entries_more xs c, other)
 
 each_more : (P : Component → Type 0) (cs : List Component) (c : Component) → AllByRecursion P cs → P c
     → AllByRecursion P (cs ++ c ∷ [])
@@ -36,15 +35,13 @@ members_more cs c all one = each_more IsComponent cs c all one
 
 same_carrier : (a b : Carrier) → a ≡ b → is_same_carrier a b ≡ true
 same_carrier (BySub a) (BySub b) h = let e : a ≡ b = (cc) in eq-eqb a b e
-same_carrier (BySub a) (ByPacket b) h = absurd (cc)
-same_carrier (ByPacket a) (BySub b) h = absurd (cc)
 same_carrier (ByPacket a) (ByPacket b) h = let e : a ≡ b = (cc) in eq-eqb a b e
+same_carrier _ _ h = absurd (cc)
 
 carrier_same : (a b : Carrier) → is_same_carrier a b ≡ true → a ≡ b
 carrier_same (BySub a) (BySub b) h = ap BySub (eqb-true a b h)
-carrier_same (BySub a) (ByPacket b) h = absurd (cc)
-carrier_same (ByPacket a) (BySub b) h = absurd (cc)
 carrier_same (ByPacket a) (ByPacket b) h = ap ByPacket (eqb-true a b h)
+carrier_same _ _ h = absurd (cc)
 
 or_false : (a b : Bool) → (a || b) ≡ false → (a ≡ false) × (b ≡ false)
 or_false true b h = absurd (cc)
@@ -112,15 +109,12 @@ from_entries : (cs : List Component) → map component_from (component_entries c
 from_entries [] = refl
 from_entries (c ∷ cs) = rw (from_entry true c, from_others cs) refl
 
-take_from : (i : ℕ) (es : List ComponentEntry) → map component_from (take i es) ≡ take i (map component_from es)
-take_from i es = sym (take-map component_from i es)
-
 -- so the components read so far are the front of those to be read
 pub read_so_far :
     (cs all : List Component) (entries : List ComponentEntry) (i : ℕ) → component_entries cs ≡ take i entries
     → component_entries all ≡ entries → cs ≡ take i all
 read_so_far cs all entries i part whole =
-    sym (from_entries cs) ∙ ap (map component_from) part ∙ take_from i entries
+    sym (from_entries cs) ∙ ap (map component_from) part ∙ (sym (take-map component_from i entries))
     ∙ ap (λ es. take i (map component_from es)) (sym whole) ∙ ap (take i) (from_entries all)
 
 pub length_component_entries : (cs : List Component) → length (component_entries cs) ≡ length cs
@@ -134,9 +128,7 @@ at_place :
 at_place [] i e d inside = absurd (omega arith)
 at_place (c ∷ cs) zero e d inside = refl
 at_place (c ∷ cs) (suc j) e d inside =
-    let other : (suc j == 0) ≡ false = ne_eqb (suc j) 0 (λ e. omega arith) in
-    let there : j < length cs = omega arith in
-    rw (other) (get_or-map (component_entry false) cs j d e there)
+    rw ((ne_eqb (suc j) 0 (λ e. omega arith))) (get_or-map (component_entry false) cs j d e (omega arith))
 
 pub entry_at_place :
     (all : List Component) (entries : List ComponentEntry) (i : ℕ) (e : ComponentEntry) (d : Component)
@@ -154,9 +146,7 @@ pub named_twice :
     → list_any (names (carrier_of c)) cs ≡ true → AreDifferent all → component_entries all ≡ entries → ⊥
 named_twice cs all entries i e c part inside is says named different whole =
     let size : length all ≡ length entries = sym (length_component_entries all) ∙ ap length whole in
-    let front : cs ≡ take i all = read_so_far cs all entries i part whole in
-    let same : get_or all i c ≡ c =
-    sym (from_entry (i == 0) (get_or all i c)) ∙ ap component_from
-    (entry_at_place all entries i e c whole inside is ∙ sym says) ∙ from_entry (i == 0) c in
+    let same : get_or all i c ≡ c = sym (from_entry _ _) ∙ ap component_from
+    (entry_at_place all entries i e c whole inside is ∙ sym says) ∙ from_entry _ _ in
     not_named_before all i c different (omega arith) (rw (same)
-    (ap (list_any (names (carrier_of c))) (sym front) ∙ named))
+    (ap (list_any (names (carrier_of c))) (sym (read_so_far cs all entries i part whole)) ∙ named))

@@ -15,9 +15,7 @@ use Rattle.fib_reader.proofs.FaultSteps.{none_in_nothing}
 pub too_few : (ext : ℕ) (long : Bool) (bytes : List ℕ) → length bytes < entry_len ext long bytes
     → BeginsNone ext long bytes
 too_few ext long bytes few e rest split good =
-    let whole : length e ≡ entry_len ext long e = good.0 in
-    let same : entry_len ext long bytes ≡ entry_len ext long e =
-    ap (entry_len ext long) split ∙ entry_len_more ext long e rest (omega arith) in
+    let same = ap (entry_len ext long) split ∙ entry_len_more ext long e rest (omega arith) in
     let size : length bytes ≡ length e + length rest = ap length split ∙ length-append e rest in
     omega arith
 
@@ -110,11 +108,7 @@ same_counts long bytes e rest split is =
 uncounted : (long : Bool) (bytes : List ℕ) → (IsCounted bytes → ⊥) → BeginsNone 0 long bytes
 uncounted long bytes not e rest split good =
     let same = same_counts long bytes e rest split good.0 in
-    let second : get_or bytes 2 0 ≡ get_or e 2 0 = same.0 in
-    let third : get_or bytes 3 0 ≡ get_or e 3 0 = same.1 in
     let counted = good.1 refl in
-    let high : get_or e 2 0 % 32 < 20 = counted.0 in
-    let low : get_or e 3 0 < 250 = counted.1 in
     not (omega arith, omega arith)
 
 -- the first four or five bytes are the entry, if they are present and its counts are in range
@@ -124,10 +118,6 @@ whole_front long bytes fits counted =
     let is : IsEntry 0 long (take (ensemble_len bytes) bytes) = cut_len 0 long bytes fits in
     let same = same_counts long bytes (take (ensemble_len bytes) bytes) (drop (ensemble_len bytes) bytes)
     (sym (take-append-drop (ensemble_len bytes) bytes)) is in
-    let second : get_or bytes 2 0 ≡ get_or (take (ensemble_len bytes) bytes) 2 0 = same.0 in
-    let third : get_or bytes 3 0 ≡ get_or (take (ensemble_len bytes) bytes) 3 0 = same.1 in
-    let high : get_or bytes 2 0 % 32 < 20 = counted.0 in
-    let low : get_or bytes 3 0 < 250 = counted.1 in
     (is, λ zero_ext. (omega arith, omega arith))
 
 not_nothing : (xs : List ℕ) → 0 < length xs → xs ≢ []
@@ -158,22 +148,20 @@ ensemble_cases false false true d long place bytes at p q r s found =
     (0, omega arith, inl (refl, uncounted long bytes (λ counted. (let there = counted.1 in omega arith))))
 ensemble_cases false false false true long place bytes at p q r s found =
     let len : ℕ = ensemble_len bytes in
-    let same : place + len ≡ at = (cc) in
     let fits : len ≤ length bytes = ltb-false _ _ p in
     let high : get_or bytes 2 0 % 32 ≤ 19 = ltb-false _ _ q in
     let low : get_or bytes 3 0 ≤ 249 = ltb-false _ _ r in
     let more : len < length bytes = ltb-true _ _ s in
-    let size : length (take len bytes) ≡ len = length-take-le len bytes fits in
     let left : length (drop len bytes) ≡ length bytes - len = length-drop len bytes in (
       len,
-      sym same,
+      sym (cc),
       inr (
         take len bytes,
         drop len bytes,
         sym (take-append-drop len bytes),
         whole_front long bytes fits (omega arith, omega arith),
         not_nothing (drop len bytes) (omega arith),
-        sym size,
+        sym (length-take-le len bytes fits),
       ),
     )
 ensemble_cases false false false false long place bytes at p q r s found = absurd (cc)
@@ -215,43 +203,34 @@ entries_given :
 unfolding entries_fault
 entries_given n ext long place [] front left [] other enough split whole some none =
     let same : [] ≡ left = split ∙ ap (λ x. x ++ left) whole in absurd (some (sym same))
-entries_given zero ext long place (b ∷ bs) front left [] other enough split whole some none = absurd (omega arith)
 entries_given (suc n) ext long place (b ∷ bs) front left [] other enough split whole some none =
     let same : b ∷ bs ≡ left = split ∙ ap (λ x. x ++ left) whole in
-    let short : length (b ∷ bs) < entry_len ext long (b ∷ bs) =
-    begins_none_short ext long (b ∷ bs) other (subst (BeginsNone ext long) (sym same) none) in
-    let here : place ≡ place + length front = (let no_front : length front ≡ 0 = ap length whole in omega arith) in
-    rw (lt-ltb _ _ short) (ap Some here)
+    let short = begins_none_short ext long (b ∷ bs) other (subst (BeginsNone ext long) (sym same) none) in
+    rw (lt-ltb _ _ short) (ap Some (let no_front : length front ≡ 0 = ap length whole in omega arith))
 entries_given n ext long place [] front left (e ∷ es) other enough split whole some none =
     let big : 3 ≤ entry_len ext long e = some_bytes ext long e in
-    let is = whole.2 in
     let size : length front ≡ length e + length whole.0 = ap length whole.1 ∙ length-append e whole.0 in
     let all : 0 ≡ length front + length left = ap length split ∙ length-append front left in
     absurd (omega arith)
-entries_given zero ext long place (b ∷ bs) front left (e ∷ es) other enough split whole some none = absurd (omega arith)
 entries_given (suc n) ext long place (b ∷ bs) front left (e ∷ es) other enough split whole some none =
     let rest : List ℕ = whole.0 in
     let all : b ∷ bs ≡ e ++ (rest ++ left) = split ∙ ap (λ x. x ++ left) whole.1 ∙ append_assoc e rest left in
-    let is : length e ≡ entry_len ext long e = whole.2 in
-    let same : entry_len ext long (b ∷ bs) ≡ length e =
-    ap (entry_len ext long) all ∙ entry_len_more ext long e (rest ++ left) (omega arith) ∙ sym is in
+    let same = ap (entry_len ext long) all ∙ entry_len_more ext long e (rest ++ left) (omega arith) ∙ sym whole.2 in
     let big : 3 ≤ entry_len ext long e = some_bytes ext long e in
     let size : length (b ∷ bs) ≡ length e + length (rest ++ left) = ap length all ∙ length-append e (rest ++ left) in
     let there : drop (entry_len ext long (b ∷ bs)) (b ∷ bs) ≡ rest ++ left =
     rw (same) (ap (drop (length e)) all ∙ drop-append_seam e (rest ++ left)) in
     let lengths : length front ≡ length e + length rest = ap length whole.1 ∙ length-append e rest in
-    let place_is : place + entry_len ext long (b ∷ bs) + length rest ≡ place + length front = omega arith in
     rw (le-ltb (length (b ∷ bs)) (entry_len ext long (b ∷ bs)) (omega arith))
     (ap (entries_fault n ext long (place + entry_len ext long (b ∷ bs))) there
     ∙ entries_given n ext long (place + entry_len ext long (b ∷ bs)) (rest ++ left) rest left es other (omega arith)
-    refl whole.3 some none ∙ ap Some place_is)
+    refl whole.3 some none ∙ ap Some (omega arith))
+entries_given zero ext long place (b ∷ bs) front left _ other enough split whole some none = absurd (omega arith)
 
 one_fails :
     (a b c : Bool) (s x : Option ℕ) → (a ≡ false → b ≡ false → c ≡ false → ⊥) → cond a s (cond b s (cond c s x)) ≡ s
-one_fails true b c s x not = refl
-one_fails false true c s x not = refl
-one_fails false false true s x not = refl
 one_fails false false false s x not = absurd (not refl refl refl)
+one_fails _ _ _ s x not = refl
 
 ensemble_given : (long : Bool) (place : ℕ) (bytes : List ℕ) (within : ℕ) → IsNotOneAt long bytes within
     → ensemble_fault place bytes ≡ Some (place + within)
@@ -259,34 +238,25 @@ ensemble_given long place bytes within h =
     let len : ℕ = ensemble_len bytes in
     elim h [
       | inl nowhere ↦
-          let here : place ≡ place + within = (let zero_in = nowhere.0 in omega arith) in
           one_fails (nat_lt (length bytes) len) (nat_lt 19 (get_or bytes 2 0 % 32)) (nat_lt 249 (get_or bytes 3 0))
           (Some place)
           (cond (nat_lt len (length bytes)) (Some (place + len)) None)
           (λ p q r.
-          let fits : len ≤ length bytes = ltb-false _ _ p in
           let high : get_or bytes 2 0 % 32 ≤ 19 = ltb-false _ _ q in
           let low : get_or bytes 3 0 ≤ 249 = ltb-false _ _ r in
           nowhere.1 (take len bytes) (drop len bytes) (sym (take-append-drop len bytes))
-          (whole_front long bytes fits (omega arith, omega arith)))
-          ∙ ap Some here
+          (whole_front long bytes (ltb-false _ _ p) (omega arith, omega arith)))
+          ∙ ap Some (let zero_in = nowhere.0 in omega arith)
       | inr more ↦
           let e : List ℕ = more.0 in
           let left : List ℕ = more.1 in
           let split : bytes ≡ e ++ left = more.2 in
           let good : IsGood 0 long e = more.3 in
-          let some : left ≢ [] = more.4 in
-          let is : length e ≡ ensemble_len e = good.0 in
-          let same : len ≡ length e = ap ensemble_len split ∙ entry_len_more 0 long e left (omega arith) ∙ sym is in
+          let same : len ≡ length e = ap ensemble_len split ∙ entry_len_more 0 long e left (omega arith) ∙ sym good.0 in
           let counts = same_counts long bytes e left split good.0 in
-          let second : get_or bytes 2 0 ≡ get_or e 2 0 = counts.0 in
-          let third : get_or bytes 3 0 ≡ get_or e 3 0 = counts.1 in
           let counted = good.1 refl in
-          let high : get_or e 2 0 % 32 < 20 = counted.0 in
-          let low : get_or e 3 0 < 250 = counted.1 in
           let size : length bytes ≡ length e + length left = ap length split ∙ length-append e left in
-          let some_left : 0 < length left = something left some in
-          let place_is : place + len ≡ place + within = (let at_end = more.5 in omega arith) in
+          let some_left : 0 < length left = something left more.4 in
           ap (λ t. cond t (Some place) (cond (nat_lt 19 (get_or bytes 2 0 % 32)) (Some place)
           (cond (nat_lt 249 (get_or bytes 3 0)) (Some place)
           (cond (nat_lt len (length bytes)) (Some (place + len)) None))))
@@ -298,7 +268,7 @@ ensemble_given long place bytes within h =
           ∙ ap (λ t. cond t (Some place) (cond (nat_lt len (length bytes)) (Some (place + len)) None))
           (le-ltb 249 (get_or bytes 3 0) (omega arith))
           ∙ ap (λ t. cond t (Some (place + len)) None) (lt-ltb len (length bytes) (omega arith))
-          ∙ ap Some place_is
+          ∙ ap Some (let at_end = more.5 in omega arith)
     ]
   where
     something : (xs : List ℕ) → xs ≢ [] → 0 < length xs

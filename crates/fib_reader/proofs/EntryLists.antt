@@ -55,18 +55,12 @@ pub same_entries :
 same_entries ext long bytes [] h = no_entries_of ext long bytes (ap length h)
 same_entries ext long bytes (e ∷ es) h =
     let rest : List ℕ = h.0 in
-    let split : bytes ≡ e ++ rest = h.1 in
-    let whole : length e ≡ entry_len ext long e = h.2 in
-    let len : entry_len ext long (e ++ rest) ≡ length e = entry_len_more ext long e rest (omega arith) ∙ sym whole in
+    let len : entry_len ext long (e ++ rest) ≡ length e = entry_len_more ext long e rest (omega arith) ∙ sym h.2 in
     let big : 3 ≤ entry_len ext long e = some_bytes ext long e in
     let size : length (e ++ rest) ≡ length e + length rest = length-append e rest in
-    let first : entries_of ext long (e ++ rest)
-    ≡ take (entry_len ext long (e ++ rest)) (e ++ rest)
-    ∷ entries_of ext long (drop (entry_len ext long (e ++ rest)) (e ++ rest)) =
-    first_of_entries ext long (e ++ rest) (omega arith) in
     let cut : take (entry_len ext long (e ++ rest)) (e ++ rest) ≡ e = rw (len) (take-append_seam e rest) in
     let left : drop (entry_len ext long (e ++ rest)) (e ++ rest) ≡ rest = rw (len) (drop-append_seam e rest) in
-    ap (entries_of ext long) split ∙ first
+    ap (entries_of ext long) h.1 ∙ (first_of_entries ext long (e ++ rest) (omega arith))
     ∙ ap (λ x. x ∷ entries_of ext long (drop (entry_len ext long (e ++ rest)) (e ++ rest))) cut
     ∙ ap (λ x. e ∷ entries_of ext long x) left ∙ ap (λ x. e ∷ x) (same_entries ext long rest es h.3)
 
@@ -85,32 +79,28 @@ sound_entries (suc n) ext long place (b ∷ bs) enough none =
     let len : ℕ = entry_len ext long (b ∷ bs) in
     let here = through (nat_lt (length (b ∷ bs)) len) place (entries_fault n ext long (place + len) (drop len (b ∷ bs)))
     none in
-    let fits : len ≤ length (b ∷ bs) = ltb-false _ _ here.0 in
     let big : 3 ≤ len = some_bytes ext long (b ∷ bs) in
     let fewer : length (drop len (b ∷ bs)) ≡ suc (length bs) - len = length-drop len (b ∷ bs) in
     let rest = sound_entries n ext long (place + len) (drop len (b ∷ bs)) (omega arith) here.1 in
     subst (λ (es : List (List ℕ)). AreEntries ext long (b ∷ bs) es) (sym (first_entry ext long b bs))
-    (drop len (b ∷ bs), sym (take-append-drop len (b ∷ bs)), cut_len ext long (b ∷ bs) fits, rest)
+    (drop len (b ∷ bs), sym (take-append-drop len (b ∷ bs)), cut_len ext long (b ∷ bs) (ltb-false _ _ here.0), rest)
 
 pub complete_entries :
     (n ext : ℕ) (long : Bool) (place : ℕ) (bytes : List ℕ) (es : List (List ℕ)) → AreEntries ext long bytes es
     → entries_fault n ext long place bytes ≡ None
 unfolding entries_fault
-complete_entries zero ext long place bytes es h = refl
-complete_entries (suc n) ext long place [] es h = refl
 complete_entries (suc n) ext long place (b ∷ bs) [] h = absurd (cc)
 complete_entries (suc n) ext long place (b ∷ bs) (e ∷ es) h =
     let rest : List ℕ = h.0 in
     let split : b ∷ bs ≡ e ++ rest = h.1 in
-    let whole : length e ≡ entry_len ext long e = h.2 in
-    let same : entry_len ext long (b ∷ bs) ≡ length e =
-    ap (entry_len ext long) split ∙ entry_len_more ext long e rest (omega arith) ∙ sym whole in
+    let same = ap (entry_len ext long) split ∙ entry_len_more ext long e rest (omega arith) ∙ sym h.2 in
     let size : length (b ∷ bs) ≡ length e + length rest = ap length split ∙ length-append e rest in
     let left : drop (entry_len ext long (b ∷ bs)) (b ∷ bs) ≡ rest =
     rw (same) (ap (drop (length e)) split ∙ drop-append_seam e rest) in
     rw (le-ltb (length (b ∷ bs)) (entry_len ext long (b ∷ bs)) (omega arith))
     (ap (entries_fault n ext long (place + entry_len ext long (b ∷ bs))) left
     ∙ complete_entries n ext long (place + entry_len ext long (b ∷ bs)) rest es h.3)
+complete_entries _ ext long place _ es h = refl
 
 pub raws_of_nothing : (ext : ℕ) (long : Bool) → raws_of ext long [] ≡ []
 unfolding entries_within

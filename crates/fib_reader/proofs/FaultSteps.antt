@@ -20,9 +20,8 @@ entry_here :
     × (cond (nat_lt (length rest) (entry_len ext long rest)) (Some at)
     (entries_fault n ext long (at + entry_len ext long rest) (drop (entry_len ext long rest) rest)) ≡ fault)
 unfolding entries_fault
-entry_here zero ext long at rest fault enough some same = absurd (omega arith)
-entry_here (suc n) ext long at [] fault enough some same = absurd (omega arith)
 entry_here (suc n) ext long at (b ∷ bs) fault enough some same = (n, refl, same)
+entry_here _ ext long at _ fault enough some same = absurd (omega arith)
 
 pub next_entry :
     (ext : ℕ) (long : Bool) (at : ℕ) (rest : List ℕ) (fault : Option ℕ) → LeadsTo ext long at rest fault
@@ -34,7 +33,6 @@ next_entry ext long at rest fault h some whole =
     let big : 3 ≤ len = some_bytes ext long rest in
     let fewer : length (drop len rest) ≡ length rest - len = length-drop len rest in
     let enough = h.enough in
-    let is_suc = here.1 in
     record {
       left = here.0;
       enough = omega arith;
@@ -48,8 +46,7 @@ pub missing_bytes :
 missing_bytes ext long at rest fault h some short =
     let here = entry_here h.left ext long at rest fault h.enough some h.same in
     let len : ℕ = entry_len ext long rest in
-    sym (ap (λ t. cond t (Some at) (entries_fault here.0 ext long (at + len) (drop len rest))) (lt-ltb _ _ short))
-    ∙ here.2
+    cc (lt-ltb _ _ short, here.2)
 
 pub none_in_nothing : (left ext : ℕ) (long : Bool) (at : ℕ) → entries_fault left ext long at [] ≡ None
 unfolding entries_fault
@@ -76,9 +73,8 @@ fig_here :
     (or_else (fig_fault at (get_or rest 0 0) (drop 1 rest))
     (figs_fault n (at + 1 + get_or rest 0 0 % 32) (drop (get_or rest 0 0 % 32) (drop 1 rest)))) ≡ fault)
 unfolding figs_fault
-fig_here zero at rest fault enough some same = absurd (omega arith)
-fig_here (suc n) at [] fault enough some same = absurd (omega arith)
 fig_here (suc n) at (h ∷ bs) fault enough some same = (n, refl, same)
+fig_here _ at _ fault enough some same = absurd (omega arith)
 
 pub next_fig :
     (at : ℕ) (rest : List ℕ) (fault : Option FibFault) → LeadsToFig at rest fault → 0 < length rest
@@ -90,16 +86,12 @@ next_fig at rest fault h some header fine =
     let fewer : length (drop len (drop 1 rest)) ≡ length rest - 1 - len =
     rw (← length-drop 1 rest) (length-drop len (drop 1 rest)) in
     let enough = h.enough in
-    let is_suc = here.1 in
     let from_here : or_else (fig_fault at (get_or rest 0 0) (drop 1 rest))
-    (figs_fault here.0 (at + 1 + len) (drop len (drop 1 rest))) ≡ fault =
-    sym (ap (λ t. cond t None (or_else (fig_fault at (get_or rest 0 0) (drop 1 rest))
-    (figs_fault here.0 (at + 1 + len) (drop len (drop 1 rest))))) (ne_eqb _ _ header)) ∙ here.2 in
-    let regrouped : at + (1 + len) ≡ at + 1 + len = omega arith in
+    (figs_fault here.0 (at + 1 + len) (drop len (drop 1 rest))) ≡ fault = cc (ne_eqb _ _ header, here.2) in
     record {
       left = here.0;
       enough = omega arith;
-      same = ap (λ n. figs_fault here.0 n (drop len (drop 1 rest))) regrouped
+      same = ap (λ n. figs_fault here.0 n (drop len (drop 1 rest))) (omega arith)
           ∙ sym (ap (λ f. or_else f (figs_fault here.0 (at + 1 + len) (drop len (drop 1 rest)))) fine) ∙ from_here;
     }
 
@@ -118,10 +110,7 @@ pub fault_here :
 fault_here at rest fault e h some header found =
     let here = fig_here h.left at rest fault h.enough some h.same in
     let len : ℕ = get_or rest 0 0 % 32 in
-    sym (ap (λ f. or_else f (figs_fault here.0 (at + 1 + len) (drop len (drop 1 rest)))) found)
-    ∙ (sym (ap (λ t. cond t None
-    (or_else (fig_fault at (get_or rest 0 0) (drop 1 rest))
-    (figs_fault here.0 (at + 1 + len) (drop len (drop 1 rest))))) (ne_eqb _ _ header)) ∙ here.2)
+    cc (found, ne_eqb _ _ header, here.2)
 
 pub no_fault_in_nothing : (left at : ℕ) → figs_fault left at [] ≡ None
 unfolding figs_fault

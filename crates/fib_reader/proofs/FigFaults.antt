@@ -92,12 +92,10 @@ body_at_fault place h s more (Some at) e no_marker positive low fits looked_into
     let inner = body_found (s % 32 == 0) (s % 32) (is_long s) (place + 2) body at refl is in
     let size : length body ≡ h - 1 = length-take-le (h - 1) more (omega arith) in
     let header : h ≡ 1 + length body = omega arith in
-    let at_is : at ≡ place + 2 + inner.0 = inner.1 in
-    let named : Entry at ≡ e = (let both : Some (Entry at) ≡ Some e = found in (cc)) in
     let place_is : at ≡ place + (2 + inner.0) = omega arith in
     let is_header : 1 + length body ≢ 255 = λ e. no_marker (header ∙ e) in (
       Entry (2 + inner.0),
-      sym named ∙ ap Entry place_is,
+      sym (let both : Some (Entry at) ≡ Some e = found in (cc)) ∙ ap Entry place_is,
       inr (record {
         at = 0;
         second = s;
@@ -129,9 +127,8 @@ fig_cases :
     None))) ≡ Some e
     → DataFault place (h ∷ bs) e
 fig_cases true b c d place h bs e no_marker p q r s found =
-    let named : Overrun place ≡ e = (cc) in
     let here : place ≡ place + 0 = omega arith in
-    (Overrun 0, sym named ∙ ap Overrun here, (h, bs, stands_first h bs no_marker, ltb-true _ _ p))
+    (Overrun 0, sym (cc) ∙ ap Overrun here, (h, bs, stands_first h bs no_marker, ltb-true _ _ p))
 fig_cases false true c d place h bs e no_marker p q r s found = absurd (cc)
 fig_cases false false true d place h bs e no_marker p q r s found =
     let named : Entry place ≡ e = (cc) in
@@ -208,7 +205,6 @@ past_fig n place [] one rest f split fig =
     absurd (cc)
 past_fig n place (b ∷ bs) one rest f split fig =
     let at = fig_header one f fig in
-    let same : b ∷ bs ≡ at.header ∷ (at.after ++ rest) = split ∙ ap (λ x. x ++ rest) at.split in
     let header : b ≡ at.header = (cc) in
     let others : bs ≡ at.after ++ rest = (cc) in
     let no_marker : b ≢ 255 = λ e. at.no_marker (sym header ∙ e) in
@@ -217,8 +213,6 @@ past_fig n place (b ∷ bs) one rest f split fig =
     let left : drop (b % 32) bs ≡ rest = rw (header) (ap (drop (at.header % 32)) others
     ∙ ap (λ k. drop k (at.after ++ rest)) (sym at.len) ∙ drop-append_seam at.after rest) in
     let size : length one ≡ suc (length at.after) = ap length at.split in
-    let len = at.len in
-    let rem : b % 32 ≡ at.header % 32 = rw (header) refl in
     let far : place + 1 + b % 32 ≡ place + length one = omega arith in
     rw (ne_eqb b 255 no_marker, fine) (rw (← far) (ap (figs_fault n (place + 1 + b % 32)) left))
 
@@ -252,12 +246,11 @@ past_figs (suc n) place bytes front rest (f ∷ fs) split whole enough =
     let size : length bytes ≡ length one + length (more ++ rest) = ap length all ∙ length-append one (more ++ rest) in
     let fronts : length front ≡ length one + length more = ap length whole.2 ∙ length-append one more in
     let later = past_figs n (place + length one) (more ++ rest) more rest fs refl whole.4 (omega arith) in
-    let far : place + length one + length more ≡ place + length front = omega arith in
     record {
       left = later.left;
       enough = later.enough;
       same = past_fig n place bytes one (more ++ rest) f all whole.3 ∙ later.same
-          ∙ ap (λ p. figs_fault later.left p rest) far;
+          ∙ ap (λ p. figs_fault later.left p rest) (omega arith);
     }
 
 at_header :
@@ -275,15 +268,10 @@ found_where_it_stands bytes place h rest e stands is =
     let comes = past_figs (length bytes) 0 bytes stands.front (h ∷ rest) stands.figs stands.split stands.whole
     (omega arith) in
     let here : 0 + length stands.front ≡ place = (let place_is = stands.place_is in omega arith) in
-    comes.same ∙ ap (λ p. figs_fault comes.left p (h ∷ rest)) here
-    ∙ at_header comes.left place h rest e stands.no_marker is comes.enough
+    cc (comes.same, here, at_header comes.left place h rest e stands.no_marker is comes.enough)
 
 overrun_given : (place h : ℕ) (rest : List ℕ) → length rest < h % 32 → fig_fault place h rest ≡ Some (Overrun place)
 overrun_given place h rest few =
-    let inner : Option FibFault =
-    cond (nat_lt 31 h) None (cond (h == 0) (Some (Entry place)) (cond (is_open (get_or rest 0 0))
-    (entry_at_fault (body_fault (get_or rest 0 0 % 32) (is_long (get_or rest 0 0)) (place + 2)
-    (take (h - 1) (drop 1 rest)))) None)) in
     rw (lt-ltb _ _ few) refl
 
 bare_given : (place : ℕ) (rest : List ℕ) → fig_fault place 0 rest ≡ Some (Entry place)
@@ -321,8 +309,7 @@ data_given bytes (Entry place) h =
 
 by_walk : (bytes : List ℕ) (e : FibFault) → IsChecked bytes → IsDataFault (take 30 bytes) e → IsFibFault bytes e
 by_walk bytes Crc checked h = absurd h
-by_walk bytes (Overrun place) checked h = (checked, h)
-by_walk bytes (Entry place) checked h = (checked, h)
+by_walk bytes _ checked h = (checked, h)
 
 from_start : (f : FibFault) → moved 0 f ≡ f
 from_start Crc = refl
@@ -373,9 +360,8 @@ same_or_not (x ∷ xs) (y ∷ ys) = heads (x == y) refl (same_or_not xs ys)
     heads : (b : Bool) → (x == y) ≡ b → (xs ≡ ys) ⊎ (xs ≡ ys → ⊥) → (x ∷ xs ≡ y ∷ ys) ⊎ (x ∷ xs ≡ y ∷ ys → ⊥)
     heads false is rest = inr (λ e. eqb-false x y is (cc))
     heads true is rest =
-        let head : x ≡ y = eqb-true x y is in
         elim rest [
-          | inl tails ↦ inl (rw (head, tails) refl)
+          | inl tails ↦ inl (rw ((eqb-true x y is), tails) refl)
           | inr apart ↦ inr (λ e. apart (cc))
         ]
 

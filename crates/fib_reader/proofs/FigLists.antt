@@ -17,14 +17,11 @@ use Rattle.fib_reader.proofs.EntryLists.{through, same_entries, sound_entries, c
 
 taken : {A : Type 0} (a b c : Bool) (x y : A) → a ≡ true → b ≡ true → c ≡ true → cond (a && (b && c)) x y ≡ x
 taken true true true x y p q r = refl
-taken true true false x y p q r = absurd (cc)
-taken true false c x y p q r = absurd (cc)
-taken false b c x y p q r = absurd (cc)
+taken _ _ _ x y p q r = absurd (cc)
 
 passed : {A : Type 0} (a c : Bool) (x y : A) → c ≡ false → cond (a && c) x y ≡ y
 passed true true x y r = absurd (cc)
-passed true false x y r = refl
-passed false c x y r = refl
+passed _ _ x y r = refl
 
 and_false : (a b : Bool) → a ≡ false → (a && b) ≡ false
 and_false true b p = absurd (cc)
@@ -76,7 +73,6 @@ other_header (b ∷ s ∷ body) h =
 
 pub fig_header : (bytes : List ℕ) (f : Fig) → IsFig bytes f → HasHeader bytes
 fig_header bytes (Open second es) h =
-    let few = h.2 in
     record { header = 1 + length h.0; after = second ∷ h.0; split = h.1; no_marker = omega arith; len = omega arith }
 fig_header bytes (Other given) h = other_header bytes h.1
 
@@ -109,14 +105,10 @@ no_pieces = refl
 
 pub first_piece :
     (h : ℕ) (bs : List ℕ) → h ≢ 255 → pieces_of (h ∷ bs) ≡ (h ∷ take (h % 32) bs) ∷ pieces_of (drop (h % 32) bs)
-first_piece h bs no_marker =
-    pieces_of-cons h bs
-    ∙ ap (λ t. cond t [] ((h ∷ take (h % 32) bs) ∷ pieces_of (drop (h % 32) bs))) (ne_eqb h 255 no_marker)
+first_piece h bs no_marker = cc (pieces_of-cons h bs, ne_eqb h 255 no_marker)
 
 pub pieces_at_marker : (h : ℕ) (bs : List ℕ) → h ≡ 255 → pieces_of (h ∷ bs) ≡ []
-pieces_at_marker h bs marker =
-    pieces_of-cons h bs
-    ∙ ap (λ t. cond t [] ((h ∷ take (h % 32) bs) ∷ pieces_of (drop (h % 32) bs))) (eq-eqb h 255 marker)
+pieces_at_marker h bs marker = cc (pieces_of-cons h bs, eq-eqb h 255 marker)
 
 -- the list of FIGs is unique
 pub same_figs : (bytes : List ℕ) (fs : List Fig) → AreFigs bytes fs → figs_of_bytes bytes ≡ fs
@@ -131,11 +123,9 @@ same_figs bytes (f ∷ fs) h =
     let at = fig_header front f h.3 in
     let split : bytes ≡ at.header ∷ (at.after ++ rest) = h.2 ∙ ap (λ x. x ++ rest) at.split in
     let cut : take (at.header % 32) (at.after ++ rest) ≡ at.after = rw (← at.len) (take-append_seam at.after rest) in
-    let left : drop (at.header % 32) (at.after ++ rest) ≡ rest = rw (← at.len) (drop-append_seam at.after rest) in
     let one : fig_of_bytes (at.header ∷ take (at.header % 32) (at.after ++ rest)) ≡ f =
     rw (cut) (ap fig_of_bytes (sym at.split) ∙ same_fig front f h.3) in
-    let more : figs_of_bytes (drop (at.header % 32) (at.after ++ rest)) ≡ fs =
-    ap figs_of_bytes left ∙ same_figs rest fs h.4 in
+    let more = ap figs_of_bytes (rw (← at.len) (drop-append_seam at.after rest)) ∙ same_figs rest fs h.4 in
     ap figs_of_bytes split ∙ ap (map fig_of_bytes) (first_piece at.header (at.after ++ rest) at.no_marker)
     ∙ ap (λ x. x ∷ figs_of_bytes (drop (at.header % 32) (at.after ++ rest))) one ∙ ap (λ x. f ∷ x) more
 
@@ -149,11 +139,10 @@ sound_ensemble long place bytes none =
     let one = through (nat_lt (length bytes) len) place _ none in
     let two = through (nat_lt 19 (get_or bytes 2 0 % 32)) place _ one.1 in
     let three = through (nat_lt 249 (get_or bytes 3 0)) place _ two.1 in
-    let four = through (nat_lt len (length bytes)) (place + len) None three.1 in
     let fits : len ≤ length bytes = ltb-false _ _ one.0 in
     let high : get_or bytes 2 0 % 32 ≤ 19 = ltb-false _ _ two.0 in
     let low : get_or bytes 3 0 ≤ 249 = ltb-false _ _ three.0 in
-    let all : length bytes ≤ len = ltb-false _ _ four.0 in
+    let all : length bytes ≤ len = ltb-false _ _ (through (nat_lt len (length bytes)) (place + len) None three.1).0 in
     let are : AreEntries 0 long bytes (bytes ∷ []) = ([], sym (append-nil bytes), omega arith, refl) in
     let same : entries_of 0 long bytes ≡ bytes ∷ [] = same_entries 0 long bytes (bytes ∷ []) are in (
       rw (same) are,
@@ -164,10 +153,8 @@ sound_body :
     (b : Bool) (ext : ℕ) (long : Bool) (place : ℕ) (bytes : List ℕ) → (ext == 0) ≡ b
     → body_fault ext long place bytes ≡ None → IsBody ext long bytes (entries_of ext long bytes)
 sound_body true ext long place bytes is none =
-    let zero_ext : ext ≡ 0 = eqb-true ext 0 is in
-    let fine : ensemble_fault place bytes ≡ None =
-    sym (ap (λ t. cond t (ensemble_fault place bytes) (entries_fault (length bytes) ext long place bytes)) is) ∙ none in
-    rw (zero_ext) (sound_ensemble long place bytes fine)
+    let fine : ensemble_fault place bytes ≡ None = cc (is, none) in
+    rw ((eqb-true ext 0 is)) (sound_ensemble long place bytes fine)
 sound_body false ext long place bytes is none =
     let fine : entries_fault (length bytes) ext long place bytes ≡ None =
     sym (ap (λ t. cond t (ensemble_fault place bytes) (entries_fault (length bytes) ext long place bytes)) is)
@@ -198,8 +185,7 @@ piece_low true place h s body low len is fine =
       sound_body (s % 32 == 0) (s % 32) (is_long s) (place + 2) body refl (fine refl),
     )
 piece_low false place h s body low len is fine =
-    let closed : (nat_lt h 32 && is_open s) ≡ false = and_right (nat_lt h 32) (is_open s) (lt-ltb h 32 (omega arith))
-    ∙ is in
+    let closed = and_right (nat_lt h 32) (is_open s) (lt-ltb h 32 (omega arith)) ∙ is in
     subst (IsFig (h ∷ s ∷ body)) (sym (fig_of-other h s body closed)) (refl, (omega arith, omega arith, closed))
 
 sound_low :
@@ -210,8 +196,7 @@ sound_low :
     None) ≡ None
     → IsWholeFig (h ∷ take (h % 32) bs)
 sound_low place h [] low fits none =
-    let some = through (h == 0) (Entry place) _ none in
-    absurd (eqb-false h 0 some.0 (omega arith))
+    absurd (eqb-false h 0 (through (h == 0) (Entry place) _ none).0 (omega arith))
 sound_low place h (s ∷ bs) low fits none =
     let some = through (h == 0) (Entry place) _ none in
     let positive : h ≢ 0 = eqb-false h 0 some.0 in
@@ -318,17 +303,11 @@ pub past_tests :
     (entry_at_fault (body_fault (get_or bs 0 0 % 32) (is_long (get_or bs 0 0)) (place + 2) (take (h - 1) (drop 1 bs))))
     None
 past_tests place h bs fits low positive =
-    let inner : Option FibFault = cond (is_open (get_or bs 0 0))
-    (entry_at_fault (body_fault (get_or bs 0 0 % 32) (is_long (get_or bs 0 0)) (place + 2) (take (h - 1) (drop 1 bs))))
-    None in
     rw (le-ltb _ _ fits, le-ltb _ _ low, ne_eqb _ _ positive) refl
 
 not_looked_into :
     (place h : ℕ) (bs : List ℕ) → h % 32 ≤ length bs → 31 < h → fig_fault place h bs ≡ None
 not_looked_into place h bs fits high =
-    let inner : Option FibFault = cond (h == 0) (Some (Entry place)) (cond (is_open (get_or bs 0 0))
-    (entry_at_fault (body_fault (get_or bs 0 0 % 32) (is_long (get_or bs 0 0)) (place + 2) (take (h - 1) (drop 1 bs))))
-    None) in
     rw (le-ltb _ _ fits, lt-ltb _ _ high) refl
 
 complete_open :
@@ -347,26 +326,21 @@ complete_open place second body rest es few is fine =
 complete_other :
     (place h : ℕ) (after rest : List ℕ) → IsOther (h ∷ after) → fig_fault place h (after ++ rest) ≡ None
 complete_other place h [] rest other =
-    let len = other.2 in
     not_looked_into place h rest (omega arith) (let high = other.1 in omega arith)
 complete_other place h (s ∷ body) rest other =
-    let len = other.1 in
     let size : length (body ++ rest) ≡ length body + length rest = length-append body rest in
     elim (cases_lt 31 h) [
       | inl high ↦ not_looked_into place h (s ∷ (body ++ rest)) (omega arith) high
       | inr low ↦
-          let closed : is_open s ≡ false = sym (and_right (nat_lt h 32) (is_open s) (lt-ltb h 32 (omega arith)))
-          ∙ other.2 in
           past_tests place h (s ∷ (body ++ rest)) (omega arith) low (omega arith)
           ∙ ap (λ t. cond t (entry_at_fault (body_fault (s % 32) (is_long s) (place + 2) (take (h - 1) (body ++ rest))))
-          None) closed
+          None) (sym (and_right (nat_lt h 32) (is_open s) (lt-ltb h 32 (omega arith))) ∙ other.2)
     ]
 
 pub complete_fig :
     (place h : ℕ) (after rest front : List ℕ) (f : Fig) → front ≡ h ∷ after → IsFig front f
     → fig_fault place h (after ++ rest) ≡ None
 complete_fig place h after rest front (Open second es) is fig =
-    let same : h ∷ after ≡ (1 + length fig.0) ∷ second ∷ fig.0 = sym is ∙ fig.1 in
     let header : h ≡ 1 + length fig.0 = (cc) in
     let others : after ≡ second ∷ fig.0 = (cc) in
     rw (header, others) (complete_open place second fig.0 rest es fig.2 fig.3 fig.4)
@@ -376,30 +350,25 @@ complete_fig place h after rest front (Other given) is fig =
 pub complete_figs :
     (n place : ℕ) (bytes : List ℕ) (fs : List Fig) → AreFigs bytes fs → figs_fault n place bytes ≡ None
 unfolding figs_fault
-complete_figs zero place bytes fs h = refl
-complete_figs (suc n) place [] fs h = refl
 complete_figs (suc n) place (b ∷ bs) [] h =
     elim h [
       | inl none ↦ absurd (cc)
       | inr marked ↦
-          let same : b ∷ bs ≡ 255 ∷ marked.0 = marked.1 in
-          let marker : b ≡ 255 = (cc) in
           ap (λ t. cond t None (or_else (fig_fault place b bs) (figs_fault n (place + 1 + b % 32) (drop (b % 32) bs))))
-          (eq-eqb b 255 marker)
+          (eq-eqb b 255 (cc))
     ]
 complete_figs (suc n) place (b ∷ bs) (f ∷ fs) h =
     let rest : List ℕ = h.1 in
     let at = fig_header h.0 f h.3 in
-    let split : b ∷ bs ≡ at.header ∷ (at.after ++ rest) = h.2 ∙ ap (λ x. x ++ rest) at.split in
     let header : b ≡ at.header = (cc) in
     let others : bs ≡ at.after ++ rest = (cc) in
-    let no_marker : b ≢ 255 = λ e. at.no_marker (sym header ∙ e) in
     let fine : fig_fault place b bs ≡ None = rw (header) (ap (fig_fault place at.header) others
     ∙ complete_fig place at.header at.after rest h.0 f at.split h.3) in
     let left : drop (b % 32) bs ≡ rest = rw (header) (ap (drop (at.header % 32)) others
     ∙ ap (λ k. drop k (at.after ++ rest)) (sym at.len) ∙ drop-append_seam at.after rest) in
-    rw (ne_eqb b 255 no_marker, fine) (ap (figs_fault n (place + 1 + b % 32)) left
+    rw (ne_eqb b 255 (λ e. at.no_marker (sym header ∙ e)), fine) (ap (figs_fault n (place + 1 + b % 32)) left
     ∙ complete_figs n (place + 1 + b % 32) rest fs h.4)
+complete_figs _ place _ fs h = refl
 
 -- ---- what one FIG of the walk is
 
@@ -450,8 +419,7 @@ pub raw_fig :
     (bytes : List ℕ) (second : ℕ) (es : List (List ℕ)) → IsFig bytes (Open second es)
     → AreRaw (map (raw_of (second % 32) (is_long second)) es)
 raw_fig bytes second es h =
-    let low : second % 32 < 4 =
-    ltb-true (second % 32) 4 (and_true_right (second / 64 % 2 == 0) (nat_lt (second % 32) 4) h.3) in
+    let low = ltb-true (second % 32) 4 (and_true_right (second / 64 % 2 == 0) (nat_lt (second % 32) 4) h.3) in
     raw_each (second % 32) (is_long second) h.0 es low h.4.0
     (λ zero_ext.
     let alone = h.4.1 zero_ext in

@@ -33,9 +33,7 @@ known_changed : (k : ℕ) (raw : Raw) (raws : List Raw) → has_entry identifier
     (with_entry_changed identifier_of raw raws) ≡ has_entry identifier_of k raws
 known_changed k raw [] = refl
 known_changed k raw (x ∷ xs) =
-    ap (λ n. (n == k) || has_entry identifier_of k (with_entry_changed identifier_of raw xs))
-    (same_identifier (identifier_of x == identifier_of raw) raw x refl)
-    ∙ ap (λ b. (identifier_of x == k) || b) (known_changed k raw xs)
+    cc (same_identifier (identifier_of x == identifier_of raw) raw x refl, known_changed k raw xs)
 
 known_kept : (x raw : Raw) (raws : List Raw) → is_known x raws ≡ true → is_known x (kept raw raws) ≡ true
 known_kept x raw raws known =
@@ -45,12 +43,9 @@ known_kept x raw raws known =
       | false ↦ known_added (identifier_of x) raw raws known
     ]
 
-length_changed : (raw : Raw) (raws : List Raw) → length (with_entry_changed identifier_of raw raws) ≡ length raws
-length_changed raw raws = length-map raws (λ x. cond (identifier_of x == identifier_of raw) raw x)
-
 length_kept : (b : Bool) (raw : Raw) (raws : List Raw) → is_known raw raws ≡ b
     → length (kept raw raws) ≡ cond b (length raws) (suc (length raws))
-length_kept true raw raws is = rw (is) (length_changed raw raws)
+length_kept true raw raws is = rw (is) (length-map raws (λ x. cond (identifier_of x == identifier_of raw) raw x))
 length_kept false raw raws is = rw (is) (length_with identifier_of raw raws)
 
 -- ---- one entry
@@ -66,7 +61,6 @@ shelf_takes :
     → HasGrown others old new
     → CountsNew old raw others all → (has_room raw new ≡ true) × HasGrown all old (kept raw new) × (others ≤ all)
 shelf_takes true true raw old new others all is is_new grown counts =
-    let same : all ≡ others = counts.0 is in
     let few = grown.few in
     let size = length_kept true raw new is_new in (
       room_for_known raw new is_new,
@@ -77,8 +71,6 @@ shelf_takes true false raw old new others all is is_new grown counts =
     let known : is_known raw new ≡ true = grown.known raw is in absurd (cc)
 shelf_takes false c raw old new others all is is_new grown counts =
     let one = counts.1 is in
-    let more : all ≡ others + 1 = one.0 in
-    let room : length old + others < 64 = one.1 in
     let few = grown.few in
     let size : length (kept raw new) ≤ length new + 1 =
     at_most c (length new) (length (kept raw new)) (length_kept c raw new is_new) in (
@@ -245,7 +237,6 @@ never_full old all hear leaves none =
       current = record { services = grown_none old.current.services; packets = grown_none old.current.packets };
       next = record { services = grown_none old.next.services; packets = grown_none old.next.packets };
     }) in
-    let found = some.1 in
     absurd (cc)
 
 pub leaves_fig :

@@ -22,11 +22,8 @@ few_options B = omega arith
 
 pub sub_within : (s : Sub) → IsPlaced s → IsWithin (sub_entry s)
 sub_within s h =
-    let named = h.named in
-    let ends = h.ends in
-    let four = h.to_four in
     record {
-      id = named;
+      id = h.named;
       start = omega arith;
       option = few_options s.protection.set;
       level = omega arith;
@@ -35,8 +32,6 @@ sub_within s h =
 
 pub sub_identified : (s : Sub) → IsPlaced s → identifier_of (raw_entry (sub_entry s)) ≡ sub_key s
 sub_identified s h =
-    let named = h.named in
-    let ends = h.ends in
     omega arith
 
 component_within : (primary : Bool) (c : Component) → IsComponent c → IsComponentEntry (component_entry primary c)
@@ -79,7 +74,6 @@ service_identified s h = identified s.sid s.components h.named
 
 pub packet_within : (p : Packet) → IsAddressed p → IsWithin (packet_entry p)
 packet_within p h =
-    let last = h.to_last in
     record { scid = h.named; rfa = omega arith; ty = h.typed; sub = h.carried; address = omega arith; ca_org = tt }
 
 pub packet_identified : (p : Packet) → IsAddressed p → identifier_of (raw_entry (packet_entry p)) ≡ packet_key p
@@ -118,10 +112,8 @@ pub above_all :
     → raw ≡ get_or kept i raw → f x ≡ raw → IsAscending identifier_of kept → AllByRecursion (λ y. key y < key x) table
 above_all key f P table kept i x raw same all one so_far inside is says up =
     let front : AllByRecursion (λ r. identifier_of r < identifier_of (get_or kept i raw)) (map f table) =
-    subst (AllByRecursion (λ r. identifier_of r < identifier_of (get_or kept i raw))) (sym so_far)
-    (ascending_front kept i raw up inside) in
-    let top : identifier_of (get_or kept i raw) ≡ key x = ap identifier_of (sym (says ∙ is)) ∙ same x one in
-    keys_below key f P table (key x) same all (rw (← top) front)
+    rw so_far (ascending_front kept i raw up inside) in
+    keys_below key f P table (key x) same all (rw (← (ap identifier_of (sym (says ∙ is)) ∙ same x one)) front)
 
 -- if members describe all entries, one describes each
 member_at :
@@ -139,8 +131,7 @@ pub none_says :
 none_says entry_of P xs kept i raw e tells within none all says inside is spelled fits =
     let size : length xs ≡ length kept = sym (length-map xs (λ x. raw_entry (entry_of x))) ∙ ap length says in
     let one = member_at (λ x. raw_entry (entry_of x)) P xs i raw all (omega arith) in
-    let same : raw_entry (entry_of one.0) ≡ raw_entry e =
-    one.2 ∙ ap (λ rs. get_or rs i raw) says ∙ sym is ∙ spelled in
+    let same = one.2 ∙ ap (λ rs. get_or rs i raw) says ∙ sym is ∙ spelled in
     none one.0 one.1
     (tells (entry_of one.0) e (within one.0 one.1) fits (ap (λ r. r.ext) same) (ap (λ r. r.long) same)
     (ap (λ r. r.bytes) same))

@@ -43,10 +43,7 @@ few_between low high (x ∷ xs) up from below =
     let above : AllByRecursion (λ y. identifier_of x + 1 ≤ identifier_of y) xs =
     each_weaker (λ y. identifier_of x < identifier_of y) (λ y. identifier_of x + 1 ≤ identifier_of y)
     (λ y lt. omega arith) xs up.0 in
-    let more : length xs ≤ high - (identifier_of x + 1) =
-    few_between (identifier_of x + 1) high xs up.1 above below.1 in
-    let one : low ≤ identifier_of x = from.0 in
-    let other : identifier_of x < high = below.0 in
+    let more = few_between (identifier_of x + 1) high xs up.1 above below.1 in
     omega arith
 
 -- a new one would be one more, and all are below 64
@@ -79,10 +76,7 @@ pub raw_again :
     (raw : Raw) (ext : ℕ) (long : Bool) (bytes : List ℕ) → IsRaw raw → ext ≡ raw.ext → long ≡ raw.long
     → bytes ≡ raw.bytes
     → IsRaw (record { ext = ext; long = long; bytes = bytes })
-raw_again raw ext long bytes is e l b =
-    subst (λ (x : ℕ). IsRaw (record { ext = x; long = long; bytes = bytes })) (sym e)
-    (subst (λ (x : Bool). IsRaw (record { ext = raw.ext; long = x; bytes = bytes })) (sym l)
-    (subst (λ (x : List ℕ). IsRaw (record { ext = raw.ext; long = raw.long; bytes = x })) (sym b) is))
+raw_again raw ext long bytes is e l b = rw e (rw l (rw b is))
 
 pub raw_same :
     (raw : Raw) (ext : ℕ) (long : Bool) (bytes : List ℕ) → ext ≡ raw.ext → long ≡ raw.long → bytes ≡ raw.bytes
@@ -96,8 +90,7 @@ pub each_after :
     (P : Raw → Type 0) (raw : Raw) (old new : List Raw) (b : Bool) → P raw → AllByRecursion P old
     → (b ≡ true → new ≡ kept raw old)
     → (b ≡ false → new ≡ old) → AllByRecursion P new
-each_after P raw old new true one all taken refused =
-    subst (AllByRecursion P) (sym (taken refl)) (each_kept P raw old one all)
+each_after P raw old new true one all taken refused = rw (taken refl) (each_kept P raw old one all)
 each_after P raw old new false one all taken refused = subst (AllByRecursion P) (sym (refused refl)) all
 
 -- ---- an entry that is already present
@@ -118,13 +111,10 @@ changed_for_same raw (x ∷ xs) up told =
     elim (cases_eq (identifier_of x) (identifier_of raw)) [
       | inl same ↦
           let test = eq-eqb (identifier_of x) (identifier_of raw) same in
-          let first : Some x ≡ Some raw =
-          sym (ap (λ b. cond b (Some x) (entry_at identifier_of (identifier_of raw) xs)) test) ∙ told in
-          let here : x ≡ raw = cc in
           ap (λ b. cond b raw x ∷ with_entry_changed identifier_of raw xs) test
           ∙ ap (λ t. raw ∷ t) (unchanged_above raw xs
           (subst (λ n. AllByRecursion (λ z. n < identifier_of z) xs) same up.0))
-          ∙ ap (λ y. y ∷ xs) (sym here)
+          ∙ ap (λ y. y ∷ xs) (sym cc)
       | inr other ↦
           let test = ne_eqb (identifier_of x) (identifier_of raw) other in
           ap (λ b. cond b raw x ∷ with_entry_changed identifier_of raw xs) test
@@ -146,10 +136,8 @@ pub known_where_found : (raw : Raw) (raws : List Raw) (place : ℕ) → slice_ge
 known_where_found raw [] place found = absurd (cc)
 known_where_found raw (x ∷ xs) zero found =
     let same : x ≡ raw = (cc) in
-    or_left (identifier_of x == identifier_of raw) _
-    (eq-eqb (identifier_of x) (identifier_of raw) (ap identifier_of same))
-known_where_found raw (x ∷ xs) (suc i) found =
-    or_right (identifier_of x == identifier_of raw) _ (known_where_found raw xs i found)
+    or_left _ _ (eq-eqb (identifier_of x) (identifier_of raw) (ap identifier_of same))
+known_where_found raw (x ∷ xs) (suc i) found = or_right _ _ (known_where_found raw xs i found)
 
 pub kept_where_found :
     (raw : Raw) (raws : List Raw) (place : ℕ) → IsAscending identifier_of raws → slice_get raws place ≡ Some raw

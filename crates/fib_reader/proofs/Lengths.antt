@@ -42,12 +42,10 @@ least_5 true n le = omega arith
 least_5 false n le = omega arith
 
 ensemble_len_more : (e rest : List ℕ) → ensemble_len e ≤ length e → ensemble_len (e ++ rest) ≡ ensemble_len e
-ensemble_len_more e rest le =
-    ap (λ x. cond (x / 64 == 0) 4 5) (get_or_append_left e rest 0 2 (least_4 (get_or e 2 0 / 64 == 0) (length e) le))
+ensemble_len_more e rest le = ap (λ x. cond (x / 64 == 0) 4 5) (get_or_append_left e rest 0 2 (least_4 _ _ le))
 
 sub_len_more : (e rest : List ℕ) → sub_len e ≤ length e → sub_len (e ++ rest) ≡ sub_len e
-sub_len_more e rest le =
-    ap (λ x. cond (x / 128 == 1) 4 3) (get_or_append_left e rest 0 2 (least_3 (get_or e 2 0 / 128 == 1) (length e) le))
+sub_len_more e rest le = ap (λ x. cond (x / 128 == 1) 4 3) (get_or_append_left e rest 0 2 (least_3 _ _ le))
 
 service_len_more :
     (long : Bool) (e rest : List ℕ) → service_len long e ≤ length e → service_len long (e ++ rest) ≡ service_len long e
@@ -57,8 +55,7 @@ service_len_more false e rest le =
     ap (λ x. 3 + 2 * (x % 16)) (get_or_append_left e rest 0 2 (omega arith))
 
 packet_len_more : (e rest : List ℕ) → packet_len e ≤ length e → packet_len (e ++ rest) ≡ packet_len e
-packet_len_more e rest le =
-    ap (λ x. cond (x % 2 == 1) 7 5) (get_or_append_left e rest 0 1 (least_5 (get_or e 1 0 % 2 == 1) (length e) le))
+packet_len_more e rest le = ap (λ x. cond (x % 2 == 1) 7 5) (get_or_append_left e rest 0 1 (least_5 _ _ le))
 
 pub entry_len_more :
     (ext : ℕ) (long : Bool) (e rest : List ℕ) → entry_len ext long e ≤ length e
@@ -71,14 +68,10 @@ entry_len_more ext long e rest =
 
 -- the same, computed from the longer bytes
 ensemble_len_front : (e rest : List ℕ) → ensemble_len (e ++ rest) ≤ length e → ensemble_len e ≡ ensemble_len (e ++ rest)
-ensemble_len_front e rest le =
-    sym (ap (λ x. cond (x / 64 == 0) 4 5)
-    (get_or_append_left e rest 0 2 (least_4 (get_or (e ++ rest) 2 0 / 64 == 0) (length e) le)))
+ensemble_len_front e rest le = sym (ap (λ x. cond (x / 64 == 0) 4 5) (get_or_append_left e rest 0 2 (least_4 _ _ le)))
 
 sub_len_front : (e rest : List ℕ) → sub_len (e ++ rest) ≤ length e → sub_len e ≡ sub_len (e ++ rest)
-sub_len_front e rest le =
-    sym (ap (λ x. cond (x / 128 == 1) 4 3)
-    (get_or_append_left e rest 0 2 (least_3 (get_or (e ++ rest) 2 0 / 128 == 1) (length e) le)))
+sub_len_front e rest le = sym (ap (λ x. cond (x / 128 == 1) 4 3) (get_or_append_left e rest 0 2 (least_3 _ _ le)))
 
 service_len_front :
     (long : Bool) (e rest : List ℕ) → service_len long (e ++ rest) ≤ length e
@@ -89,9 +82,7 @@ service_len_front false e rest le =
     sym (ap (λ x. 3 + 2 * (x % 16)) (get_or_append_left e rest 0 2 (omega arith)))
 
 packet_len_front : (e rest : List ℕ) → packet_len (e ++ rest) ≤ length e → packet_len e ≡ packet_len (e ++ rest)
-packet_len_front e rest le =
-    sym (ap (λ x. cond (x % 2 == 1) 7 5)
-    (get_or_append_left e rest 0 1 (least_5 (get_or (e ++ rest) 1 0 % 2 == 1) (length e) le)))
+packet_len_front e rest le = sym (ap (λ x. cond (x % 2 == 1) 7 5) (get_or_append_left e rest 0 1 (least_5 _ _ le)))
 
 pub entry_len_front :
     (ext : ℕ) (long : Bool) (e rest : List ℕ) → entry_len ext long (e ++ rest) ≤ length e
@@ -110,8 +101,5 @@ cut_len ext long bytes le =
     let n : ℕ = entry_len ext long bytes in
     let whole : take n bytes ++ drop n bytes ≡ bytes = take-append-drop n bytes in
     let size : length (take n bytes) ≡ n = length-take-le n bytes le in
-    let fits : entry_len ext long (take n bytes ++ drop n bytes) ≤ length (take n bytes) =
-    rw (whole, size) (omega arith) in
-    let same : entry_len ext long (take n bytes) ≡ entry_len ext long (take n bytes ++ drop n bytes) =
-    entry_len_front ext long (take n bytes) (drop n bytes) fits in
+    let same = entry_len_front ext long (take n bytes) (drop n bytes) (rw (whole, size) (omega arith)) in
     size ∙ sym (same ∙ ap (entry_len ext long) whole)

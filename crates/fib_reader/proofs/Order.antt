@@ -46,8 +46,7 @@ in_order p is subs services packets =
     behind 2 p.services p.packets is.services
     (each_turned (λ r. r.ext ≡ 3) (λ r. 2 < r.ext) p.packets (λ r e. omega arith) is.packets)
     (of_one 2 p.services is.services services) (of_one 3 p.packets is.packets packets) in
-    let first : AllByRecursion (λ r. r.ext ≡ 1) p.subs =
-    each_turned IsSubOf (λ r. r.ext ≡ 1) p.subs (λ r h. h.0) is.subs in
+    let first = each_turned IsSubOf (λ r. r.ext ≡ 1) p.subs (λ r h. h.0) is.subs in
     let above : AllByRecursion (λ r. 1 < r.ext) (p.services ++ p.packets) =
     each_both (λ r. 1 < r.ext) p.services p.packets
     (each_turned (λ r. r.ext ≡ 2) (λ r. 1 < r.ext) p.services (λ r e. omega arith) is.services)

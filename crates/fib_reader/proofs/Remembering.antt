@@ -26,43 +26,31 @@ into_next : (l : Listening) (o : Option Pictured) → into true l o ≡ Some l �
 into_next l None h = absurd (none_is l h)
 into_next l (Some p) h = ap (λ (x : Listening). Some x.next) (some_is _ l h)
 
-back_current : (l : Listening) (p : Pictured) → p ≡ l.current → into false l (Some p) ≡ Some l
-back_current l p e = rw e refl
-
-back_next : (l : Listening) (p : Pictured) → p ≡ l.next → into true l (Some p) ≡ Some l
-back_next l p e = rw e refl
-
 -- known in the current picture
 lasts_current : (b : Bool) (raw : Raw) (old l : Listening) → old.tuned ≡ b → raw.ext ≢ 0
     → hear_entry false raw old ≡ Some old → Agrees Current old l → hear_entry false raw l ≡ Some l
 lasts_current false raw old l is other known (tuned, current) = not_ensemble false raw l other ∙ rw (tuned ∙ is) refl
 lasts_current true raw old l is other known (tuned, current) =
-    let at_old : into false old (pictured raw old.current) ≡ Some old =
-    sym (not_ensemble false raw old other ∙ rw is refl) ∙ known in
+    let at_old = sym (not_ensemble false raw old other ∙ rw is refl) ∙ known in
     let there : pictured raw l.current ≡ Some old.current = rw current (into_current old _ at_old) in
     not_ensemble false raw l other ∙ ap (λ (c : Bool). cond c (into false l (pictured raw l.current)) (Some l))
-    (tuned ∙ is) ∙ ap (into false l) there ∙ back_current l old.current (sym current)
+    (tuned ∙ is) ∙ ap (into false l) there ∙ (rw (sym current) refl)
 
 lasts_next : (b : Bool) (raw : Raw) (old l : Listening) → old.tuned ≡ b → raw.ext ≢ 0
     → hear_entry true raw old ≡ Some old → Agrees Pictures old l → hear_entry true raw l ≡ Some l
 lasts_next false raw old l is other known (tuned, current, next) = not_ensemble true raw l other ∙ rw (tuned ∙ is) refl
 lasts_next true raw old l is other known (tuned, current, next) =
-    let at_old : into true old (pictured raw old.next) ≡ Some old =
-    sym (not_ensemble true raw old other ∙ rw is refl) ∙ known in
+    let at_old = sym (not_ensemble true raw old other ∙ rw is refl) ∙ known in
     let there : pictured raw l.next ≡ Some old.next = rw next (into_next old _ at_old) in
     not_ensemble true raw l other ∙ ap (λ (c : Bool). cond c (into true l (pictured raw l.next)) (Some l)) (tuned ∙ is)
-    ∙ ap (into true l) there ∙ back_next l old.next (sym next)
-
-lasts_all : (next : Bool) (raw : Raw) (old l : Listening) → hear_entry next raw old ≡ Some old → Agrees All old l
-    → hear_entry next raw l ≡ Some l
-lasts_all next raw old l known same = rw (same) known
+    ∙ ap (into true l) there ∙ (rw (sym next) refl)
 
 differ : (n : ℕ) → n ≡ 0 → (n == 0) ≡ false → ⊥
 differ n e f = absurd (cc)
 
 lasts : (b next : Bool) (raw : Raw) (old l : Listening) → (raw.ext == 0) ≡ b → hear_entry next raw old ≡ Some old
     → Agrees (cond b All (cond next Pictures Current)) old l → hear_entry next raw l ≡ Some l
-lasts true next raw old l is known agrees = lasts_all next raw old l known agrees
+lasts true next raw old l is known agrees = rw (agrees) known
 lasts false true raw old l is known agrees =
     lasts_next old.tuned raw old l refl (λ e. absurd (differ raw.ext e is)) known agrees
 lasts false false raw old l is known agrees =
@@ -75,8 +63,7 @@ entries_last : (ext : ℕ) (long next : Bool) (old l : Listening) (es : List (Li
     → Agrees (basis_of next ext) old l → hear_entries next (map (raw_of ext long) es) l ≡ Some l
 entries_last ext long next old l [] known agrees = refl
 entries_last ext long next old l (e ∷ es) (first, rest) agrees =
-    rw (lasts (ext == 0) next (raw_of ext long e) old l refl first agrees)
-    (entries_last ext long next old l es rest agrees)
+    rw (lasts _ _ _ _ _ refl first agrees) (entries_last ext long next old l es rest agrees)
 
 pub fig_lasts : (old l : Listening) (fig : Fig) (head : Head) → head_in fig ≡ Some head
     → AllByRecursion (λ raw. hear_entry head.next raw old ≡ Some old) (entries_in fig)
@@ -86,8 +73,7 @@ fig_lasts old l (Open second es) head is known agrees =
     let as_ext : head.ext ≡ second % 32 = rw (← some_is _ head is) refl in
     let there = subst (λ (b : Bool). AllByRecursion (λ raw. hear_entry b raw old ≡ Some old)
     (entries_in (Open second es))) as_next known in
-    let agree : Agrees (basis_of (is_next second) (second % 32)) old l = rw (← as_ext) (rw (← as_next) agrees) in
-    entries_last (second % 32) (is_long second) (is_next second) old l es there agree
+    entries_last (second % 32) (is_long second) (is_next second) old l es there (rw (← as_ext) (rw (← as_next) agrees))
 fig_lasts old l (Other given) head is known agrees = absurd (none_is head is)
 
 -- one FIG, and then the others
@@ -129,20 +115,17 @@ keeps_tuned true old new o h = keeps_into old new o h
 keeps_tuned false old new o h = keeps_none old new h
 
 keeps_entry : (raw : Raw) → raw.ext ≢ 0 → KeepsCurrent (hear_entry true raw)
-keeps_entry raw other old new h =
-    keeps_tuned old.tuned old new (pictured raw old.next) (sym (not_ensemble true raw old other) ∙ h)
+keeps_entry raw other old new h = keeps_tuned _ old new _ (sym (not_ensemble true raw old other) ∙ h)
 
 keeps_entries : (ext : ℕ) (long : Bool) (es : List (List ℕ)) → ext ≢ 0
     → KeepsCurrent (hear_entries true (map (raw_of ext long) es))
 keeps_entries ext long [] other = keeps_none
 keeps_entries ext long (e ∷ es) other =
-    keeps_both (hear_entry true (raw_of ext long e)) (hear_entries true (map (raw_of ext long) es))
-    (keeps_entry (raw_of ext long e) other) (keeps_entries ext long es other)
+    keeps_both _ _ (keeps_entry (raw_of ext long e) other) (keeps_entries ext long es other)
 
 is_pictures : (b next : Bool) → cond b All (cond next Pictures Current) ≡ Pictures → (b ≡ false) × (next ≡ true)
-is_pictures true next e = absurd (cc)
 is_pictures false true e = (refl, refl)
-is_pictures false false e = absurd (cc)
+is_pictures _ _ e = absurd (cc)
 
 keeps_open : (next : Bool) (ext : ℕ) (long : Bool) (es : List (List ℕ)) → next ≡ true → (ext == 0) ≡ false
     → KeepsCurrent (hear_entries next (map (raw_of ext long) es))
@@ -154,8 +137,7 @@ pub keeps_fig : (fig : Fig) (head : Head) → head_in fig ≡ Some head → basi
 keeps_fig (Open second es) head is of =
     let as_next : head.next ≡ is_next second = rw (← some_is _ head is) refl in
     let as_ext : head.ext ≡ second % 32 = rw (← some_is _ head is) refl in
-    let there : basis_of (is_next second) (second % 32) ≡ Pictures = rw (← as_ext) (rw (← as_next) of) in
-    let both = is_pictures (second % 32 == 0) (is_next second) there in
+    let both = is_pictures (second % 32 == 0) (is_next second) (rw (← as_ext) (rw (← as_next) of)) in
     keeps_open (is_next second) (second % 32) (is_long second) es both.1 both.0
 keeps_fig (Other given) head is of = absurd (none_is head is)
 

@@ -16,17 +16,12 @@ split_off :
     → AllByRecursion (λ r. r.ext ≢ n) ys' → xs ++ xs' ≡ ys ++ ys' → (xs ≡ ys) × (xs' ≡ ys')
 split_off n [] xs' [] ys' p q p' q' h = (refl, h)
 split_off n [] xs' (y ∷ ys) ys' p q p' q' h =
-    let wrong : AllByRecursion (λ r. r.ext ≢ n) (y ∷ (ys ++ ys')) = subst (AllByRecursion (λ r. r.ext ≢ n)) h p' in
-    absurd (wrong.0 q.0)
+    absurd ((subst (AllByRecursion (λ r. r.ext ≢ n)) h p').0 q.0)
 split_off n (x ∷ xs) xs' [] ys' p q p' q' h =
-    let wrong : AllByRecursion (λ r. r.ext ≢ n) (x ∷ (xs ++ xs')) =
-    subst (AllByRecursion (λ r. r.ext ≢ n)) (sym h) q' in
-    absurd (wrong.0 p.0)
+    absurd ((subst (AllByRecursion (λ r. r.ext ≢ n)) (sym h) q').0 p.0)
 split_off n (x ∷ xs) xs' (y ∷ ys) ys' p q p' q' h =
-    let all : x ∷ (xs ++ xs') ≡ y ∷ (ys ++ ys') = h in
     let heads : x ≡ y = (cc) in
-    let tails : xs ++ xs' ≡ ys ++ ys' = (cc) in
-    let more = split_off n xs xs' ys ys' p.1 q.1 p' q' tails in
+    let more = split_off n xs xs' ys ys' p.1 q.1 p' q' (cc) in
     (rw (heads, more.0) refl, more.1)
 
 each_raw : {T : Type 0} (P : Raw → Type 0) (f : T → Entry) (xs : List T) → ((x : T) → P (raw_entry (f x)))
@@ -65,12 +60,8 @@ other_than m n apart r is same = apart (sym is ∙ same)
 
 pub shows_each : (p : Pictured) (c : Configuration) → IsPictured p → Shows p c → ShowsEach p c
 shows_each p c is shows =
-    let parts : p.subs ++ (p.services ++ p.packets)
-    ≡ map raw_entry (map sub_entry c.subs)
-    ++ (map raw_entry (map service_entry c.services) ++ map raw_entry (map packet_entry c.packets)) =
-    sym (append_assoc p.subs p.services p.packets) ∙ shows ∙ all_said c in
-    let subs : AllByRecursion (λ r. r.ext ≡ 1) p.subs =
-    each_turned IsSubOf (λ r. r.ext ≡ 1) p.subs (λ r h. h.0) is.subs in
+    let parts = sym (append_assoc p.subs p.services p.packets) ∙ shows ∙ all_said c in
+    let subs = each_turned IsSubOf (λ r. r.ext ≡ 1) p.subs (λ r h. h.0) is.subs in
     let rest : AllByRecursion (λ r. r.ext ≢ 1) (p.services ++ p.packets) =
     each_both (λ r. r.ext ≢ 1) p.services p.packets
     (each_turned (λ r. r.ext ≡ 2) (λ r. r.ext ≢ 1) p.services (other_than 2 1 (λ e. omega arith)) is.services)
@@ -86,8 +77,7 @@ shows_each p c is shows =
     let one = split_off 1 p.subs (p.services ++ p.packets) (map raw_entry (map sub_entry c.subs)) _ subs
     (each_raw (λ r. r.ext ≡ 1) sub_entry c.subs (λ x. refl)) rest said_rest parts in
     let two = split_off 2 p.services p.packets (map raw_entry (map service_entry c.services)) _ is.services
-    (each_raw (λ r. r.ext ≡ 2) service_entry c.services (λ x. refl)) packets
-    (each_raw (λ r. r.ext ≢ 2) packet_entry c.packets (λ x e. omega arith)) one.1 in
+    (each_raw (λ r. r.ext ≡ 2) _ _ (λ x. refl)) packets (each_raw (λ r. r.ext ≢ 2) _ _ (λ x e. omega arith)) one.1 in
     record {
       subs = sym (twice sub_entry c.subs) ∙ sym one.0;
       services = sym (twice service_entry c.services) ∙ sym two.0;
@@ -131,12 +121,9 @@ pub makes_configuration :
     → IsAscending identifier_of p.subs → IsAscending identifier_of p.services → IsAscending identifier_of p.packets
     → length p.subs ≤ 64 → length p.services ≤ 64 → length p.packets ≤ 64 → IsConfiguration c
 makes_configuration p c h placed formed addressed up_s up_v up_p few_s few_v few_p =
-    let n_s : length c.subs ≡ length p.subs = sym (length-map c.subs (λ s. raw_entry (sub_entry s)))
-    ∙ ap length h.subs in
-    let n_v : length c.services ≡ length p.services = sym (length-map c.services (λ s. raw_entry (service_entry s)))
-    ∙ ap length h.services in
-    let n_p : length c.packets ≡ length p.packets = sym (length-map c.packets (λ s. raw_entry (packet_entry s)))
-    ∙ ap length h.packets in
+    let n_s = sym (length-map c.subs (λ s. raw_entry (sub_entry s))) ∙ ap length h.subs in
+    let n_v = sym (length-map c.services (λ s. raw_entry (service_entry s))) ∙ ap length h.services in
+    let n_p = sym (length-map c.packets (λ s. raw_entry (packet_entry s))) ∙ ap length h.packets in
     record {
       subs_ascend = members_ascend sub_key (λ s. raw_entry (sub_entry s)) IsPlaced c.subs sub_identified placed
           (subst (IsAscending identifier_of) (sym h.subs) up_s);
@@ -176,14 +163,11 @@ same_entries :
     (xs ys : List Entry) → SpellingIdentifies → AllByRecursion IsWithin xs → AllByRecursion IsWithin ys
     → map raw_entry xs ≡ map raw_entry ys → xs ≡ ys
 same_entries [] [] tells p q h = refl
-same_entries [] (y ∷ ys) tells p q h = absurd (cc)
-same_entries (x ∷ xs) [] tells p q h = absurd (cc)
 same_entries (x ∷ xs) (y ∷ ys) tells p q h =
-    let all : raw_entry x ∷ map raw_entry xs ≡ raw_entry y ∷ map raw_entry ys = h in
     let heads : raw_entry x ≡ raw_entry y = (cc) in
-    let tails : map raw_entry xs ≡ map raw_entry ys = (cc) in
     let one : x ≡ y = tells x y p.0 q.0 (ap (λ r. r.ext) heads) (ap (λ r. r.long) heads) (ap (λ r. r.bytes) heads) in
-    rw (one, same_entries xs ys tells p.1 q.1 tails) refl
+    rw (one, same_entries xs ys tells p.1 q.1 (cc)) refl
+same_entries _ _ tells p q h = absurd (cc)
 
 pub shows_one :
     (p : Pictured) (c d : Configuration) → SpellingIdentifies → FactsIdentify → IsConfiguration c → IsConfiguration d

@@ -56,8 +56,7 @@ heard_others : (figs : List Fig) (carried : List (List ℕ)) (l : Listening)
     → hear_figs (figs ++ map Other carried) l ≡ hear_figs figs l
 heard_others [] [] l = refl
 heard_others [] (c ∷ cs) l = heard_others [] cs l
-heard_others (f ∷ fs) carried l =
-    where_alike (hear_fig f l) (hear_figs (fs ++ map Other carried)) (hear_figs fs) (heard_others fs carried)
+heard_others (f ∷ fs) carried l = where_alike _ _ _ (heard_others fs carried)
 
 heard_alike : (fib : Fib) (carried : List (List ℕ)) (l : Listening)
     → hear_fib (with_carried fib carried) l ≡ hear_fib fib l
@@ -176,18 +175,16 @@ pub record IsAlike (before after : List Fib) : Type 0 where
 pub frame_alike : (may : Judge) (l : Listening) (frame sent : List Fib) → AreFilled may l frame sent
     → IsAlike frame sent
 frame_alike may l [] sent h =
-    subst (λ (xs : List Fib). IsAlike [] xs) (sym h)
-    (record { long = refl; damaged = refl; first = refl; opens = refl; lacks = refl; items = λ b. refl })
+    rw h (record { long = refl; damaged = refl; first = refl; opens = refl; lacks = refl; items = λ b. refl })
 frame_alike may l (fib ∷ fibs) sent h =
     let rest = frame_alike may (hearing_fib fib l) fibs h.1 h.4 in
-    let begins = begins_alike fib h.0 in
     let broken = damaged_alike fib h.0 in
     subst (λ (xs : List Fib). IsAlike (fib ∷ fibs) xs) (sym h.2) (record {
       long = ap suc rest.long;
       damaged = ap₂ (λ (d : Bool) (n : ℕ). cond d 1 0 + n) broken rest.damaged;
       first = ap₂ first_or (first_alike fib h.0) rest.first;
       opens = opening_alike fib h.0;
-      lacks = ap₂ (λ (d e : Bool). not d && not e) broken begins;
+      lacks = ap₂ (λ (d e : Bool). not d && not e) broken (begins_alike fib h.0);
       items = λ b. ap₂ (λ (xs ys : List Item). xs ++ ys) (items_alike b fib h.0) (rest.items false);
     })
 
@@ -243,8 +240,7 @@ silent_figs : (figs : List Fig) → first_in_figs figs ≡ None → hear_figs fi
 silent_figs [] none = refl
 silent_figs (Open second es ∷ fs) none =
     let both = first_none (first_raw (entries_in (Open second es))) (first_in_figs fs) none in
-    ap (λ (o : Option Listening). where_heard o (hear_figs fs))
-    (silent_entries (is_next second) (entries_in (Open second es)) both.0) ∙ silent_figs fs both.1
+    cc (silent_entries (is_next second) (entries_in (Open second es)) both.0, silent_figs fs both.1)
 silent_figs (Other given ∷ fs) none = silent_figs fs none
 
 not_there : (o : Option EnsembleInformation) → is_there o ≡ false → o ≡ None
@@ -283,8 +279,7 @@ cut_frames : (may : Judge) (l : Listening) (frames : List (List Fib)) (rest sent
     × AreFilled may (hearing_fibs (flat frames) l) rest end
 cut_frames may l [] rest sent h = ([], sent, refl, refl, h)
 cut_frames may l (frame ∷ frames) rest sent h =
-    let apart = cut_filled may l frame (flat frames ++ rest) sent
-    (subst (λ (xs : List Fib). AreFilled may l xs sent) (append_assoc frame (flat frames) rest) h) in
+    let apart = cut_filled may l frame (flat frames ++ rest) sent (rw (← append_assoc frame (flat frames) rest) h) in
     let more = cut_frames may (hearing_fibs frame l) frames rest apart.1 apart.4 in (
       apart.0 ∷ more.0,
       more.1,
@@ -346,10 +341,9 @@ rest_cut : (may : Judge) (l : Listening) (size : ℕ) (rest end : List Fib) → 
     → AreFrames size [] rest → AreFrames size [] end
 rest_cut may l size [] end h cut = rw (h) tt
 rest_cut may l size (x ∷ xs) end h cut =
-    let long = (frame_alike may (hearing_fib x l) xs h.1 h.4).long in
     rw (h.2) (
       one_frame may l (x ∷ xs) (with_carried x h.0 ∷ h.1) (h.0, h.1, refl, h.3, h.4) cut.0,
-      omega (arith, long, cut.1),
+      omega (arith, (frame_alike may (hearing_fib x l) xs h.1 h.4).long, cut.1),
     )
 
 frames_cut : (may : Judge) (l : Listening) (size : ℕ) (frames ones : List (List Fib)) (rest end : List Fib)
@@ -382,8 +376,7 @@ framed_alike may size stream sent skipped frames rest h f =
       framed = record {
         whole = rw (← more.2) apart.2;
         before = none_hold may untuned skipped apart.0 apart.3 f.before;
-        begun = subst (λ (xs : List Fib). HoldsFirst xs) more.2
-            (first_holds may untuned (flat frames ++ rest) apart.1 behind f.begun);
+        begun = rw (← more.2) (first_holds may untuned (flat frames ++ rest) apart.1 behind f.begun);
         cut = frames_cut may untuned size frames more.0 rest more.1 more.3 more.4 f.cut;
       };
       skipped_alike = apart.3;

@@ -107,8 +107,7 @@ longer_by false false fig m one other e f = record { more = []; new_is = f ∙ s
 longer_figs : (figs : List (List ℕ)) (m : Merging) → IsLonger m.waiting (with_figs figs m).waiting
 longer_figs [] m = record { more = []; new_is = sym (append-nil m.waiting) }
 longer_figs (fig ∷ figs) m =
-    let one = longer_by (waits fig m.waiting) (ltb (length m.waiting) most) fig m
-    (record m { waiting = m.waiting ++ fig ∷ [] }) (record m { dropped = limited (m.dropped + 1) }) refl refl in
+    let one = longer_by _ _ _ _ _ _ refl refl in
     let rest = longer_figs figs (with_fig fig m) in
     record {
       more = one.more ++ rest.more;
@@ -239,10 +238,7 @@ empty_fill fib m fig count is h b =
     let ok = agrees_with [] m.heard in
     let short : AllByRecursion (λ g. length g ≤ 30) (b.before ++ fig ∷ b.after) =
     rw (← b.waiting_is) (all_short m.waiting h.passed_over) in
-    let fewer : Waits count fig (turns_in ok 30 (b.before ++ fig ∷ b.after))
-    (left_waiting ok 30 (b.before ++ fig ∷ b.after)) =
-    (fewer_fill ok 30 fig b.before b.after count short b.few).1 in
-    rw (is) (rw (b.waiting_is) fewer)
+    rw (is) (rw (b.waiting_is) (fewer_fill ok 30 fig b.before b.after count short b.few).1)
 
 empty_carries : (fib : Fib) (m : Merging) (fig : List ℕ) → fib ≡ Some [] → IsMerging m → IsBehind 0 fig m.waiting
     → Contains (turns_by fib m) fig
@@ -250,8 +246,7 @@ empty_carries fib m fig is h b =
     let ok = agrees_with [] m.heard in
     let short : AllByRecursion (λ g. length g ≤ 30) (b.before ++ fig ∷ b.after) =
     rw (← b.waiting_is) (all_short m.waiting h.passed_over) in
-    let now : Contains (turns_in ok 30 (b.before ++ fig ∷ b.after)) fig =
-    (fewer_fill ok 30 fig b.before b.after 0 short (omega (arith, b.few))).0 (omega (arith, b.few)) in
+    let now = (fewer_fill ok 30 fig b.before b.after 0 short (omega (arith, b.few))).0 (omega (arith, b.few)) in
     rw (is) (rw (b.waiting_is) now)
 
 empty_step : (r : Reading) (s : Step) (m : Merging) (fig : List ℕ) (count : ℕ) → FillsEmpty r s → IsMerging m
@@ -297,10 +292,8 @@ frame_waits r steps m fig count e h b =
     let mid = after_steps r e.before m in
     let later = after_step r e.step mid in
     let rest = all_turns r e.after later in
-    let joins : all_turns r (e.before ++ e.step ∷ e.after) m ≡ all_turns r e.before m
-    ++ (turns_at r e.step mid ++ rest) = turns_then r e.before (e.step ∷ e.after) m in
-    let ends : after_steps r (e.before ++ e.step ∷ e.after) m ≡ after_steps r e.after later =
-    after_then r e.before (e.step ∷ e.after) m in
+    let joins = turns_then r e.before (e.step ∷ e.after) m in
+    let ends = after_then r e.before (e.step ∷ e.after) m in
     subst (λ (ss : List Step). Waits count fig (all_turns r ss m) (after_steps r ss m).waiting) (sym e.steps_are)
     (subst₂ (λ (xs : List (List ℕ)) (n : Merging). Waits count fig xs n.waiting) (sym joins) (sym ends)
     (elim (waits_steps r e.before m fig (suc count) b) [
@@ -336,7 +329,6 @@ frames_carry r (frame ∷ frames) m fig (suc count) all h b lt =
 behind_of : (fig : List ℕ) (waiting : List (List ℕ)) (count : ℕ) → Contains waiting fig → length waiting ≤ suc count
     → IsBehind count fig waiting
 behind_of fig waiting count c few =
-    let next : suc c.0 ≡ c.0 + 1 = omega arith in
     record {
       before = take c.0 waiting;
       after = drop (suc c.0) waiting;

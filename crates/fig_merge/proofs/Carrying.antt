@@ -102,15 +102,12 @@ module _ (ok : List ℕ → Bool) (bytes0 bytes fig : List ℕ) (waiting front r
       → IsPassed ok bytes0 waiting room0 (bytes ++ fig) front rest (room - length fig) (count + 1) stale
   passed_in fits is h =
       let more = carried_in ok (room - length fig) rest in
-      let longer : length (carried_in ok room (fig ∷ rest)) ≡ length (fig ∷ more) =
-      ap length (carried_here ok fig rest room fits is) in
-      let all = h.counted in
       record {
         carried = append_assoc bytes fig (concat more)
             ∙ ap (λ xs. bytes ++ concat xs) (sym (carried_here ok fig rest room fits is)) ∙ h.carried;
         left = ap (λ n. front ++ left_waiting ok n rest) (sym (room_carried ok fig room is))
             ∙ ap (λ xs. front ++ xs) (sym (left_here ok fig rest room fits)) ∙ h.left;
-        counted = omega (arith, longer, all);
+        counted = omega (arith, ap length (carried_here ok fig rest room fits is));
         gone = rw (← none_stale ok fig rest room fits is) h.gone;
       }
 
@@ -118,15 +115,12 @@ module _ (ok : List ℕ → Bool) (bytes0 bytes fig : List ℕ) (waiting front r
       → IsPassed ok bytes0 waiting room0 bytes front (fig ∷ rest) room count stale
       → IsPassed ok bytes0 waiting room0 bytes front rest room count (stale + 1)
   passed_by fits is h =
-      let longer : length (stale_in ok room (fig ∷ rest)) ≡ length (fig ∷ stale_in ok room rest) =
-      ap length (stale_here ok fig rest room fits is) in
-      let all = h.gone in
       record {
         carried = rw (← none_carried ok fig rest room fits is) h.carried;
         left = ap (λ n. front ++ left_waiting ok n rest) (sym (room_stale ok fig room is))
             ∙ ap (λ xs. front ++ xs) (sym (left_here ok fig rest room fits)) ∙ h.left;
         counted = rw (← none_carried ok fig rest room fits is) h.counted;
-        gone = omega (arith, longer, all);
+        gone = omega (arith, ap length (stale_here ok fig rest room fits is));
       }
 
 -- ---- the end of a FIB
@@ -135,9 +129,6 @@ take_zeros zero m le = refl
 take_zeros (suc n) zero le = absurd (omega (arith, le))
 take_zeros (suc n) (suc m) le = rw (take_zeros n m (omega (arith, le))) refl
 
-padding_is : (n : ℕ) → n ≤ 29 → take {A = ℕ} (suc n) (255 ∷ replicate 29 0) ≡ 255 ∷ replicate n 0
-padding_is n le = rw (take_zeros n 29 le) refl
-
 padding_fills : (front : List ℕ) → length front ≤ 30 → front
     ++ take (30 - length front) (255 ∷ replicate 29 0) ≡ filled front
 padding_fills front le =
@@ -145,7 +136,7 @@ padding_fills front le =
     elim (cases_lt (length front) 30) [
       | inl lt ↦ let more : 30 - length front ≡ suc (29 - length front) = omega (arith, lt) in
           ap (λ n. front ++ take n (255 ∷ replicate 29 0)) more
-          ∙ ap (λ xs. front ++ xs) (padding_is (29 - length front) (omega arith))
+          ∙ ap (λ xs. front ++ xs) (rw (take_zeros (29 - length front) 29 (omega arith)) refl)
           ∙ sym (cond-true (ltb (length front) 30) (front ++ marker) front (lt-ltb _ _ lt))
       | inr ge ↦ let none : 30 - length front ≡ 0 = omega (arith, ge) in
           ap (λ n. front ++ take n (255 ∷ replicate 29 0)) none ∙ append-nil front
@@ -164,8 +155,7 @@ padded bytes padding new used whole within is written =
     let few : length end ≡ 30 - used = length-take-le (30 - used) padding (omega (arith, long)) in
     let all : length (front ++ end) ≡ 30 = omega (arith, length-append front end, size, few, within) in
     let fills : front ++ take (30 - used) (255 ∷ replicate 29 0) ≡ filled front =
-    ap (λ n. front ++ take (30 - n) (255 ∷ replicate 29 0)) (sym size)
-    ∙ padding_fills front (omega (arith, size, within)) in
+    cc (size, padding_fills front (omega (arith, size, within))) in
     rw (written ∙ sym (append_assoc front end rest)) (take_at (front ++ end) rest 30 all
     ∙ ap (λ xs. front ++ take (30 - used) xs) is ∙ fills)
 
@@ -185,10 +175,8 @@ pub step_over : (ok : List ℕ → Bool) (bytes0 bytes fig : List ℕ) (waiting 
     → room < length fig → IsPassed ok bytes0 waiting room0 bytes (take at figs) (drop at figs) room count stale
     → IsPassed ok bytes0 waiting room0 bytes (take (at + 1) figs) (drop (at + 1) figs) room count stale
 step_over ok bytes0 bytes fig waiting figs room0 room at count stale lt is long h =
-    let here : IsPassed ok bytes0 waiting room0 bytes (take at figs) (fig ∷ drop (at + 1) figs) room count stale =
-    rw (← cut_at figs at fig lt is) h in
     rw (taken_at figs at fig lt is) (passed_over ok bytes0 bytes fig waiting (take at figs) (drop (at + 1) figs) room0
-    room count stale (lt-leb (length fig) room long) here)
+    room count stale (lt-leb (length fig) room long) (rw (← cut_at figs at fig lt is) h))
 
 -- a FIG is removed
 module _ (ok : List ℕ → Bool) (bytes0 bytes fig : List ℕ) (waiting figs new : List (List ℕ))
@@ -196,18 +184,15 @@ module _ (ok : List ℕ → Bool) (bytes0 bytes fig : List ℕ) (waiting figs ne
     (short : length fig ≤ room) (removed : new ≡ take at figs ++ drop (suc at) figs)
     (h : IsPassed ok bytes0 waiting room0 bytes (take at figs) (drop at figs) room count stale) where
   front : take at new ≡ take at figs
-  front = ap (take at) removed ∙ take_at (take at figs) (drop (suc at) figs) at
-      (length-take-le at figs (omega (arith, lt)))
+  front = cc (removed, take_at (take at figs) (drop (suc at) figs) at (length-take-le at figs (omega (arith, lt))))
 
   back : drop at new ≡ drop (at + 1) figs
   back =
       let next : suc at ≡ at + 1 = omega arith in
-      ap (drop at) removed ∙ drop_at (take at figs) (drop (suc at) figs) at (length-take-le at figs (omega (arith, lt)))
-      ∙ ap (λ n. drop n figs) next
+      cc (removed, drop_at (take at figs) (drop (suc at) figs) at (length-take-le at figs (omega (arith, lt))), next)
 
   here : IsPassed ok bytes0 waiting room0 bytes (take at figs) (fig ∷ drop (at + 1) figs) room count stale
-  here = subst (λ (xs : List (List ℕ)). IsPassed ok bytes0 waiting room0 bytes (take at figs) xs room count stale)
-      (cut_at figs at fig lt is) h
+  here = rw (← cut_at figs at fig lt is) h
 
   pub step_in : ok fig ≡ true → IsPassed ok bytes0 waiting room0 (bytes ++ fig) (take at new) (drop at new)
       (room - length fig) (count + 1) stale
@@ -228,9 +213,8 @@ module _ (ok : List ℕ → Bool) (bytes0 bytes fig : List ℕ) (waiting figs ne
 pub written_behind : (fib new fig : List ℕ) (used : ℕ) → used + length fig ≤ length fib
     → new ≡ take used fib ++ (fig ++ drop (used + length fig) fib) → take (used + length fig) new ≡ take used fib ++ fig
 written_behind fib new fig used within is =
-    let size : length (take used fib) ≡ used = length-take-le used fib (omega (arith, within)) in
     let all : length (take used fib ++ fig) ≡ used + length fig =
-    omega (arith, length-append (take used fib) fig, size) in
+    omega (arith, length-append (take used fib) fig, length-take-le used fib (omega (arith, within))) in
     rw (is ∙ sym (append_assoc (take used fib) fig (drop (used + length fig) fib)))
     (take_at (take used fib ++ fig) (drop (used + length fig) fib) (used + length fig) all)
 

@@ -197,8 +197,7 @@ none_at period past fig agrees =
 
 both_true : (a b : Bool) → (a && b) ≡ true → (a ≡ true) × (b ≡ true)
 both_true true true e = (refl, refl)
-both_true true false e = absurd (false≢true e)
-both_true false b e = absurd (false≢true e)
+both_true _ _ e = absurd (false≢true e)
 
 pub found_quietly : (step period : ℕ) (carried : List (List ℕ)) (rest : List Sent) (past : List Moment)
     (noted : List Contradiction) → list_all (fig_agrees (listener_after past).current) carried ≡ true
@@ -217,9 +216,7 @@ noted_quietly period [] rest past noted all = refl
 noted_quietly period (c ∷ cs) rest past noted all =
     let both = both_true (fig_agrees (listener_after past).current c)
     (list_all (fig_agrees (listener_after past).current) cs) all in
-    ap (λ some. noted_after period past (noted_with noted some) (map FigSent cs ++ rest)) (none_at period past c both.0)
-    ∙ ap (λ n. noted_after period past n (map FigSent cs ++ rest)) (append-nil noted)
-    ∙ noted_quietly period cs rest past noted both.1
+    cc (none_at period past c both.0, append-nil noted, noted_quietly period cs rest past noted both.1)
 
 others_sent : (first : Bool) (figs : List Fig) (carried : List (List ℕ))
     → figs_sent first (figs ++ map Other carried) ≡ figs_sent first figs ++ map FigSent carried
@@ -255,12 +252,10 @@ found_alike step period first (None ∷ fibs) sent past noted l h is =
     rw (h.2) (found_alike step period false fibs h.1 past noted l h.4 is)
 found_alike step period first (Some figs ∷ fibs) sent past noted l h is =
     let own = figs_sent first figs in
-    let others = map FigSent h.0 in
     let later = fibs_sent false h.1 in
-    let rest = fibs_sent false fibs in
     ap (λ fs. findings_at_sent step period past noted (fibs_sent first fs)) h.2
     ∙ ap (λ ss. findings_at_sent step period past noted (ss ++ later)) (others_sent first figs h.0)
-    ∙ ap (findings_at_sent step period past noted) (append_assoc own others later)
+    ∙ ap (findings_at_sent step period past noted) (append_assoc own (map FigSent h.0) later)
     ∙ by (λ then now is. found_alike step period false fibs h.1 then now (hearing figs l) h.4 is)
     (runs_full step period past (items_in own)) refl
   where
@@ -294,7 +289,6 @@ noted_alike step period first (Some figs ∷ fibs) sent past noted l room h is =
     let own = figs_sent first figs in
     let others = map FigSent h.0 in
     let later = fibs_sent false h.1 in
-    let rest = fibs_sent false fibs in
     let then = said (items_in own) past in
     let now = noted_after period past noted own in
     let front = front_free step period (figs_items first figs) (fibs_items false fibs) past room in
@@ -304,7 +298,7 @@ noted_alike step period first (Some figs ∷ fibs) sent past noted l room h is =
     rw (h.2, others_sent first figs h.0, append_assoc own others later)
     (noted_append period own (others ++ later) past noted ∙ noted_quietly period h.0 later then now agree.1
     ∙ noted_alike step period false fibs h.1 then now (hearing figs l) behind h.4 agree.0
-    ∙ sym (noted_append period own rest past noted))
+    ∙ sym (noted_append period own (fibs_sent false fibs) past noted))
 
 -- ---- frames
 
@@ -325,12 +319,11 @@ frames_found : (size step period : ℕ) (frames sent : List (List Fib)) (past : 
     → findings_from size step period past noted sent ≡ findings_from size step period past noted frames
 frames_found size step period [] sent past noted l h is = ap (findings_from size step period past noted) h
 frames_found size step period (frame ∷ frames) sent past noted l h is =
-    let a = frame_alike agreeing l frame h.0 h.3 in
     ap (findings_from size step period past noted) h.2
     ∙ ap₂ (λ (xs ys : List Finding). xs ++ ys) (frame_found size step period past noted l frame h.0 h.3 is)
     (ap (λ (full : Bool). cond full []
     (findings_from size step period (past_after_frame step past h.0) (noted_in period past noted h.0) h.1))
-    (ap (runs_full step period past) (a.items true))
+    (ap (runs_full step period past) ((frame_alike agreeing l frame h.0 h.3).items true))
     ∙ by (λ then now is. frames_found size step period frames h.1 then now (hearing_fibs frame l) h.4 is)
     (runs_full step period past (frame_items frame)) refl)
   where

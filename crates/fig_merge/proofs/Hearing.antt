@@ -17,14 +17,7 @@ judges figs l new k heard is = ap (λ (p : Pictured). fig_agrees p) (is ∙ ap (
 
 abbrev made : Merging → List (List ℕ) → (carried stale : ℕ) → Listening → Merging
 made m waiting carried stale heard =
-    record {
-      waiting = waiting;
-      carried = carried;
-      dropped = m.dropped;
-      stale = stale;
-      damaged = m.damaged;
-      heard = heard;
-    }
+    record m { waiting = waiting; carried = carried; stale = stale; heard = heard }
 
 pub fill_is : (figs : List Fig) (m : Merging) (k : List ℕ → Bool) (used : ℕ) (waiting : List (List ℕ))
     (carried stale more gone : ℕ) (heard : Listening)
@@ -36,15 +29,7 @@ fill_is figs m k used waiting carried stale more gone heard size same left one o
     let ok = agrees_with figs m.heard in
     let waits_on : waiting ≡ left_waiting ok (room_of figs) m.waiting = rw (← same, ← size) left in
     let sent : carried ≡ limited (m.carried + length (carried_in ok (room_of figs) m.waiting)) =
-    c ∙ ap (λ n. limited (m.carried + n)) (one ∙ ap (λ n. length (carried_in k (30 - n) m.waiting)) size
-    ∙ ap (λ (j : List ℕ → Bool). length (carried_in j (room_of figs) m.waiting)) same) in
+    cc (c, one, size, same) in
     let left_out : stale ≡ limited (m.stale + length (stale_in ok (room_of figs) m.waiting)) =
-    s ∙ ap (λ n. limited (m.stale + n)) (other ∙ ap (λ n. length (stale_in k (30 - n) m.waiting)) size
-    ∙ ap (λ (j : List ℕ → Bool). length (stale_in j (room_of figs) m.waiting)) same) in
-    ap (λ (w : List (List ℕ)). made m w carried stale heard) waits_on
-    ∙ ap (λ n. made m (left_waiting ok (room_of figs) m.waiting) n stale heard) sent
-    ∙ ap (λ n. made m (left_waiting ok (room_of figs) m.waiting)
-    (limited (m.carried + length (carried_in ok (room_of figs) m.waiting))) n heard) left_out
-    ∙ ap (λ (l : Listening). made m (left_waiting ok (room_of figs) m.waiting)
-    (limited (m.carried + length (carried_in ok (room_of figs) m.waiting)))
-    (limited (m.stale + length (stale_in ok (room_of figs) m.waiting))) l) hears
+    cc (s, other, size, same) in
+    cc (waits_on, sent, left_out, hears)

@@ -36,26 +36,21 @@ fate_by : (size : List (List ℕ) → ℕ) → IsMeasure size → (there room : 
     + size (cond there [] (cond room [] (fig ∷ [])))
 fate_by size is true room fig m one other e f = omega (arith, is.none)
 fate_by size is false true fig m one other e f =
-    let all : size one.waiting ≡ size m.waiting + size (fig ∷ []) = ap size e ∙ both size is m.waiting (fig ∷ []) in
-    omega (arith, is.none, all)
+    omega (arith, is.none, ap size e ∙ both size is m.waiting (fig ∷ []))
 fate_by size is false false fig m one other e f =
-    let all : size other.waiting ≡ size m.waiting = ap size f in
-    omega (arith, is.none, all)
+    omega (arith, is.none, ap size f)
 
 fate : (size : List (List ℕ) → ℕ) → IsMeasure size → (fig : List ℕ) (m : Merging)
     → size (fig ∷ []) + size m.waiting
     ≡ size (with_fig fig m).waiting + size (cond (waits fig m.waiting) (fig ∷ []) [])
     + size (cond (waits fig m.waiting) [] (cond (ltb (length m.waiting) most) [] (fig ∷ [])))
-fate size is fig m =
-    fate_by size is (waits fig m.waiting) (ltb (length m.waiting) most) fig m
-    (record m { waiting = m.waiting ++ fig ∷ [] }) (record m { dropped = limited (m.dropped + 1) }) refl refl
+fate size is fig m = fate_by _ is _ _ _ _ _ _ refl refl
 
 fates : (size : List (List ℕ) → ℕ) → IsMeasure size → (figs : List (List ℕ)) (m : Merging)
     → size figs + size m.waiting ≡ size (with_figs figs m).waiting + size (repeated_of figs m)
     + size (dropped_of figs m)
 fates size is [] m = omega (arith, is.none)
 fates size is (fig ∷ figs) m =
-    let again : List (List ℕ) = cond (waits fig m.waiting) (fig ∷ []) [] in
     let gone : List (List ℕ) = cond (waits fig m.waiting) [] (cond (ltb (length m.waiting) most) [] (fig ∷ [])) in
     let later = with_fig fig m in
     omega (
@@ -63,7 +58,7 @@ fates size is (fig ∷ figs) m =
       is.more fig figs,
       fate size is fig m,
       fates size is figs later,
-      both size is again (repeated_of figs later),
+      both size is (cond (waits fig m.waiting) (fig ∷ []) []) (repeated_of figs later),
       both size is gone (dropped_of figs later),
     )
 
@@ -79,9 +74,7 @@ parts : (size : List (List ℕ) → ℕ) → IsMeasure size → (ok : List ℕ �
     → size (turns_in ok room waiting) + size (left_waiting ok room waiting) ≡ size waiting
 parts size is ok room [] = omega (arith, is.none)
 parts size is ok room (fig ∷ figs) =
-    parts_by size is (leb (length fig) room) fig figs (turns_in ok (room_after ok room fig) figs)
-    (left_waiting ok (room_after ok room fig) figs) (turns_in ok room figs) (left_waiting ok room figs)
-    (parts size is ok (room_after ok room fig) figs) (parts size is ok room figs)
+    parts_by _ is _ _ _ _ _ _ _ (parts size is ok (room_after ok room fig) figs) (parts size is ok room figs)
 
 -- those whose turn comes are carried, or stale
 judged_by : (size : List (List ℕ) → ℕ) → IsMeasure size
@@ -218,9 +211,8 @@ none_left : (x : List ℕ) (ok : List ℕ → Bool) (room : ℕ) (waiting : List
 none_left x ok room [] h = refl
 none_left x ok room (fig ∷ figs) h =
     let parts = or_none (bytes_eq x fig) (waits x figs) h in
-    none_left_by (leb (length fig) room) x fig (left_waiting ok (room_after ok room fig) figs)
-    (left_waiting ok room figs) parts.0
-    (none_left x ok (room_after ok room fig) figs parts.1) (none_left x ok room figs parts.1)
+    none_left_by _ x fig _ _ parts.0 (none_left x ok (room_after ok room fig) figs parts.1)
+    (none_left x ok room figs parts.1)
 
 different_by : (fits : Bool) (fig : List ℕ) (there on : List (List ℕ)) → AreDifferent there → waits fig on ≡ false
     → AreDifferent on → AreDifferent (cond fits there (fig ∷ on))
@@ -317,12 +309,10 @@ kept_fill None m c d e k = record {
 }
 kept_fill (Some figs) m c d e k =
     let ok = agrees_with figs m.heard in
-    let count = length (carried_in ok (room_of figs) m.waiting) in
-    let more = length (stale_in ok (room_of figs) m.waiting) in
     record {
-      carried_is = rw (k.carried_is) (more_limited c count);
+      carried_is = rw (k.carried_is) (more_limited c (length (carried_in ok (room_of figs) m.waiting)));
       dropped_is = k.dropped_is;
-      stale_is = rw (k.stale_is) (more_limited e more);
+      stale_is = rw (k.stale_is) (more_limited e (length (stale_in ok (room_of figs) m.waiting)));
       different = different_left ok (room_of figs) m.waiting k.different;
       few = omega (arith, few_left ok (room_of figs) m.waiting, k.few);
     }
@@ -345,9 +335,8 @@ kept_steps : (r : Reading) (steps : List Step) (m : Merging) (c d e : ℕ) → I
 kept_steps r [] m c d e k = counted m c d e (c + 0) (d + 0) (e + 0) (omega arith) (omega arith) (omega arith) k
 kept_steps r (s ∷ ss) m c d e k =
     let later = after_step r s m in
-    let one = kept_step r s m c d e k in
     let more = kept_steps r ss later (c + length (carried_at r s m)) (d + length (dropped_of (taken_at r s) m))
-    (e + length (stale_at r s m)) one in
+    (e + length (stale_at r s m)) (kept_step r s m c d e k) in
     counted (after_steps r ss later) _ _ _ (c + length (carried_at r s m ++ all_carried r ss later))
     (d + length (dropped_of (taken_at r s) m ++ all_dropped r ss later))
     (e + length (stale_at r s m ++ all_stale r ss later))

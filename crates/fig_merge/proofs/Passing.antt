@@ -47,8 +47,7 @@ pub all_carried_of : (P : List ℕ → Type 0) (ok : List ℕ → Bool) (turns :
     → AllByRecursion P (carried_of ok turns)
 all_carried_of P ok [] all = tt
 all_carried_of P ok (fig ∷ figs) all =
-    carried_by_case P (ok fig) fig (carried_of ok figs) (carried_of ok figs) all.0 (all_carried_of P ok figs all.1)
-    (all_carried_of P ok figs all.1)
+    carried_by_case _ _ _ _ _ all.0 (all_carried_of P ok figs all.1) (all_carried_of P ok figs all.1)
 
 pub all_carried : (P : List ℕ → Type 0) (ok : List ℕ → Bool) (room : ℕ) (waiting : List (List ℕ))
     → AllByRecursion P waiting → AllByRecursion P (carried_in ok room waiting)
@@ -74,9 +73,7 @@ pub all_left : (P : List ℕ → Type 0) (ok : List ℕ → Bool) (room : ℕ) (
     → AllByRecursion P waiting → AllByRecursion P (left_waiting ok room waiting)
 all_left P ok room [] all = tt
 all_left P ok room (fig ∷ figs) all =
-    left_by_case P (leb (length fig) room) fig (left_waiting ok (room_after ok room fig) figs)
-    (left_waiting ok room figs) all.0
-    (all_left P ok (room_after ok room fig) figs all.1) (all_left P ok room figs all.1)
+    left_by_case _ _ _ _ _ all.0 (all_left P ok (room_after ok room fig) figs all.1) (all_left P ok room figs all.1)
 
 few_by_case : (fits : Bool) (fig : List ℕ) (there gone : List (List ℕ)) (n : ℕ) → length there ≤ n → length gone ≤ n
     → length (cond fits there (fig ∷ gone)) ≤ suc n
@@ -87,9 +84,7 @@ pub few_left : (ok : List ℕ → Bool) (room : ℕ) (waiting : List (List ℕ))
     → length (left_waiting ok room waiting) ≤ length waiting
 few_left ok room [] = omega arith
 few_left ok room (fig ∷ figs) =
-    few_by_case (leb (length fig) room) fig (left_waiting ok (room_after ok room fig) figs) (left_waiting ok room figs)
-    (length figs)
-    (few_left ok (room_after ok room fig) figs) (few_left ok room figs)
+    few_by_case _ _ _ _ _ (few_left ok (room_after ok room fig) figs) (few_left ok room figs)
 
 fits_by_case : (ok : List ℕ → Bool) (agrees fits : Bool) (room : ℕ) (fig : List ℕ) (there gone : List (List ℕ))
     → ok fig ≡ agrees → leb (length fig) room ≡ fits
@@ -111,24 +106,19 @@ pub carried_fit : (ok : List ℕ → Bool) (room : ℕ) (waiting : List (List �
     → length (concat (carried_in ok room waiting)) ≤ room
 carried_fit ok room [] = omega arith
 carried_fit ok room (fig ∷ figs) =
-    fits_by_case ok (ok fig) (leb (length fig) room) room fig (turns_in ok (room_after ok room fig) figs)
-    (turns_in ok room figs) refl refl
-    (carried_fit ok (room_after ok room fig) figs) (carried_fit ok room figs)
+    fits_by_case _ _ _ _ _ _ _ refl refl (carried_fit ok (room_after ok room fig) figs) (carried_fit ok room figs)
 
 -- ---- the data bytes of a FIB
 pub data_short : (bytes : List ℕ) (figs : List Fig) → IsFib bytes figs → length (data_of figs) ≤ 30
 data_short bytes figs h =
     let front = front_of_figs (take 30 bytes) figs h.1 in
-    let size : length (take 30 bytes) ≡ length (data_of figs) + length front.0 =
-    ap length front.1 ∙ length-append (data_of figs) front.0 in
-    omega (arith, size, length-take 30 bytes)
+    omega (arith, ap length front.1 ∙ length-append (data_of figs) front.0, length-take 30 bytes)
 
 pub data_front : (bytes : List ℕ) (figs : List Fig) → IsFib bytes figs
     → take (length (data_of figs)) bytes ≡ data_of figs
 data_front bytes figs h =
     let front = front_of_figs (take 30 bytes) figs h.1 in
-    let short = data_short bytes figs h in
-    sym (take-take (length (data_of figs)) 30 bytes short)
+    sym (take-take (length (data_of figs)) 30 bytes (data_short bytes figs h))
     ∙ ap (take (length (data_of figs))) front.1 ∙ take_at (data_of figs) front.0 (length (data_of figs)) refl
 
 -- ---- the whole FIB

@@ -9,5 +9,4 @@ handed_on None begun taken after [] text k a m none = tt
 handed_on (Some b) None taken after [] text k a m none = absurd k
 handed_on (Some b) (Some d) None after [] text k a m none = absurd a
 handed_on (Some b) (Some d) (Some f) None [] text k a m none = absurd m
-handed_on (Some b) (Some d) (Some f) (Some x) [] text k a m none =
-    sym (append-nil x) ∙ m ∙ a ∙ ap (λ (l : List ℕ). l ++ text) k
+handed_on (Some b) (Some d) (Some f) (Some x) [] text k a m none = cc (append-nil x, m, a, k)

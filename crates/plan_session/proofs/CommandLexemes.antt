@@ -20,10 +20,8 @@ keyword_in Show = ShowWord
 abbrev pub tail_words : Command → List (List ℕ)
 tail_words (Contact c closed) = decimal c ∷ level_text closed ∷ []
 tail_words (Run n) = decimal n ∷ []
-tail_words Next = []
 tail_words (Break line) = decimal line ∷ []
-tail_words Clear = []
-tail_words Show = []
+tail_words _ = []
 
 cons_not_empty : {T : Type 0} {x : T} {xs : List T} → x ∷ xs ≡ [] → ⊥
 cons_not_empty e = absurd (cc)

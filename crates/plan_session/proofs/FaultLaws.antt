@@ -53,30 +53,23 @@ module _ {T : Type 0} (spelled : T → List (List ℕ)) (IsItem : T → Type 0) 
       → us ≡ xs ++ z → ys ≡ z ++ vs → e ≡ f
   by_split text e f us vs xs ys [] b h k front rest =
       let same : us ≡ xs = front ∙ append-nil xs in
-      let there : IsFaultAfter spelled IsItem text (lexemes_of text xs) vs e =
-      subst (λ (l : List Token). IsFaultAfter spelled IsItem text (lexemes_of text l) vs e) same h in
-      let here : IsFaultAfter spelled IsItem text (lexemes_of text xs) vs f =
-      subst (λ (l : List Token). IsFaultAfter spelled IsItem text (lexemes_of text xs) l f) rest k in
+      let there = subst (λ (l : List Token). IsFaultAfter spelled IsItem text (lexemes_of text l) vs e) same h in
+      let here = subst (λ (l : List Token). IsFaultAfter spelled IsItem text (lexemes_of text xs) l f) rest k in
       same_fault text (lexemes_of text xs) vs e f there here
   by_split text e f us vs xs ys (t ∷ z) b h k front rest =
-      absurd (not_among text xs z (z ++ vs) t f
-      (subst (λ (l : List Token). Begins spelled IsItem (lexemes_of text l)) front b)
-      (subst (λ (l : List Token). IsFaultAfter spelled IsItem text (lexemes_of text xs) l f) rest k))
+      absurd (not_among text xs z (z ++ vs) t f (rw (← front) b) (rw (← rest) k))
 
   by_either : (text : List ℕ) (tokens : List Token) (e f : EventFault) (h : HasItemFault spelled IsItem text tokens e)
       (k : HasItemFault spelled IsItem text tokens f)
       → ((z : List Token) × (h.front ≡ k.front ++ z) × (k.rest ≡ z ++ h.rest))
       ⊎ ((z : List Token) × (k.front ≡ h.front ++ z) × (h.rest ≡ z ++ k.rest)) → e ≡ f
-  by_either text tokens e f h k (inl s) =
-      by_split text e f h.front h.rest k.front k.rest s.0 h.begins h.fault_is k.fault_is s.1 s.2
-  by_either text tokens e f h k (inr s) =
-      sym (by_split text f e k.front k.rest h.front h.rest s.0 k.begins k.fault_is h.fault_is s.1 s.2)
+  by_either text tokens e f h k (inl s) = by_split _ _ _ _ _ _ _ _ h.begins h.fault_is k.fault_is s.1 s.2
+  by_either text tokens e f h k (inr s) = sym (by_split _ _ _ _ _ _ _ _ k.begins k.fault_is h.fault_is s.1 s.2)
 
   -- tokens have at most one fault
   one_of_tokens : (text : List ℕ) (tokens : List Token) (e f : EventFault) → HasItemFault spelled IsItem text tokens e
       → HasItemFault spelled IsItem text tokens f → e ≡ f
-  one_of_tokens text tokens e f h k =
-      by_either text tokens e f h k (split_either h.front k.front h.rest k.rest (sym h.whole ∙ k.whole))
+  one_of_tokens text tokens e f h k = by_either text _ e f h k (split_either _ _ _ _ (sym h.whole ∙ k.whole))
 
   one_by : (text : List ℕ) (e f : EventFault) (r : Result (List Token) ScriptFault) → cut_of text ≡ r
       → ReportsFirstFault text e → ReportsItemFault spelled IsItem text e → ReportsFirstFault text f
@@ -91,24 +84,15 @@ module _ {T : Type 0} (spelled : T → List (List ℕ)) (IsItem : T → Type 0) 
       → lexemes_of text (front ++ rest) ≡ flat_map spelled items → ⊥
   not_listed text front [] (Expected p) items h in_range all =
       h.1 items in_range (ap (lexemes_of text) (sym (append-nil front)) ∙ all)
-  not_listed text front [] (Number p) items h in_range all = h
-  not_listed text front [] (Byte p) items h in_range all = h
-  not_listed text front [] Memory items h in_range all = h
   not_listed text front (t ∷ ts) e items h in_range all =
-      let begins : Begins spelled IsItem (lexemes_of text (front ++ t ∷ ts)) =
-      record {
-        items = items;
-        more = [];
-        in_range = in_range;
-        whole = sym all
-            ∙ sym (append-nil (lexemes_of text (front ++ t ∷ ts)));
-      } in
+      let begins : Begins spelled IsItem (lexemes_of text (front ++ t ∷ ts)) = record
+      { items = items; more = []; in_range = in_range; whole = sym all ∙ sym (append-nil (lexemes_of text _)); } in
       not_among text front ts ts t e begins h
+  not_listed text front [] _ items h in_range all = h
 
   none_by : (text : List ℕ) (e : EventFault) (items : List T) (h : HoldsItems spelled IsItem text items)
       → HasItemFault spelled IsItem text h.tokens e → ⊥
-  none_by text e items h f = not_listed text f.front f.rest e items f.fault_is h.in_range
-      (ap (lexemes_of text) (sym f.whole) ∙ h.lexemes)
+  none_by text e items h f = not_listed _ _ _ _ _ f.fault_is h.in_range (ap (lexemes_of text) (sym f.whole) ∙ h.lexemes)
 
   pub has_one_fault : HasOneItemFault spelled IsItem
   has_one_fault = record {

@@ -15,8 +15,7 @@ split_either xs [] ys vs e = inl (xs, refl, sym e)
 split_either [] (u ∷ us) ys vs e = inr (u ∷ us, refl, e)
 split_either {X} (x ∷ xs) (u ∷ us) ys vs e =
     let head : x ≡ u = cc in
-    let tail : xs ++ ys ≡ us ++ vs = cc in
-    both head (split_either xs us ys vs tail)
+    both head (split_either xs us ys vs cc)
   where
     both : x ≡ u → ((z : List X) × (xs ≡ us ++ z) × (vs ≡ z ++ ys)) ⊎ ((z : List X) × (us ≡ xs ++ z) × (ys ≡ z ++ vs))
         → ((z : List X) × (x ∷ xs ≡ (u ∷ us) ++ z) × (vs ≡ z ++ ys))
@@ -46,14 +45,12 @@ pub split_tokens : (text : List ℕ) (tokens : List Token) (front rest : List (L
 split_tokens text tokens [] rest e = record { before = []; after = tokens; whole = refl; front_is = refl; rest_is = e }
 split_tokens text [] (w ∷ ws) rest e = absurd cc
 split_tokens text (t ∷ ts) (w ∷ ws) rest e =
-    let head : word_at text t ≡ w = cc in
-    let tail : lexemes_of text ts ≡ ws ++ rest = cc in
-    let s = split_tokens text ts ws rest tail in
+    let s = split_tokens text ts ws rest cc in
     record {
       before = t ∷ s.before;
       after = s.after;
       whole = ap (λ (l : List Token). t ∷ l) s.whole;
-      front_is = ap (λ (l : List (List ℕ)). word_at text t ∷ l) s.front_is ∙ ap (λ (x : List ℕ). x ∷ ws) head;
+      front_is = ap (λ (l : List (List ℕ)). word_at text t ∷ l) s.front_is ∙ ap (λ (x : List ℕ). x ∷ ws) cc;
       rest_is = s.rest_is;
     }
 
@@ -83,8 +80,7 @@ module _ {T : Type 0} (spelled : T → List (List ℕ)) (IsItem : T → Type 0) 
         items = b.items;
         more = more ++ b.more;
         in_range = b.in_range;
-        whole = b.whole
-            ∙ append_assoc front more b.more;
+        whole = b.whole ∙ append_assoc front more _;
       }
 
   pub begins_none : Begins spelled IsItem []
@@ -96,8 +92,7 @@ module _ {T : Type 0} (spelled : T → List (List ℕ)) (IsItem : T → Type 0) 
   not_within : (item s : T) (z more : List (List ℕ)) (next : List ℕ) → IsItem item → IsItem s → spelled item ≡ spelled s
       ++ (z ++ next ∷ more) → ⊥
   not_within item s z more next is h e =
-      let both = unique item s [] (z ++ next ∷ more) is h (append-nil (spelled item) ∙ e) in
-      not_empty_after z next more (sym both.1)
+      not_empty_after z next more (sym (unique item s [] (z ++ next ∷ more) is h (append-nil (spelled item) ∙ e)).1)
 
   -- where an item goes on, no list of items ends
   pub not_ended : (item : T) (front more : List (List ℕ)) (next : List ℕ) (items : List T) → IsItem item
@@ -130,8 +125,7 @@ module _ {T : Type 0} (spelled : T → List (List ℕ)) (IsItem : T → Type 0) 
   by_items item front more x next w [] is e h f =
       absurd (not_empty_after front w x (sym (append_assoc front (w ∷ []) x) ∙ sym f))
   by_items item front more x next w (s ∷ ss) is e h f =
-      item_of_list item s front more (flat_map spelled ss) x next w is h.0 e
-      (split_either (spelled s) front (flat_map spelled ss) (w ∷ x) (f ∙ append_assoc front (w ∷ []) x))
+      item_of_list _ _ _ _ _ _ _ _ is h.0 e (split_either _ _ _ _ (f ∙ append_assoc front (w ∷ []) x))
 
   pub from_list : (item : T) (front more : List (List ℕ)) (next w : List ℕ) → IsItem item → spelled item ≡ front
       ++ next ∷ more → Begins spelled IsItem (front ++ w ∷ []) → BeginsItem spelled IsItem (front ++ w ∷ [])
@@ -159,13 +153,11 @@ module _ {T : Type 0} (spelled : T → List (List ℕ)) (IsItem : T → Type 0) 
 
   next_longer : (s : T) (x : List (List ℕ)) (w : List ℕ) → IsItem s → Begins spelled IsItem (x ++ w ∷ [])
       → Begins spelled IsItem ((spelled s ++ x) ++ w ∷ [])
-  next_longer s x w is b = subst (Begins spelled IsItem) (sym (append_assoc (spelled s) x (w ∷ [])))
-      (longer s (x ++ w ∷ []) is b)
+  next_longer s x w is b = rw (append_assoc (spelled s) x (w ∷ [])) (longer s (x ++ w ∷ []) is b)
 
   next_shorter : (s : T) (x : List (List ℕ)) (w : List ℕ) → IsItem s
       → Begins spelled IsItem ((spelled s ++ x) ++ w ∷ []) → Begins spelled IsItem (x ++ w ∷ [])
-  next_shorter s x w is b = shorter s (x ++ w ∷ []) is
-      (subst (Begins spelled IsItem) (append_assoc (spelled s) x (w ∷ [])) b)
+  next_shorter s x w is b = shorter s (x ++ w ∷ []) is (rw (← append_assoc (spelled s) x (w ∷ [])) b)
 
   wants_longer : (s : T) (x : List (List ℕ)) → IsItem s → WantsNumber spelled IsItem x
       → WantsNumber spelled IsItem (spelled s ++ x)
@@ -189,30 +181,24 @@ module _ {T : Type 0} (spelled : T → List (List ℕ)) (IsItem : T → Type 0) 
   fault_later : (text : List ℕ) (s : T) (front : List (List ℕ)) (rest : List Token) (e : EventFault) → IsItem s
       → IsFaultAfter spelled IsItem text front rest e → IsFaultAfter spelled IsItem text (spelled s ++ front) rest e
   fault_later text s front [] (Expected p) is f = (f.0, λ items h. not_ended_later s front items is f.1 h)
-  fault_later text s front [] (Number p) is f = f
-  fault_later text s front [] (Byte p) is f = f
-  fault_later text s front [] Memory is f = f
   fault_later text s front (t ∷ ts) (Number p) is f =
       (f.0, λ b. f.1 (next_shorter s front (word_at text t) is b), wants_longer s front is f.2, f.3)
   fault_later text s front (t ∷ ts) (Expected p) is f =
       (f.0, λ b. f.1 (next_shorter s front (word_at text t) is b), λ n. f.2 (wants_shorter s front is n))
-  fault_later text s front (t ∷ ts) (Byte p) is f = f
-  fault_later text s front (t ∷ ts) Memory is f = f
+  fault_later text s front _ _ is f = f
 
   -- the fault of the tokens after an item
   pub fault_after_item : (text : List ℕ) (s : T) (tokens later : List Token) (e : EventFault) → IsItem s
       → lexemes_of text tokens ≡ spelled s → HasItemFault spelled IsItem text later e
       → HasItemFault spelled IsItem text (tokens ++ later) e
   fault_after_item text s tokens later e is spells f =
-      let front : lexemes_of text (tokens ++ f.front) ≡ spelled s ++ lexemes_of text f.front =
-      lexemes_join text tokens f.front ∙ ap (λ (l : List (List ℕ)). l ++ lexemes_of text f.front) spells in
+      let front = lexemes_join text tokens f.front ∙ ap (λ (l : List (List ℕ)). l ++ lexemes_of text f.front) spells in
       record {
         front = tokens ++ f.front;
         rest = f.rest;
         whole = ap (λ (l : List Token). tokens ++ l) f.whole ∙ sym (append_assoc tokens f.front f.rest);
         begins = subst (Begins spelled IsItem) (sym front) (longer s (lexemes_of text f.front) is f.begins);
-        fault_is = subst (λ (l : List (List ℕ)). IsFaultAfter spelled IsItem text l f.rest e) (sym front)
-            (fault_later text s (lexemes_of text f.front) f.rest e is f.fault_is);
+        fault_is = rw front (fault_later text s (lexemes_of text f.front) f.rest e is f.fault_is);
       }
 
   -- ---- within an item
@@ -225,9 +211,7 @@ module _ {T : Type 0} (spelled : T → List (List ℕ)) (IsItem : T → Type 0) 
       (reported_fault (named_fault b (position_or_end text (slice_get after 0))))
   fault_here text item front more next [] later true is begins wrong some last = absurd cc
   fault_here text item front more next [] later false is begins wrong some last =
-      subst (λ (l : List Token). IsFaultAfter spelled IsItem text front l (Expected (end_position text)))
-      (sym (last refl))
-      (refl, λ items h. not_ended item front more next items is begins (some refl) h)
+      rw (last refl) (refl, λ items h. not_ended item front more next items is begins (some refl) h)
   fault_here text item front more next (t ∷ ts) later true is begins wrong some last = (
     refl,
     λ b. wrong.0 (from_list item front more next (word_at text t) is begins b),
@@ -250,32 +234,22 @@ module _ {T : Type 0} (spelled : T → List (List ℕ)) (IsItem : T → Type 0) 
       → HasItemFault spelled IsItem text (tokens ++ later) (reported_fault (fault_at text tokens wrong))
   fault_in_item text tokens later wrong some w last =
       let s = split_tokens text tokens w.front w.rest w.whole in
-      let count = count_lexemes text s.before in
-      let index : wrong.index ≡ length s.before = w.index ∙ ap (λ (l : List (List ℕ)). length l) (sym s.front_is)
-      ∙ count in
+      let index = w.index ∙ ap (λ (l : List (List ℕ)). length l) (sym s.front_is) ∙ (count_lexemes text s.before) in
       let found : slice_get tokens wrong.index ≡ slice_get s.after 0 =
-      ap (λ (n : ℕ). slice_get tokens n) index ∙ ap (λ (l : List Token). slice_get l (length s.before)) s.whole
-      ∙ get_after s.before s.after in
-      let begins : spelled w.item ≡ lexemes_of text s.before ++ w.next ∷ w.more =
-      w.begins ∙ ap (λ (l : List (List ℕ)). l ++ w.next ∷ w.more) (sym s.front_is) in
+      cc (index, s.whole, get_after s.before s.after) in
+      let begins = w.begins ∙ ap (λ (l : List (List ℕ)). l ++ w.next ∷ w.more) (sym s.front_is) in
       let after : IsWrongAfter spelled IsItem (lexemes_of text s.before) (lexemes_of text s.after) wrong.is_number =
-      subst (λ (l : List (List ℕ)). IsWrongAfter spelled IsItem l (lexemes_of text s.after) wrong.is_number)
-      (sym s.front_is) (subst (λ (l : List (List ℕ)). IsWrongAfter spelled IsItem w.front l wrong.is_number)
-      (sym s.rest_is) w.after) in
+      rw s.front_is (rw s.rest_is w.after) in
       let whole : s.after ≡ [] → tokens ≡ s.before = λ none. s.whole ∙ ap (λ (l : List Token). s.before ++ l) none
       ∙ append-nil s.before in
-      let here = fault_here text w.item (lexemes_of text s.before) w.more w.next s.after later wrong.is_number w.is
-      begins after
-      (λ none e. some (whole none ∙ none_before s.before e))
+      let here = fault_here _ _ _ _ _ _ _ _ w.is begins after (λ none e. some (whole none ∙ none_before s.before e))
       (λ none. last (index ∙ ap (λ (l : List Token). length l) (sym (whole none)))) in
       record {
         front = s.before;
         rest = s.after ++ later;
         whole = ap (λ (l : List Token). l ++ later) s.whole ∙ append_assoc s.before s.after later;
         begins = to_list spelled IsItem (lexemes_of text s.before) (w.item, w.next ∷ w.more, w.is, begins);
-        fault_is = subst (λ (o : Option Token). IsFaultAfter spelled IsItem text (lexemes_of text s.before)
-            (s.after ++ later) (reported_fault (named_fault wrong.is_number (position_or_end text o)))) (sym found)
-            here;
+        fault_is = rw found here;
       }
     where
       none_before : (ts : List Token) → lexemes_of text ts ≡ [] → ts ≡ []

@@ -10,14 +10,10 @@ head_told x y xs ys e = (cc, cc)
 
 -- ---- texts
 
-same_tokens : (text : List ℕ) (ts us : List Token) → lexed NO_LIMITS Nothing first_position text ≡ Ok ts
-    → lexed NO_LIMITS Nothing first_position text ≡ Ok us → ts ≡ us
-same_tokens text ts us h k = cc
-
 -- where tokens identify items, a text has at most one list
 pub holds_one_list : {T : Type 0} (spelled : T → List (List ℕ)) (IsItem : T → Type 0) → AreUnique spelled IsItem
     → HasLexemes spelled → HoldsOneListOf spelled IsItem
 holds_one_list spelled IsItem unique has text items others h k =
-    let same : h.tokens ≡ k.tokens = same_tokens text h.tokens k.tokens h.cut k.cut in
+    let same : h.tokens ≡ k.tokens = cc in
     one_list spelled IsItem unique has items others h.in_range k.in_range
     (sym h.lexemes ∙ ap (lexemes_of text) same ∙ k.lexemes)

@@ -31,16 +31,12 @@ line_after p Bad = omega arith
 at_past : (p : Place) (bs : List ℕ) → (position_past p bs).at ≡ p.at + length bs
 at_past p [] = omega arith
 at_past p (b ∷ bs) =
-    let first = at_after p (kind_of b) in
-    let others = at_past (position_after p (kind_of b)) bs in
-    omega (arith, first, others)
+    omega (arith, at_after p (kind_of b), at_past (position_after p (kind_of b)) bs)
 
 line_past : (p : Place) (bs : List ℕ) → (position_past p bs).position.line ≤ p.position.line + length bs
 line_past p [] = omega arith
 line_past p (b ∷ bs) =
-    let first = line_after p (kind_of b) in
-    let others = line_past (position_after p (kind_of b)) bs in
-    omega (arith, first, others)
+    omega (arith, line_after p (kind_of b), line_past (position_after p (kind_of b)) bs)
 
 -- ---- the tokens of pieces, as their bytes
 
@@ -56,16 +52,11 @@ word_at : (front bs rest : List ℕ) (n m : ℕ) → n ≡ length front → m �
     → slice_range (front ++ (bs ++ rest)) n m ≡ bs
 word_at front bs rest n m at to =
     let long : m - n ≡ length bs = omega (arith, to) in
-    ap (λ (k : ℕ). take k (drop n (front ++ (bs ++ rest)))) long
-    ∙ ap (λ (k : ℕ). take (length bs) (drop k (front ++ (bs ++ rest)))) at
-    ∙ ap (λ (l : List ℕ). take (length bs) l) (drop-append_seam front (bs ++ rest))
-    ∙ take-append_seam bs rest
+    cc (long, at, drop-append_seam front (bs ++ rest), take-append_seam bs rest)
 
 further : (front bs : List ℕ) (p : Place) → p.at ≡ length front → (position_past p bs).at ≡ length (front ++ bs)
 further front bs p at =
-    let past = at_past p bs in
-    let long = length-append front bs in
-    omega (arith, past, long, at)
+    omega (arith, at_past p bs, length-append front bs, at)
 
 words_are : (front : List ℕ) (p : Place) (ps : List Piece) → p.at ≡ length front
     → lexemes_of (front ++ text_of ps) (tokens_of p ps) ≡ words_of ps
@@ -105,9 +96,7 @@ fits_here p to short near = rw (
 near_past : (p : Place) (bs : List ℕ) → p.position.line ≤ p.at + 1
     → (position_past p bs).position.line ≤ (position_past p bs).at + 1
 near_past p bs near =
-    let at = at_past p bs in
-    let line = line_past p bs in
-    omega (arith, at, line, near)
+    omega (arith, at_past p bs, line_past p bs, near)
 
 all_fit : (p : Place) (ps : List Piece) → AreText ps → p.position.line ≤ p.at + 1
     → p.at + length (text_of ps) ≤ 18446744073709551615 → TokensFit NO_LIMITS (tokens_of p ps)
@@ -140,11 +129,9 @@ joined ps qs = ps ++ blank 10 ∷ qs
 text_joined : (ps qs : List Piece) → text_of (joined ps qs) ≡ text_of ps ++ 10 ∷ text_of qs
 text_joined [] qs = refl
 text_joined (blank b ∷ ps) qs = ap (λ (l : List ℕ). b ∷ l) (text_joined ps qs)
-text_joined (comment bs ∷ ps) qs = ap (λ (l : List ℕ). (35 ∷ bs) ++ l) (text_joined ps qs)
-    ∙ sym (append_assoc (35 ∷ bs) (text_of ps) (10 ∷ text_of qs))
+text_joined (comment bs ∷ ps) qs = cc (text_joined ps qs, append_assoc (35 ∷ bs) (text_of ps) (10 ∷ text_of qs))
 text_joined (brace b ∷ ps) qs = ap (λ (l : List ℕ). b ∷ l) (text_joined ps qs)
-text_joined (atom bs ∷ ps) qs = ap (λ (l : List ℕ). bs ++ l) (text_joined ps qs)
-    ∙ sym (append_assoc bs (text_of ps) (10 ∷ text_of qs))
+text_joined (atom bs ∷ ps) qs = cc (text_joined ps qs, append_assoc bs (text_of ps) (10 ∷ text_of qs))
 
 words_joined : (ps qs : List Piece) → words_of (joined ps qs) ≡ words_of ps ++ words_of qs
 words_joined [] qs = refl
@@ -215,8 +202,7 @@ pub tokens_of_cut : (text : List ℕ) (words : List (List ℕ)) → length text 
 tokens_of_cut text words short h =
     let ts : List Token = tokens_of first_position h.pieces in
     let long : length (text_of h.pieces) ≡ length text = ap (λ (l : List ℕ). length l) h.whole in
-    let all : TokensFit NO_LIMITS ts =
-    all_fit first_position h.pieces h.formed (omega arith) (omega (arith, long, short)) in
+    let all = all_fit first_position h.pieces h.formed (omega arith) (omega (arith, long, short)) in
     record {
       tokens = ts;
       cut = (texts_are_cut NO_LIMITS text ts).1
@@ -238,10 +224,8 @@ pub holds_joined : {T : Type 0} (spelled : T → List (List ℕ)) (IsItem : T �
     → HoldsItems spelled IsItem (a ++ 10 ∷ b) (xs ++ ys)
 holds_joined spelled IsItem a b xs ys short h k =
     let both : Cut (a ++ 10 ∷ b) (lexemes_of a h.tokens ++ lexemes_of b k.tokens) =
-    cut_joined a b (lexemes_of a h.tokens) (lexemes_of b k.tokens) (cut_of_tokens a h.tokens h.cut)
-    (cut_of_tokens b k.tokens k.cut) in
-    let all : Tokens (a ++ 10 ∷ b) (lexemes_of a h.tokens ++ lexemes_of b k.tokens) =
-    tokens_of_cut (a ++ 10 ∷ b) (lexemes_of a h.tokens ++ lexemes_of b k.tokens) short both in
+    cut_joined _ _ _ _ (cut_of_tokens _ _ h.cut) (cut_of_tokens _ _ k.cut) in
+    let all = tokens_of_cut (a ++ 10 ∷ b) (lexemes_of a h.tokens ++ lexemes_of b k.tokens) short both in
     record {
       tokens = all.tokens;
       cut = all.cut;

@@ -12,5 +12,4 @@ module _ {T : Type 0} (words_of_item : T → List (List ℕ)) (IsItem : T → Ty
   one_list (s ∷ ss) (t ∷ ts) h k e =
       let both = unique s t (flat_map words_of_item ss) (flat_map words_of_item ts) h.0 k.0 e in
       let rest : ss ≡ ts = one_list ss ts h.1 k.1 both.1 in
-      let first = both.0 in
       cc

@@ -16,29 +16,24 @@ HaveNoCharacter begun = (n : ℕ) → 0 < n → n ≤ length begun → IsUtf8 (t
 -- a text without a text at its front is a text
 behind_text : (xs ys : List ℕ) → IsUtf8 (xs ++ ys) → IsUtf8 xs → IsUtf8 ys
 behind_text xs ys u v =
-    let lengths : length (xs ++ ys) ≡ length xs + length ys = length-append xs ys in
     let front : IsUtf8 (take (length xs) (xs ++ ys)) = subst IsUtf8 (sym (take-append_seam xs ys)) v in
-    let seam = IsCharBoundary-from_take (xs ++ ys) (length xs) u (omega (arith, lengths)) front in
+    let seam = IsCharBoundary-from_take (xs ++ ys) (length xs) u (omega (arith, length-append xs ys)) front in
     subst IsUtf8 (drop-append_seam xs ys) (IsUtf8-drop (xs ++ ys) (length xs) u seam)
 
 first_char : (begun rest : List ℕ) (c : ℕ) (cs : List ℕ) → HaveNoCharacter begun → 4 ≤ length begun → scalar c ≡ true
     → encode_utf8 c ++ encode_utf8_all cs ≡ begun ++ rest → ⊥
 first_char begun rest c cs none long s e =
     let n : ℕ = length (encode_utf8 c) in
-    let width : n ≡ len_utf8 c = length-encode c in
     let bounds = len_utf8_bounds c in
-    let within : n ≤ length begun = omega (arith, width, bounds.1, long) in
+    let within : n ≤ length begun = omega (arith, length-encode c, bounds.1, long) in
     let same : encode_utf8 c ≡ take n begun =
-    sym (take-append_seam (encode_utf8 c) (encode_utf8_all cs)) ∙ ap (λ (l : List ℕ). take n l) e
-    ∙ take-append-le n begun rest within in
-    none n (omega (arith, width, bounds.0)) within (subst IsUtf8 same (IsUtf8-encode c s))
+    cc (take-append_seam (encode_utf8 c) (encode_utf8_all cs), e, take-append-le n begun rest within) in
+    none n (omega (arith, length-encode c, bounds.0)) within (subst IsUtf8 same (IsUtf8-encode c s))
 
 no_text_of : (begun rest cs : List ℕ) → HaveNoCharacter begun → 4 ≤ length begun → all_scalars cs ≡ true
     → encode_utf8_all cs ≡ begun ++ rest → ⊥
 no_text_of begun rest [] none long s e =
-    let lengths : length (begun ++ rest) ≡ length begun + length rest = length-append begun rest in
-    let zero : 0 ≡ length (begun ++ rest) = ap (λ (l : List ℕ). length l) e in
-    omega (arith, lengths, zero, long)
+    omega (arith, length-append begun rest, ap (λ (l : List ℕ). length l) e, long)
 no_text_of begun rest (c ∷ cs) none long s e =
     first_char begun rest c cs none long (and_parts (scalar c) (all_scalars cs) s).0 e
 
@@ -56,10 +51,8 @@ no_text_begins bytes n h long rest u =
     let none : HaveNoCharacter begun = λ k some most v.
     h.longest (n + k) (omega (arith, some))
     (subst IsUtf8 (sym (take-add n k bytes)) (IsUtf8-append front (take k begun) h.front v)) in
-    let lengths : length begun ≡ length bytes - n = length-drop n bytes in
-    let all : IsUtf8 (front ++ (begun ++ rest)) =
-    subst IsUtf8 (sym (ap (λ (l : List ℕ). l ++ rest) whole) ∙ append_assoc front begun rest) u in
-    no_text begun rest none (omega (arith, long, lengths)) (behind_text front (begun ++ rest) all h.front)
+    let all = subst IsUtf8 (sym (ap (λ (l : List ℕ). l ++ rest) whole) ∙ append_assoc front begun rest) u in
+    no_text begun rest none (omega (arith, long, length-drop n bytes)) (behind_text front (begun ++ rest) all h.front)
 
 pub nothing : (l : List ℕ) → length l ≡ 0 → l ≡ []
 nothing [] e = refl

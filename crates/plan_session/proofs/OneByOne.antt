@@ -57,8 +57,7 @@ added_before : (t : Token) (ts : List Token) (r mid : Result (List Token) Script
 added_before t ts r (Err f) all on e = absurd cc
 added_before t ts r (Ok us) all on e =
     let o = on us refl in
-    let tail = o.2 in
-    (o.0, o.1, cc (tail, e))
+    (o.0, o.1, cc e)
 
 all_after : (ts : List Token) (r : Result (List Token) ScriptFault) (all : List Token) → all_added ts r ≡ Ok all
     → (rest : List Token) × (r ≡ Ok rest) × (all ≡ ts ++ rest)
@@ -90,8 +89,7 @@ pub one_taken : (i : ℕ) (old mid new : Scan) (ts : List Token) (t : Token) →
 one_taken i old mid new ts t h f a = record {
   text = a.text ∙ h.text;
   left = h.left ∙ ap (all_added ts) f.0 ∙ added_join ts (t ∷ []) (tokens_left new);
-  within = within_join (length old.text) ts (t ∷ []) h.within
-      (f.1, subst (λ (x : List ℕ). t.end ≤ length x) h.text f.2, tt);
+  within = within_join (length old.text) ts (t ∷ []) h.within (f.1, rw (← h.text) f.2, tt);
   number = length-append ts (t ∷ []) ∙ omega (arith, h.number);
   bytes = omega (arith, f.3, h.bytes);
 }
@@ -110,14 +108,10 @@ head_of w ws (x ∷ xs) rest e some = (xs, cc, cc)
 
 same_front : (xs us ys vs : List (List ℕ)) → length xs ≡ length us → xs ++ ys ≡ us ++ vs → xs ≡ us
 same_front [] [] ys vs n e = refl
-same_front [] (u ∷ us) ys vs n e = absurd (omega (arith, n))
-same_front (x ∷ xs) [] ys vs n e = absurd (omega (arith, n))
 same_front (x ∷ xs) (u ∷ us) ys vs n e =
-    let head : x ≡ u = cc in
-    let rest : xs ++ ys ≡ us ++ vs = cc in
-    let size : length xs ≡ length us = omega (arith, n) in
-    let tail = same_front xs us ys vs size rest in
-    cc (head, tail)
+    let tail = same_front xs us ys vs (omega (arith, n)) cc in
+    cc tail
+same_front _ _ ys vs n e = absurd (omega (arith, n))
 
 no_items_empty : (xs : List (List ℕ)) → length xs ≡ 0 → xs ≡ []
 no_items_empty [] n = refl
@@ -146,8 +140,7 @@ module _ {T : Type 0} (spelled : T → List (List ℕ)) (IsItem : T → Type 0) 
       → Window old new first more count word → lexemes_left old
       ≡ preceded (lexemes_of old.text (first ∷ more)) (lexemes_left new)
   left_by old new first more count word w =
-      ap (as_lexemes old.text) w.left ∙ lexemes_of_all old.text (first ∷ more) (tokens_left new)
-      ∙ ap (λ (x : List ℕ). preceded (lexemes_of old.text (first ∷ more)) (as_lexemes x (tokens_left new))) (sym w.text)
+      cc (w.left, lexemes_of_all old.text (first ∷ more) (tokens_left new), w.text)
 
   pub item_found : (old new : Scan) (first : Token) (more : List Token) (count : ℕ) (word : List ℕ) (item : T)
       → HasLexemes spelled → Window old new first more count word
@@ -155,12 +148,10 @@ module _ {T : Type 0} (spelled : T → List (List ℕ)) (IsItem : T → Type 0) 
       × (lexemes_left old ≡ preceded (spelled item) (lexemes_left new)) × PassesItem spelled old new item
   item_found old new first more count word item has w r =
       let words = words_of old new first more count word w in
-      let front = head_of word (lexemes_of old.text more) (spelled item) r.1.0 (sym words ∙ r.1.1)
-      (λ e. has item [] (ap (λ (l : List (List ℕ)). l ++ []) e)) in
+      let front = head_of _ _ _ _ (sym words ∙ r.1.1) (λ e. has item [] (ap (λ (l : List (List ℕ)). l ++ []) e)) in
       let size = w.counts item front.0 front.1 in
-      let number = count_lexemes old.text more in
       let whole = ap (λ (l : List (List ℕ)). length l) front.2 ∙ length-append front.0 r.1.0 in
-      let none : r.1.0 ≡ [] = no_items_empty r.1.0 (omega (arith, size, number, whole, w.most)) in
+      let none : r.1.0 ≡ [] = no_items_empty r.1.0 (omega (arith, size, count_lexemes old.text more, whole, w.most)) in
       let all : lexemes_of old.text (first ∷ more) ≡ spelled item =
       r.1.1 ∙ ap (λ (l : List (List ℕ)). spelled item ++ l) none ∙ append-nil (spelled item) in (
         r.0,
@@ -174,19 +165,16 @@ module _ {T : Type 0} (spelled : T → List (List ℕ)) (IsItem : T → Type 0) 
       → lexemes_left new ≡ Ok later → lexemes_of old.text (first ∷ more) ++ later ≡ spelled item ++ rest
       → (length more ≡ count) ⊎ (tokens_left new ≡ Ok []) → ⊥
   none_by old new first more count word item rest later has w none is last e (inr end) =
-      let empty : lexemes_left new ≡ Ok [] = ap (as_lexemes new.text) end in
-      let nil : later ≡ [] = cc (sym last ∙ empty) in
+      let nil : later ≡ [] = cc (sym last ∙ (ap (as_lexemes new.text) end)) in
       none item rest is (sym (append-nil (lexemes_of old.text (first ∷ more)))
       ∙ ap (λ (l : List (List ℕ)). lexemes_of old.text (first ∷ more) ++ l) (sym nil) ∙ e)
   none_by old new first more count word item rest later has w none is last e (inl full) =
       let words = words_of old new first more count word w in
-      let front = head_of word (lexemes_of old.text more ++ later) (spelled item) rest
-      (sym (ap (λ (l : List (List ℕ)). l ++ later) words) ∙ e)
+      let front = head_of _ _ _ _ (sym (ap (λ (l : List (List ℕ)). l ++ later) words) ∙ e)
       (λ n. has item [] (ap (λ (l : List (List ℕ)). l ++ []) n)) in
       let size = w.counts item front.0 front.1 in
       let number = count_lexemes old.text more in
-      let tail : lexemes_of old.text more ≡ front.0 =
-      same_front (lexemes_of old.text more) front.0 later rest (omega (arith, size, number, full)) front.2 in
+      let tail = same_front (lexemes_of old.text more) front.0 later rest (omega (arith, size, number, full)) front.2 in
       none item [] is (words ∙ ap (λ (l : List (List ℕ)). word ∷ l) tail ∙ sym front.1
       ∙ sym (append-nil (spelled item)))
 
@@ -210,15 +198,13 @@ module _ {T : Type 0} (spelled : T → List (List ℕ)) (IsItem : T → Type 0) 
   last_by old new first more later count word wrong w h is index (inr end) = cc (sym is ∙ end)
   last_by old new first more later count word wrong w h is index (inl full) =
       let words = words_of old new first more count word w in
-      let long : length h.front ≡ length more + 1 = sym h.index ∙ index ∙ omega arith in
       let front = head_of word (lexemes_of old.text more) h.front h.rest (sym words ∙ h.whole)
-      (λ e. let none = ap (λ (l : List (List ℕ)). length l) e in absurd (omega (arith, none, long))) in
+      (λ e. let none = ap (λ (l : List (List ℕ)). length l) e in absurd (omega (arith, none))) in
       let tail = front.0 in
       let size = w.counts h.item (tail ++ h.next ∷ h.more)
       (h.begins ∙ ap (λ (l : List (List ℕ)). l ++ h.next ∷ h.more) front.1) in
-      let joined = length-append tail (h.next ∷ h.more) in
       let one = ap (λ (l : List (List ℕ)). length l) front.1 in
-      absurd (omega (arith, size, joined, one, long, full))
+      absurd (omega (arith, size, length-append tail (h.next ∷ h.more), one, full))
 
   pub fault_found : (old new : Scan) (first : Token) (more : List Token) (count : ℕ) (word : List ℕ) (e : ScriptFault)
       → AreUnique spelled IsItem → HasLexemes spelled → Window old new first more count word
@@ -228,9 +214,7 @@ module _ {T : Type 0} (spelled : T → List (List ℕ)) (IsItem : T → Type 0) 
       let wrong : Wrong = r.2.0 in
       let fault = fault_in_item spelled IsItem unique has old.text (first ∷ more) after.0 wrong (λ none. absurd cc)
       r.2.1 (λ index. last_by old new first more after.0 count word wrong w r.2.1 after.1 index w.all) in
-      subst (λ (l : List Token). HasItemFault spelled IsItem old.text l (reported_fault e)) (sym after.2)
-      (subst (λ (f : ScriptFault). HasItemFault spelled IsItem old.text ((first ∷ more) ++ after.0) (reported_fault f))
-      (sym r.2.2) fault)
+      rw after.2 (rw r.2.2 fault)
 
   pub no_fault_left : (s : Scan) (e : ScriptFault) → HasNoTokens s → HasFaultLeft spelled IsItem s e
   no_fault_left s e none = λ tokens is. absurd (none tokens is)
@@ -303,8 +287,7 @@ module _ {T : Type 0} (spelled : T → List (List ℕ)) (IsItem : T → Type 0) 
 
   flat_pushed : (done : List T) (s : T) → flat_map spelled (done ++ s ∷ []) ≡ flat_map spelled done ++ spelled s
   flat_pushed [] s = append-nil (spelled s)
-  flat_pushed (d ∷ ds) s = ap (λ (xs : List (List ℕ)). spelled d ++ xs) (flat_pushed ds s)
-      ∙ sym (append_assoc (spelled d) (flat_map spelled ds) (spelled s))
+  flat_pushed (d ∷ ds) s = cc (flat_pushed ds s, append_assoc (spelled d) (flat_map spelled ds) (spelled s))
 
   pub one_read : (old mid new : Scan) (item : T) → AreUnique spelled IsItem → HasLexemes spelled
       → HaveRead spelled IsItem old mid → FindsItem spelled IsItem mid new (Ok (Some item))
@@ -312,9 +295,8 @@ module _ {T : Type 0} (spelled : T → List (List ℕ)) (IsItem : T → Type 0) 
   one_read old mid new item unique has h f = record {
     done = h.done ++ item ∷ [];
     in_range = each_pushed h.done item h.in_range f.0;
-    left = h.left ∙ ap (preceded (flat_map spelled h.done)) f.1
-        ∙ preceded_twice (flat_map spelled h.done) (spelled item) (lexemes_left new)
-        ∙ ap (λ (l : List (List ℕ)). preceded l (lexemes_left new)) (sym (flat_pushed h.done item));
+    left = h.left ∙ ap (preceded (flat_map spelled h.done)) f.1 ∙ preceded_twice _ _ _ ∙ ap
+    (λ (l : List (List ℕ)). preceded l (lexemes_left new)) (sym (flat_pushed h.done item));
     on = λ all l. let o = h.on all l in let t = took spelled IsItem unique has mid new item o.0 f o.1 in (t.0, t.2);
     fault = λ e later. h.fault e (fault_left spelled IsItem unique has mid new item e f later);
   }

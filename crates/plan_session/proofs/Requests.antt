@@ -47,18 +47,14 @@ is_opening code start s h = rw (
 same_current : (code : Program) (start : Starting) (s t : State) → IsStart code start s → IsStart code start t
     → s.current ≡ t.current
 same_current code start s t h k =
-    let labels : Some h.label ≡ Some k.label = sym h.first ∙ k.first in
-    let label : h.label ≡ k.label = cc labels in
-    let both : Some s.current ≡ Some t.current = sym h.current
-    ∙ ap (λ (l : Label). slice_get code.configurations l.cur) label ∙ k.current in
-    cc both
+    let label : h.label ≡ k.label = cc (sym h.first ∙ k.first) in
+    cc (sym h.current ∙ ap (λ (l : Label). slice_get code.configurations l.cur) label ∙ k.current)
 
 pub same_start : (code : Program) (start : Starting) (p q : Playing) → IsAtStart code start p → IsAtStart code start q
     → p ≡ q
 same_start code start p q h k =
-    let states : p.state ≡ q.state = is_opening code start p.state h.state_is
-    ∙ ap (λ (c : Configuration). opening c start) (same_current code start p.state q.state h.state_is k.state_is)
-    ∙ sym (is_opening code start q.state k.state_is) in
+    let states : p.state ≡ q.state = is_opening _ _ _ h.state_is ∙ ap (λ (c : Configuration). opening c start)
+    (same_current _ _ _ _ h.state_is k.state_is) ∙ sym (is_opening _ _ _ k.state_is) in
     let codes : p.code ≡ q.code = h.code_is ∙ sym k.code_is in
     let steps : p.steps ≡ q.steps = h.none_yet ∙ sym k.none_yet in
     ap (λ (c : Program). let r : Playing = record { code = c; state = p.state; steps = p.steps } in r) codes
@@ -75,19 +71,16 @@ pub started : (r : Request) (p : Playing) (steps : List Step) (code : Program) (
 started r p steps code start h codes starts =
     let there : IsStarted p.code (start_of p.code r) r.text p steps =
     record { in_range = h.ready.start; begins = h.begins; holds = h.holds } in
-    let here : IsStarted code (start_of code r) r.text p steps =
-    subst (λ (c : Program). IsStarted c (start_of c r) r.text p steps) (sym codes) there in
+    let here = subst (λ (c : Program). IsStarted c (start_of c r) r.text p steps) (sym codes) there in
     subst (λ (s : Starting). IsStarted code s r.text p steps) (sym starts) here
 
 -- and the converse
 pub asked_for : (r : Request) (p : Playing) (steps : List Step) (code : Program) (start : Starting)
     → IsTypedFileOf code r.file → start ≡ start_of code r → IsStarted code start r.text p steps → IsPlayback r p steps
 asked_for r p steps code start file starts h =
-    let here : IsStarted code (start_of code r) r.text p steps =
-    subst (λ (s : Starting). IsStarted code s r.text p steps) starts h in
+    let here = subst (λ (s : Starting). IsStarted code s r.text p steps) starts h in
     let codes : code ≡ p.code = sym here.begins.code_is in
-    let there : IsStarted p.code (start_of p.code r) r.text p steps =
-    subst (λ (c : Program). IsStarted c (start_of c r) r.text p steps) codes here in
+    let there = subst (λ (c : Program). IsStarted c (start_of c r) r.text p steps) codes here in
     record {
       ready = record { file = subst (λ (c : Program). IsTypedFileOf c r.file) codes file; start = there.in_range };
       begins = there.begins;
@@ -112,14 +105,13 @@ begins_of r p code start file starts none begins =
 -- a fault of playing a code is one of the request
 pub fault_of_run : (r : Request) (code : Program) (start : Starting) (e : RunFault) → IsTypedFileOf code r.file
     → start ≡ start_of code r → IsPlayFault code start r.text e → IsRunFault r e
-fault_of_run r code start (Code fault) file starts h = absurd h
-fault_of_run r code start (Refused pc line cause) file starts h = absurd h
 fault_of_run r code start (StartFault fault) file starts h =
     (code, file, ap (λ (s : Starting). start_fault s) (sym starts) ∙ h)
 fault_of_run r code start (Events fault) file starts h =
     (code, record { file = file; start = ap (λ (s : Starting). start_fault s) (sym starts) ∙ h.0 }, h.1)
 fault_of_run r code start (Write frames bytes) file starts h =
     (h.0, h.1, asked_for r h.0 h.1 code start file starts h.2)
+fault_of_run r code start _ file starts h = absurd h
 
 -- ---- what is delivered
 
@@ -128,15 +120,12 @@ pub whole : (p q new : Playing) (steps others : List Step) (x y : Option (List �
     → (n ≡ length (frames_of p (events_of steps))) × Appends x y (played_bytes p (events_of steps))
 whole p q new steps others x y n players lists d =
     let one : (n ≡ length (frames_of p (events_of others))) × Appends x y (played_bytes p (events_of others)) =
-    subst (λ (a : Playing). (n ≡ length (frames_of a (events_of others)))
-    × Appends x y (played_bytes a (events_of others))) players (d.whole, d.out) in
-    subst (λ (l : List Step). (n ≡ length (frames_of p (events_of l))) × Appends x y (played_bytes p (events_of l)))
-    lists one
+    rw (← players) (d.whole, d.out) in
+    rw (← lists) one
 
 pub cut_off : (p q new : Playing) (steps others : List Step) (x y : Option (List ℕ)) (n k : ℕ) → q ≡ p → others ≡ steps
     → Stopped q new (events_of others) x y n k
     → Stopped p new (events_of steps) x y n k
 cut_off p q new steps others x y n k players lists s =
-    let one : Stopped p new (events_of others) x y n k =
-    subst (λ (a : Playing). Stopped a new (events_of others) x y n k) players s in
+    let one = subst (λ (a : Playing). Stopped a new (events_of others) x y n k) players s in
     subst (λ (l : List Step). Stopped p new (events_of l) x y n k) lists one

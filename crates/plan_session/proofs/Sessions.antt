@@ -9,8 +9,7 @@ use Rattle.plan_session.proofs.Requests.{begins_of}
 at_start : (r : Request) (code : Program) (start : Starting) (p : Playing) → code ≡ p.code → start ≡ start_of code r
     → Begins r p → IsAtStart code start p
 at_start r code start p codes starts h =
-    let here : IsAtStart code (start_of code r) p =
-    subst (λ (c : Program). IsAtStart c (start_of c r) p) (sym codes) h.begins in
+    let here = subst (λ (c : Program). IsAtStart c (start_of c r) p) (sym codes) h.begins in
     subst (λ (s : Starting). IsAtStart code s p) (sym starts) here
 
 -- a code file has one code

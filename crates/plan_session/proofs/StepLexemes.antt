@@ -8,20 +8,17 @@ use Rattle.plan_session.proofs.ItemTexts.{head_told}
 pub one_step : (s t : Step) (xs ys : List (List ℕ)) → IsStep s → IsStep t → step_lexemes s ++ xs ≡ step_lexemes t ++ ys
     → (s ≡ t) × (xs ≡ ys)
 one_step (Contact c b) (Contact d e) xs ys h k same =
-    let first = head_told _ _ _ _ same in
-    let number = head_told _ _ _ _ first.1 in
+    let number = head_told _ _ _ _ (head_told _ _ _ _ same).1 in
     let level = head_told _ _ _ _ number.1 in
     let contact : c ≡ d = decimal_injective c d (omega (arith, h)) (omega (arith, k)) number.0 in
     let closed : b ≡ e = one_level b e level.0 in
     (cc, level.1)
 one_step (Contact c b) (Frames n) xs ys h k same =
     let first = head_told _ _ _ _ same in
-    let lengths : 7 ≡ 6 = ap length first.0 in
-    absurd (omega (arith, lengths))
+    absurd (omega (arith, ap length first.0))
 one_step (Frames m) (Contact d e) xs ys h k same =
     let first = head_told _ _ _ _ same in
-    let lengths : 6 ≡ 7 = ap length first.0 in
-    absurd (omega (arith, lengths))
+    absurd (omega (arith, ap length first.0))
 one_step (Frames m) (Frames n) xs ys h k same =
     let first = head_told _ _ _ _ same in
     let number = head_told _ _ _ _ first.1 in

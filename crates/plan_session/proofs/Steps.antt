@@ -5,14 +5,12 @@ use Rattle.plan_session.proofs.Words.{events_of_step, inl, inr, length, length_r
 
 pub events_join : (xs ys : List Step) → events_of (xs ++ ys) ≡ events_of xs ++ events_of ys
 events_join [] ys = refl
-events_join (x ∷ xs) ys = ap (λ (l : List Event). events_of_step x ++ l) (events_join xs ys)
-    ∙ sym (append_assoc (events_of_step x) (events_of xs) (events_of ys))
+events_join (x ∷ xs) ys = cc (events_join xs ys, append_assoc (events_of_step x) (events_of xs) (events_of ys))
 
 -- the events of one more step
 pub events_more : (done : List Step) (step : Step) → events_of done
     ++ events_of_step step ≡ events_of (done ++ step ∷ [])
-events_more done step = ap (λ (l : List Event). events_of done ++ l) (sym (append-nil (events_of_step step)))
-    ∙ sym (events_join done (step ∷ []))
+events_more done step = cc (append-nil (events_of_step step), events_join done (step ∷ []))
 
 -- and of those that follow it
 pub events_cut : (done : List Step) (step : Step) (rest : List Step) → (events_of done ++ events_of_step step)

@@ -19,9 +19,5 @@ follows p q Bad e = rw (e) (record { at = refl; line = omega arith; column = ome
 pub position_on : (p q : Place) (text : List ℕ) (k : Kind) → p.at < length text → k ≡ kind_of (get_or text p.at 0)
     → q ≡ position_after p k → q.at ≡ p.at + 1 → position_past p (drop p.at text) ≡ position_past q (drop q.at text)
 position_on p q text k lt is after at =
-    let cut : drop p.at text ≡ get_or text p.at 0 ∷ drop (p.at + 1) text =
-    rw (add-one, drop-cons text p.at 0 lt) refl in
-    ap (position_past p) cut
-    ∙ ap (λ (x : Kind). position_past (position_after p x) (drop (p.at + 1) text)) (sym is)
-    ∙ ap (λ (x : Place). position_past x (drop (p.at + 1) text)) (sym after)
-    ∙ ap (λ (n : ℕ). position_past q (drop n text)) (sym at)
+    let cut : drop p.at text ≡ get_or text p.at 0 ∷ drop (p.at + 1) text = rw (add-one, drop-cons text _ 0 lt) refl in
+    cc (cut, is, after, at)

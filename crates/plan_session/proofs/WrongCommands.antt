@@ -46,8 +46,7 @@ contact_number : (t : Command) (w : List ℕ) (m : List (List ℕ)) → IsComman
     → command_lexemes t ≡ codes "contact" ∷ w ∷ m → (k : ℕ) × (0 ≤ k) × (k ≤ 15) × (w ≡ decimal k)
 contact_number t w m is e =
     let c = contact_words t (w ∷ m) is e in
-    let low = c.2 in
-    (c.0, omega arith, omega (arith, low), (head_told _ _ _ _ c.3).0)
+    (c.0, omega arith, omega arith, (head_told _ _ _ _ c.3).0)
 
 level_by : (t : Command) (d w : List ℕ) (m : List (List ℕ)) → command_lexemes t ≡ codes "contact" ∷ d ∷ w ∷ m
     → (closed : Bool) × (w ≡ level_text closed)
@@ -62,15 +61,7 @@ level_by Show d w m e = absurd (omega (arith, (keyword_told Show ContactWord (d 
 no_digits : (t : Command) (d : List ℕ) (others : List (List ℕ)) → IsDigits d → command_lexemes t ≢ d ∷ others
 no_digits (Contact c closed) d others h e = let none : false ≡ true =
     ap all_ascii_digits (head_told _ _ _ _ e).0 ∙ h.digits in absurd cc
-no_digits (Run n) d others h e = let none : false ≡ true = ap all_ascii_digits (head_told _ _ _ _ e).0 ∙ h.digits in
-    absurd cc
-no_digits Next d others h e = let none : false ≡ true = ap all_ascii_digits (head_told _ _ _ _ e).0 ∙ h.digits in
-    absurd cc
-no_digits (Break n) d others h e = let none : false ≡ true = ap all_ascii_digits (head_told _ _ _ _ e).0 ∙ h.digits in
-    absurd cc
-no_digits Clear d others h e = let none : false ≡ true = ap all_ascii_digits (head_told _ _ _ _ e).0 ∙ h.digits in
-    absurd cc
-no_digits Show d others h e = let none : false ≡ true = ap all_ascii_digits (head_told _ _ _ _ e).0 ∙ h.digits in
+no_digits _ d others h e = let none : false ≡ true = ap all_ascii_digits (head_told _ _ _ _ e).0 ∙ h.digits in
     absurd cc
 
 no_other : (word : List ℕ) → ((k : Keyword) → word ≢ keyword_text k) → (t : Command) (others : List (List ℕ))
@@ -86,15 +77,13 @@ no_other word other Show others e = other ShowWord (sym (head_told _ _ _ _ e).0)
 
 pub no_command_left : (words : List (List ℕ)) (wrong : Wrong) → words ≡ [] → wrong.index ≡ 0 → wrong.is_number ≡ false
     → IsWrongItem command_lexemes IsCommand words wrong
-no_command_left words wrong none index name =
-    none_first command_lexemes IsCommand Show (codes "show") [] words wrong tt refl none index name
+no_command_left words wrong none index name = none_first _ _ Show _ [] words wrong tt refl none index name
 
 pub no_command_begins : (words : List (List ℕ)) (word : List ℕ) (rest : List (List ℕ)) (wrong : Wrong)
     → words ≡ word ∷ rest → ((k : Keyword) → word ≢ keyword_text k) → wrong.index ≡ 0 → wrong.is_number ≡ false
     → IsWrongItem command_lexemes IsCommand words wrong
 no_command_begins words word rest wrong cut other index name =
-    other_first command_lexemes IsCommand Show (codes "show") word [] rest words wrong tt refl cut (no_other word other)
-    no_digits index name
+    other_first _ _ Show _ word [] rest words wrong tt refl cut (no_other word other) no_digits index name
 
 pub no_run : (words : List (List ℕ)) (wrong : Wrong) → IsNoNumber 1 FRAMES_A_DAY words wrong
     → IsWrongItem command_lexemes IsCommand (keyword_text RunWord ∷ words) wrong
@@ -112,5 +101,4 @@ no_contact words wrong (inl h) =
     number_wrong command_lexemes IsCommand (codes "contact") 0 15 1 (Contact 1 true) (level_text true ∷ [])
     (omega arith) refl (omega arith) (omega arith) contact_number words wrong h
 no_contact words wrong (inr h) =
-    level_wrong command_lexemes IsCommand (codes "contact") (λ c. Contact c true) (λ c low. low) (λ c. refl) level_by
-    words wrong h
+    level_wrong _ _ (codes "contact") (λ c. Contact c true) (λ c low. low) (λ c. refl) level_by words wrong h

@@ -54,8 +54,7 @@ module _ {T : Type 0} (spelled : T → List (List ℕ)) (IsItem : T → Type 0) 
     next = next;
     more = more;
     begins = begins;
-    after = subst (IsWrongAfter spelled IsItem [] (word ∷ rest)) (sym name)
-        (λ b. other b.0 b.1 b.3, λ d h b. absurd (digits b.0 d b.1 h b.3));
+    after = rw name (λ b. other b.0 b.1 b.3, λ d h b. absurd (digits b.0 d b.1 h b.3));
   }
 
   -- ---- a number

@@ -31,19 +31,16 @@ flow_fits t declared e =
 pub label_fits : (code : Program) (label : Label) (f : IndexedFlow) (t : Known) → f ≡ flow_of_label label
     → IsLabel (length code.configurations) label → is_fit t (declared_by code label) ≡ true
     → IsWithin (length code.configurations) f × FitsFlow (flow_of t) (flow_at code.configurations f)
-label_fits code label f t e within fit =
-    rw e ((within.current, within.following), flow_fits t (declared_by code label) fit)
+label_fits code label f t e within fit = rw e ((within.current, within.following), flow_fits t _ fit)
 
 -- fitting a label: the counters, then the configurations and the swap
 pub fit_counters : (a b : Bool) (t declared : Known) → a ≡ includes t.counters declared.counters → a ≡ true
     → b ≡ fits_swap t.pending declared.pending t declared → b ≡ is_fit t declared
-fit_counters a b t declared e true_here f =
-    f ∙ sym (ap (λ (x : Bool). x && fits_swap t.pending declared.pending t declared) (sym e ∙ true_here))
+fit_counters a b t declared e true_here f = cc (f, e, true_here)
 
 pub fit_no_counters : (a : Bool) (t declared : Known) → a ≡ includes t.counters declared.counters → a ≡ false
     → a ≡ is_fit t declared
-fit_no_counters a t declared e false_here =
-    false_here ∙ sym (ap (λ (x : Bool). x && fits_swap t.pending declared.pending t declared) (sym e ∙ false_here))
+fit_no_counters a t declared e false_here = cc (false_here, e)
 
 -- ---- one path merged with another
 
@@ -62,6 +59,4 @@ same_turned false c d e = sym (false_from_ne_true (is_same d c)
     (λ h. let f : false ≡ true = e ∙ (decides_same c d).found (sym ((decides_same d c).told h)) in cc))
 
 pub both_turned : (a b c d : Configuration) → (is_same a b && is_same c d) ≡ (is_same b a && is_same d c)
-both_turned a b c d =
-    ap (λ (x : Bool). x && is_same c d) (same_turned (is_same a b) a b refl)
-    ∙ ap (λ (x : Bool). is_same b a && x) (same_turned (is_same c d) c d refl)
+both_turned a b c d = cc (same_turned (is_same a b) a b refl, same_turned (is_same c d) c d refl)

@@ -53,8 +53,7 @@ instr_computes code (Test contact target) t h = computes_alone _ _ (target_compu
 instr_computes code (TestTime from to target) t h = computes_alone _ _ (target_computes code target (spent t) h)
 instr_computes code (Jump target) t h = computes_alone _ _ (target_computes code target (spent t) h)
 instr_computes code (Loop counter target) t h =
-    computes_alone _ _ (computes_orelse _ _ _ _ (computes_where _ _ _ (decides_is_false _))
-    (target_computes code target (spent t) h))
+    computes_alone _ _ (computes_orelse _ _ _ _ (computes_where _ _ _ (decides_is_false _)) (target_computes _ _ _ h))
 instr_computes code i t h = flow_computes code.plan i t
 
 pub known_computes : (code : Program) (pc : ℕ) (i : Instr) (t : Known) → IsTabled code
@@ -90,8 +89,7 @@ jump_reaches code target (Some label) t at declares e =
 reaches_none : (code : Program) (target : ℕ) (t : Known) → IsTabled code → Reaches code target t
     → jump_cause code (label_at code target) t ≡ None
 reaches_none code target t h r =
-    subst (λ (o : Option Label). jump_cause code o t ≡ None) (sym r.there)
-    (comes_none code r.label t (declares_at code target h r.label r.there) r.comes)
+    rw r.there (comes_none code r.label t (declares_at code target h r.label r.there) r.comes)
 
 reached_none : (code : Program) (target : ℕ) (t : Known) → IsTabled code
     → ((goal : ℕ) → Some target ≡ Some goal → Reaches code goal t) → jump_cause code (label_at code target) t ≡ None
@@ -101,8 +99,7 @@ none_reaches : (code : Program) (target : ℕ) (t : Known) → IsTabled code
     → jump_cause code (label_at code target) t ≡ None → (goal : ℕ) → Some target ≡ Some goal → Reaches code goal t
 none_reaches code target t h e goal same =
     let here : target ≡ goal = cc in
-    subst (λ (n : ℕ). Reaches code n t) here
-    (jump_reaches code target (label_at code target) t refl (declares_at code target h) e)
+    rw (← here) (jump_reaches code target (label_at code target) t refl (declares_at code target h) e)
 
 no_target : (code : Program) (t : Known) → (goal : ℕ) → None ≡ Some goal → Reaches code goal t
 no_target code t goal e = absurd cc
@@ -151,9 +148,7 @@ targets_none code _ t h g = refl
 
 pub good_none : (code : Program) (i : Instr) (t : Known) → IsTabled code → IsConfiguration t.next → IsGood code i t
     → instr_cause code i t ≡ None
-good_none code i t h formed g =
-    two_none (target_cause code i t) (flow_cause code.plan i t) (targets_none code i t h g)
-    (fine_none code.plan i t formed g.fine)
+good_none code i t h formed g = two_none _ _ (targets_none _ _ _ h g) (fine_none _ _ _ formed g.fine)
 
 pub record IsPassed (code : Program) (pc : ℕ) (i : Instr) (t : Known) : Type 0 where
   pub allowance : 1 ≤ t.allowance
@@ -166,8 +161,7 @@ known_passed code pc i t h e =
     let one = none_two _ _ e in
     let two = none_two _ _ one.1 in
     let some : t.allowance ≡ 0 → ⊥ = refuted _ _ _ (decides_eq t.allowance 0) one.0 in
-    let last = refuted _ _ _ (decides_both _ _ _ _ (decides_is_true (continues i))
-    (decides_eq (pc + 1) (length code.lines))) two.1 in
+    let last = refuted _ _ _ (decides_both _ _ _ _ (decides_is_true _) (decides_eq _ _)) two.1 in
     record { allowance = omega (arith, some); good = instr_good code i t h two.0; inside = λ on end. last (on, end) }
 
 pub passed_none : (code : Program) (pc : ℕ) (i : Instr) (t : Known) → IsTabled code → IsConfiguration t.next

@@ -89,29 +89,24 @@ same_services a b c d e f true_here =
 
 pub other_subs : (a : Bool) (c d : Configuration) → a ≡ has_same_subs c d → a ≡ false → (IsTrue a ↔ (c ≡ d))
 other_subs a c d e false_here =
-    let alike : a ≡ is_same c d =
-    false_here ∙ sym (ap (λ (x : Bool). x && has_same_services c d) (sym e ∙ false_here)) in
+    let alike = false_here ∙ sym (ap (λ (x : Bool). x && has_same_services c d) (sym e ∙ false_here)) in
     (λ h. (decides_same c d).told (sym alike ∙ h), λ h. alike ∙ (decides_same c d).found h)
 
 pub decides_idle : (pending : Swap) → Decides (is_idle pending) (pending ≡ Idle)
 decides_idle Idle = record { told = λ e. refl; found = λ h. refl }
-decides_idle (Within lo hi) = record { told = λ e. absurd (false≢true e); found = λ h. absurd cc }
-decides_idle (Perhaps hi) = record { told = λ e. absurd (false≢true e); found = λ h. absurd cc }
+decides_idle _ = record { told = λ e. absurd (false≢true e); found = λ h. absurd cc }
 
 pub decides_pending : (pending : Swap) → Decides (is_surely_pending pending) (IsSurelyPending pending)
-decides_pending Idle = decides_false
 decides_pending (Within lo hi) = decides_true
-decides_pending (Perhaps hi) = decides_false
+decides_pending _ = decides_false
 
 pub decides_certain : (frames : ℕ) (pending : Swap) → Decides (is_certain frames pending) (IsCertain frames pending)
-decides_certain frames Idle = decides_true
 decides_certain frames (Within lo hi) = decides_one _ _ _ _ (decides_lt frames lo) (decides_le hi frames)
-decides_certain frames (Perhaps hi) = decides_true
+decides_certain frames _ = decides_true
 
 pub decides_room : (plan : Plan) (t : Known) → Decides (has_room_for_notice plan t) (HasRoom plan t)
 decides_room plan t =
-    let all = decides_both _ _ _ _ (decides_both _ _ _ _ (decides_le _ plan.period) (decides_le _ plan.notice))
-    (decides_le _ plan.period) in
+    let all = decides_both _ _ _ _ (decides_both _ _ _ _ (decides_le _ _) (decides_le _ _)) (decides_le _ _) in
     record {
       told = λ e. let h = all.told e in record { within_period = h.0.0; three_times = h.0.1; alone = h.1 };
       found = λ h. all.found ((h.within_period, h.three_times), h.alone);
@@ -123,8 +118,7 @@ decides_count plan count = decides_both _ _ _ _ (decides_eq _ 0) (decides_lt cou
 
 decides_configurations : (t declared : Known) → Decides (has_configurations_of t declared)
     (HasConfigurationsOf t declared)
-decides_configurations t declared =
-    decides_both _ _ _ _ (decides_same t.current declared.current) (decides_same t.next declared.next)
+decides_configurations t declared = decides_both _ _ _ _ (decides_same _ _) (decides_same _ _)
 
 decides_no_later : (hi high : ℕ) (t declared : Known) → Decides (nat_le hi high && has_configurations_of t declared)
     (HasConfigurationsOf t declared × (hi ≤ high))
@@ -134,18 +128,14 @@ decides_no_later hi high t declared =
 
 pub decides_fits_swap : (p q : Swap) (t declared : Known) → Decides (fits_swap p q t declared) (FitsSwap p q t declared)
 decides_fits_swap Idle Idle t declared = decides_configurations t declared
-decides_fits_swap Idle (Within low high) t declared = decides_false
-decides_fits_swap Idle (Perhaps high) t declared =
-    decides_both _ _ _ _ (decides_same t.current declared.next) (decides_same t.next declared.next)
-decides_fits_swap (Within lo hi) Idle t declared = decides_false
+decides_fits_swap Idle (Perhaps high) t declared = decides_both _ _ _ _ (decides_same _ _) (decides_same _ _)
 decides_fits_swap (Within lo hi) (Within low high) t declared =
     let all = decides_both _ _ _ _ (decides_both _ _ _ _ (decides_le low lo) (decides_le hi high))
     (decides_configurations t declared) in
     record { told = λ e. let h = all.told e in (h.1, h.0.0, h.0.1); found = λ h. all.found ((h.1, h.2), h.0) }
 decides_fits_swap (Within lo hi) (Perhaps high) t declared = decides_no_later hi high t declared
-decides_fits_swap (Perhaps hi) Idle t declared = decides_false
-decides_fits_swap (Perhaps hi) (Within low high) t declared = decides_false
 decides_fits_swap (Perhaps hi) (Perhaps high) t declared = decides_no_later hi high t declared
+decides_fits_swap _ _ t declared = decides_false
 
 -- ---- causes in order
 
@@ -196,8 +186,7 @@ decides_includes a b = record { told = all_included a b; found = included_all a 
 
 pub decides_fits : (t declared : Known) → Decides (is_fit t declared) (Fits t declared)
 decides_fits t declared =
-    let both = decides_both _ _ _ _ (decides_includes t.counters declared.counters)
-    (decides_fits_swap t.pending declared.pending t declared) in
+    let both = decides_both _ _ _ _ (decides_includes _ _) (decides_fits_swap _ _ _ _) in
     record {
       told = λ e. let h = both.told e in record { swap = h.1; counters = h.0 };
       found = λ h. both.found (h.counters, h.swap);
@@ -205,8 +194,7 @@ decides_fits t declared =
 
 pub decides_initial : (t : Known) → Decides (is_initial t) (IsInitial t)
 decides_initial t =
-    let all = decides_both _ _ _ _ (decides_both _ _ _ _ (decides_idle t.pending) (decides_eq t.counters.0 0))
-    (decides_same t.current t.next) in
+    let all = decides_both _ _ _ _ (decides_both _ _ _ _ (decides_idle _) (decides_eq _ _)) (decides_same _ _) in
     record {
       told = λ e. let h = all.told e in record { same = h.1; idle = h.0.0; unset = h.0.1 };
       found = λ h. all.found ((h.idle, h.unset), h.same);

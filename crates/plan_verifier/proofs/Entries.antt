@@ -55,8 +55,7 @@ place_computes code pc i (Some label) (Some t) h declares =
     let cost = label_cause code label in
     let here = known_cause code pc i in
     let declared = declared_by code label in
-    let cut : whole_cause (taken (entry first_or cost) declared) here ≡ entry first_or (cost first_or here declared) =
-    whole_taken (entry first_or cost) declared here ∙ first_assoc entry cost (here declared) in
+    let cut = whole_taken (entry first_or cost) declared here ∙ first_assoc entry cost (here declared) in
     subst (λ (o : Option Cause). Computes o (PcRefused code pc i (Some label) (Some t))) (sym cut)
     (computes_orelse _ _ _ _ (entry_computes code label t (declares label refl))
     (label_computes code pc i label h (declares label refl)))
@@ -95,16 +94,13 @@ opening_computes code i (Some label) h declares =
     (computes_orelse _ _ _ _ (computes_where _ _ _ (decides_lt code.plan.period (pages_alone code.plan t.current)))
     (known_computes code 0 i t h)))) in
     subst (λ (o : Option Cause). Computes o (OpeningRefused code i (Some label))) (sym cut)
-    (declared_computes code label (opened_cause code label t (here t)) (OpenedRefused code i label)
-    (declares label refl) all)
+    (declared_computes _ _ _ _ (declares label refl) all)
 
 pub whole_computes : (code : Program) (typing : List Known) (pc : ℕ) (i : Instr) → IsTabled code
     → Computes (whole_cause (entered code pc (left_before code typing pc)) (known_cause code pc i))
     (InstructionRefused code typing pc i)
 whole_computes code typing zero i h = opening_computes code i (label_at code 0) h (declares_at code 0 h)
-whole_computes code typing (suc pc) i h =
-    place_computes code (suc pc) i (label_at code (suc pc)) (left_before code typing (suc pc)) h
-    (declares_at code (suc pc) h)
+whole_computes code typing (suc pc) i h = place_computes _ _ _ _ _ h (declares_at _ _ h)
 
 -- ---- what is known at an instruction other than the first
 
@@ -150,11 +146,10 @@ place_told : (code : Program) (o : Option Label) (came : Option Known) (t : Know
     → IsEntered code o came t
 place_told code None None t declares e = absurd cc
 place_told code None (Some u) t declares e =
-    let same : u ≡ t = cc in
     record {
       placed = no_label code t;
       arrives = λ v f. let here : u ≡ v = cc in
-          sym here ∙ same;
+          sym here ∙ cc;
       after = λ none. (u, refl);
     }
 place_told code (Some label) None t declares e =
@@ -209,8 +204,7 @@ opening_told code (Some label) t declares e =
     let one = none_two _ _ parts.0 in
     let two = none_two _ _ one.1 in
     let three = none_two _ _ two.1 in
-    let late : code.plan.period < pages_alone code.plan d.current → ⊥ =
-    refuted _ _ _ (decides_lt code.plan.period (pages_alone code.plan d.current)) three.1 in
+    let late = refuted _ _ _ (decides_lt code.plan.period (pages_alone code.plan d.current)) three.1 in
     let opening : IsOpening code.plan d = record {
       initial = needed _ _ _ (decides_initial d) one.0;
       sound = sound_told d.current (none_of _ _ three.0);
@@ -230,12 +224,11 @@ opening_found : (code : Program) (o : Option Label) (t : Known) → IsConfigurat
 opening_found code None t formed declares h = absurd (let f : None ≡ Some h.label = h.there in cc)
 opening_found code (Some label) t formed declares h =
     let same : label ≡ h.label = (let f : Some label ≡ Some h.label = h.there in cc) in
-    let within : label.cost ≤ code.plan.budget = subst (λ (l : Label). l.cost ≤ code.plan.budget) (sym same) h.within in
     let declared : Declares code label t = subst (λ (l : Label). Declares code l t) (sym same) h.declares in
     let is : t ≡ declared_by code label = declared_once code label _ _ declared (declares label refl) in
     let found : opening_cause code label t ≡ None =
     two_none _ _ (none_unless _ _ _ (decides_initial t) h.opening.initial)
-    (two_none _ _ (affordable_none code label within)
+    (two_none _ _ (affordable_none code label (subst (λ (l : Label). l.cost ≤ code.plan.budget) (sym same) h.within))
     (two_none _ _ (of_none _ _ (sound_found t.current formed h.opening.sound))
     (none_where _ _ _ (decides_lt code.plan.period (pages_alone code.plan t.current))
     (λ lt. omega (arith, h.opening.within_period, lt))))) in
@@ -250,12 +243,10 @@ IsEnteredAt code typing (suc pc) t = IsEntered code (label_at code (suc pc)) (le
 pub entered_told : (code : Program) (typing : List Known) (pc : ℕ) (t : Known) → IsTabled code
     → entered code pc (left_before code typing pc) ≡ Ok t → IsEnteredAt code typing pc t
 entered_told code typing zero t h e = opening_told code (label_at code 0) t (declares_at code 0 h) e
-entered_told code typing (suc pc) t h e =
-    place_told code (label_at code (suc pc)) (left_before code typing (suc pc)) t (declares_at code (suc pc) h) e
+entered_told code typing (suc pc) t h e = place_told _ _ _ _ (declares_at _ _ h) e
 
 pub entered_found : (code : Program) (typing : List Known) (pc : ℕ) (t : Known) → IsTabled code
     → IsConfiguration t.current
     → IsEnteredAt code typing pc t → entered code pc (left_before code typing pc) ≡ Ok t
 entered_found code typing zero t h formed e = opening_found code (label_at code 0) t formed (declares_at code 0 h) e
-entered_found code typing (suc pc) t h formed e =
-    place_found code (label_at code (suc pc)) (left_before code typing (suc pc)) t (declares_at code (suc pc) h) e
+entered_found code typing (suc pc) t h formed e = place_found _ _ _ _ (declares_at _ _ h) e

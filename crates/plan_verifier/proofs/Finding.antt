@@ -104,14 +104,11 @@ flow_fine plan (Edits edit) t c e = let parts = none_two _ _ e in
     (needed _ _ _ (decides_idle t.pending) parts.0, none_of _ _ parts.1)
 flow_fine plan (CommitIn delay) t c e =
     let h = can_commit plan t _ _ _ (decides_lt delay plan.notice) e in
-    let short : delay < plan.notice → ⊥ = h.1 in
-    (h.0, omega (arith, short))
+    (h.0, omega arith)
 flow_fine plan (CommitAt count) t c e =
     let d = decides_count plan count in
-    let parts = none_two _ _ e in
-    let two = none_two _ _ parts.1 in
-    let h = can_commit plan t _ _ _ (decides_not _ _ d) e in
-    (h.0, needed _ _ _ d two.0)
+    let two = none_two _ _ (none_two _ _ e).1 in
+    ((can_commit plan t _ _ _ (decides_not _ _ d) e).0, needed _ _ _ d two.0)
 flow_fine plan (Wait frames) t c e = needed _ _ _ (decides_certain frames t.pending) e
 flow_fine plan Join t c e = needed _ _ _ (decides_pending t.pending) e
 flow_fine plan (Loop counter target) t c e = c

@@ -51,8 +51,7 @@ paused table k (Perhaps hi) t h = by (nat_lt 1 hi)
 settled : (table : List Configuration) (k : Indices) (p : Swap) (t : Known) → p ≡ t.pending → AreAt table k (flow_of t)
     → MovesOn table k p (after_settle p t)
 settled table k Idle t e h = h
-settled table k (Within lo hi) t e h = (h.1, h.1)
-settled table k (Perhaps hi) t e h = (h.1, h.1)
+settled table k _ t e h = (h.1, h.1)
 
 -- the configurations are where the indices say, after each instruction
 pub tracked_after : (plan : Plan) (i : Instr) (table : List Configuration) (k : Indices) (t : Flow) → AreAt table k t
@@ -76,8 +75,7 @@ there_is table known index c at e =
 
 pub there_same : (table : List Configuration) (known : Option ℕ) (index : ℕ) (c : Configuration) (r : Bool)
     → IsAt table known c → known ≡ Some index → r ≡ true → r ≡ is_same c (configuration_at table index)
-there_same table known index c r at e is =
-    is ∙ sym ((decides_same c (configuration_at table index)).found (there_is table known index c at e))
+there_same table known index c r at e is = is ∙ sym ((decides_same _ _).found (there_is _ _ _ _ at e))
 
 pub is_there : (table : List Configuration) (index : ℕ) (c : Configuration) → index < length table
     → c ≡ configuration_at table index → slice_get table index ≡ Some c
@@ -121,6 +119,4 @@ pub tracked_fit : (table : List Configuration) (f : IndexedFlow) (t : Flow) → 
     → FitsFlow t (flow_at table f) → AreAt table (fit_indices t.pending f) t
 tracked_fit table f t within h =
     let u : Flow = flow_at table f in
-    fit_by table f (has_swapped f.pending t.pending) t within
-    (current_fits t.pending f.pending (known_at t) (known_at u) h)
-    (next_fits t.pending f.pending (known_at t) (known_at u) h)
+    fit_by table f _ t within (current_fits _ _ _ _ h) (next_fits t.pending f.pending (known_at t) (known_at u) h)

@@ -54,8 +54,7 @@ formed_paused (Perhaps hi) t h = formed_perhaps hi t h
 
 formed_settled : (p : Swap) (t : Known) → AreFormed t → AreFormed (after_settle p t)
 formed_settled Idle t h = h
-formed_settled (Within lo hi) t h = formed_swapped t h
-formed_settled (Perhaps hi) t h = formed_swapped t h
+formed_settled _ t h = formed_swapped t h
 
 -- only the configurations matter here
 formed_as : (t u : Known) → t.current ≡ u.current → t.next ≡ u.next → AreFormed t → AreFormed u
@@ -65,10 +64,8 @@ leaves_formed : (plan : Plan) (i : Instr) (t : Known) → IsInstr i → IsFine p
     → AreFormed (leaves plan i t)
 leaves_formed plan (Edits edit) t is fine h =
     record { current = h.current; next = edits_keep edit t.next (in_range edit is) h.next fine.1 }
-leaves_formed plan (Wait frames) t is fine h =
-    formed_as (after_wait frames t.pending t) _ refl refl (formed_waited frames t.pending t h)
-leaves_formed plan (Until day) t is fine h =
-    formed_as (after_pause t.pending t) _ refl refl (formed_paused t.pending t h)
+leaves_formed plan (Wait frames) t is fine h = formed_as _ _ refl refl (formed_waited frames t.pending t h)
+leaves_formed plan (Until day) t is fine h = formed_as _ _ refl refl (formed_paused t.pending t h)
 leaves_formed plan (WaitContact contact closed) t is fine h =
     formed_as (after_pause t.pending t) _ refl refl (formed_paused t.pending t h)
 leaves_formed plan (WaitAny closed opened until frames) t is fine h =
@@ -106,13 +103,12 @@ comes_in : (code : Program) (end : ℕ) (typing : List Known) → IsTypingBelow 
     → (pc : ℕ) (i : Instr) (u : Known) → suc pc < end
     → instr_at code pc ≡ Some i → slice_get typing pc ≡ Some u → continues i ≡ true → ComesIn code typing pc i u
 comes_in code end typing below pc i u lt at known on =
-    let up : pc + 1 ≡ suc pc = omega arith in
     let s = below.safe pc i u at known in
     record {
       there = at;
       known = known;
       onward = on;
-      arrives = subst (λ (n : ℕ). Arrives code typing n (label_at code n) (leaves code.plan i u)) up
+      arrives = subst (λ (n : ℕ). Arrives code typing n (label_at code n) (leaves code.plan i u)) (omega arith)
           (s.onward on (omega (arith, lt)));
     }
 
@@ -124,8 +120,7 @@ reached_from code end typing below pc lt none =
     let a = below.reached (suc pc) lt none in
     let same : a.before ≡ pc = (let e : suc pc ≡ a.before + 1 = a.next in omega (arith, e)) in
     let at : instr_at code pc ≡ Some a.instr = subst (λ (n : ℕ). instr_at code n ≡ Some a.instr) same a.there in
-    let each : length typing ≡ end = below.each in
-    let u = slice_there typing pc (omega (arith, lt, each)) in
+    let u = slice_there typing pc (omega (arith, lt)) in
     (a.instr, u.0, comes_in code end typing below pc a.instr u.0 lt at u.1 a.onward)
 
 formed_by : (code : Program) (end : ℕ) (typing : List Known) → IsTabled code → IsTypingBelow code end typing
@@ -138,8 +133,7 @@ formed_by code end typing h below pc None e lt t at before =
     let r = reached_from code end typing below pc lt e in
     let i = r.0 in
     let u = r.1 in
-    let arrived : Arrives code typing (suc pc) None (leaves code.plan i u) =
-    subst (λ (o : Option Label). Arrives code typing (suc pc) o (leaves code.plan i u)) e r.2.arrives in
+    let arrived = subst (λ (o : Option Label). Arrives code typing (suc pc) o (leaves code.plan i u)) e r.2.arrives in
     let same : leaves code.plan i u ≡ t = some_same _ _ _ arrived at in
     let s = below.safe pc i u r.2.there r.2.known in
     subst AreFormed same (leaves_formed code.plan i u (h.instrs pc i r.2.there) s.fine (before u r.2.known))
@@ -168,12 +162,11 @@ entered_below : (code : Program) (end : ℕ) (typing : List Known) → IsTabled 
 entered_below code end typing h below zero lt t at =
     let o = below.opening lt in
     let d = at_label code end typing h below 0 o.label t o.first lt at in
-    let same : o.known ≡ t = declared_once code o.label _ _ o.declares d.0 in
     record {
       label = o.label;
       there = o.first;
       declares = d.0;
-      opening = subst (λ (u : Known). IsOpening code.plan u) same o.opening;
+      opening = subst (λ (u : Known). IsOpening code.plan u) (declared_once code o.label _ _ o.declares d.0) o.opening;
       within = d.1;
     }
 entered_below code end typing h below (suc pc) lt t at = record {
@@ -206,17 +199,14 @@ walk_reaches : (code : Program) (end : ℕ) (typing : List Known) → IsTabled c
     → refusal_of code ≡ walk code (drop pc code.lines) pc (left_before code typing pc)
 walk_reaches code end typing h below len zero le = refl
 walk_reaches code end typing h below len (suc pc) le =
-    let each : length typing ≡ end = below.each in
     let line = slice_there code.lines pc (omega (arith, le, len)) in
-    let t = slice_there typing pc (omega (arith, le, each)) in
+    let t = slice_there typing pc (omega (arith, le)) in
     let at : instr_at code pc ≡ Some line.0.instr = ap (option_map (λ (l : Line). l.instr)) line.1 in
     let formed = formed_at code end typing h below pc (omega (arith, le)) t.0 t.1 in
     let enters : entered code pc (left_before code typing pc) ≡ Ok t.0 =
-    entered_found code typing pc t.0 h formed.current
-    (entered_below code end typing h below pc (omega (arith, le)) t.0 t.1) in
+    entered_found _ _ _ _ h formed.current (entered_below _ _ _ h below _ (omega (arith, le)) _ t.1) in
     let none : known_cause code pc line.0.instr t.0 ≡ None =
-    passed_none code pc line.0.instr t.0 h formed.next
-    (passed_below code end typing below pc line.0.instr t.0 at t.1) in
+    passed_none _ _ _ _ h formed.next (passed_below _ _ _ below _ _ _ at t.1) in
     let before = walk_reaches code end typing h below len pc (omega (arith, le)) in
     let cut : drop pc code.lines ≡ line.0 ∷ drop (suc pc) code.lines = dropped code.lines pc line.0 line.1 in
     let go : walk code (line.0 ∷ drop (suc pc) code.lines) pc (left_before code typing pc)
@@ -225,9 +215,7 @@ walk_reaches code end typing h below len (suc pc) le =
     walk code (drop (suc pc) code.lines) (pc + 1) (passed_on code.plan line.0.instr u)) t.0 enters none in
     let left : left_before code typing (suc pc) ≡ passed_on code.plan line.0.instr t.0 = rw (at, t.1) refl in
     let up : pc + 1 ≡ suc pc = omega arith in
-    before ∙ ap (λ (ls : List Line). walk code ls pc (left_before code typing pc)) cut ∙ go
-    ∙ ap (λ (n : ℕ). walk code (drop (suc pc) code.lines) n (passed_on code.plan line.0.instr t.0)) up
-    ∙ ap (λ (o : Option Known). walk code (drop (suc pc) code.lines) (suc pc) o) (sym left)
+    cc (before, cut, go, up, left)
 
 drop_all : {T : Type 0} (xs : List T) → drop (length xs) xs ≡ []
 drop_all [] = refl
@@ -265,9 +253,7 @@ typed_passes code h typed =
     let typing = typed.0 in
     let inside : (label : Label) → Contains code.labels label → label.pc < length code.lines = λ label here.
     let p = typed.1.labels label here in
-    let lt : label.pc < length typing = slice_get_within typing label.pc p.known p.there in
-    let each : length typing ≡ length code.lines = typed.1.each in
-    omega (arith, lt, each) in
+    omega (arith, slice_get_within typing label.pc p.known p.there) in
     walk_ends code typing (tabled code h) (typing_below code typing typed.1)
     ∙ ap past_label (none_found (length code.lines) code.labels inside)
 
@@ -275,18 +261,13 @@ past_is : (code : Program) (pc : ℕ) (o : Option Label) → IsProgram code → 
     → find (λ (l : Label). nat_le (length code.lines) l.pc) code.labels ≡ o → past_label o ≡ refused_at pc Table
 past_is code pc None h first past e =
     let f = (tabled code h).found pc first.label first.there in
-    let inside : first.label.pc < length code.lines = none_past (length code.lines) code.labels e first.label f.0 in
-    let same : first.label.pc ≡ pc = f.1 in
-    absurd (omega (arith, inside, same, past))
+    absurd (omega (arith, none_past (length code.lines) code.labels e first.label f.0, past))
 past_is code pc (Some label) h first past e =
     let f = (tabled code h).found pc first.label first.there in
-    let same : first.label.pc ≡ pc = f.1 in
     let g = found (λ (l : Label). nat_le (length code.lines) l.pc) code.labels label e in
     let above : pc ≤ label.pc = first.first label g.0 ((decides_le (length code.lines) label.pc).told g.1) in
-    let below : label.pc ≤ first.label.pc =
-    first_past (length code.lines) code.labels label h.labels_ascend e first.label f.0
-    (omega (arith, past, same)) in
-    let here : label.pc ≡ pc = omega (arith, above, below, same) in
+    let below : label.pc ≤ first.label.pc = first_past _ _ _ h.labels_ascend e _ f.0 (omega (arith, past, f.1)) in
+    let here : label.pc ≡ pc = omega (arith, above, below, f.1) in
     ap (λ (n : ℕ). refused_at n Table) here
 
 past_lines : (xs : List Line) (k : ℕ) → option_map (λ (l : Line). l.instr) (slice_get xs k) ≡ None → length xs ≤ k
@@ -295,8 +276,7 @@ past_lines (x ∷ xs) zero e = absurd cc
 past_lines (x ∷ xs) (suc k) e = let h : length xs ≤ k = past_lines xs k e in omega (arith, h)
 
 none_there : (pc : ℕ) (t : Known) → slice_get [] pc ≡ Some t → ⊥
-none_there zero t e = cc
-none_there (suc pc) t e = cc
+none_there _ t e = cc
 
 refused_by : (code : Program) (pc : ℕ) (cause : Cause) (typing : List Known) (o : Option Instr) → IsProgram code
     → instr_at code pc ≡ o → IsRefusedAt code typing pc o cause
@@ -305,19 +285,15 @@ refused_by code pc cause typing (Some i) h at r =
     let tables = tabled code h in
     let line = mapped (λ (l : Line). l.instr) (slice_get code.lines pc) i at in
     let lt : pc < length code.lines = slice_get_within code.lines pc line.0 line.1 in
-    let found : whole_cause (entered code pc (left_before code typing pc)) (known_cause code pc line.0.instr)
-    ≡ Some cause =
-    subst (λ (j : Instr). whole_cause (entered code pc (left_before code typing pc)) (known_cause code pc j)
-    ≡ Some cause) (sym line.2) ((whole_computes code typing pc i tables).found cause r.1) in
+    let found : whole_cause (entered code pc (left_before code typing pc)) (known_cause code pc line.0.instr) ≡ Some
+    cause = rw line.2 ((whole_computes code typing pc i tables).found cause r.1) in
     walk_reaches code pc typing tables r.0 (omega (arith, lt)) pc (omega arith)
     ∙ ap (λ (ls : List Line). walk code ls pc (left_before code typing pc)) (dropped code.lines pc line.0 line.1)
     ∙ stops pc (entered code pc (left_before code typing pc)) (known_cause code pc line.0.instr)
     (λ t. walk code (drop (suc pc) code.lines) (pc + 1) (passed_on code.plan line.0.instr t)) cause found
 refused_by code pc cause typing None h at r =
     let past : length code.lines ≤ pc = past_lines code.lines pc at in
-    walk_ends code typing (tabled code h) r.0 ∙ past_is code pc
-    (find (λ (l : Label). nat_le (length code.lines) l.pc) code.labels) h r.1 past refl
-    ∙ ap (refused_at pc) (sym r.2)
+    walk_ends _ _ (tabled code h) r.0 ∙ past_is _ _ _ h r.1 past refl ∙ ap (refused_at pc) (sym r.2)
 
 pub refused_stops : (code : Program) (pc : ℕ) (cause : Cause) → IsProgram code → IsRefused code pc cause
     → refusal_of code ≡ refused_at pc cause
@@ -354,8 +330,7 @@ codes_have_one_verdict code h = record {
       let both : None ≡ refused_at pc cause = sym (typed_passes code h typed) ∙ refused_stops code pc cause h refused in
       cc;
   one = λ pc other_pc cause other one two.
-      let both : refused_at pc cause ≡ refused_at other_pc other =
-      sym (refused_stops code pc cause h one) ∙ refused_stops code other_pc other h two in
+      let both = sym (refused_stops code pc cause h one) ∙ refused_stops code other_pc other h two in
       let a : Refusal = record { pc = pc; cause = cause } in
       let b : Refusal = record { pc = other_pc; cause = other } in
       let same : a ≡ b = some_same (refused_at pc cause) a b refl both in

@@ -128,8 +128,7 @@ pub first_under_is : (plan : Plan) (c : Configuration) (cost : ℕ) (lines : Lis
     → AllByRecursion IsLine lines → 1 ≤ length lines → length lines ≤ 4096
     → IsProgram (code_under plan c (label 0 cost ∷ []) lines)
 first_under_is plan c cost lines planned is from to =
-    code_under_is plan c (label 0 cost ∷ []) lines planned is (label_is 0 cost (omega arith) from to, tt) (tt, tt)
-    (omega arith) (omega arith)
+    code_under_is _ _ _ _ planned is (label_is 0 cost (omega arith) from to, tt) (tt, tt) (omega arith) (omega arith)
 
 pub first_from_is : (c : Configuration) (cost : ℕ) (lines : List Line) → IsConfiguration c → 1 ≤ cost → cost ≤ 255
     → AllByRecursion IsLine lines → 1 ≤ length lines → length lines ≤ 4096

@@ -24,8 +24,7 @@ opens_err : (code : Program) (label : Label) (t : Known) (given : Cause) → lab
     → t ≡ declared_by code label → opening_cause code label t ≡ Some given
     → opening_known code (label_at code 0) ≡ Err given
 opens_err code label t given at same e =
-    let found : opening_cause code label (declared_by code label) ≡ Some given =
-    subst (λ (u : Known). opening_cause code label u ≡ Some given) same e in
+    let found = subst (λ (u : Known). opening_cause code label u ≡ Some given) same e in
     ap (opening_known code) at ∙ ap (λ (o : Option Cause). taken o (declared_by code label)) found
 
 pub opening_refused : (code : Program) (label : Label) (t : Known) (r : Result (Unit {0}) Cause)
@@ -39,8 +38,7 @@ pub visit_refused : (code : Program) (pc : ℕ) (i : Instr) (came : Option Known
     → r ≡ unless (known_cause code pc i t)
     → IfErr r (λ cause. whole_cause (entered code pc came) (known_cause code pc i) ≡ Some cause)
 visit_refused code pc i came t (Ok done) enters e = tt
-visit_refused code pc i came t (Err given) enters e =
-    ap (λ (x : Result Known Cause). whole_cause x (known_cause code pc i)) enters ∙ unless_err _ given e
+visit_refused code pc i came t (Err given) enters e = cc (enters, unless_err _ given e)
 
 pub visit_passed : (code : Program) (pc : ℕ) (i : Instr) (came : Option Known) (t left : Known)
     (r : Result (Unit {0}) Cause) → entered code pc came ≡ Ok t
@@ -68,11 +66,9 @@ pub walk_stop : (code : Program) (pc : ℕ) (came : Option Known) (cause : Cause
 walk_stop code pc came cause lt walked e =
     let line = slice_there code.lines pc lt in
     let is : instr_or_end (instr_at code pc) ≡ line.0.instr = instr_is code pc line.0 _ line.1 in
-    let here : whole_cause (entered code pc came) (known_cause code pc line.0.instr) ≡ Some cause =
-    subst (λ (i : Instr). whole_cause (entered code pc came) (known_cause code pc i) ≡ Some cause) is e in
-    walked ∙ ap (λ (ls : List Line). walk code ls pc came) (dropped code.lines pc line.0 line.1)
-    ∙ stops pc (entered code pc came) (known_cause code pc line.0.instr)
-    (λ t. walk code (drop (suc pc) code.lines) (pc + 1) (passed_on code.plan line.0.instr t)) cause here
+    let here = subst (λ (i : Instr). whole_cause (entered code pc came) (known_cause code pc i) ≡ Some cause) is e in
+    walked ∙ ap (λ (ls : List Line). walk code ls pc came) (dropped _ pc _ line.1) ∙ stops pc (entered code pc came)
+    (known_cause code pc line.0.instr) (λ t. walk code _ _ _) cause here
 
 pub walk_go : (code : Program) (pc : ℕ) (came : Option Known) (left : Known) → pc < length code.lines
     → refusal_of code ≡ walk code (drop pc code.lines) pc came
@@ -81,15 +77,11 @@ pub walk_go : (code : Program) (pc : ℕ) (came : Option Known) (left : Known) �
     (known_if_reached (continues (instr_or_end (instr_at code pc))) left)
 walk_go code pc came left lt walked p =
     let line = slice_there code.lines pc lt in
-    let i : Instr = instr_or_end (instr_at code pc) in
     let is : instr_or_end (instr_at code pc) ≡ line.0.instr = instr_is code pc line.0 _ line.1 in
-    let none : known_cause code pc line.0.instr p.known ≡ None =
-    subst (λ (j : Instr). known_cause code pc j p.known ≡ None) is p.none in
+    let none = subst (λ (j : Instr). known_cause code pc j p.known ≡ None) is p.none in
     let up : suc pc ≡ pc + 1 = omega arith in
-    let came_next : passed_on code.plan line.0.instr p.known
-    ≡ known_if_reached (continues (instr_or_end (instr_at code pc))) left =
-    ap (λ (j : Instr). passed_on code.plan j p.known) (sym is)
-    ∙ ap (λ (t : Known). known_if_reached (continues (instr_or_end (instr_at code pc))) t) (sym p.leaves_it) in
+    let came_next : passed_on code.plan line.0.instr p.known ≡ known_if_reached
+    (continues (instr_or_end (instr_at code pc))) left = cc (is, p.leaves_it) in
     walked ∙ ap (λ (ls : List Line). walk code ls pc came) (dropped code.lines pc line.0 line.1)
     ∙ passes pc (entered code pc came) (known_cause code pc line.0.instr)
     (λ t. walk code (drop (suc pc) code.lines) (pc + 1) (passed_on code.plan line.0.instr t)) p.known p.enters none

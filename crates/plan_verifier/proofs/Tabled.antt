@@ -17,12 +17,10 @@ found_by : {T : Type 0} (test : T → Bool) (y x : T) (ys : List T) (b : Bool) �
     → (find test ys ≡ Some x → Contains ys x × (test x ≡ true))
     → find test (y ∷ ys) ≡ Some x → Contains (y ∷ ys) x × (test x ≡ true)
 found_by test y x ys true is later e =
-    let here : Some y ≡ Some x = sym (rw is refl) ∙ e in
     let same : y ≡ x = cc in
     (subst (λ (z : _). Contains (y ∷ ys) z) same (contains_first y ys), subst (λ (z : _). test z ≡ true) same is)
 found_by test y x ys false is later e =
-    let there : find test ys ≡ Some x = sym (rw is refl) ∙ e in
-    let h = later there in
+    let h = later (sym (rw is refl) ∙ e) in
     (contains_later y ys x h.0, h.1)
 
 pub found : {T : Type 0} (test : T → Bool) (xs : List T) (x : T) → find test xs ≡ Some x → Contains xs x
@@ -58,9 +56,7 @@ label_of code h label here = each_contains (IsLabel (length code.configurations)
 
 formed_at : (code : Program) → IsProgram code → (k : ℕ) → k < length code.configurations
     → IsConfiguration (configuration_at code.configurations k)
-formed_at code h k lt =
-    each_contains IsConfiguration code.configurations _ h.configurations_formed
-    (contains_at code.configurations k _ (within_table code.configurations k lt))
+formed_at code h k lt = each_contains _ _ _ h.configurations_formed (contains_at _ _ _ (within_table _ _ lt))
 
 pub tabled : (code : Program) → IsProgram code → IsTabled code
 tabled code h = record {
@@ -79,12 +75,10 @@ tabled code h = record {
   found = λ pc label e.
       let f = found (λ (l : Label). eqb l.pc pc) code.labels label e in
       (f.0, eqb-true _ _ f.1);
-  there = λ label here. find_at label_key label.pc code.labels here.0 label h.labels_ascend here.1 (ap label_key here.2)
-      ∙ ap Some here.2;
+  there = λ label here. find_at _ _ _ _ _ h.labels_ascend here.1 (ap label_key here.2) ∙ ap Some here.2;
   instrs = λ pc i e.
       let m = mapped (λ (l : Line). l.instr) (slice_get code.lines pc) i e in
-      let line : IsLine m.0 = each_contains IsLine code.lines m.0 h.lines_formed (contains_at code.lines pc m.0 m.1) in
-      subst IsInstr m.2 line.formed;
+      subst IsInstr m.2 (each_contains IsLine code.lines m.0 h.lines_formed (contains_at code.lines pc m.0 m.1)).formed;
 }
 
 -- a label declares exactly one state
@@ -112,14 +106,8 @@ pub unlabelled : (p : Program) (typing : List Known) (pc : ℕ) (i : Instr) (t u
     → instr_at p pc ≡ Some i → slice_get typing pc ≡ Some t → label_at p (pc + 1) ≡ None
     → slice_get typing (pc + 1) ≡ Some u → u ≡ leaves p.plan i t
 unlabelled p typing pc i t u h at there e later =
-    let within : pc + 1 < length typing = slice_get_within typing (pc + 1) u later in
-    let inside : pc + 1 < length p.lines = subst (λ n. pc + 1 < n) h.each within in
-    let after = h.reached (pc + 1) inside e in
+    let after = h.reached (pc + 1) (subst (λ n. pc + 1 < n) h.each (slice_get_within typing (pc + 1) u later)) e in
     let back : after.before ≡ pc = omega (arith, after.next) in
-    let same : after.instr ≡ i =
-    some_same _ after.instr i (subst (λ k. instr_at p k ≡ Some after.instr) back after.there) at in
-    let onward : continues i ≡ true = subst (λ j. continues j ≡ true) same after.onward in
-    let arrives = (h.safe pc i t at there).onward onward in
-    let gets : slice_get typing (pc + 1) ≡ Some (leaves p.plan i t) =
-    subst (λ o. Arrives p typing (pc + 1) o (leaves p.plan i t)) e arrives in
-    some_same _ u (leaves p.plan i t) later gets
+    let same = some_same _ after.instr i (subst (λ k. instr_at p k ≡ Some after.instr) back after.there) at in
+    let arrives = (h.safe pc i t at there).onward (subst (λ j. continues j ≡ true) same after.onward) in
+    some_same _ u (leaves p.plan i t) later (subst (λ o. Arrives p typing (pc + 1) o (leaves p.plan i t)) e arrives)

@@ -27,17 +27,15 @@ slice_next (x ∷ xs) zero y ys e = (let h : x ≡ y = cc in ap Some h, let t : 
 slice_next (x ∷ xs) (suc k) y ys e = slice_next xs k y ys e
 
 pub dropped : {T : Type 0} (xs : List T) (k : ℕ) (y : T) → slice_get xs k ≡ Some y → drop k xs ≡ y ∷ drop (suc k) xs
-dropped [] zero y e = absurd cc
-dropped [] (suc k) y e = absurd cc
 dropped (x ∷ xs) zero y e = let h : x ≡ y = cc in ap (λ (z : _). z ∷ xs) h
 dropped (x ∷ xs) (suc k) y e = dropped xs k y e
+dropped [] _ y e = absurd cc
 
 pub slice_before : {T : Type 0} (xs : List T) (y : T) (k : ℕ) (z : T) → slice_get xs k ≡ Some z
     → slice_get (xs ++ y ∷ []) k ≡ Some z
-slice_before [] y zero z e = absurd cc
-slice_before [] y (suc k) z e = absurd cc
 slice_before (x ∷ xs) y zero z e = e
 slice_before (x ∷ xs) y (suc k) z e = slice_before xs y k z e
+slice_before [] y _ z e = absurd cc
 
 pub slice_last : {T : Type 0} (xs : List T) (y : T) → slice_get (xs ++ y ∷ []) (length xs) ≡ Some y
 slice_last [] y = refl
@@ -76,11 +74,10 @@ pub record CameFrom (plan : Plan) (o : Option Instr) (k : Option Known) (u : Kno
 
 pub left_told : (plan : Plan) (o : Option Instr) (k : Option Known) (u : Known) → left_by plan o k ≡ Some u
     → CameFrom plan o k u
-left_told plan None k u e = absurd cc
-left_told plan (Some i) None u e = absurd cc
 left_told plan (Some i) (Some t) u e =
     let c = left_chosen plan i t u (continues i) refl e in
     record { instr = i; known = t; there = refl; holds = refl; onward = c.0; left = c.1 }
+left_told plan _ _ u e = absurd cc
 
 -- ---- extending a typing by one instruction
 
@@ -185,8 +182,7 @@ extended : (code : Program) (pc : ℕ) (typing : List Known) (i : Instr) (t : Kn
     → IsTypingBelow code (pc + 1) (typing ++ t ∷ [])
 extended code pc typing i t h lt at below e p =
     let b = begun code typing pc t e in
-    let there : slice_get (typing ++ t ∷ []) pc ≡ Some t =
-    subst (λ (n : ℕ). slice_get (typing ++ t ∷ []) n ≡ Some t) below.each (slice_last typing t) in
+    let there = subst (λ (n : ℕ). slice_get (typing ++ t ∷ []) n ≡ Some t) below.each (slice_last typing t) in
     record {
       each = length_push typing t ∙ ap (λ (n : ℕ). n + 1) below.each;
       opening = λ some. elim (cases_lt 0 pc) [
@@ -276,10 +272,8 @@ first_past n (x ∷ xs) label up e other here past =
             | inl same ↦ let e : x.pc ≡ label.pc = ap label_key first.1 in let f : x.pc ≡ other.pc =
                 ap label_key same in omega (arith, e, f)
             | inr later ↦
-                let above : x.pc < other.pc =
-                each_contains (λ (y : Label). label_key x < label_key y) xs other up.0 later in
                 let e : x.pc ≡ label.pc = ap label_key first.1 in
-                omega (arith, above, e)
+                omega (arith, each_contains (λ (y : Label). label_key x < label_key y) xs other up.0 later, e)
           ]
       | inr next ↦
           elim (contains_cases x xs other here) [
@@ -344,17 +338,11 @@ verdict_past code typing h below None is = (
       (none_past (length code.lines) code.labels is),
 )
 verdict_past code typing h below (Some label) is =
-    let tables = tabled code h in
     let f = found (λ (l : Label). nat_le (length code.lines) l.pc) code.labels label is in
     let past : length code.lines ≤ label.pc = (decides_le (length code.lines) label.pc).told f.1 in
-    let none : instr_at code label.pc ≡ None =
-    ap (option_map (λ (l : Line). l.instr)) (slice_get_past code.lines label.pc past) in
+    let none = ap (option_map (λ (l : Line). l.instr)) (slice_get_past code.lines label.pc past) in
     let first : IsFirstPast code label.pc =
-    record {
-      label = label;
-      there = tables.there label f.0;
-      first = first_past (length code.lines) code.labels label h.labels_ascend is;
-    } in
+    record { label = label; there = (tabled code h).there label f.0; first = first_past _ _ _ h.labels_ascend is; } in
     (typing, subst (λ (o : Option Instr). IsRefusedAt code typing label.pc o Table) (sym none) (below, first, refl))
 
 found_next : (code : Program) → IsProgram code → (line : Line) (lines : List Line) (pc : ℕ) (typing : List Known)
@@ -368,25 +356,20 @@ found_next : (code : Program) → IsProgram code → (line : Line) (lines : List
     → IsVerdict code (walk code (line ∷ lines) pc (left_before code typing pc))
 found_next code h line lines pc typing at c None is below later =
     let n = whole_none _ _ is in
-    let go : walk code (line ∷ lines) pc (left_before code typing pc)
-    ≡ walk code lines (pc + 1) (passed_on code.plan line.instr n.0) =
-    passes pc (entered code pc (left_before code typing pc)) (known_cause code pc line.instr)
-    (λ t. walk code lines (pc + 1) (passed_on code.plan line.instr t)) n.0 n.1 n.2 in
+    let go : walk code (line ∷ lines) pc (left_before code typing pc) ≡ walk code lines (pc + 1)
+    (passed_on code.plan line.instr n.0) = passes pc _ _ (λ t. walk code lines _ _) n.0 n.1 n.2 in
     subst (λ (o : Option Refusal). IsVerdict code o) (sym go) (later n.0 n.1 n.2)
 found_next code h line lines pc typing at c (Some cause) is below later =
     let halt : walk code (line ∷ lines) pc (left_before code typing pc) ≡ refused_at pc cause =
-    stops pc (entered code pc (left_before code typing pc)) (known_cause code pc line.instr)
-    (λ t. walk code lines (pc + 1) (passed_on code.plan line.instr t)) cause is in
-    let refused : IsRefused code pc cause =
-    (typing, subst (λ (o : Option Instr). IsRefusedAt code typing pc o cause) (sym at) (below, c.told cause is)) in
+    stops pc (entered code pc _) (known_cause code pc line.instr) (λ t. walk code lines _ _) cause is in
+    let refused : IsRefused code pc cause = (typing, rw at (below, c.told cause is)) in
     subst (λ (o : Option Refusal). IsVerdict code o) (sym halt) refused
 
 pub found_from : (code : Program) → IsProgram code → (lines : List Line) (pc : ℕ) (typing : List Known)
     → drop pc code.lines ≡ lines → pc + length lines ≡ length code.lines
     → IsTypingBelow code pc typing → IsVerdict code (walk code lines pc (left_before code typing pc))
 found_from code h [] pc typing rest len below =
-    let end : pc ≡ length code.lines = omega (arith, len) in
-    verdict_past code typing h (subst (λ (n : ℕ). IsTypingBelow code n typing) end below)
+    verdict_past code typing h (subst (λ (n : ℕ). IsTypingBelow code n typing) (omega (arith, len)) below)
     (find (λ (l : Label). nat_le (length code.lines) l.pc) code.labels) refl
 found_from code h (line ∷ lines) pc typing rest len below =
     let tables = tabled code h in
@@ -401,11 +384,8 @@ found_from code h (line ∷ lines) pc typing rest len below =
     let up : suc pc ≡ pc + 1 = omega arith in
     let longer = extended code pc typing line.instr t tables lt at below (entered_told code typing pc t tables e)
     (known_passed code pc line.instr t tables k) in
-    let there : slice_get (typing ++ t ∷ []) pc ≡ Some t =
-    subst (λ (n : ℕ). slice_get (typing ++ t ∷ []) n ≡ Some t) below.each (slice_last typing t) in
+    let there = subst (λ (n : ℕ). slice_get (typing ++ t ∷ []) n ≡ Some t) below.each (slice_last typing t) in
     let left : left_before code (typing ++ t ∷ []) (pc + 1) ≡ passed_on code.plan line.instr t =
-    subst (λ (n : ℕ). left_before code (typing ++ t ∷ []) n ≡ passed_on code.plan line.instr t) up
-    (rw (at, there) refl) in
+    rw (← up) (rw (at, there) refl) in
     let dropped_one : drop (pc + 1) code.lines ≡ lines = subst (λ (n : ℕ). drop n code.lines ≡ lines) up next.1 in
-    subst (λ (o : Option Known). IsVerdict code (walk code lines (pc + 1) o)) left
-    (found_from code h lines (pc + 1) (typing ++ t ∷ []) dropped_one (omega (arith, len)) longer))
+    rw (← left) (found_from code h lines (pc + 1) (typing ++ t ∷ []) dropped_one (omega (arith, len)) longer))

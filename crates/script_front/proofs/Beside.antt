@@ -30,10 +30,8 @@ pub count_both : (p : Test) (before more : Alternatives)
     → length (filter p (before ++ more)) ≡ length (filter p before) + length (filter p more)
 count_both p [] more = omega arith
 count_both p (a ∷ before) more =
-    let e = count_cons p a (before ++ more) in
-    let f = count_cons p a before in
     let g = count_both p before more in
-    let n : ℕ = one_if (p a) in omega (arith, e, f, g)
+    let n : ℕ = one_if (p a) in omega (arith, count_cons p a (before ++ more), count_cons p a before, g)
 
 -- none passes a test, or some do
 pub none_counts : (p : Test) (all : Alternatives) → list_any p all ≡ false → length (filter p all) ≡ 0
@@ -89,34 +87,24 @@ is_so false h = refl
 pub one_more : (before : Alternatives) (a : Alternative) → AreTogether before → IsAlternative a
     → may_follow before a ≡ true → AreTogether (before ++ a ∷ [])
 one_more before (Contact contact closed) h is fits =
-    let m = count_both is_moment before (Contact contact closed ∷ []) in
-    let n = count_both is_frames before (Contact contact closed ∷ []) in
-    let x = h.one_moment in
-    let y = h.one_number in
     record {
       each = each_both before _ h.each (is, tt);
-      one_moment = omega (arith, m, x);
-      one_number = omega (arith, n, y);
+      one_moment = omega (arith, count_both is_moment before (Contact contact closed ∷ []));
+      one_number = omega (arith, count_both is_frames before (Contact contact closed ∷ []));
     }
 one_more before (Until moment) h is fits =
-    let m = count_both is_moment before (Until moment ∷ []) in
-    let n = count_both is_frames before (Until moment ∷ []) in
     let x = none_counts is_moment before (not_any _ fits) in
-    let y = h.one_number in
     record {
       each = each_both before _ h.each (is, tt);
-      one_moment = omega (arith, m, x);
-      one_number = omega (arith, n, y);
+      one_moment = omega (arith, count_both is_moment before (Until moment ∷ []), x);
+      one_number = omega (arith, count_both is_frames before (Until moment ∷ []), h.one_number);
     }
 one_more before (Frames frames) h is fits =
-    let m = count_both is_moment before (Frames frames ∷ []) in
-    let n = count_both is_frames before (Frames frames ∷ []) in
-    let x = h.one_moment in
     let y = none_counts is_frames before (not_any _ fits) in
     record {
       each = each_both before _ h.each (is, tt);
-      one_moment = omega (arith, m, x);
-      one_number = omega (arith, n, y);
+      one_moment = omega (arith, count_both is_moment before (Frames frames ∷ []), h.one_moment);
+      one_number = omega (arith, count_both is_frames before (Frames frames ∷ []), y);
     }
 
 -- the next one among such alternatives could be beside those before it
@@ -173,12 +161,11 @@ has_one_more slots all len next begins long kept are is room fits =
     let front : take (len + 1) (set slots len next) ≡ all ++ next ∷ [] =
     ap (take (len + 1)) now ∙ ap (λ (n : ℕ). take n (in_slots (all ++ next ∷ []))) (sym count)
     ∙ begin_with (all ++ next ∷ []) in
-    let some = are.several in
     record {
       begins = rw (begins) front;
       long = sym count ∙ ap length (sym front);
       kept = now ∙ ap in_slots (sym front);
       are = subst AreAlternatives (sym front)
-          (are_alternatives (all ++ next ∷ []) (omega (arith, count, long, some)) (omega (arith, count, long, room))
+          (are_alternatives (all ++ next ∷ []) (omega (arith, count, long)) (omega (arith, count, long, room))
           (one_more all next (are_together all are) is fits));
     }

@@ -154,8 +154,7 @@ or_are (a ∷ others) h = (
 
 alternatives_are : (all : List Alternative) → AllByRecursion IsAlternative all → AreWords (alternatives_lexemes all)
 alternatives_are [] h = tt
-alternatives_are (a ∷ others) h =
-    both_words (alternative_lexemes a) (or_lexemes others) (alternative_are a h.0) (or_are others h.1)
+alternatives_are (a ∷ others) h = both_words _ _ (alternative_are _ h.0) (or_are _ h.1)
 
 condition_are : (c : Condition) → IsCondition c → AreWords (condition_lexemes c)
 condition_are (Contact contact) h = (keyword_text the.Contact, (decimal_word contact (omega (arith, h)), tt))
@@ -271,11 +270,9 @@ block_all names d (either n condition first second rest) =
     )
     (all_both (block_lines names (d + 1) first) _))
 block_all names d (repeat n times body rest) =
-    rw (body_all (block_lines names (d + 1) body) (block_lines names d rest) _ _ d (block_all names (d + 1) body)
-    (block_all names d rest)) refl
+    rw (body_all _ _ _ _ _ (block_all names (d + 1) body) (block_all names d rest)) refl
 block_all names d (forever n body rest) =
-    rw (body_all (block_lines names (d + 1) body) (block_lines names d rest) _ _ d (block_all names (d + 1) body)
-    (block_all names d rest)) refl
+    rw (body_all _ _ _ _ d (block_all names (d + 1) body) (block_all names d rest)) refl
 block_all names d (apply n number named rest) = rw (block_all names d rest) refl
 
 -- ---- a script
@@ -345,9 +342,7 @@ defined_are names n (b ∷ bs) le are h = (
 defined_all : (names : List (List ℕ)) (n : ℕ) (bs : List (List Statement))
     → all_words (defined_lines names n bs) ≡ defined_lexemes names n bs
 defined_all names n [] = refl
-defined_all names n (b ∷ bs) =
-    rw (body_all (block_lines names 1 (block_of [] b)) (defined_lines names (n + 1) bs) _ _ 0
-    (block_all names 1 (block_of [] b)) (defined_all names (n + 1) bs)) refl
+defined_all names n (b ∷ bs) = rw (body_all _ _ _ _ _ (block_all _ _ _) (defined_all names (n + 1) bs)) refl
 
 reserve_all : (l : FrameLayout) → reserve_lexemes l ++ [] ≡ reserve_lexemes l
 reserve_all (Whole mode) = refl
@@ -375,15 +370,13 @@ tree_are : (t : Tree) → IsScript t → AreLines (tree_lines t)
 tree_are t s =
     let are = name_among t.names s.named in
     let le : 0 + length t.blocks ≤ length t.names = (let e = s.defined in omega (arith, e)) in
-    let known : length t.blocks ≤ length t.names = omega (arith, le) in
     lines_both (header_lines t.header) _ (header_are t.header s.headed)
     (lines_both (items_lines t.items) _ (items_are t.items s.adding) (
     lines_both (defined_lines t.names 0 t.blocks) _ (defined_are t.names 0 t.blocks le are s.blocks_fit) (
       (keyword_text the.Begin, tt),
-      block_are t.names (length t.blocks) 16 0 known are (block_of [] t.statements) s.fits,
+      block_are t.names (length t.blocks) 16 0 (omega (arith, le)) are (block_of [] t.statements) s.fits,
     )))
 
 pub printed_denotes : (text : List ℕ) (t : Tree) → IsScript t → text ≡ text_of_lines (tree_lines t) → Denotes text t
 printed_denotes text t s e =
-    let h = lines_have (tree_lines t) (tree_are t s) in
-    rw (e) (rw (← tree_all t) h)
+    rw (e) (rw (← tree_all t) (lines_have (tree_lines t) (tree_are t s)))

@@ -37,16 +37,12 @@ slices : (front : List ℕ) (p : Place) (ps : List Piece) → p.at ≡ length fr
     → lexemes_of (front ++ text_of ps) (tokens_of p ps) ≡ lexemes_in ps
 slices front p [] e = refl
 slices front p (blank b ∷ ps) e =
-    not_stopped front (b ∷ []) (tokens_of (position_past p (b ∷ [])) ps) ps
-    (slices (front ++ b ∷ []) (position_past p (b ∷ [])) ps (next_at p front (b ∷ []) e))
+    not_stopped front _ _ ps (slices (front ++ b ∷ []) (position_past p (b ∷ [])) ps (next_at p front _ e))
 slices front p (comment bs ∷ ps) e =
-    not_stopped front (35 ∷ bs) (tokens_of (position_past p (35 ∷ bs)) ps) ps
-    (slices (front ++ 35 ∷ bs) (position_past p (35 ∷ bs)) ps (next_at p front (35 ∷ bs) e))
+    not_stopped front _ _ ps (slices (front ++ 35 ∷ bs) (position_past p (35 ∷ bs)) ps (next_at p front _ e))
 slices front p (brace b ∷ ps) e =
-    let here : slice_range (front ++ (b ∷ text_of ps)) p.at (p.at + 1) ≡ b ∷ [] =
-    seam front (b ∷ []) (text_of ps) p.at e in
     rw (
-      here,
+      (seam front (b ∷ []) (text_of ps) p.at e),
       not_stopped front (b ∷ []) (tokens_of (position_past p (b ∷ [])) ps) ps
           (slices (front ++ b ∷ []) (position_past p (b ∷ [])) ps (next_at p front (b ∷ []) e)),
     ) refl
@@ -62,14 +58,12 @@ pub is_script : (text : List ℕ) (tokens : List Token) (t : Tree) → AreTokens
     → lexemes_of text tokens ≡ tree_lexemes t → HasLines (lines_of tokens) t → IsScriptOf text t
 is_script text tokens t h spelled lined =
     let cut = h.1 in
-    let first : lexemes_of (text_of cut.pieces) (tokens_of first_position cut.pieces) ≡ lexemes_in cut.pieces =
-    slices [] first_position cut.pieces refl in
-    let same : lexemes_of text tokens ≡ lexemes_in cut.pieces = rw (← cut.whole, ← cut.are) first in
+    let first = slices [] first_position cut.pieces refl in
     record {
       pieces = cut.pieces;
       formed = cut.formed;
       whole = cut.whole;
-      spelled = sym same ∙ spelled;
+      spelled = sym (rw (← cut.whole, ← cut.are) first) ∙ spelled;
       lined = rw (cut.are) lined;
       short = h.0;
       within = rw (cut.are) cut.within;
@@ -90,17 +84,10 @@ ok_same x y r e f = let g = sym e ∙ f in cc
 pub are_its_tokens : (text : List ℕ) (tokens : List Token) (t : Tree) → AreTokens text tokens → (s : IsScriptOf text t)
     → tokens ≡ tokens_of first_position s.pieces
 are_its_tokens text tokens t h s =
-    let there = are_tokens text t s in
-    let one : lexed script_limits Nothing first_position text ≡ Ok tokens =
-    (texts_are_cut script_limits text tokens).1 h.1 in
-    let other : lexed script_limits Nothing first_position text ≡ Ok (tokens_of first_position s.pieces) =
-    (texts_are_cut script_limits text (tokens_of first_position s.pieces)).1 there.1 in
-    ok_same _ _ _ one other
+    let other = (texts_are_cut script_limits text (tokens_of first_position s.pieces)).1 (are_tokens text t s).1 in
+    ok_same _ _ _ ((texts_are_cut script_limits text tokens).1 h.1) other
 
 pub denoted_words : (text : List ℕ) (tokens : List Token) (t : Tree) → AreTokens text tokens → IsScriptOf text t
     → lexemes_of text tokens ≡ tree_lexemes t
 denoted_words text tokens t h s =
-    let same = are_its_tokens text tokens t h s in
-    let first : lexemes_of (text_of s.pieces) (tokens_of first_position s.pieces) ≡ lexemes_in s.pieces =
-    slices [] first_position s.pieces refl in
-    rw (same, ← s.whole) (first ∙ s.spelled)
+    rw ((are_its_tokens text tokens t h s), ← s.whole) ((slices [] first_position s.pieces refl) ∙ s.spelled)

@@ -32,9 +32,8 @@ pub first_at : (names : Names) (n : ℕ) (w : List ℕ) → n < length names →
 first_at [] n w lt is others = absurd (omega (arith, lt))
 first_at (x ∷ names) zero w lt is others = let e = (bytes_eq-Decides w x).1 (sym is) in rw (e) refl
 first_at (x ∷ names) (suc n) w lt is others =
-    let e = false_if (bytes_eq w x) (λ e. others 0 (omega arith) (sym ((bytes_eq-Decides w x).0 e))) in
     let r = first_at names n w (omega (arith, lt)) is (λ k less. others (suc k) (omega (arith, less))) in
-    rw (e, r) (omega arith)
+    rw ((false_if (bytes_eq w x) (λ e. others 0 (omega arith) (sym ((bytes_eq-Decides w x).0 e)))), r) (omega arith)
 
 none_at : (names : Names) (w : List ℕ) → ((k : ℕ) → k < length names → name_at names k ≢ w)
     → position_or_len (bytes_eq w) names ≡ length names
@@ -55,8 +54,7 @@ AreApart known names = (k n : ℕ) → k < n → n < known → name_at names k �
 pub number_found : (names : Names) (n : ℕ) → AreApart (length names) names → n < length names
     → position (bytes_eq (name_at names n)) names ≡ Some n
 number_found names n apart lt =
-    let r = first_at names n (name_at names n) lt refl (λ k less. apart k n less lt) in
-    rw (r, lt-ltb n (length names) lt) refl
+    rw ((first_at names n (name_at names n) lt refl (λ k less. apart k n less lt)), lt-ltb n (length names) lt) refl
 
 applied_found : (names : Names) (n : ℕ) (rest : Spelled) → AreApart (length names) names → n < length names
     → IsName (name_at names n) → applied_at names (name_at names n ∷ rest) ≡ Some (n, rest)
@@ -162,14 +160,13 @@ layer_plain : (y : Statement-F ((s : Statement) × IsPlainStatement s))
     → StaysPlain (statement_step []
     (map-Statement Statement Before (before [])
     (map-Statement ((s : Statement) × IsPlainStatement s) Statement (λ e. e.0) y)))
-layer_plain (Statement-F.Act line act) rest h = h
-layer_plain (Statement-F.End line) rest h = h
 layer_plain (Statement-F.If line condition first) rest h = (whole_plain first.items, h)
 layer_plain (Statement-F.IfElse line condition first second) rest h =
     (whole_plain first.items, whole_plain second.items, h)
 layer_plain (Statement-F.Repeat line times body) rest h = (whole_plain body.items, h)
 layer_plain (Statement-F.Forever line body) rest h = (whole_plain body.items, h)
 layer_plain (Statement-F.Apply line block) rest h = (refl, h)
+layer_plain _ rest h = h
 
 statement_plain : (s : Statement) → IsPlainStatement s
 statement_plain =
@@ -193,23 +190,14 @@ begun_found : (fuel depth left : ℕ) (names : Names) (lines : List ℕ) (k : St
     left k ws
 unfolding block_at begun_at stops
 begun_found fuel depth left names lines k ws =
-    rw (
-      other_next (statement_keyword k) the.CloseBrace ws (differs k the.CloseBrace refl),
-      statement_found (statement_keyword k) ws,
-      keyword_again k,
-    ) refl
+    rw ( other_next _ _ _ (differs k the.CloseBrace refl), statement_found _ _, keyword_again _, ) refl
 
 body_found : (go : Statements) (depth left mid : ℕ) (b : Block) (body rest : Spelled) → 1 ≤ depth
     → go (depth - 1) left (body ++ letters the.CloseBrace ∷ rest) ≡ Some (passed b mid (letters the.CloseBrace ∷ rest))
     → body_at go depth left (letters the.OpenBrace ∷ (body ++ letters the.CloseBrace ∷ rest)) ≡ Some (passed b mid rest)
 unfolding body_at open_at
 body_found go depth left mid b body rest room e =
-    rw (
-      not_zero depth room,
-      after_itself the.OpenBrace (body ++ letters the.CloseBrace ∷ rest),
-      e,
-      after_itself the.CloseBrace rest,
-    ) refl
+    rw ( not_zero depth room, after_itself _ _, e, after_itself _ _, ) refl
 
 -- tokens that end here do not begin with a keyword that begins no statement
 ends_so : (j : Keyword) (ws : Spelled) → (the.CloseBrace ≡ j → ⊥) → stops ws ≡ true → is_next j ws ≡ false
@@ -225,22 +213,13 @@ never_next j names nothing rest none other h = ends_so j rest other h
 never_next j names (basic line act r) rest none other h =
     let e = append_assoc (act_lexemes act) (block_lexemes names r) rest
     ∙ ap (λ (us : Spelled). us ++ (block_lexemes names r ++ rest)) (act_begins act) in
-    rw (e) (other_next (statement_keyword (statement.Act (act_first act))) j _
-    (differs (statement.Act (act_first act)) j none))
+    rw (e) (other_next _ _ _ (differs (statement.Act (act_first act)) j none))
 never_next j names (stop line r) rest none other h = other_next the.End j _ (differs statement.End j none)
-never_next j names (when line condition first r) rest none other h = other_next the.If j _ (differs statement.If j none)
-never_next j names (either line condition first second r) rest none other h =
+never_next j names (repeat line times body r) rest none other h = other_next _ _ _ (differs statement.Repeat j none)
+never_next j names (forever line body r) rest none other h = other_next _ _ _ (differs statement.Forever j none)
+never_next j names (apply line number named r) rest none other h = other_next _ _ _ (differs statement.Apply j none)
+never_next j names _ rest none other h =
     other_next the.If j _ (differs statement.If j none)
-never_next j names (repeat line times body r) rest none other h =
-    other_next the.Repeat j _ (differs statement.Repeat j none)
-never_next j names (forever line body r) rest none other h =
-    other_next the.Forever j _ (differs statement.Forever j none)
-never_next j names (apply line number named r) rest none other h =
-    other_next the.Apply j _ (differs statement.Apply j none)
-
-no_else : (names : Names) (b : Block) (rest : Spelled) → stops rest ≡ true
-    → is_next the.Else (block_lexemes names b ++ rest) ≡ false
-no_else names b rest h = never_next the.Else names b rest refl (λ e. cc) h
 
 -- neither `early` nor `or` follows an act
 is_past : (names : Names) (b : Block) (rest : Spelled) → stops rest ≡ true → IsPast (block_lexemes names b ++ rest)
@@ -325,8 +304,7 @@ module _ (all names : Names) (lines : List ℕ) (agree : Agree (length names) na
       ≡ Some (passed b mid (letters the.CloseBrace ∷ (tail ++ rest)))
       → body_at go depth left (braced (block_lexemes all body) tail ++ rest) ≡ Some (passed b mid (tail ++ rest))
   in_braces go depth left mid b body tail rest room e =
-      ap (body_at go depth left) (braced_then (block_lexemes all body) tail rest)
-      ∙ body_found go depth left mid b (block_lexemes all body) (tail ++ rest) room e
+      ap (body_at go depth left) (braced_then _ _ _) ∙ body_found _ _ _ _ _ _ _ room e
 
   pub block_found : (b : Block) (fuel depth left new : ℕ) (rest : Spelled) → IsInBounds (length names) depth b
       → counted b + new ≡ left → left < fuel → stops rest ≡ true
@@ -335,14 +313,12 @@ module _ (all names : Names) (lines : List ℕ) (agree : Agree (length names) na
   unfolding block_at statement_from
   block_found b zero depth left new rest f c lt h = absurd (omega (arith, lt))
   block_found nothing (suc fuel) depth left new rest f c lt h = let e : left ≡ new = omega (arith, c) in rw (h, e) refl
-  block_found (basic line act r) (suc fuel) depth zero new rest f c lt h = absurd (omega (arith, c))
   block_found (basic line act r) (suc fuel) depth (suc left) new rest f c lt h =
       let later = block_found r fuel depth left new rest f.1 (omega (arith, c)) (omega (arith, lt)) h in
       let k : StatementKeyword = statement.Act (act_first act) in
       let ws : Spelled = act_rest act ++ (block_lexemes all r ++ rest) in
       let spelled : (act_lexemes act ++ block_lexemes all r) ++ rest ≡ letters (act_keyword (act_first act)) ∷ ws =
-      append_assoc (act_lexemes act) (block_lexemes all r) rest
-      ∙ ap (λ (us : Spelled). us ++ (block_lexemes all r ++ rest)) (act_begins act) in
+      cc (append_assoc (act_lexemes act) (block_lexemes all r) rest, act_begins act) in
       let here = (act_law (act_first act)).found act (block_lexemes all r ++ rest) (f.0, refl) (is_past all r rest h) in
       ap (block_at (suc fuel) names lines depth (suc left)) spelled ∙ begun_found fuel depth left names lines k ws
       ∙ after_act (block_at fuel names lines) names (line_of lines (letters (act_keyword (act_first act)) ∷ ws))
@@ -350,11 +326,9 @@ module _ (all names : Names) (lines : List ℕ) (agree : Agree (length names) na
       ∙ ap (λ (us : Spelled). put (basic (line_of lines us) act)
       (block_at fuel names lines depth left (block_lexemes all r ++ rest))) (sym spelled)
       ∙ ap (put (basic (line_of lines ((act_lexemes act ++ block_lexemes all r) ++ rest)) act)) later
-  block_found (stop line r) (suc fuel) depth zero new rest f c lt h = absurd (omega (arith, c))
   block_found (stop line r) (suc fuel) depth (suc left) new rest f c lt h =
       let later = block_found r fuel depth left new rest f (omega (arith, c)) (omega (arith, lt)) h in
       begun_found fuel depth left names lines statement.End _ ∙ ap (put (stop _)) later
-  block_found (apply line number block r) (suc fuel) depth zero new rest f c lt h = absurd (omega (arith, c))
   block_found (apply line number block r) (suc fuel) depth (suc left) new rest f c lt h =
       let later = block_found r fuel depth left new rest f.1 (omega (arith, c)) (omega (arith, lt)) h in
       let vs : Spelled = block_lexemes all r ++ rest in
@@ -363,40 +337,32 @@ module _ (all names : Names) (lines : List ℕ) (agree : Agree (length names) na
       begun_found fuel depth left names lines statement.Apply _
       ∙ after_apply (block_at fuel names lines) names _ depth left number _ vs here
       ∙ ap (put (apply _ number nothing)) later
-  block_found (forever line body r) (suc fuel) depth zero new rest f c lt h = absurd (omega (arith, c))
   block_found (forever line body r) (suc fuel) depth (suc left) new rest f c lt h =
       let vs : Spelled = block_lexemes all r ++ rest in
       let mid : ℕ = counted r + new in
       let one = block_found body fuel (depth - 1) left mid (letters the.CloseBrace ∷ vs) f.1 (omega (arith, c))
       (omega (arith, lt)) (closing_stops vs) in
-      let later = block_found r fuel depth mid new rest f.2 refl (omega (arith, c, lt)) h in
       begun_found fuel depth left names lines statement.Forever _
       ∙ after_forever (block_at fuel names lines) names _ depth left _ _
       (in_braces (block_at fuel names lines) depth left mid _ body (block_lexemes all r) rest f.0 one)
-      ∙ ap (put (forever _ _)) later
-  block_found (repeat line times body r) (suc fuel) depth zero new rest f c lt h = absurd (omega (arith, c))
+      ∙ ap (put (forever _ _)) (block_found r fuel depth mid new rest f.2 refl (omega (arith, c, lt)) h)
   block_found (repeat line times body r) (suc fuel) depth (suc left) new rest f c lt h =
       let vs : Spelled = block_lexemes all r ++ rest in
       let mid : ℕ = counted r + new in
       let one = block_found body fuel (depth - 1) left mid (letters the.CloseBrace ∷ vs) f.3 (omega (arith, c))
       (omega (arith, lt)) (closing_stops vs) in
-      let later = block_found r fuel depth mid new rest f.4 refl (omega (arith, c, lt)) h in
       begun_found fuel depth left names lines statement.Repeat _
       ∙ after_repeat (block_at fuel names lines) names _ depth left _ times _ _ (times_law.found times _ (f.1, f.2))
       (in_braces (block_at fuel names lines) depth left mid _ body (block_lexemes all r) rest f.0 one)
-      ∙ ap (put (repeat _ times _)) later
-  block_found (when line condition first r) (suc fuel) depth zero new rest f c lt h = absurd (omega (arith, c))
+      ∙ ap (put (repeat _ times _)) (block_found r fuel depth mid new rest f.4 refl (omega (arith, c, lt)) h)
   block_found (when line condition first r) (suc fuel) depth (suc left) new rest f c lt h =
       let vs : Spelled = block_lexemes all r ++ rest in
       let mid : ℕ = counted r + new in
       let one = block_found first fuel (depth - 1) left mid (letters the.CloseBrace ∷ vs) f.2 (omega (arith, c))
       (omega (arith, lt)) (closing_stops vs) in
       let later = block_found r fuel depth mid new rest f.3 refl (omega (arith, c, lt)) h in
-      if_begins fuel depth left names lines condition (braced (block_lexemes all first) (block_lexemes all r)) rest _
-      f.1 (in_braces (block_at fuel names lines) depth left mid _ first (block_lexemes all r) rest f.0 one)
-      ∙ alone (block_at fuel names lines) _ depth condition _ (no_else all r rest h)
-      ∙ ap (put (when _ condition _)) later
-  block_found (either line condition first second r) (suc fuel) depth zero new rest f c lt h = absurd (omega (arith, c))
+      if_begins _ _ _ _ _ _ _ _ _ f.1 (in_braces _ _ _ _ _ _ _ _ f.0 one) ∙ alone (block_at fuel names lines) _ depth
+      condition _ (never_next _ _ _ _ refl (λ e. cc) h) ∙ ap (put (when _ condition _)) later
   block_found (either line condition first second r) (suc fuel) depth (suc left) new rest f c lt h =
       let vs : Spelled = block_lexemes all r ++ rest in
       let tail : Spelled = letters the.Else ∷ braced (block_lexemes all second) (block_lexemes all r) in
@@ -407,8 +373,6 @@ module _ (all names : Names) (lines : List ℕ) (agree : Agree (length names) na
       let two = block_found second fuel (depth - 1) half mid (letters the.CloseBrace ∷ vs) f.3 refl
       (omega (arith, c, lt)) (closing_stops vs) in
       let later = block_found r fuel depth mid new rest f.4 refl (omega (arith, c, lt)) h in
-      if_begins fuel depth left names lines condition (braced (block_lexemes all first) tail) rest _ f.1
-      (in_braces (block_at fuel names lines) depth left half _ first tail rest f.0 one)
-      ∙ with_else (block_at fuel names lines) _ depth condition _ _ (next_itself the.Else _)
-      (in_braces (block_at fuel names lines) depth half mid _ second (block_lexemes all r) rest f.0 two)
-      ∙ ap (put (either _ condition _ _)) later
+      if_begins _ _ _ _ _ _ _ _ _ f.1 (in_braces _ _ _ _ _ _ _ _ f.0 one) ∙ with_else _ _ _ _ _ _ (next_itself _ _)
+      (in_braces _ _ _ _ _ _ _ _ f.0 two) ∙ ap (put (either _ condition _ _)) later
+  block_found _ (suc fuel) depth zero new rest f c lt h = absurd (omega (arith, c))

@@ -44,9 +44,7 @@ line_has w (v ∷ vs) bytes more is are h =
 
 indent_has : (d : ℕ) (bytes : List ℕ) (ws : Spelled) → HasLexemes bytes ws → HasLexemes (indent d ++ bytes) ws
 indent_has zero bytes ws h = h
-indent_has (suc d) bytes ws h =
-    blank_first 32 (32 ∷ (indent d ++ bytes)) ws (inl refl)
-    (blank_first 32 (indent d ++ bytes) ws (inl refl) (indent_has d bytes ws h))
+indent_has (suc d) bytes ws h = blank_first _ _ _ (inl refl) (blank_first _ _ _ (inl refl) (indent_has d bytes ws h))
 
 -- ---- lines
 

@@ -31,8 +31,6 @@ pub record NextFits (k i names : ℕ) (bs : List (Vec Statement Global)) (v : Ve
 pub next_fits : (k i names : ℕ) (bs : List (Vec Statement Global)) (v : Vec Statement Global) → i < length bs
     → v ≡ get_or bs i v → k ≤ names → AllFit k (bodies (drop i bs)) → NextFits k i names bs v
 next_fits k i names bs v lt is few h =
-    let e : drop i bs ≡ get_or bs i v ∷ drop (i + 1) bs = rw (add-one, drop-cons bs i v lt) refl in
-    let f : drop i bs ≡ v ∷ drop (i + 1) bs = rw (is) e in
-    let g : AllFit k (bodies (v ∷ drop (i + 1) bs)) =
-    subst (λ (xs : List (Vec Statement Global)). AllFit k (bodies xs)) f h in
+    let f : drop i bs ≡ v ∷ drop (i + 1) bs = rw (is) (rw (add-one, drop-cons bs i v lt) refl) in
+    let g = subst (λ (xs : List (Vec Statement Global)). AllFit k (bodies xs)) f h in
     record { fits = more_known k names 15 (block_of [] v.items) few g.0; later = g.1 }

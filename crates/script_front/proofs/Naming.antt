@@ -46,9 +46,8 @@ module _ {Y : Type 0} where
       → slice_get (map string_bytes ks) i ≢ Some bs
   absent bs [] none i e = absurd (cc)
   absent bs (k ∷ ks) none zero e =
-      let same : bs ≡ string_bytes k = (let f : string_bytes k ≡ bs = cc in sym f) in
       false≢true (sym (or_left (is_name bs k) (list_any (is_name bs) ks) none)
-      ∙ (bytes_eq-Decides bs (string_bytes k)).1 same)
+      ∙ (bytes_eq-Decides bs (string_bytes k)).1 (let f : string_bytes k ≡ bs = cc in sym f))
   absent bs (k ∷ ks) none (suc i) e = absent bs ks (or_right (is_name bs k) (list_any (is_name bs) ks) none) i e
 
   differs : (bs : List ℕ) (k : String Y) (t : Bool) → is_name bs k ≡ t → (string_bytes k ≡ bs → ⊥) → t ≡ false
@@ -59,8 +58,7 @@ module _ {Y : Type 0} where
       → list_any (is_name bs) ks ≡ false
   none_of bs [] new = refl
   none_of bs (k ∷ ks) new =
-      let first : is_name bs k ≡ false = differs bs k (is_name bs k) refl (λ e. new 0 (ap Some e)) in
-      rw (first) (none_of bs ks (λ i. new (suc i)))
+      rw ((differs bs k (is_name bs k) refl (λ e. new 0 (ap Some e)))) (none_of bs ks (λ i. new (suc i)))
 
   map_append : (ks : List (String Y)) (k : String Y) → map string_bytes (ks ++ k ∷ []) ≡ map string_bytes ks
       ++ string_bytes k ∷ []
@@ -71,8 +69,7 @@ module _ {Y : Type 0} where
       → ((i : ℕ) → slice_get (map string_bytes ks) i ≢ Some bs)
       → map string_bytes (insert_key string_eq ks k) ≡ map string_bytes ks ++ bs ∷ []
   added bs ks k is new =
-      let none : list_any (string_eq k) ks ≡ false = ap (λ b. list_any (λ x. bytes_eq b (string_bytes x)) ks) is
-      ∙ none_of bs ks new in
+      let none = ap (λ b. list_any (λ x. bytes_eq b (string_bytes x)) ks) is ∙ none_of bs ks new in
       rw (none) (rw (← is) (map_append ks k))
 
   map_length : (ks : List (String Y)) → length (map string_bytes ks) ≡ length ks

@@ -101,8 +101,7 @@ body_put : (names : List (List ℕ)) (old one two new : List ℕ) (d : ℕ) (l :
     → new ++ text_of_lines rest ≡ old ++ text_of_lines (l ∷ (block_lines names (d + 1) body ++ closing d ∷ rest))
 unfolding letters
 body_put names old one two new d l body rest e f g =
-    line_then two new (closing d) rest g ∙ lines_then one two (block_lines names (d + 1) body) (closing d ∷ rest) f
-    ∙ line_then old one l (block_lines names (d + 1) body ++ closing d ∷ rest) e
+    line_then two new (closing d) rest g ∙ lines_then _ _ _ _ f ∙ line_then old one _ _ e
 
 pub when_put : (names : List (List ℕ)) (old one two new : List ℕ) (d n : ℕ) (condition : Condition) (first : Block)
     (added : Before) → one ≡ old ++ line_text (line d (if_lexemes condition))
@@ -125,9 +124,7 @@ pub forever_put : (names : List (List ℕ)) (old one two new : List ℕ) (d n : 
 unfolding letters
 forever_put names old one two new d n body added e f g is =
     record {
-      before = λ b. rw (is b)
-          (body_put names old one two new d (line d (letters the.Forever ∷ letters the.OpenBrace ∷ [])) body
-          (block_lines names d b) e f g);
+      before = λ b. rw (is b) (body_put _ _ _ _ _ _ _ _ _ e f g);
     }
 
 pub either_put : (names : List (List ℕ)) (old one two three four new : List ℕ) (d n : ℕ) (condition : Condition)
@@ -205,10 +202,8 @@ pub item_more : (old out new : List ℕ) (is : List Item) (i : ℕ) (x : Item) �
 item_more old out new is i x lt same put h = record {
   whole = (
       let e : drop i is ≡ get_or is i x ∷ drop (i + 1) is = rw (add-one, drop-cons is i x lt) refl in
-      let f : items_lines (drop i is) ≡ line 0 (edit_lexemes x.edit) ∷ items_lines (drop (i + 1) is) =
-      rw (same) (ap items_lines e) in
       line_then out new (line 0 (edit_lexemes x.edit)) (items_lines (drop (i + 1) is)) put
-      ∙ sym (ap (λ (ls : List Line). out ++ text_of_lines ls) f) ∙ h.whole
+      ∙ sym (ap (λ (ls : List Line). out ++ text_of_lines ls) (rw (same) (ap items_lines e))) ∙ h.whole
       );
 }
 
@@ -261,8 +256,7 @@ pub definitions_all : (names : List (List ℕ)) (old out : List ℕ) (bs : List 
     → out ≡ old ++ text_of_lines (defined_lines names 0 (bodies bs))
 unfolding text_of_lines
 definitions_all names old out bs i long h =
-    let e : out ++ [] ≡ old ++ text_of_lines (defined_lines names 0 (bodies bs)) = rw (drop_all i bs long) at h.whole in
-    sym (append-nil out) ∙ e
+    sym (append-nil out) ∙ (rw (drop_all i bs long) at h.whole)
 
 -- ---- texts put in several steps
 
@@ -270,12 +264,11 @@ pub limits_put : (old one two new : List ℕ) (h : Plan) → one ≡ old ++ spac
     ++ each_after (reserve_lexemes h.layout) → new ≡ two ++ 10 ∷ []
     → new ≡ old ++ line_text (limits_line h)
 limits_put old one two new h e f g =
-    let limits : List ℕ = spaced (limits_lexemes h []) in
     let reserve : List ℕ = each_after (reserve_lexemes h.layout) in
     let tokens : Spelled = decimal h.period ∷ letters the.Notice ∷ decimal h.notice ∷ letters the.Budget
     ∷ decimal h.budget ∷ [] in
     g ∙ ap (λ (t : List ℕ). t ++ 10 ∷ []) (rw (spaced_both (letters the.Period) tokens (reserve_lexemes h.layout))
-    (f ∙ ap (λ (t : List ℕ). t ++ reserve) e ∙ append_assoc old limits reserve))
+    (f ∙ ap (λ (t : List ℕ). t ++ reserve) e ∙ append_assoc old (spaced (limits_lexemes h [])) reserve))
     ∙ append_assoc old (spaced (limits_lexemes h (reserve_lexemes h.layout))) (10 ∷ [])
 
 pub header_put : (old one two three four new : List ℕ) (h : Plan) → one ≡ old ++ codes "ensemble " → two ≡ one

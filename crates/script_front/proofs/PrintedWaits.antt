@@ -29,8 +29,7 @@ pub early_put : (old one new : Text) (time frames : ℕ) → one ≡ old ++ (32 
     ++ (codes " early " ++ decimal frames) → new ≡ old ++ each_after (moment_lexemes (Early time frames))
 unfolding letters
 early_put old one new time frames e f =
-    twice old one new (32 ∷ time_text time) (codes " early " ++ (decimal frames ++ [])) e
-    (rw (append-nil (decimal frames)) f)
+    twice old one _ _ (codes " early " ++ (decimal frames ++ [])) e (rw (append-nil (decimal frames)) f)
 
 pub until_put : (old one new : Text) (m : Moment) → one ≡ old ++ codes "until" → new ≡ one
     ++ each_after (moment_lexemes m) → new ≡ old ++ spaced (act_lexemes (Until m))
@@ -56,8 +55,7 @@ or_more old out one new all i a lt same e f h = record {
   whole = (
       let rest : Text = each_after (or_lexemes (drop (i + 1) all)) in
       let this : Text = each_after (alternative_lexemes a) in
-      let cut : drop i all ≡ get_or all i a ∷ drop (i + 1) all = rw (add-one, drop-cons all i a lt) refl in
-      let next : drop i all ≡ a ∷ drop (i + 1) all = rw (same) cut in
+      let next : drop i all ≡ a ∷ drop (i + 1) all = rw (same) (rw (add-one, drop-cons all i a lt) refl) in
       ap (λ (t : Text). t ++ rest) (twice out one new (codes " or") this e f)
       ∙ append_assoc out (codes " or" ++ this) rest
       ∙ ap (λ (t : Text). out ++ (codes " or" ++ t))

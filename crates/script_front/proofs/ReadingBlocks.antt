@@ -77,9 +77,7 @@ braced_then body tail rest = rw (append_assoc body (letters the.CloseBrace ∷ t
 
 pub closed : (body tail rest vs ws : Spelled) → ws ≡ letters the.OpenBrace ∷ (body ++ letters the.CloseBrace ∷ vs)
     → vs ≡ tail ++ rest → ws ≡ braced body tail ++ rest
-closed body tail rest vs ws e f =
-    e ∙ ap (λ (us : Spelled). letters the.OpenBrace ∷ (body ++ letters the.CloseBrace ∷ us)) f
-    ∙ sym (braced_then body tail rest)
+closed body tail rest vs ws e f = cc (e, f, braced_then body tail rest)
 
 applied_given : (names : Names) (ws : Spelled) (x : ℕ × Spelled) → applied_at names ws ≡ Some x → (x.0 < length names)
     × (ws ≡ name_at names x.0 ∷ x.1)
@@ -127,9 +125,7 @@ module _ (all names : Names) (lines : List ℕ) (agree : Agree (length names) na
   tested : (condition : Condition) (vs us rest : Spelled) → vs ≡ us ++ rest
       → letters the.If ∷ (condition_lexemes condition ++ vs) ≡ (letters the.If ∷ (condition_lexemes condition ++ us))
       ++ rest
-  tested condition vs us rest e =
-      ap (λ (ts : Spelled). letters the.If ∷ (condition_lexemes condition ++ ts)) e
-      ∙ ap (λ (ts : Spelled). letters the.If ∷ ts) (sym (append_assoc (condition_lexemes condition) us rest))
+  tested condition vs us rest e = cc (e, append_assoc (condition_lexemes condition) us rest)
 
   branch_given : (line depth left : ℕ) (condition : Condition) (first p : Passage) (ws vs : Spelled)
       → branch_at go line depth condition first ≡ Some p → IsCondition condition
@@ -147,8 +143,7 @@ module _ (all names : Names) (lines : List ℕ) (agree : Agree (length names) na
       chosen false is f = (
           let q = put_some _ _ p f in
           let g = given depth first.left first.rest q.more q.read in
-          let whole = begins ∙ tested condition _ _ q.more.rest
-          (closed _ (block_lexemes all q.more.block) q.more.rest _ vs h.spelled g.spelled) in
+          let whole = begins ∙ tested condition _ _ q.more.rest (closed _ _ _ _ _ h.spelled g.spelled) in
           finish (IsBlockRead all (length names) depth (suc left) lines ws) _ p q.is (record {
             fits = (h.room, small, h.fits, g.fits);
             counts = (let c = h.counts in let d = g.counts in omega (arith, c, d));
@@ -162,8 +157,7 @@ module _ (all names : Names) (lines : List ℕ) (agree : Agree (length names) na
           let s = body_given depth first.left (drop 1 first.rest) a.x a.first in
           let q = put_some _ _ p a.second in
           let g = given depth a.x.left a.x.rest q.more q.read in
-          let tail : Spelled = letters the.Else ∷ braced (block_lexemes all a.x.block)
-          (block_lexemes all q.more.block) in
+          let tail = letters the.Else ∷ braced (block_lexemes all a.x.block) (block_lexemes all q.more.block) in
           let later : first.rest ≡ tail ++ q.more.rest = rw (← closed _ (block_lexemes all q.more.block) q.more.rest _ _
           s.spelled g.spelled) (next_begins the.Else first.rest is) in
           let whole = begins ∙ tested condition _ _ q.more.rest (closed _ tail q.more.rest _ vs h.spelled later) in
@@ -212,8 +206,7 @@ module _ (all names : Names) (lines : List ℕ) (agree : Agree (length names) na
       let q = put_some _ _ p b.second in
       let g = given depth b.x.left b.x.rest q.more q.read in
       let whole = begins ∙ ap (λ (us : Spelled). letters the.Repeat ∷ us)
-      (f.1 ∙ ap (λ (us : Spelled). decimal a.x.0 ∷ us)
-      (closed _ (block_lexemes all q.more.block) q.more.rest _ _ h.spelled g.spelled)) in
+      (f.1 ∙ ap (λ (us : Spelled). decimal a.x.0 ∷ us) (closed _ _ _ _ _ h.spelled g.spelled)) in
       finish (IsBlockRead all (length names) depth (suc left) lines ws) _ p q.is (record {
         fits = (h.room, f.0.0, f.0.1, h.fits, g.fits);
         counts = (let c = h.counts in let d = g.counts in omega (arith, c, d));
@@ -226,8 +219,7 @@ module _ (all names : Names) (lines : List ℕ) (agree : Agree (length names) na
       let h = body_given depth left vs b.x b.first in
       let q = put_some _ _ p b.second in
       let g = given depth b.x.left b.x.rest q.more q.read in
-      let whole = begins ∙ ap (λ (us : Spelled). letters the.Forever ∷ us)
-      (closed _ (block_lexemes all q.more.block) q.more.rest _ _ h.spelled g.spelled) in
+      let whole = begins ∙ ap (λ (us : Spelled). letters the.Forever ∷ us) (closed _ _ _ _ _ h.spelled g.spelled) in
       finish (IsBlockRead all (length names) depth (suc left) lines ws) _ p q.is (record {
         fits = (h.room, h.fits, g.fits);
         counts = (let c = h.counts in let d = g.counts in omega (arith, c, d));
@@ -272,8 +264,7 @@ module _ (all names : Names) (lines : List ℕ) (agree : Agree (length names) na
       → begun_at go names lines depth left ws k ≡ Some p → IsBlockRead all (length names) depth left lines ws p
   unfolding begun_at
   begun_given depth zero ws k p first e = absurd cc
-  begun_given depth (suc left) ws k p first e =
-      after_given k (line_of lines ws) depth left (drop 1 ws) ws p e (statement_given ws k first) refl
+  begun_given depth (suc left) ws k p first e = after_given _ _ _ _ _ _ _ e (statement_given _ _ first) refl
 
 pub block_given : (all names : Names) (lines : List ℕ) → Agree (length names) names all → (fuel : ℕ)
     → Given all names lines (block_at fuel names lines)

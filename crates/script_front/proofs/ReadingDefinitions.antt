@@ -44,8 +44,7 @@ pub named_of : (all names later : Names) → all ≡ names ++ later → All IsNa
     → IsName (name_at names n)
 named_of all names later front named n lt =
     let whole = length-append names later in
-    let whole' = ap length front in
-    subst IsName (sym (agrees all names later front n lt)) (named n [] (omega (arith, lt, whole, whole')))
+    subst IsName (sym (agrees all names later front n lt)) (named n [] (omega (arith, lt, whole, ap length front)))
 
 -- ---- one definition
 
@@ -67,9 +66,8 @@ within (x ∷ names) w (suc k) d lt e = chosen (bytes_eq w x) refl (within names
 
 absent_all : (names : Names) (w : List ℕ) → position (bytes_eq w) names ≡ None → All (λ other. other ≢ w) names
 absent_all names w none k d lt e =
-    let le = within names w k d lt e in
     let some : position (bytes_eq w) names ≡ Some (position_or_len (bytes_eq w) names) =
-    rw (lt-ltb (position_or_len (bytes_eq w) names) (length names) (omega (arith, le, lt))) refl in
+    rw (lt-ltb (position_or_len (bytes_eq w) names) (length names) (omega (arith, within names w k d lt e, lt))) refl in
     let f : None ≡ Some (position_or_len (bytes_eq w) names) = sym none ∙ some in absurd cc
 
 new_name_given : (names : Names) (ws : Spelled) (x : List ℕ × Spelled) → new_name_at names ws ≡ Some x
@@ -156,18 +154,13 @@ one_defined room names lines left ws name p more x xs next e is h =
     let n = new_name_given names (drop 1 ws) a.x a.first in
     let b = bind_some (body_at (block_at (suc left) names lines) 16 left a.x.1) _ (name, p) a.second in
     let same : a.x.0 ≡ name = finish (λ y. a.x.0 ≡ y.0) (a.x.0, b.x) (name, p) b.second refl in
-    let body : b.x ≡ p = finish (λ y. b.x ≡ y.1) (a.x.0, b.x) (name, p) b.second refl in
     let front : more.names ≡ names ++ name ∷ h.later = h.front ∙ append_assoc names (name ∷ []) h.later in
     let agree = agrees more.names names (name ∷ h.later) front in
-    let g = body_given more.names names lines agree (block_at (suc left) names lines)
-    (block_given more.names names lines agree (suc left)) 16 left a.x.1 p
-    (b.first ∙ ap (λ (q : Passage). Some q) body) in
-    let mid : name_at more.names (length names) ≡ name = rw (front) (name_mid names name h.later) in
+    let g = body_given _ names lines agree (block_at (suc left) names lines) (block_given _ names lines agree _) 16
+    left a.x.1 p (b.first ∙ ap (λ (q : Passage). Some q) (finish (λ y. b.x ≡ y.1) _ _ b.second refl)) in
     let later : p.rest ≡ defined_lexemes more.names (length names + 1) xs ++ more.rest =
     rw (← one_longer names name) h.spelled in
-    let whole : a.x.1 ≡ braced (block_lexemes more.names (block_of [] x))
-    (defined_lexemes more.names (length names + 1) xs) ++ more.rest = closed _ _ more.rest p.rest a.x.1
-    (rw (← is) g.spelled) later in
+    let whole = closed _ _ more.rest p.rest a.x.1 (rw (← is) g.spelled) later in
     record {
       later = name ∷ h.later;
       front = front;
@@ -181,13 +174,9 @@ one_defined room names lines left ws name p more x xs next e is h =
       );
       counts = (let c = h.counts in let d = g.counts in let f = ap counted is in omega (arith, c, d, f));
       spelled = next_begins the.Define ws next ∙ ap (λ (us : Spelled). letters the.Define ∷ us)
-          (n.spelled ∙ ap (λ (w : List ℕ). w ∷ a.x.1) (same ∙ sym mid)
+          (n.spelled ∙ ap (λ (w : List ℕ). w ∷ a.x.1) (same ∙ sym (rw (front) (name_mid names name h.later)))
           ∙ ap (λ (us : Spelled). name_at more.names (length names) ∷ us) whole);
-      lined = (
-        subst (λ (us : Spelled). BlockOn more.names lines (block_of [] x) (letters the.CloseBrace ∷ us)) later
-            (subst (λ c. BlockOn more.names lines c (letters the.CloseBrace ∷ p.rest)) is g.lined),
-        rw (← one_longer names name) h.lined,
-      );
+      lined = ( rw (← later) (rw (← is) g.lined), rw (← one_longer names name) h.lined, );
     }
 
 name_new : (names : Names) (lines : List ℕ) (left : ℕ) (ws : Spelled) (x : List ℕ × Passage)
@@ -285,8 +274,7 @@ pub defined_same : (names : Names) (lines : List ℕ) (number : ℕ) (bs : List 
     → DefinedOn names lines number bs after → defined_on names lines number bs after ≡ map (block_of []) bs
 defined_same names lines number [] after h = refl
 defined_same names lines number (b ∷ bs) after h =
-    let one = lined_is names lines (block_of [] b) (letters the.CloseBrace
-    ∷ (defined_lexemes names (number + 1) bs ++ after)) (plain b) h.0 in
+    let one = lined_is _ _ _ _ (plain _) h.0 in
     let others = defined_same names lines (number + 1) bs after h.1 in cc
 
 pub defined_said : (names : Names) (lines : List ℕ) (number : ℕ) (bs : List (List Statement)) (after : Spelled)
@@ -351,16 +339,8 @@ definitions_found (n ∷ later) all names (suc room) lines left new (b ∷ bs) r
     let others' = subst (λ k. definitions_at room (names ++ n ∷ []) lines mid (defined_lexemes all k bs ++ rest)
     ≡ Some (record { names = all; blocks = defined_on all lines k bs rest; left = new; rest = rest })) step
     others in
-    rw (
-      next_itself the.Define (name_at all (length names)
-          ∷ (braced (block_lexemes all (block_of [] b)) (defined_lexemes all (length names + 1) bs) ++ rest)),
-      mine,
-      one,
-      others',
-    ) refl
-definitions_found [] all names room lines left new (b ∷ bs) rest front named different each few fit counts none =
-    absurd (omega (arith, each))
-definitions_found (n ∷ later) all names room lines left new [] rest front named different each few fit counts none =
+    rw ( next_itself _ _, mine, one, others', ) refl
+definitions_found _ all names room lines left new _ rest front named different each few fit counts none =
     absurd (omega (arith, each))
 
 -- ---- one definition after another
@@ -393,12 +373,7 @@ after_both : (bs : List (Vec Statement Global)) (b : Vec Statement Global) (r : 
     ≡ after_blocks (map (block_of []) (bodies (bs ++ b ∷ []))) r
 after_both bs b None = refl
 after_both bs b (Some d) =
-    ap (λ (xs : List Block). Some (let q : Defined = record {
-      names = d.names;
-      blocks = xs;
-      left = d.left;
-      rest = d.rest;
-    } in q))
+    ap (λ (xs : List Block). Some (let q : Defined = record d { blocks = xs } in q))
     (sym (append_assoc (map (block_of []) (bodies bs)) (block_of [] b.items ∷ []) d.blocks)
     ∙ ap (λ (xs : List Block). xs ++ d.blocks) (sym (more bs)))
   where

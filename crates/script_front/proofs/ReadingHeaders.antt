@@ -68,9 +68,8 @@ reserved_mode III (suc (suc (suc n))) h = absurd (let f = h.1 in omega (arith, f
 reserved_text : (mode : Mode) (n : ℕ) → IsReserved mode n
     → reserve_lexemes (reserving mode n) ≡ letters the.Reserve ∷ decimal n ∷ []
 reserved_text mode zero h = absurd (let f = h.0 in omega (arith, f))
-reserved_text mode (suc zero) h = refl
-reserved_text mode (suc (suc zero)) h = refl
 reserved_text mode (suc (suc (suc n))) h = absurd (let f = h.1 in let g = (three_or_four mode).1 in omega (arith, f, g))
+reserved_text mode _ h = refl
 
 layout_given : (mode : Mode) (ws : Spelled) (x : FrameLayout × Spelled) → layout_at mode ws ≡ Some x
     → (layout_mode x.0 ≡ mode) × (ws ≡ reserve_lexemes x.0 ++ x.1)
@@ -95,8 +94,7 @@ layout_found (ReserveOne mode) rest none =
     (made_found _ _ _ (reserve_law mode) (reserving mode) 1 rest
     (omega arith, (let f = (three_or_four mode).0 in omega (arith, f))))
 layout_found ReserveTwo rest none =
-    rw (next_itself the.Reserve (decimal 2 ∷ rest))
-    (made_found _ _ _ (reserve_law III) (reserving III) 2 rest (omega arith, omega arith))
+    rw (next_itself _ _) (made_found _ _ _ (reserve_law III) _ 2 rest (omega arith, omega arith))
 
 -- ---- a whole header
 
@@ -105,8 +103,7 @@ ensemble_law = keyed_law the.Ensemble eid_at (λ n. n < 65536) (λ n. hex_text n
 
 period_law : ReadsAsSpelled (keyed the.Period (number_at 1 60)) (λ n. (1 ≤ n) × (n ≤ 60))
     (λ n. letters the.Period ∷ decimal n ∷ [])
-period_law = keyed_law the.Period (number_at 1 60) (λ n. (1 ≤ n) × (n ≤ 60)) (λ n. decimal n ∷ [])
-    (values_are_read.numbers 1 60 (omega arith))
+period_law = keyed_law _ _ (λ n. (1 ≤ n) × (n ≤ 60)) (λ n. decimal n ∷ []) (values_are_read.numbers 1 60 (omega arith))
 
 notice_law : ReadsAsSpelled (keyed the.Notice (number_at 12 248)) (λ n. (12 ≤ n) × (n ≤ 248))
     (λ n. letters the.Notice ∷ decimal n ∷ [])
@@ -131,7 +128,6 @@ header_given ws x e =
     let a = bind_some (keyed the.Ensemble eid_at ws) _ x e in
     let fa = ensemble_law.given ws a.x a.first in
     let m = bind_some (mode_at a.x.1) _ x a.second in
-    let fm = mode_given a.x.1 m.x m.first in
     let p = bind_some (keyed the.Period (number_at 1 60) m.x.1) _ x m.second in
     let fp = period_law.given m.x.1 p.x p.first in
     let n = bind_some (keyed the.Notice (number_at 12 248) p.x.1) _ x p.second in
@@ -147,7 +143,7 @@ header_given ws x e =
     fb.1 ∙ ap (λ (vs : Spelled). letters the.Budget ∷ decimal b.x.0 ∷ vs) fl.1)) in
     let whole : ws ≡ header_lexemes plan ++ l.x.1 =
     fa.1 ∙ ap (λ (vs : Spelled). letters the.Ensemble ∷ hex_text a.x.0 ∷ vs)
-    (fm ∙ ap (λ (vs : Spelled). mode_lexemes m.x.0 ++ vs) limits
+    ((mode_given a.x.1 m.x m.first) ∙ ap (λ (vs : Spelled). mode_lexemes m.x.0 ++ vs) limits
     ∙ ap (λ k. mode_lexemes k ++ limits_lexemes plan (reserve_lexemes l.x.0 ++ l.x.1)) (sym fl.0)
     ∙ sym (mode_then plan l.x.1)) in
     finish (λ y. IsPlan y.0 × (ws ≡ header_lexemes y.0 ++ y.1)) (plan, l.x.1) x l.second (
@@ -175,5 +171,4 @@ header_found h rest is none =
     let notice = notice_law.found h.notice (letters the.Budget ∷ decimal h.budget ∷ tail)
     (is.notice_from, is.notice_to) in
     let budget = budget_law.found h.budget tail (is.budget_from, is.budget_to) in
-    let layout = layout_found h.layout rest none in
-    rw (mode_then h rest, eid, mode, period, notice, budget, layout) refl
+    rw (mode_then h rest, eid, mode, period, notice, budget, (layout_found h.layout rest none)) refl

@@ -42,10 +42,6 @@ later_some : (i : Item) (r : Option Items) (p : Items) → after_items (i ∷ []
 later_some i None p e = absurd cc
 later_some i (Some q) p e = record { more = q; read = refl; is = e }
 
-item_spelled : (ws vs : Spelled) (k : ItemKeyword) (e : Edit) (later : Spelled) → ws ≡ letters (item_keyword k) ∷ vs
-    → edit_first e ≡ edit.Item k → vs ≡ edit_rest e ++ later → ws ≡ edit_lexemes e ++ later
-item_spelled ws vs k e later begins first spelled = rw (edit_begins e, ← spelled, first) begins
-
 pub items_given : (left : ℕ) (lines : List ℕ) (ws : Spelled) (p : Items) → items_at left lines ws ≡ Some p
     → AreItemsRead left lines ws p
 unfolding items_at
@@ -67,10 +63,9 @@ items_given (suc left) lines ws p e = chosen (items_given left lines) (first_ite
         let g = (item_law k).given _ a.x a.first in
         let l = later_some (item_on lines ws a.x.0) _ p a.second in
         let h = given a.x.1 l.more l.read in
-        let here : ws ≡ edit_lexemes a.x.0 ++ a.x.1 = item_spelled ws _ k a.x.0 a.x.1 (item_given ws k is) g.0.2 g.1 in
+        let here : ws ≡ edit_lexemes a.x.0 ++ a.x.1 = rw (edit_begins a.x.0, ← g.1, g.0.2) (item_given ws k is) in
         let whole : ws ≡ items_lexemes (item_on lines ws a.x.0 ∷ l.more.items) ++ l.more.rest =
-        here ∙ ap (λ (us : Spelled). edit_lexemes a.x.0 ++ us) h.spelled
-        ∙ sym (append_assoc (edit_lexemes a.x.0) (items_lexemes l.more.items) l.more.rest) in
+        cc (here, h.spelled, append_assoc (edit_lexemes a.x.0) (items_lexemes l.more.items) l.more.rest) in
         finish (AreItemsRead (suc left) lines ws) _ p l.is (record {
           formed = all_cons (item_on lines ws a.x.0) l.more.items (g.0.0, g.0.1) h.formed;
           counts = (let c = h.counts in omega (arith, c));
@@ -90,9 +85,7 @@ items_on lines (i ∷ is) after = item_on lines (items_lexemes (i ∷ is) ++ aft
 pub on_same : (lines : List ℕ) (is : List Item) (after : Spelled) → ItemsOn lines is after
     → items_on lines is after ≡ is
 on_same lines [] after h = refl
-on_same lines (i ∷ is) after h =
-    ap (λ l. (let j : Item = record { line = l; edit = i.edit } in j) ∷ items_on lines is after) (sym h.0)
-    ∙ ap (λ (js : List Item). i ∷ js) (on_same lines is after h.1)
+on_same lines (i ∷ is) after h = rw (h.0, on_same lines is after h.1)
 
 pub on_added : (lines : List ℕ) (is : List Item) (after : Spelled) → added_by (items_on lines is after) ≡ added_by is
 on_added lines [] after = refl
@@ -119,9 +112,6 @@ as_item (AddComponent sid m) h = record { key = item.Component (component_first 
 as_item (AddPacket p) h = record { key = item.Packet; first = refl }
 as_item e h = absurd h
 
-all_first : (i : Item) (is : List Item) → All IsItem (i ∷ is) → IsItem i
-all_first i is h = h 0 i (omega arith)
-
 all_later : (i : Item) (is : List Item) → All IsItem (i ∷ is) → All IsItem is
 all_later i is h k d lt = h (suc k) d (omega (arith, lt))
 
@@ -134,18 +124,16 @@ items_found [] left new lines rest h c none = let e : left ≡ new = omega (arit
     rw (e) (begins_none new lines rest none)
 items_found (i ∷ is) zero new lines rest h c none = absurd (omega (arith, c))
 items_found (i ∷ is) (suc left) new lines rest h c none =
-    let good = all_first i is h in
+    let good = h 0 i (omega arith) in
     let b = as_item i.edit good.1 in
     let ws : Spelled = items_lexemes (i ∷ is) ++ rest in
     let later : Spelled = items_lexemes is ++ rest in
     let spelled : ws ≡ letters (item_keyword b.key) ∷ (edit_rest i.edit ++ later) =
-    append_assoc (edit_lexemes i.edit) (items_lexemes is) rest ∙ ap (λ (us : Spelled). us ++ later) (edit_begins i.edit)
-    ∙ ap (λ k. letters (edit_keyword k) ∷ (edit_rest i.edit ++ later)) b.first in
+    cc (append_assoc (edit_lexemes i.edit) (items_lexemes is) rest, edit_begins i.edit, b.first) in
     let first : first_item ws ≡ Some b.key = ap first_item spelled
     ∙ item_found (item_keyword b.key) (edit_rest i.edit ++ later) ∙ found_again b.key in
-    let edit = (item_law b.key).found i.edit later (good.0, good.1, b.first) in
     let others = items_found is left new lines rest (all_later i is h) (omega (arith, c)) none in
-    rw (first, ap (drop 1) spelled, edit, others) refl
+    rw (first, ap (drop 1) spelled, ((item_law b.key).found i.edit later (good.0, good.1, b.first)), others) refl
 
 -- ---- one item after another
 
@@ -188,8 +176,7 @@ some_first (Some k) lines ws h = refl
 pub none_left : (is : List Item) (old left : ℕ) (i j : Input) → GoesOn is old left i j → left ≡ 0
     → first_item j.lexemes ≢ None → items_at old i.lines i.lexemes ≡ None
 unfolding items_at
-none_left is old left i j h none begins =
-    h.read ∙ rw (none, some_first (first_item j.lexemes) i.lines j.lexemes begins) refl
+none_left is old left i j h none begins = h.read ∙ rw (none, some_first _ i.lines _ begins) refl
 
 pub none_next : (is : List Item) (old left : ℕ) (i j : Input) → GoesOn is old left i j → 1 ≤ left
     → ((n : ℕ) → items_at (suc n) j.lines j.lexemes ≡ None) → items_at old i.lines i.lexemes ≡ None

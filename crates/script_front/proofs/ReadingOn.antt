@@ -97,9 +97,7 @@ pub none_next : (names : Names) (depth old left : ℕ) (i j : Input) (ss : List 
     → GoesOn names depth old left i j ss → ReadsNone names depth left j → ReadsNone names depth old i
 none_next names depth old left i j ss h none = λ fuel lt. (
     let f = h.read fuel lt in
-    f.read ∙ ap (λ (ls : List ℕ). put (and_then [] ss) (block_at f.fuel names ls depth left j.lexemes)) (sym h.same)
-    ∙ ap (put (and_then [] ss)) (none f.fuel f.enough)
-    )
+    cc (f.read, h.same, ap (put (and_then [] ss)) (none f.fuel f.enough) ))
 
 -- ---- a statement, and its first keyword
 
@@ -118,8 +116,4 @@ pub none_read : (names : Names) (line depth left : ℕ) (i j : Input) (k : State
     → ReadsNoneAfter k names line depth (left - 1) j → ReadsNone names depth left i
 none_read names line depth left i j k go first some at e f none zero lt = absurd (omega (arith, lt))
 none_read names line depth left i j k go first some at e f none (suc fuel) lt =
-    unrolled fuel depth left names i.lines k i.lexemes go first some
-    ∙ ap (λ n. statement_from (block_at fuel names i.lines) names n depth (left - 1) k (drop 1 i.lexemes)) (sym at)
-    ∙ ap (λ (ws : Spelled). statement_from (block_at fuel names i.lines) names line depth (left - 1) k ws) (sym e)
-    ∙ ap (λ (ls : List ℕ). statement_from (block_at fuel names ls) names line depth (left - 1) k j.lexemes) (sym f)
-    ∙ none fuel (omega (arith, lt, some))
+    cc (unrolled fuel depth left names i.lines k i.lexemes go first some, at, e, f, none fuel (omega (arith, lt, some)))

@@ -54,12 +54,7 @@ script_given i t e =
     (λ i j d lt within. absurd (omega (arith, within))) d.first blocks in
     let fr = block_given d.x.names d.x.names i.lines (λ n lt. refl) (suc d.x.left) 16 d.x.left b.x r.x r.first in
     let few : length d.x.names ≡ length t.blocks = ap length fd.front ∙ fd.each in
-    let body : d.x.rest ≡ begin_lexemes t =
-    begins ∙ ap (λ (ws : Spelled). letters the.Begin ∷ ws)
-    (fr.spelled ∙ ap (λ (ws : Spelled). block_lexemes d.x.names r.x.block ++ ws) last.0
-    ∙ no_words d.x.names r.x.block
-    ∙ ap (λ c. block_lexemes d.x.names c) run ∙ ap (λ (ns : Names). block_lexemes ns (block_of [] t.statements))
-    names) in
+    let body : d.x.rest ≡ begin_lexemes t = rw (begins, fr.spelled, last.0, no_words d.x.names r.x.block, run, names) in
     let later : m.x.rest ≡ defined_lexemes t.names 0 t.blocks ++ begin_lexemes t =
     fd.spelled ∙ ap (λ (ns : Names). defined_lexemes ns 0 t.blocks ++ d.x.rest) names
     ∙ ap (λ (ws : Spelled). defined_lexemes t.names 0 t.blocks ++ ws) body in (
@@ -135,41 +130,33 @@ script_read : (i : Input) (t : Tree) → IsScript t → i.lexemes ≡ tree_lexem
     → script_at i ≡ Some (content_on i.lines t)
 unfolding script_at stops
 script_read i t is e =
-    let counts = is.few in
     let run : ℕ = counted (block_of [] t.statements) in
     let left : ℕ = 8192 - (length t.items + (counted_in t.blocks + run)) in
     let words : Spelled = block_lexemes t.names (block_of [] t.statements) in
     let header = header_found t.header (items_lexemes t.items ++ after_items t) is.headed
     (ends_header t.items (after_items t) (no_reserve t.names 0 t.blocks words)) in
     let items = items_found t.items 8192 (counted_in t.blocks + (run + left)) i.lines (after_items t) is.adding
-    (omega (arith, counts)) (no_item t.names 0 t.blocks words) in
-    let few : length t.blocks ≤ 64 = is.few_blocks in
+    (omega arith) (no_item t.names 0 t.blocks words) in
     let definitions = definitions_found t.names t.names [] 64 i.lines (counted_in t.blocks + (run + left)) (run + left)
-    t.blocks (begin_lexemes t) refl is.named is.different is.defined few is.blocks_fit refl
+    t.blocks (begin_lexemes t) refl is.named is.different is.defined is.few_blocks is.blocks_fit refl
     (other_next the.Begin the.Define words (λ e. cc)) in
-    let fits = subst (λ n. IsInBounds n 16 (block_of [] t.statements)) (sym is.defined) is.fits in
     let whole = sym (append-nil t.names) in
     let block = block_found t.names t.names i.lines (λ n lt. refl) (apart_of t.names t.names [] whole is.different)
     (named_of t.names t.names [] whole is.named) (block_of [] t.statements) (suc (run + left)) 16 (run + left) left
-    [] fits refl (omega arith) refl in
-    let block' = ap (block_at (suc (run + left)) t.names i.lines 16 (run + left))
-    (sym (no_words t.names (block_of [] t.statements))) ∙ block in
+    [] (subst (λ n. IsInBounds n 16 (block_of [] t.statements)) (sym is.defined) is.fits) refl (omega arith) refl in
+    let block' = ap (block_at (suc (run + left)) t.names i.lines 16 (run + left)) (sym (no_words _ _)) ∙ block in
     rw (e, header, items, definitions, after_itself the.Begin words, block') refl
 
 content_same : (lines : List ℕ) (t : Tree) → HasLines lines t → content_on lines t ≡ content_of t
 content_same lines t h =
-    let a = on_same lines t.items (after_items t) h.items in
     let b = defined_same t.names lines 0 t.blocks (begin_lexemes t) h.blocks in
     let c = lined_is t.names lines (block_of [] t.statements) [] (plain t.statements) h.statements in
-    let d = h.begin in
-    let e = h.last in
-    rw (a, b, c, d, e) refl
+    rw ((on_same lines t.items (after_items t) h.items), b, c, h.begin, h.last) refl
 
 pub scripts_are_read : ScriptsAreRead
 scripts_are_read = record {
   given = script_given;
-  found = λ i t is h. script_read i t is h.spells
-      ∙ ap (λ (c : Content). Some c) (content_same i.lines t h.lined);
+  found = λ i t is h. script_read _ _ is h.spells ∙ ap (λ (c : Content). Some c) (content_same _ _ h.lined);
 }
 
 -- ---- scripts and texts
@@ -183,8 +170,7 @@ scripts_alike s t x y e =
     let same = some_content (content_on [] s) (content_on [] t) (sym (script_read i s x refl) ∙ script_read i t y e) in
     record {
       header = ap (λ (c : Content). c.header) same;
-      items = sym (on_added [] s.items (after_items s)) ∙ ap (λ (c : Content). added_by c.items) same
-          ∙ on_added [] t.items (after_items t);
+      items = sym (on_added [] s.items _) ∙ ap (λ (c : Content). added_by c.items) same ∙ on_added [] t.items _;
       names = ap (λ (c : Content). c.names) same;
       blocks = sym (defined_said s.names [] 0 s.blocks (begin_lexemes s))
           ∙ ap (λ (c : Content). map unlined c.blocks) same ∙ defined_said t.names [] 0 t.blocks (begin_lexemes t);
@@ -197,8 +183,7 @@ one_script text s t x y d e =
     let tokens : List Token = tokens_of first_position d.pieces in
     let here = are_tokens text s d in
     let i : Input = record { lexemes = tree_lexemes s; lines = lines_of tokens } in
-    let spells : tree_lexemes s ≡ tree_lexemes t = sym (denoted_words text tokens s here d)
-    ∙ denoted_words text tokens t here e in
+    let spells = sym (denoted_words text tokens s here d) ∙ denoted_words text tokens t here e in
     let on : HasLines (lines_of tokens) t = rw (are_its_tokens text tokens t here e) e.lined in
     let one = scripts_are_read.found i s x (record { spells = refl; lined = d.lined }) in
     let other = scripts_are_read.found i t y (record { spells = spells; lined = on }) in
@@ -218,9 +203,6 @@ pub none_spelled : (text : List ℕ) (tokens : List Token) (i : Input) → AreTo
     → i.lexemes ≡ lexemes_of text tokens → i.lines ≡ lines_of tokens → script_at i ≡ None → IsNoScript text
 none_spelled text tokens i are lexemes lines none t is s =
     let on = subst (λ (ts : List Token). HasLines (lines_of ts) t) (sym (are_its_tokens text tokens t are s)) s.lined in
-    let read = scripts_are_read.found i t is
-    (record {
-      spells = lexemes ∙ denoted_words text tokens t are s;
-      lined = rw (lines) on;
-    }) in
+    let read =
+    scripts_are_read.found i t is (record { spells = lexemes ∙ denoted_words _ _ _ are s; lined = rw (lines) on; }) in
     let f : None ≡ Some (content_of t) = sym none ∙ read in absurd cc

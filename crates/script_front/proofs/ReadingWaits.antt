@@ -104,8 +104,7 @@ alternative_found : (a : Alternative) (rest : Spelled) → IsAlternative a → i
     → alternative_at (alternative_lexemes a ++ rest) ≡ Some (a, rest)
 unfolding alternative_at
 alternative_found (OfContact contact closed) rest is not =
-    rw (next_itself the.Contact (decimal contact ∷ level_text closed ∷ rest))
-    (made_found _ _ _ contact_law (λ p. OfContact p.0 p.1) (contact, closed) rest (is, tt))
+    rw (next_itself _ _) (made_found _ _ _ contact_law (λ p. OfContact p.0 p.1) _ _ (is, tt))
 alternative_found (OfMoment moment) rest is not =
     rw (
       other_next the.Until the.Contact (moment_lexemes moment ++ rest) (λ e. cc),
@@ -195,11 +194,9 @@ more_found (suc room) before [] rest few h past =
     rw (past.1) (ap (λ (all : Alternatives). Some (all, rest)) (sym (append-nil before)))
 more_found zero before (a ∷ more) rest few h past = absurd (omega (arith, few))
 more_found (suc room) before (a ∷ more) rest few h past =
-    let later : Spelled = or_lexemes more ++ rest in
-    let fits = next_fits before a more h in
     let is : IsAlternative a = (each_later before (a ∷ more) h.each).0 in
     let here = ap (allowed_at before) (append_assoc (alternative_lexemes a) (or_lexemes more) rest)
-    ∙ allowed_found before a later is fits (no_early more rest past) in
+    ∙ allowed_found before a (or_lexemes more ++ rest) is (next_fits before a more h) (no_early more rest past) in
     let same = append_assoc before (a ∷ []) more in
     let others = more_found room (before ++ a ∷ []) more rest (omega (arith, few)) (subst AreTogether (sym same) h)
     past in
@@ -238,9 +235,7 @@ several_given : (a : Alternative) (more : Alternatives) (ws vs rest : Spelled) (
 several_given a [] ws vs rest x g h few e f = one_given a ws rest x (g.0, rw (← e) g.1) f
 several_given a (b ∷ more) ws vs rest x g h few e f =
     let all : Alternatives = a ∷ b ∷ more in
-    let is : Some (let y : Act × Spelled = (WaitAny all, rest) in y) ≡ Some x =
-    ap (λ (r : Option Act). r >>= λ act. Some (let y : Act × Spelled = (act, rest) in y))
-    (sym (for_several a b more)) ∙ f in
+    let is : Some (let y : Act × Spelled = (WaitAny all, rest) in y) ≡ Some x = cc (for_several a b more, f) in
     finish (IsWaitRead ws) (WaitAny all, rest) x is (
       are_alternatives all (omega arith) (omega (arith, few)) h,
       tt,
@@ -257,8 +252,7 @@ wait_given ws x e =
     let g = allowed_given [] ws a.x a.first in
     let b = bind_some (alternatives_from 7 (a.x.0 ∷ []) a.x.1) waiting x a.second in
     let m = more_given 7 (a.x.0 ∷ []) a.x.1 b.x (alone a.x.0 g.0.0) b.first in
-    several_given a.x.0 m.more ws a.x.1 b.x.1 x g.0 (subst AreTogether m.is m.together) m.few m.spelled
-    (rw (← m.is) b.second)
+    several_given _ _ _ _ _ _ g.0 (subst AreTogether m.is m.together) m.few m.spelled (rw (← m.is) b.second)
 
 -- one alternative, with what it waits for
 pub one_found : (a : Alternative) (rest : Spelled) → IsAlternative a → IsPast rest
@@ -278,9 +272,8 @@ several_found : (a : Alternative) (more : Alternatives) (rest : Spelled) → Are
     → IsPast rest → waiting_at ((alternative_lexemes a ++ or_lexemes more) ++ rest) ≡ waiting (a ∷ more, rest)
 unfolding waiting_at
 several_found a more rest h few past =
-    let e = append_assoc (alternative_lexemes a) (or_lexemes more) rest in
     rw (
-      e,
+      (append_assoc (alternative_lexemes a) (or_lexemes more) rest),
       allowed_found [] a (or_lexemes more ++ rest) h.each.0 (next_fits [] a more h) (no_early more rest past),
       more_found 7 (a ∷ []) more rest few h past,
     ) refl
@@ -296,11 +289,10 @@ contact_found contact closed rest is past = one_found (OfContact contact closed)
 
 pub any_found : (all : Alternatives) (rest : Spelled) → IsAct (WaitAny all) → IsPast rest
     → waiting_at (alternatives_lexemes all ++ rest) ≡ Some (WaitAny all, rest)
-any_found [] rest is past = absurd (let x = is.several in omega (arith, x))
-any_found (a ∷ []) rest is past = absurd (let x = is.several in omega (arith, x))
 any_found (a ∷ b ∷ more) rest is past =
     several_found a (b ∷ more) rest (are_together _ is) (let x = is.few in omega (arith, x)) past
     ∙ ap (λ (r : Option Act). r >>= λ act. Some (let y : Act × Spelled = (act, rest) in y)) (for_several a b more)
+any_found _ rest is past = absurd (let x = is.several in omega (arith, x))
 
 -- ---- conditions
 
@@ -364,9 +356,8 @@ all_found zero before ws next = rw (next) refl
 all_found (suc room) before ws next = rw (next) refl
 
 pub waits_for : (all : Alternatives) → 2 ≤ length all → wait_for all ≡ Some (WaitAny all)
-waits_for [] some = absurd (omega (arith, some))
-waits_for (a ∷ []) some = absurd (omega (arith, some))
 waits_for (a ∷ b ∷ more) some = for_several a b more
+waits_for _ some = absurd (omega (arith, some))
 
 pub two_read : (first second : Alternative) (all : Alternatives) (ws rest : Spelled) → is_next the.Or ws ≡ true
     → allowed_at (first ∷ []) (drop 1 ws) ≡ Some (second, rest) → all ≡ first ∷ second ∷ []
@@ -377,12 +368,10 @@ pub next_read : (all new : Alternatives) (a : Alternative) (ws rest : Spelled) �
     → is_next the.Or ws ≡ true → allowed_at all (drop 1 ws) ≡ Some (a, rest) → new ≡ all ++ a ∷ []
     → (alternatives_from (8 - length all) all ws ≡ alternatives_from (8 - length new) new rest) × (length new ≤ 8)
 next_read all new a ws rest few not_full next read is =
-    let count : length new ≡ length all + 1 = ap length is ∙ length-append all (a ∷ []) in
-    let room : 8 - length all - 1 ≡ 8 - length new = omega (arith, count) in
-    let small : length all < 8 = omega (arith, few, not_full) in
-    let some : 1 ≤ 8 - length all = omega (arith, small) in (
+    let room : 8 - length all - 1 ≡ 8 - length new = omega (arith, ap length is ∙ length-append all (a ∷ [])) in
+    let some : 1 ≤ 8 - length all = omega arith in (
       one_on (8 - length all) all ws a rest some next read
           ∙ ap (λ (n : ℕ). alternatives_from n (all ++ a ∷ []) rest) room
           ∙ ap (λ (xs : Alternatives). alternatives_from (8 - length new) xs rest) (sym is),
-      omega (arith, count, small),
+      omega (arith, ap length is ∙ length-append all (a ∷ [])),
     )

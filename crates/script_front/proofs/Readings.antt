@@ -98,8 +98,7 @@ new_sub_law = record {
   given = made_given _ _ _ fields_law sub_of IsNewSub Text []
       (λ p h. record { named = h.0; start = h.1.0; from_one = h.1.1.0.0; to_four = h.1.1.0.1; rate = h.1.1.1 })
       (λ p h. refl);
-  found = λ s rest is. made_found _ _ _ fields_law sub_of (s.id, (s.start, (s.protection, s.kbits))) rest
-      (is.named, (is.start, ((is.from_one, is.to_four), is.rate)));
+  found = λ s rest is. made_found _ _ _ fields_law _ _ _ (is.named, (is.start, ((is.from_one, is.to_four), is.rate)));
 }
 
 abbrev PacketText : Packet → Spelled
@@ -123,8 +122,7 @@ unfolding new_packet_at
 new_packet_law = record {
   given = made_given _ _ _ packet_fields_law packet_of IsNewPacket PacketText []
       (λ p h. record { named = h.0; typed = h.1.1.0; carried = h.1.1.1.0; to_last = h.1.1.1.1 }) (λ p h. refl);
-  found = λ p rest is. made_found _ _ _ packet_fields_law packet_of (p.scid, (p.dg, (p.ty, (p.sub, p.address)))) rest
-      (is.named, (tt, (is.typed, (is.carried, is.to_last))));
+  found = λ p rest is. made_found _ _ _ packet_fields_law _ _ _ (is.named, (tt, (is.typed, (is.carried, is.to_last))));
 }
 
 -- ---- components and carriers
@@ -163,8 +161,7 @@ component_found (InPackets scid) rest is = made_found _ _ _ twelve InPackets sci
 component_law : (k : ComponentKeyword) → ReadsAsSpelled (component_from k) (IsBegun k) carried_rest
 component_law k = record {
   given = component_given k;
-  found = λ m rest is. subst (λ j. component_from j (carried_rest m ++ rest) ≡ Some (m, rest)) is.1
-      (component_found m rest is.0);
+  found = λ m rest is. rw (← is.1) (component_found m rest is.0);
 }
 
 carrier_law : ReadsAsSpelled carrier_at IsCarrier carrier_lexemes
@@ -247,8 +244,7 @@ placed_law = both_law _ _ _ _ _ _ carrier_law service_law
 
 moving_law : ReadsAsSpelled (both sub_at (keyed the.At (number_at 0 1023))) (λ p. (p.0 < 64) × (p.1 < 1024))
     (λ p. letters the.Sub ∷ decimal p.0 ∷ letters the.At ∷ decimal p.1 ∷ [])
-moving_law = both_law _ _ _ _ _ _ sub_law
-    (keyed_law the.At (number_at 0 1023) (λ n. n < 1024) (λ n. decimal n ∷ []) ten)
+moving_law = both_law _ _ _ _ _ _ sub_law (keyed_law _ _ (λ n. n < 1024) (λ n. decimal n ∷ []) ten)
 
 rating_law : ReadsAsSpelled (both sub_at (number_at 0 65535)) (λ p. (p.0 < 64) × (p.1 < 65536))
     (λ p. letters the.Sub ∷ decimal p.0 ∷ decimal p.1 ∷ [])
@@ -319,8 +315,7 @@ edit_found (AddComponent sid m) rest is =
     (m, sid) rest ((is.1, refl), is.0)
 edit_found (MoveSub id start) rest is = made_found _ _ _ moving_law (λ p. MoveSub p.0 p.1) (id, start) rest is
 edit_found (RateSub id kbits) rest is = made_found _ _ _ rating_law (λ p. RateSub p.0 p.1) (id, kbits) rest is
-edit_found (DropService sid) rest is =
-    rw (next_itself the.Service (sid_text sid ∷ rest)) (made_found _ _ _ values_are_read.sids DropService sid rest is)
+edit_found (DropService sid) rest is = rw (next_itself _ _) (made_found _ _ _ values_are_read.sids _ _ _ is)
 edit_found (DropComponent sid c) rest is =
     let later : Spelled = (carrier_lexemes c ++ within_lexemes sid) ++ rest in
     rw (other_next the.Component the.Service later (λ e. cc), next_itself the.Component later)
@@ -331,8 +326,7 @@ edit_found (DropPacket scid) rest is = carrier_dropped (ByPacket scid) rest is
 pub edit_law : (k : EditKeyword) → ReadsAsSpelled (edit_from k) (IsEditOf k) edit_rest
 edit_law k = record {
   given = edit_given k;
-  found = λ e rest is.
-      subst (λ j. edit_from j (edit_rest e ++ rest) ≡ Some (e, rest)) is.1 (edit_found e rest is.0);
+  found = λ e rest is. rw (← is.1) (edit_found e rest is.0);
 }
 
 pub item_law : (k : ItemKeyword) → ReadsAsSpelled (item_from k) (IsItemOf k) edit_rest
@@ -387,8 +381,7 @@ act_given act.Wait ws x e = let g = wait_given ws x e in
 act_given act.Until ws x e =
     let m = bind_some (moment_at ws) (giving Until) x e in
     let g = moment_given ws m.x m.first in
-    finish (λ y. IsActOf act.Until y.0 × (ws ≡ act_rest y.0 ++ y.1)) (Until m.x.0, m.x.1) x m.second
-    ((g.0, refl), g.1)
+    finish (λ y. IsActOf act.Until y.0 × (ws ≡ act_rest y.0 ++ y.1)) _ _ m.second ((g.0, refl), g.1)
 act_given act.Commit ws x e = elim (either_given the.In (built CommitIn (number_at 1 60000))
     (keyed the.At (built CommitAt (number_at 0 65535))) ws x e) [
       | inl h ↦ (let g = made_given _ _ _ delay_law CommitIn (IsActOf act.Commit) act_rest (letters the.In ∷ [])
@@ -400,10 +393,8 @@ act_given act.Commit ws x e = elim (either_given the.In (built CommitIn (number_
           (λ a h. refl) k.rest x k.read_is in (g.0, k.begins ∙ g.1)
           )
     ]
-act_given act.Join ws x e = finish (λ y. IsActOf act.Join y.0 × (ws ≡ act_rest y.0 ++ y.1)) (Join, ws) x e
-    ((tt, refl), refl)
-act_given act.Settle ws x e = finish (λ y. IsActOf act.Settle y.0 × (ws ≡ act_rest y.0 ++ y.1)) (Settle, ws) x e
-    ((tt, refl), refl)
+act_given act.Join ws x e = finish (λ y. IsActOf act.Join y.0 × (ws ≡ act_rest y.0 ++ y.1)) _ _ e ((tt, refl), refl)
+act_given act.Settle ws x e = finish (λ y. IsActOf act.Settle y.0 × (ws ≡ act_rest y.0 ++ y.1)) _ _ e ((tt, refl), refl)
 act_given (act.Edit k) ws x e =
     made_given _ _ _ (edit_law k) Edits (IsActOf (act.Edit k)) act_rest [] (λ a h. (h.0, rw (h.1) refl)) (λ a h. refl)
     ws x e
@@ -416,13 +407,10 @@ act_found (Wait frames) rest is past = wait_found frames rest is past
 act_found (WaitContact contact closed) rest is past = contact_found contact closed rest is past
 act_found (Until moment) rest is past = rw (moment_found moment rest is past.0) refl
 act_found (WaitAny all) rest is past = any_found all rest is past
-act_found (CommitIn delay) rest is past =
-    rw (next_itself the.In (decimal delay ∷ rest)) (made_found _ _ _ delay_law CommitIn delay rest is)
+act_found (CommitIn delay) rest is past = rw (next_itself _ _) (made_found _ _ _ delay_law _ _ _ is)
 act_found (CommitAt count) rest is past =
-    rw (other_next the.At the.In (decimal count ∷ rest) (λ e. cc), after_itself the.At (decimal count ∷ rest))
-    (made_found _ _ _ sixteen CommitAt count rest is)
-act_found Join rest is past = refl
-act_found Settle rest is past = refl
+    rw (other_next the.At the.In _ (λ e. cc), after_itself the.At _) (made_found _ _ _ sixteen CommitAt count rest is)
+act_found _ rest is past = refl
 
 -- the law of acts: what is read is in range, and spelled so; and what is spelled so is read, where neither `early` nor
 -- `or` follows
@@ -433,6 +421,5 @@ pub record ActsAreRead (k : ActKeyword) : Type 0 where
 pub act_law : (k : ActKeyword) → ActsAreRead k
 act_law k = record {
   given = act_given k;
-  found = λ a rest is past.
-      subst (λ j. act_from j (act_rest a ++ rest) ≡ Some (a, rest)) is.1 (act_found a rest is.0 past);
+  found = λ a rest is past. rw (← is.1) (act_found a rest is.0 past);
 }

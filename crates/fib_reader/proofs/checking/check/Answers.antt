@@ -13,9 +13,7 @@ returns-in-Some-clause-fault c =
 
 pub of-requires : goal.of-requires
 of-requires c =
-    let none : figs_fault (length (take 30 c.args.bytes.now)) 0 (take 30 c.args.bytes.now) ≡ None =
-    sym c.figs_fault_of.ensures ∙ c.in_default.is in
-    (sound_figs _ 0 (take 30 c.args.bytes.now) (omega arith) none).0
+    (sound_figs _ 0 (take 30 c.args.bytes.now) (omega arith) (sym c.figs_fault_of.ensures ∙ c.in_default.is)).0
 
 pub returns-clause-figs : goal.returns-clause-figs
 returns-clause-figs c =

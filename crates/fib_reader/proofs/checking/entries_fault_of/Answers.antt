@@ -19,7 +19,6 @@ loop-rest-preserved c =
 
 pub loop-rest-smaller : goal.loop-rest-smaller
 loop-rest-smaller c =
-    let some : 0 < length c.loop-rest.rest.now = some_left _ _ c.is_empty.ensures c.loop-rest-test.true in
     omega (arith, some_bytes (number_of c.args.extension) c.args.long c.loop-rest.rest.now)
 
 pub returns : goal.returns

@@ -4,22 +4,19 @@ use Rattle.fib_reader.proofs.checking.figs_fault_of.Goals as goal
 
 pub returns-then-header : goal.returns-then-header
 returns-then-header c =
-    let some : 0 < length c.loop-rest.rest.now = some_left _ _ c.is_empty.ensures c.loop-rest-test.true in
-    at_marker _ _ _ c.loop-rest.invariant.same some (omega arith)
+    at_marker _ _ _ c.loop-rest.invariant.same (some_left _ _ c.is_empty.ensures c.loop-rest-test.true) (omega arith)
 
 pub returns-in-Some : goal.returns-in-Some
 returns-in-Some c =
     let some : 0 < length c.loop-rest.rest.now = some_left _ _ c.is_empty.ensures c.loop-rest-test.true in
-    let other : get_or c.loop-rest.rest.now 0 0 ≢ 255 = omega arith in
     let found : fig_fault c.loop-rest.at (get_or c.loop-rest.rest.now 0 0) (drop 1 c.loop-rest.rest.now)
     ≡ Some c.in-Some.fault =
     rw (← c.byte_at-header.ensures, ← c.split_at.ensures.back) (sym c.fig_fault_of.ensures ∙ c.in-Some.is) in
-    fault_here _ _ _ _ c.loop-rest.invariant.same some other found
+    fault_here _ _ _ _ c.loop-rest.invariant.same some (omega arith) found
 
 pub loop-rest-preserved : goal.loop-rest-preserved
 loop-rest-preserved c =
     let some : 0 < length c.loop-rest.rest.now = some_left _ _ c.is_empty.ensures c.loop-rest-test.true in
-    let other : get_or c.loop-rest.rest.now 0 0 ≢ 255 = omega arith in
     let fine : fig_fault c.loop-rest.at (get_or c.loop-rest.rest.now 0 0) (drop 1 c.loop-rest.rest.now) ≡ None =
     rw (← c.byte_at-header.ensures, ← c.split_at.ensures.back) (sym c.fig_fault_of.ensures ∙ c.in_default.is) in
     record {
@@ -30,7 +27,7 @@ loop-rest-preserved c =
         c.from-len.ensures,
         c.byte_at-header.ensures,
       )
-          (next_fig _ _ _ c.loop-rest.invariant.same some other fine);
+          (next_fig _ _ _ c.loop-rest.invariant.same some (omega arith) fine);
     }
 
 pub returns : goal.returns

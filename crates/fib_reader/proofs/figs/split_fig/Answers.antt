@@ -9,20 +9,15 @@ returns-then-is_empty c = pieces_of_nothing _ (none_left _ _ c.is_empty.ensures 
 
 pub returns-then-header : goal.returns-then-header
 returns-then-header c =
-    let some : 0 < length c.args.bytes.now = some_left _ _ c.is_empty.ensures c.if-is_empty.false in
-    pieces_of_marked _ some (omega arith)
+    pieces_of_marked _ (some_left _ _ c.is_empty.ensures c.if-is_empty.false) (omega arith)
 
 pub returns : goal.returns
 returns c =
     let some : 0 < length c.args.bytes.now = some_left _ _ c.is_empty.ensures c.if-is_empty.false in
-    let no_marker : get_or c.args.bytes.now 0 0 ≢ 255 = omega arith in
     let len : c.min-len.result ≡ min (1 + get_or c.args.bytes.now 0 0 % 32) (length c.args.bytes.now) =
-    c.min-len.ensures ∙ ap (λ n. min (1 + n) (length c.args.bytes.now))
-    (c.from.ensures ∙ ap (λ n. n % 32) c.byte_at-header.ensures) in
+    cc (c.min-len.ensures, c.from.ensures, c.byte_at-header.ensures) in
     let front : c.split_at.result.0.now ≡ take (1 + get_or c.args.bytes.now 0 0 % 32) c.args.bytes.now =
-    c.split_at.ensures.front ∙ ap (λ n. take n c.args.bytes.now) len
-    ∙ take_min (1 + get_or c.args.bytes.now 0 0 % 32) c.args.bytes.now in
+    cc (c.split_at.ensures.front, len, take_min (1 + get_or c.args.bytes.now 0 0 % 32) c.args.bytes.now) in
     let back : c.split_at.result.1.now ≡ drop (1 + get_or c.args.bytes.now 0 0 % 32) c.args.bytes.now =
-    c.split_at.ensures.back ∙ ap (λ n. drop n c.args.bytes.now) len
-    ∙ drop_min (1 + get_or c.args.bytes.now 0 0 % 32) c.args.bytes.now in
-    rw (front, back) (first_of_pieces c.args.bytes.now some no_marker)
+    cc (c.split_at.ensures.back, len, drop_min (1 + get_or c.args.bytes.now 0 0 % 32) c.args.bytes.now) in
+    rw (front, back) (first_of_pieces c.args.bytes.now some (omega arith))

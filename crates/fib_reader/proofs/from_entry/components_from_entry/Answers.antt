@@ -27,10 +27,8 @@ loop-index-preserved c =
     let unnamed : list_any (names (carrier_of c.in-Some.component)) c.loop-index.components ≡ false =
     rw (← c.carrier.ensures) (ap (list_any (names c.carrier.result)) (sym c.as_slice.ensures.value)
     ∙ sym c.is_named_by.ensures ∙ c.if-is_named_by.false) in
-    let first : (length c.loop-index.components == 0) ≡ (c.loop-index.index == 0) =
-    ap (λ n. n == 0) c.loop-index.invariant.count in
-    let size : length (c.loop-index.components ++ c.in-Some.component ∷ []) ≡ length c.loop-index.components + 1 =
-    length-append c.loop-index.components (c.in-Some.component ∷ []) in
+    let first = ap (λ n. n == 0) c.loop-index.invariant.count in
+    let size = length-append c.loop-index.components (c.in-Some.component ∷ []) in
     let count = c.loop-index.invariant.count in
     record {
       count = rw (← count) (ap length c.push.ensures ∙ size);
@@ -41,9 +39,7 @@ loop-index-preserved c =
           ∙ ap (λ es. es ++ get_or c.args.entries.now c.loop-index.index c.index-entries-index.result ∷ [])
           c.loop-index.invariant.value
           ∙ sym (take_more c.args.entries.now c.loop-index.index c.index-entries-index.result c.loop-index-test.true);
-      members = rw c.push.ensures
-          (members_more c.loop-index.components c.in-Some.component c.loop-index.invariant.members
-          c.in-Some.ensures.member);
+      members = rw c.push.ensures (members_more _ _ c.loop-index.invariant.members c.in-Some.ensures.member);
       different = rw c.push.ensures
           (different_more c.loop-index.components c.in-Some.component c.loop-index.invariant.different unnamed);
     }

@@ -13,11 +13,10 @@ returns-in_default-clause-none g c = λ xs all says.
 
 pub append-requires : goal.append-requires
 append-requires g c =
-    let inside : c.loop-entry.entry-index ≤ length c.args.kept.now = omega arith in
     let size : length c.loop-entry.table ≡ c.loop-entry.entry-index =
     sym (length-map c.loop-entry.table (λ x. raw_entry (g.T.FromEntry.entry_of x)))
     ∙ ap length c.loop-entry.invariant.said
-    ∙ length-take-le c.loop-entry.entry-index c.args.kept.now inside in
+    ∙ length-take-le c.loop-entry.entry-index c.args.kept.now (omega arith) in
     let few : length c.loop-entry.table < 64 = omega arith in (
       search rules,
       (

@@ -7,8 +7,7 @@ pub returns-in_err-_token-clause-fault : goal.returns-in_err-_token-clause-fault
 returns-in_err-_token-clause-fault c =
     let p = err_from_is_err_and c.from_residual.result c.from_residual.ensures.1 in
     let so_far = c.loop-token.invariant in
-    rw (p.1, p.2) (so_far.1 ∙ ap (all_added so_far.0) c.in_err-_token.ensures.found.0
-    ∙ added_fault so_far.0 c.in_err-_token.field-0.0)
+    rw (p.1, p.2) (so_far.1 ∙ ap (all_added so_far.0) c.in_err-_token.ensures.found.0 ∙ added_fault so_far.0 _)
 
 pub loop-token-preserved : goal.loop-token-preserved
 loop-token-preserved c =

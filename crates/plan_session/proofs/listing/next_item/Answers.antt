@@ -26,12 +26,10 @@ returns-in-Ok-item_of g c =
           (e ∙ ap (λ (x : List ℕ). slice_range x first.start first.end ∷ rest) (sym c.text-text.ensures));
     } in
     let items : c.as_slice.result.now ≡ first ∷ more =
-    c.as_slice.ensures.value ∙ t.1 ∙ ap (λ (l : List Token). l ++ more)
-    (c.push.ensures.items ∙ ap (λ (l : List Token). l ++ first ∷ []) c.new-tokens.ensures) in
+    rw (c.as_slice.ensures.value, t.1, c.push.ensures.items, c.new-tokens.ensures) in
     let here = subst (λ (x : List ℕ). ReadsItem spelled is x c.as_slice.result.now (Ok c.in-Ok-item_of.item))
     c.text-text.ensures c.in-Ok-item_of.ensures in
-    let read : ReadsItem spelled is text (first ∷ more) (Ok c.in-Ok-item_of.item) =
-    subst (λ (l : List Token). ReadsItem spelled is text l (Ok c.in-Ok-item_of.item)) items here in
+    let read = subst (λ (l : List Token). ReadsItem spelled is text l (Ok c.in-Ok-item_of.item)) items here in
     let found = item_found spelled is c.args.scanner.now c.take_tokens.new.scanner first more count word
     c.in-Ok-item_of.item c.uniqueness.ensures.some window read in
     let size = ap (λ (x : List ℕ). length x) c.text-text.ensures in
@@ -60,8 +58,7 @@ returns-in-Err-item_of g c =
           (e ∙ ap (λ (x : List ℕ). slice_range x first.start first.end ∷ rest) (sym c.text-text.ensures));
     } in
     let items : c.as_slice.result.now ≡ first ∷ more =
-    c.as_slice.ensures.value ∙ t.1 ∙ ap (λ (l : List Token). l ++ more)
-    (c.push.ensures.items ∙ ap (λ (l : List Token). l ++ first ∷ []) c.new-tokens.ensures) in
+    rw (c.as_slice.ensures.value, t.1, c.push.ensures.items, c.new-tokens.ensures) in
     let here = subst (λ (x : List ℕ). ReadsItem spelled is x c.as_slice.result.now (Err c.in-Err-item_of.fault))
     c.text-text.ensures c.in-Err-item_of.ensures in
     let read : ReadsItem spelled is text (first ∷ more) (Err c.in-Err-item_of.fault) =

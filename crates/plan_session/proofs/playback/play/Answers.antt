@@ -6,18 +6,15 @@ returns-in-Err-new-clause-played g c = λ p steps h. absurd (c.in-Err-new.ensure
 
 pub returns-in-Ok-play_list-clause-played : goal.returns-in-Ok-play_list-clause-played
 returns-in-Ok-play_list-clause-played g c = λ p steps h.
-    let players = same_player c.args.code.now c.args.start c.args.events.now p c.in-Ok.player steps h
-    c.in-Ok.ensures.begins in
+    let players = same_player _ _ _ _ _ _ h c.in-Ok.ensures.begins in
     let found = c.in-Ok-new.ensures.found in
     let lists = c.one_list.ensures c.args.events.now found.0 steps found.1 h.holds in
-    whole p c.in-Ok.player c.play_list.new.player steps found.0 (g.K.Sink.taken c.args.out.now)
-    (g.K.Sink.taken c.play_list.new.sink) c.in-Ok-play_list.frames players lists
+    whole p c.in-Ok.player c.play_list.new.player steps found.0 _ _ _ players lists
     (c.in-Ok-play_list.ensures.done found.0 found.2)
 
 pub returns-in-Err-play_list-clause-played : goal.returns-in-Err-play_list-clause-played
 returns-in-Err-play_list-clause-played g c = λ p steps h.
-    let players = same_player c.args.code.now c.args.start c.args.events.now p c.in-Ok.player steps h
-    c.in-Ok.ensures.begins in
+    let players = same_player _ _ _ _ _ _ h c.in-Ok.ensures.begins in
     let found = c.in-Ok-new.ensures.found in
     let lists = c.one_list.ensures c.args.events.now found.0 steps found.1 h.holds in (
       c.play_list.new.player,

@@ -5,5 +5,4 @@ use Rattle.plan_session.proofs.text_file.take_piece.Goals as goal
 pub returns-then-begins_no_text-clause-not_utf8 : goal.returns-then-begins_no_text-clause-not_utf8
 returns-then-begins_no_text-clause-not_utf8 c = λ e rest.
     let none : c.args.bytes.now.items ≡ [] = nothing c.args.bytes.now.items (search rules) in
-    subst (λ (l : List ℕ). IsUtf8 (l ++ (c.args.piece.now ++ rest)) → ⊥) (sym none)
-    (c.begins_no_text.ensures c.if-begins_no_text.true rest)
+    rw none (c.begins_no_text.ensures c.if-begins_no_text.true rest)

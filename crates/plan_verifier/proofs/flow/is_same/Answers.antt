@@ -3,10 +3,7 @@ use Rattle.plan_verifier.proofs.flow.is_same.Goals as goal
 
 pub returns-then-has_same_subs-clause-same : goal.returns-then-has_same_subs-clause-same
 returns-then-has_same_subs-clause-same g c =
-    same_services _ _ (g.S.Store.content c.args.a.now) (g.T.Store.content c.args.b.now) c.has_same_subs.ensures.value
-    c.has_same_services.ensures c.if-has_same_subs.true
+    same_services _ _ _ _ c.has_same_subs.ensures.value c.has_same_services.ensures c.if-has_same_subs.true
 
 pub returns-else-has_same_subs-clause-same : goal.returns-else-has_same_subs-clause-same
-returns-else-has_same_subs-clause-same g c =
-    other_subs _ (g.S.Store.content c.args.a.now) (g.T.Store.content c.args.b.now) c.has_same_subs.ensures.value
-    c.if-has_same_subs.false
+returns-else-has_same_subs-clause-same g c = other_subs _ _ _ c.has_same_subs.ensures.value c.if-has_same_subs.false

@@ -18,8 +18,7 @@ returns-in-Some-clause-typed g c =
 
 pub returns-in-Some-clause-refused : goal.returns-in-Some-clause-refused
 returns-in-Some-clause-refused g c =
-    refused_if c.args.code c.in-Some.found.pc c.in-Some.found.cause c.refusal.ensures.formed
-    (sym c.refusal.ensures.value ∙ c.in-Some.is)
+    refused_if _ _ _ c.refusal.ensures.formed (sym c.refusal.ensures.value ∙ c.in-Some.is)
 
 pub returns-in-None-clause-typed : goal.returns-in-None-clause-typed
 returns-in-None-clause-typed g c =

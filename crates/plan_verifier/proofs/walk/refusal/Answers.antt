@@ -7,8 +7,7 @@ pub returns-in-Err-clause-value : goal.returns-in-Err-clause-value
 returns-in-Err-clause-value g c =
     let code = c.args.code.now in
     let within : c.loop-pc.pc < length code.lines = omega (arith, c.count-pc-end.ensures.value, c.loop-pc-test.true) in
-    sym (walk_stop code c.loop-pc.pc (known_if_reached c.loop-pc.comes (known_of g.S.Store.content c.loop-pc.state))
-    c.in-Err.cause within c.loop-pc.invariant.walked c.in-Err.ensures.refused)
+    sym (walk_stop code _ _ _ within c.loop-pc.invariant.walked c.in-Err.ensures.refused)
 
 pub loop-pc-preserved : goal.loop-pc-preserved
 loop-pc-preserved g c =
@@ -16,11 +15,10 @@ loop-pc-preserved g c =
     let within : c.loop-pc.pc < length code.lines = omega (arith, c.count-pc-end.ensures.value, c.loop-pc-test.true) in
     let left = known_of g.S.Store.content c.visit.new.state in
     let came = known_if_reached c.loop-pc.comes (known_of g.S.Store.content c.loop-pc.state) in
-    let onward = c.continues-comes.ensures ∙ ap continues c.instr_at.ensures in
     record {
       walked = walk_go code c.loop-pc.pc came left within c.loop-pc.invariant.walked c.in-Ok.ensures.passed
           ∙ ap (λ (b : Bool). walk code (drop (c.loop-pc.pc + 1) code.lines) (c.loop-pc.pc + 1)
-          (known_if_reached b left)) (sym onward);
+          (known_if_reached b left)) (sym (c.continues-comes.ensures ∙ ap continues c.instr_at.ensures));
       formed = c.loop-pc.invariant.formed;
       tracked = c.in-Ok.ensures.tracked;
     }

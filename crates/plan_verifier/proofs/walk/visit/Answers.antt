@@ -10,9 +10,7 @@ returns-in-Ok-clause-refused g c =
 
 pub returns-in-Ok-clause-passed : goal.returns-in-Ok-clause-passed
 returns-in-Ok-clause-passed g c =
-    visit_passed c.args.code.now c.args.pc (instr_or_end (instr_at c.args.code.now c.args.pc))
-    (known_if_reached c.args.comes (known_of g.S.Store.content c.args.state.now)) _ _ c.judge.result
-    c.in-Ok.ensures.known c.judge.ensures.cause c.judge.ensures.left
+    visit_passed _ _ _ _ _ _ _ c.in-Ok.ensures.known c.judge.ensures.cause c.judge.ensures.left
 
 pub returns-in-Err-clause-refused : goal.returns-in-Err-clause-refused
 returns-in-Err-clause-refused g c =

@@ -6,8 +6,5 @@ pub returns : goal.returns
 returns c =
     let mode = c.in_ok-put_mode.ensures
     ∙ ap (λ (m : Mode). string_bytes c.put_hex_u16.new.out ++ each_after (mode_lexemes m)) c.mode.ensures in
-    header_put (string_bytes c.args.out.now) (string_bytes c.push_str.new.self) (string_bytes c.put_hex_u16.new.out)
-    (string_bytes c.put_mode.new.out) (string_bytes c.push_str-2.new.self) (string_bytes c.put_limits_line.new.out)
-    c.args.header
-    c.in_ok-push_str.ensures.bytes c.in_ok-put_hex_u16.ensures mode c.in_ok-push_str-2.ensures.bytes
-    c.in_ok-put_limits_line.ensures
+    header_put _ _ _ _ _ _ _ c.in_ok-push_str.ensures.bytes c.in_ok-put_hex_u16.ensures mode
+    c.in_ok-push_str-2.ensures.bytes c.in_ok-put_limits_line.ensures

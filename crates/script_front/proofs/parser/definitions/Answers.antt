@@ -8,8 +8,7 @@ returns-clause-defined c = all_read _ _ _ _ _ _ (sym c.is_next.ensures.is ∙ c.
 
 pub returns-then-len-eq-MOST_BLOCKS-clause-none : goal.returns-then-len-eq-MOST_BLOCKS-clause-none
 returns-then-len-eq-MOST_BLOCKS-clause-none c =
-    let full = c.if-len-eq-MOST_BLOCKS.true in
-    λ ne. no_room _ _ _ _ _ _ (omega (arith, full, c.len.ensures)) (sym c.is_next.ensures.is ∙ c.loop-alloc-test.true)
+    λ ne. no_room _ _ _ _ _ _ (omega (arith, c.len.ensures)) (sym c.is_next.ensures.is ∙ c.loop-alloc-test.true)
     c.loop-alloc.invariant
 
 pub returns-in_err-body-clause-none : goal.returns-in_err-body-clause-none

@@ -18,8 +18,7 @@ returns-clause-script c =
 pub returns-in_err-tokens-clause-none : goal.returns-in_err-tokens-clause-none
 returns-in_err-tokens-clause-none c =
     let r = err_from_is_err_and c.from_residual.result c.from_residual.ensures.1 in
-    rw (r.1, r.2) (λ ne t is s. c.in_err-tokens.ensures.none ne (tokens_of first_position s.pieces)
-    (are_tokens c.args.text.now t s))
+    rw (r.1, r.2) (λ ne t is s. c.in_err-tokens.ensures.none ne (tokens_of first_position s.pieces) (are_tokens _ t s))
 
 pub returns-in_err-found-clause-none : goal.returns-in_err-found-clause-none
 returns-in_err-found-clause-none c =

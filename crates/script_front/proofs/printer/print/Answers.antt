@@ -21,5 +21,4 @@ returns-clause-layout c =
     (c.names-2.ensures.value ∙ sym c.names.ensures.value))
 
 pub returns-clause-denotes : goal.returns-clause-denotes
-returns-clause-denotes c = printed_denotes (string_bytes c.put_statements.new.out) c.args.script.now
-    c.header.ensures.formed (returns-clause-layout c)
+returns-clause-denotes c = printed_denotes _ _ c.header.ensures.formed (returns-clause-layout c)

@@ -5,8 +5,7 @@ use Rattle.script_front.proofs.waits.alternatives.Goals as goal
 
 pub alternatives-init : goal.alternatives-init
 alternatives-init c = record {
-  read = two_read c.args.first c.in_ok-second.second c.new-all.result c.args.reader.now.lexemes
-      c.second_alternative.new.reader.lexemes c.requires c.in_ok-second.ensures.read.0 c.new-all.ensures;
+  read = two_read _ _ _ _ _ c.requires c.in_ok-second.ensures.read.0 c.new-all.ensures;
   lines = c.in_ok-second.ensures.read.1;
   few = rw (c.new-all.ensures) (omega arith);
 }
@@ -19,8 +18,7 @@ alternatives-preserved c =
     let read : allowed_at c.alternatives.all (drop 1 c.alternatives.reader.lexemes) ≡ Some
     (c.in_ok-next.next, c.or_alternative.new.reader.lexemes) = rw (← c.as_slice-in-alternatives.ensures)
     c.in_ok-next.ensures.read.0 in
-    let h = next_read c.alternatives.all c.push.new.self c.in_ok-next.next c.alternatives.reader.lexemes
-    c.or_alternative.new.reader.lexemes c.alternatives.invariant.few full next read c.push.ensures in
+    let h = next_read _ _ _ _ _ c.alternatives.invariant.few full next read c.push.ensures in
     record {
       read = c.alternatives.invariant.read ∙ h.0;
       lines = c.in_ok-next.ensures.read.1 ∙ c.alternatives.invariant.lines;

@@ -63,6 +63,5 @@ returns-clause-every c = λ d is_d shows.
     (rw (← c.as_slice.ensures.value) c.as_slice.ensures.bound)
     (rw (← c.as_slice-2.ensures.value) c.as_slice-2.ensures.bound)
     (rw (← c.as_slice-3.ensures.value) c.as_slice-3.ensures.bound) in
-    let shown : Shows inside d = subst (λ (p : Pictured). Shows p d) (sym c.self.view_is) shows in
     ap Some (c.of.ensures ∙ shows_one inside made d c.spelling.ensures.tells c.facts.ensures is_made is_d
-    (each_shows inside made parts) shown)
+    (each_shows inside made parts) (subst (λ (p : Pictured). Shows p d) (sym c.self.view_is) shows))

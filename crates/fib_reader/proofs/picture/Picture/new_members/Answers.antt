@@ -14,8 +14,7 @@ returns-in-Services c =
 
 pub returns-in-Packets : goal.returns-in-Packets
 returns-in-Packets c =
-    let is_packet : c.args.entry.now.ext ≡ 3 = sym c.extension.ensures.value ∙ ap number_of c.in-Packets.is in
-    let one : c.args.entry.now.ext ≢ 1 = λ e. omega (arith, is_packet, e) in
-    let two : c.args.entry.now.ext ≢ 2 = λ e. omega (arith, is_packet, e) in
+    let one : c.args.entry.now.ext ≢ 1 = λ e. omega (arith, e) in
+    let two : c.args.entry.now.ext ≢ 2 = λ e. omega (arith, e) in
     rw (← c.self.view_is) (takes_if_packet _ c.args.entry.now c.args.others c.new_members-in-Packets.result one two
     c.new_members-in-Packets.ensures.known c.new_members-in-Packets.ensures.new)

@@ -38,10 +38,7 @@ invariant_of-self-in-Packets c =
 
 pub returns-in-SubChannels-clause-full : goal.returns-in-SubChannels-clause-full
 returns-in-SubChannels-clause-full c = λ no.
-    let is_sub : c.args.entry.now.ext ≡ 1 = sym c.extension.ensures.value ∙ ap number_of c.in-SubChannels.is in
     let low : identifier_of c.args.entry.now < 64 = rw (← c.identifier-identifier.ensures.value)
-    (c.identifier-identifier.ensures.sub is_sub) in
-    let room : has_room c.args.entry.now c.self.inside.subs ≡ true =
-    room_for_subs c.args.entry.now c.self.inside.subs c.keep.ensures.ascending c.self.invariant.subs low in
-    let none : has_room c.args.entry.now c.self.inside.subs ≡ false = sym c.keep.ensures.room ∙ no in
+    (c.identifier-identifier.ensures.sub (sym c.extension.ensures.value ∙ ap number_of c.in-SubChannels.is)) in
+    let room = room_for_subs c.args.entry.now c.self.inside.subs c.keep.ensures.ascending c.self.invariant.subs low in
     absurd (cc)

@@ -13,8 +13,7 @@ data_len-used-requires c = data_short c.args.fib.now c.in-Ok.figs c.in-Ok.ensure
 
 pub carry-load-requires-clause-within : goal.carry-load-requires-clause-within
 carry-load-requires-clause-within c =
-    let short = data_short c.args.fib.now c.in-Ok.figs c.in-Ok.ensures.figs in
-    omega (arith, short, c.data_len-used.ensures)
+    omega (arith, data_short c.args.fib.now c.in-Ok.figs c.in-Ok.ensures.figs, c.data_len-used.ensures)
 
 pub invariant_of-self : goal.invariant_of-self
 invariant_of-self c =
@@ -33,9 +32,7 @@ pub bytes_are : (before behind sealed : List ℕ) (used : ℕ) (figs : List Fig)
     → sealed ≡ checked (filled behind) → sealed ≡ filled_fib figs l waiting
 bytes_are before behind sealed used figs l ok waiting is size same carried seals =
     let front : take used before ≡ data_of figs = rw (size) (data_front before figs is) in
-    seals ∙ ap (λ xs. checked (filled xs))
-    (carried ∙ ap₂ (λ xs n. xs ++ concat (carried_in ok (30 - n) waiting)) front size
-    ∙ ap (λ (k : List ℕ → Bool). data_of figs ++ concat (carried_in k (room_of figs) waiting)) same)
+    cc (seals, carried, ap₂ (λ xs n. xs ++ concat (carried_in ok (30 - n) waiting)) front size, same)
 
 -- the FIGs of the FIB are read in one way alone
 abbrev whole : List Fig → Result (List Fig) FibFault
@@ -64,9 +61,8 @@ pub returns-clause-bytes : goal.returns-clause-bytes
 returns-clause-bytes c = λ r.
     let l = c.self.inside.listener in
     let waiting = c.self.inside.queue in
-    let one : Some c.in-Ok.figs ≡ r.read c.args.fib.now =
-    read_whole c.args.fib.now c.in-Ok.figs c.in-Ok.ensures.figs (λ fs is. sym c.in-Ok.is ∙ c.check.ensures.every fs is)
-    (r.read c.args.fib.now) (r.right c.args.fib.now) in
+    let one : Some c.in-Ok.figs ≡ r.read c.args.fib.now = read_whole _ _ c.in-Ok.ensures.figs
+    (λ fs is. sym c.in-Ok.is ∙ c.check.ensures.every fs is) _ (r.right c.args.fib.now) in
     let heard = heard_is (hear_figs c.in-Ok.figs l) l c.hear.new.self c.hear.result
     (c.hear.ensures.every c.in-Ok.figs c.in-Ok.ensures.figs) in
     let here : c.end_fib.new.fib ≡ filled_fib c.in-Ok.figs l waiting =
@@ -75,17 +71,14 @@ returns-clause-bytes c = λ r.
     c.in-Ok.ensures.figs c.data_len-used.ensures
     (judges c.in-Ok.figs l c.hear.new.self c.current.result.now heard c.current.ensures) c.carry-load.ensures.data
     c.end_fib.ensures in
-    let seen : filled_fib c.in-Ok.figs l waiting ≡ filled_fib c.in-Ok.figs c.args.self.now.heard
-    c.args.self.now.waiting = rw (← c.self.view_is) refl in
-    rw (← one) (here ∙ seen)
+    rw (← one) (here ∙ (rw (← c.self.view_is) refl))
 
 pub returns-clause-merger : goal.returns-clause-merger
 returns-clause-merger c = λ r.
     let l = c.self.inside.listener in
     let m = c.args.self.now in
-    let one : Some c.in-Ok.figs ≡ r.read c.args.fib.now =
-    read_whole c.args.fib.now c.in-Ok.figs c.in-Ok.ensures.figs (λ fs is. sym c.in-Ok.is ∙ c.check.ensures.every fs is)
-    (r.read c.args.fib.now) (r.right c.args.fib.now) in
+    let one : Some c.in-Ok.figs ≡ r.read c.args.fib.now = read_whole _ _ c.in-Ok.ensures.figs
+    (λ fs is. sym c.in-Ok.is ∙ c.check.ensures.every fs is) _ (r.right c.args.fib.now) in
     let heard = heard_is (hear_figs c.in-Ok.figs l) l c.hear.new.self c.hear.result
     (c.hear.ensures.every c.in-Ok.figs c.in-Ok.ensures.figs) in
     let done : _ ≡ after_fill (Some c.in-Ok.figs) m =

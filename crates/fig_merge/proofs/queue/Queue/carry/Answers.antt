@@ -23,8 +23,7 @@ loop-preserved c =
         whole = h.whole;
       })
       | else-len-used+then-agrees w ↦
-          let gone : w.remove-fig.result ≡ fig = w.remove-fig.ensures.value
-          ∙ same_at figs c.loop.at w.remove-fig.result fig lt ∙ sym is in
+          let gone = w.remove-fig.ensures.value ∙ same_at figs c.loop.at w.remove-fig.result fig lt ∙ sym is in
           let size : w.len-used.result ≡ length fig = rw (← gone) w.len-used.ensures.value in
           let room : length fig ≤ 30 - c.loop.used = omega (arith, w.if-len-used.false, c.len.ensures.value) in
           let fits : c.loop.used + length fig ≤ length c.loop.fib = omega (arith, room, h.within, h.whole) in
@@ -46,12 +45,11 @@ loop-preserved c =
       | else-len-used+else-agrees w ↦
           let gone : w.remove-fig.result ≡ fig = w.remove-fig.ensures.value
           ∙ same_at figs c.loop.at w.remove-fig.result fig lt ∙ sym is in
-          let room : length fig ≤ 30 - c.loop.used = omega (arith, w.if-len-used.false, c.len.ensures.value) in
           let differs : ok fig ≡ false = rw (← gone, ← w.as_slice.ensures.value)
           (sym w.agrees.ensures ∙ w.if-agrees.false) in
           rw (w.self-inside-is, w.at-is, w.figs-is, w.stale-is, w.used-is, w.fib-is) (record {
             passed = step_by ok _ _ fig _ figs w.remove-fig.new.self.items _ _ c.loop.at c.loop.figs c.loop.stale lt is
-                room w.remove-fig.ensures.items h.passed differs;
+                (omega (arith, w.if-len-used.false, c.len.ensures.value)) w.remove-fig.ensures.items h.passed differs;
             ahead = omega (arith, h.ahead, w.remove-fig.ensures.len);
             few = omega (arith, h.few);
             within = h.within;

@@ -13,5 +13,4 @@ returns-in_default-clause-wrong c = no_command_left c.args.reader.now.lexemes _ 
 
 pub returns-in_default-keyword_of-clause-wrong : goal.returns-in_default-keyword_of-clause-wrong
 returns-in_default-keyword_of-clause-wrong c =
-    no_command_begins c.args.reader.now.lexemes c.in-Some.word.now c.in-Some.ensures.rest _ c.in-Some.ensures.begins
-    c.in_default-keyword_of.ensures.none refl refl
+    no_command_begins _ _ _ _ c.in-Some.ensures.begins c.in_default-keyword_of.ensures.none refl refl

@@ -13,5 +13,4 @@ returns-in_default-clause-wrong c = no_step_left c.args.reader.now.lexemes _ c.i
 
 pub returns-in_default-begins_frames-clause-wrong : goal.returns-in_default-begins_frames-clause-wrong
 returns-in_default-begins_frames-clause-wrong c =
-    no_step_begins c.args.reader.now.lexemes c.in-Some.word.now c.in-Some.ensures.rest _ c.in-Some.ensures.begins
-    c.in_default-begins_frames.ensures.none refl refl
+    no_step_begins _ _ _ _ c.in-Some.ensures.begins c.in_default-begins_frames.ensures.none refl refl

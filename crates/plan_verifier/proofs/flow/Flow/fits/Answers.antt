@@ -10,8 +10,7 @@ returns-in-Never-clause-fits g c =
       next = g.T.Store.content c.args.next.now;
       pending = c.args.pending;
     } in
-    fit_as _ c.needed.result Never s.pending t.pending (known_at s) (known_at t)
-    (c.needed.ensures (known_at s) (known_at t)) c.in-Never.is refl
+    fit_as _ _ _ _ _ _ _ (c.needed.ensures (known_at _) (known_at _)) c.in-Never.is refl
 
 pub returns-in-Both-clause-fits : goal.returns-in-Both-clause-fits
 returns-in-Both-clause-fits g c =
@@ -21,8 +20,7 @@ returns-in-Both-clause-fits g c =
       next = g.T.Store.content c.args.next.now;
       pending = c.args.pending;
     } in
-    fit_as _ c.needed.result Both s.pending t.pending (known_at s) (known_at t)
-    (c.needed.ensures (known_at s) (known_at t)) c.in-Both.is c.has.ensures
+    fit_as _ _ _ _ _ _ _ (c.needed.ensures (known_at _) (known_at _)) c.in-Both.is c.has.ensures
 
 pub returns-in-NextTwice-clause-fits : goal.returns-in-NextTwice-clause-fits
 returns-in-NextTwice-clause-fits g c =
@@ -32,5 +30,4 @@ returns-in-NextTwice-clause-fits g c =
       next = g.T.Store.content c.args.next.now;
       pending = c.args.pending;
     } in
-    fit_as _ c.needed.result NextTwice s.pending t.pending (known_at s) (known_at t)
-    (c.needed.ensures (known_at s) (known_at t)) c.in-NextTwice.is c.has-in-NextTwice.ensures
+    fit_as _ _ _ _ _ _ _ (c.needed.ensures (known_at _) (known_at _)) c.in-NextTwice.is c.has-in-NextTwice.ensures

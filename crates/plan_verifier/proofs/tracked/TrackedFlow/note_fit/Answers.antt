@@ -5,5 +5,4 @@ use Rattle.plan_verifier.proofs.tracked.TrackedFlow.note_fit.Goals as goal
 pub returns-clause-tracked : goal.returns-clause-tracked
 returns-clause-tracked g c = λ table within h.
     let t = held g.S.Store.content c.args.self.now.flow in
-    subst (λ (k : Indices). AreAt table k t) (sym c.fit_indices-self.ensures)
-    (tracked_fit table c.args.other.now t within h)
+    rw c.fit_indices-self.ensures (tracked_fit table c.args.other.now t within h)

@@ -4,7 +4,5 @@ use Rattle.script_front.proofs.names.Names.add.Goals as goal
 
 pub returns : goal.returns
 returns c =
-    let new : (i : ℕ) → slice_get (map string_bytes c.self.inside.set.keys) i ≢ Some c.args.name.now =
-    rw (c.self.view_is) c.requires in
     rw (c.in_ok-insert.ensures.keys) (rw (← c.self.view_is) (added c.args.name.now c.self.inside.set.keys
-    c.in_ok-from_str.field-0 c.in_ok-from_str.ensures.ok new))
+    c.in_ok-from_str.field-0 c.in_ok-from_str.ensures.ok (rw (c.self.view_is) c.requires)))
