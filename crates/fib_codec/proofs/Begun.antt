@@ -24,10 +24,9 @@ marked size bytes whole within rest = record {
 pub begun_more : (size : ℕ) (bytes : List ℕ) (byte : ℕ) → IsBegun size bytes → size < 30
     → IsBegun (size + 1) (slice_set (slice_set bytes size byte) (size + 1) 255)
 begun_more size bytes byte is fits =
-    let count : size + 1 + 1 ≡ size + suc 1 = omega arith in
     let less : 31 - size - 1 ≡ 31 - (size + 1) = omega arith in
     marked (size + 1) (slice_set bytes size byte) (length-set bytes size byte ∙ is.whole) (omega (arith, fits))
-    (rw (← less) (drop-set-lt (size + 1 + 1) bytes size byte (omega arith) ∙ ap (λ n. drop n bytes) count
+    (rw (← less) (drop-set-lt (size + 1 + 1) bytes size byte (omega arith) ∙ ap (λ n. drop n bytes) (omega arith)
     ∙ zeros_after size 1 bytes is))
 
 -- two bytes more
@@ -35,11 +34,10 @@ pub begun_two : (size : ℕ) (bytes : List ℕ) (a b : ℕ) → IsBegun size byt
     → IsBegun (size + 2) (slice_set (slice_set (slice_set bytes size a) (size + 1) b) (size + 2) 255)
 begun_two size bytes a b is fits =
     let one = slice_set bytes size a in
-    let count : size + 2 + 1 ≡ size + suc 2 = omega arith in
     let less : 31 - size - 2 ≡ 31 - (size + 2) = omega arith in
     marked (size + 2) (slice_set one (size + 1) b) (length-set one (size + 1) b ∙ length-set bytes size a ∙ is.whole)
     (omega (arith, fits)) (rw (← less) (drop-set-lt (size + 2 + 1) one (size + 1) b (omega arith)
-    ∙ drop-set-lt (size + 2 + 1) bytes size a (omega arith) ∙ ap (λ n. drop n bytes) count
+    ∙ drop-set-lt (size + 2 + 1) bytes size a (omega arith) ∙ ap (λ n. drop n bytes) (omega arith)
     ∙ zeros_after size 2 bytes is))
 
 -- the first thirty bytes are the data bytes, padded
@@ -51,13 +49,11 @@ begun_is_filled size bytes is = elim (cases_lt size 30) [ inl lt ↦ short lt | 
         let front = take size bytes in
         let long : length front ≡ size = length-take-le size bytes (omega (arith, is.within, is.whole)) in
         let count : 30 ≡ length front + suc (29 - size) = omega (arith, long, fits) in
-        let parts : bytes ≡ front ++ 255 ∷ replicate (31 - size) 0 =
-        sym (take-append-drop size bytes) ∙ ap (λ t. front ++ t) is.rest in
         let cut : take (29 - size) (replicate (31 - size) 0) ≡ replicate (29 - length front) 0 =
         take-replicate (29 - size) (31 - size) 0 (omega arith) ∙ ap (λ n. replicate (29 - n) 0) (sym long) in
         let less : length front < 30 = omega (arith, long, fits) in
         let whole : take 30 bytes ≡ front ++ 255 ∷ replicate (29 - length front) 0 =
-        ap (take 30) parts
+        ap (take 30) (sym (take-append-drop size bytes) ∙ ap (λ t. front ++ t) is.rest)
         ∙ ap (λ n. take n (front ++ 255 ∷ replicate (31 - size) 0)) count
         ∙ take-append-add front (255 ∷ replicate (31 - size) 0) (suc (29 - size))
         ∙ ap (λ t. front ++ 255 ∷ t) cut in

@@ -18,17 +18,13 @@ same_bit false false h = refl
 same_bit true false h = absurd (omega arith)
 same_bit false true h = absurd (omega arith)
 
-same_word : (x y : ℕ) → x < 65536 → y < 65536 → x / 256 % 256 ≡ y / 256 % 256 → x % 256 ≡ y % 256 → x ≡ y
-same_word x y p q high low = omega arith
-
 -- a list that begins with the two bytes of a u16
 word_front : (x y : ℕ) (xs ys : List ℕ) → x < 65536 → y < 65536 → big_bytes 2 x ++ xs ≡ big_bytes 2 y ++ ys → (x ≡ y)
     × (xs ≡ ys)
 word_front x y xs ys p q h =
     let high : x / 256 % 256 ≡ y / 256 % 256 = cc in
     let low : x % 256 ≡ y % 256 = cc in
-    let rest : xs ≡ ys = cc in
-    (same_word x y p q high low, rest)
+    ((omega arith), cc)
 
 long_front : (x y : ℕ) (xs ys : List ℕ) → x < 4294967296 → y < 4294967296 → big_bytes 4 x ++ xs ≡ big_bytes 4 y ++ ys
     → (x ≡ y) × (xs ≡ ys)
@@ -37,15 +33,13 @@ long_front x y xs ys p q h =
     let second : x / 65536 % 256 ≡ y / 65536 % 256 = cc in
     let third : x / 256 % 256 ≡ y / 256 % 256 = cc in
     let fourth : x % 256 ≡ y % 256 = cc in
-    let rest : xs ≡ ys = cc in
-    (omega arith, rest)
+    (omega arith, cc)
 
 -- ---- ensemble information
 same_occurrence : (o p : Option ℕ) → occurrence_bytes o ≡ occurrence_bytes p → o ≡ p
 same_occurrence None None h = refl
-same_occurrence None (Some p) h = cc
-same_occurrence (Some o) None h = cc
 same_occurrence (Some o) (Some p) h = let e : o ≡ p = cc in ap (λ n. Some n) e
+same_occurrence _ _ h = cc
 
 pub ensemble_told : (e f : EnsembleInformation) → IsEnsembleInformation e → IsEnsembleInformation f
     → ensemble_bytes e ≡ ensemble_bytes f → e ≡ f
@@ -54,17 +48,13 @@ ensemble_told e f h k same =
     let y = f.change * 64 + bit_of f.al * 32 + f.count / 250 in
     let front = word_front e.eid f.eid (x ∷ e.count % 250 ∷ occurrence_bytes e.occurrence)
     (y ∷ f.count % 250 ∷ occurrence_bytes f.occurrence) h.eid k.eid same in
-    let rest : x ∷ e.count % 250 ∷ occurrence_bytes e.occurrence ≡ y ∷ f.count % 250 ∷ occurrence_bytes f.occurrence =
-    front.1 in
     let third : x ≡ y = cc in
     let fourth : e.count % 250 ≡ f.count % 250 = cc in
-    let tail : occurrence_bytes e.occurrence ≡ occurrence_bytes f.occurrence = cc in
     let eid : e.eid ≡ f.eid = front.0 in
     let change : e.change ≡ f.change = omega (arith, third, h.count, k.count, bit_small e.al, bit_small f.al) in
-    let al : e.al ≡ f.al = same_bit e.al f.al
-    (omega (arith, third, h.count, k.count, bit_small e.al, bit_small f.al)) in
+    let al = same_bit e.al f.al (omega (arith, third, h.count, k.count, bit_small e.al, bit_small f.al)) in
     let count : e.count ≡ f.count = omega (arith, third, fourth, h.count, k.count, bit_small e.al, bit_small f.al) in
-    let occurrence : e.occurrence ≡ f.occurrence = same_occurrence e.occurrence f.occurrence tail in
+    let occurrence : e.occurrence ≡ f.occurrence = same_occurrence e.occurrence f.occurrence cc in
     λ i. record { eid = eid i; change = change i; al = al i; count = count i; occurrence = occurrence i }
 
 -- ---- sub-channels
@@ -90,7 +80,6 @@ short_told s t h k same =
     let y = bit_of t.switch * 64 + t.table in
     let front = word_front (s.id * 1024 + s.start) (t.id * 1024 + t.start) (x ∷ []) (y ∷ [])
     (omega (arith, h.id, h.start)) (omega (arith, k.id, k.start)) same in
-    let rest : x ∷ [] ≡ y ∷ [] = front.1 in
     let last : x ≡ y = cc in
     let id : s.id ≡ t.id = omega (arith, front.0, h.start, k.start) in
     let start : s.start ≡ t.start = omega (arith, front.0, h.start, k.start) in
@@ -108,8 +97,7 @@ sid_told (Short n) (Short m) xs ys h k e same =
 sid_told (Long n) (Long m) xs ys h k e same =
     let both = long_front n m xs ys h k same in
     (rw (both.0) refl, both.1)
-sid_told (Short n) (Long m) xs ys h k e same = cc
-sid_told (Long n) (Short m) xs ys h k e same = cc
+sid_told _ _ xs ys h k e same = cc
 
 -- the P/S and CA flags are the two lowest bits
 flags_told : (x y : ℕ) (p c q d : Bool) → x * 4 + bit_of p * 2 + bit_of c ≡ y * 4 + bit_of q * 2 + bit_of d → (x ≡ y)
@@ -168,12 +156,11 @@ component_below (Packet id p c) h = omega (arith, bit_small p, bit_small c)
 components_told : (cs ds : List ComponentEntry) → AllByRecursion IsComponentEntry cs
     → AllByRecursion IsComponentEntry ds → components_bytes cs ≡ components_bytes ds → cs ≡ ds
 components_told [] [] h k same = refl
-components_told [] (d ∷ ds) h k same = cc
-components_told (c ∷ cs) [] h k same = cc
 components_told (c ∷ cs) (d ∷ ds) h k same =
     let both = word_front (component_u16 c) (component_u16 d) (components_bytes cs) (components_bytes ds)
     (component_below c h.0) (component_below d k.0) same in
     ap₂ (λ x xs. x ∷ xs) (component_told c d h.0 k.0 both.0) (components_told cs ds h.1 k.1 both.1)
+components_told _ _ h k same = cc
 
 pub service_told : (s t : ServiceEntry) → IsServiceEntry s → IsServiceEntry t → is_long_sid s.sid ≡ is_long_sid t.sid
     → service_bytes s ≡ service_bytes t → s ≡ t
@@ -183,56 +170,40 @@ service_told s t h k long same =
     let front = sid_told s.sid t.sid (x ∷ components_bytes s.components) (y ∷ components_bytes t.components) h.sid k.sid
     long same in
     let sid : s.sid ≡ t.sid = front.0 in
-    let rest : x ∷ components_bytes s.components ≡ y ∷ components_bytes t.components = front.1 in
     let middle : x ≡ y = cc in
-    let tail : components_bytes s.components ≡ components_bytes t.components = cc in
-    let components : s.components ≡ t.components =
-    components_told s.components t.components h.components k.components tail in
-    let a = bit_small s.rfa in
-    let b = bit_small t.rfa in
-    let rfa : s.rfa ≡ t.rfa = same_bit s.rfa t.rfa (omega (arith, middle, a, b, h.ca_id, k.ca_id, h.few, k.few)) in
-    let ca_id : s.ca_id ≡ t.ca_id = omega (arith, middle, a, b, h.ca_id, k.ca_id, h.few, k.few) in
+    let components = components_told s.components t.components h.components k.components cc in
+    let rfa : s.rfa ≡ t.rfa = same_bit s.rfa t.rfa (omega (arith, middle, h.ca_id, k.ca_id, h.few, k.few)) in
+    let ca_id : s.ca_id ≡ t.ca_id = omega (arith, middle, h.ca_id, k.ca_id, h.few, k.few) in
     λ i. record { sid = sid i; rfa = rfa i; ca_id = ca_id i; components = components i }
 
 -- ---- packet components
 same_ca_org : (o p : Option ℕ) → (IfSome o (λ n. n < 65536)) → (IfSome p (λ n. n < 65536))
     → ca_org_bytes o ≡ ca_org_bytes p → o ≡ p
 same_ca_org None None h k same = refl
-same_ca_org None (Some p) h k same = cc
-same_ca_org (Some o) None h k same = cc
 same_ca_org (Some o) (Some p) h k same = let both = word_front o p [] [] h k same in ap (λ n. Some n) both.0
+same_ca_org _ _ h k same = cc
 
 pub packet_told : (p q : PacketEntry) → IsPacketEntry p → IsPacketEntry q → packet_bytes p ≡ packet_bytes q → p ≡ q
 packet_told p q h k same =
-    let a = bit_small (is_some p.ca_org) in
     let b = bit_small (is_some q.ca_org) in
-    let x = p.scid * 16 + p.rfa * 2 + bit_of (is_some p.ca_org) in
     let y = q.scid * 16 + q.rfa * 2 + bit_of (is_some q.ca_org) in
     let third = bit_of p.dg * 128 + bit_of p.rfu * 64 + p.ty in
     let third' = bit_of q.dg * 128 + bit_of q.rfu * 64 + q.ty in
-    let front = word_front x y
+    let front = word_front (p.scid * 16 + p.rfa * 2 + bit_of (is_some p.ca_org)) y
     (third ∷ big_bytes 2 (p.sub * 1024 + p.address) ++ ca_org_bytes p.ca_org)
     (third' ∷ big_bytes 2 (q.sub * 1024 + q.address) ++ ca_org_bytes q.ca_org)
-    (omega (arith, a, h.scid, h.rfa)) (omega (arith, b, k.scid, k.rfa)) same in
-    let rest : third ∷ (big_bytes 2 (p.sub * 1024 + p.address) ++ ca_org_bytes p.ca_org)
-    ≡ third' ∷ (big_bytes 2 (q.sub * 1024 + q.address) ++ ca_org_bytes q.ca_org) = front.1 in
+    (omega (arith, bit_small (is_some p.ca_org), h.scid, h.rfa)) (omega (arith, b, k.scid, k.rfa)) same in
     let middle : third ≡ third' = cc in
-    let tail : big_bytes 2 (p.sub * 1024 + p.address) ++ ca_org_bytes p.ca_org ≡ big_bytes 2 (q.sub * 1024 + q.address)
-    ++ ca_org_bytes q.ca_org = cc in
     let back = word_front (p.sub * 1024 + p.address) (q.sub * 1024 + q.address) (ca_org_bytes p.ca_org)
     (ca_org_bytes q.ca_org)
-    (omega (arith, h.sub, h.address)) (omega (arith, k.sub, k.address)) tail in
+    (omega (arith, h.sub, h.address)) (omega (arith, k.sub, k.address)) cc in
     let ca_org : p.ca_org ≡ q.ca_org = same_ca_org p.ca_org q.ca_org h.ca_org k.ca_org back.1 in
-    let flag : bit_of (is_some p.ca_org) ≡ bit_of (is_some q.ca_org) = rw (ca_org) refl in
-    let scid : p.scid ≡ q.scid = omega (arith, front.0, flag, h.rfa, k.rfa, a, b) in
-    let rfa : p.rfa ≡ q.rfa = omega (arith, front.0, flag, h.rfa, k.rfa, a, b) in
-    let d = bit_small p.rfu in
+    let scid : p.scid ≡ q.scid = omega (arith, front.0, h.rfa, k.rfa, bit_small (is_some p.ca_org), b) in
+    let rfa : p.rfa ≡ q.rfa = omega (arith, front.0, h.rfa, k.rfa, bit_small (is_some p.ca_org), b) in
     let d' = bit_small q.rfu in
-    let e = bit_small p.dg in
-    let e' = bit_small q.dg in
-    let dg : p.dg ≡ q.dg = same_bit p.dg q.dg (omega (arith, middle, d, d', e, e', h.ty, k.ty)) in
-    let rfu : p.rfu ≡ q.rfu = same_bit p.rfu q.rfu (omega (arith, middle, d, d', e, e', h.ty, k.ty)) in
-    let ty : p.ty ≡ q.ty = omega (arith, middle, d, d', e, e', h.ty, k.ty) in
+    let dg : p.dg ≡ q.dg = same_bit p.dg q.dg (omega (arith, middle, bit_small p.rfu, d', h.ty, k.ty)) in
+    let rfu : p.rfu ≡ q.rfu = same_bit p.rfu q.rfu (omega (arith, middle, bit_small p.rfu, d', h.ty, k.ty)) in
+    let ty : p.ty ≡ q.ty = omega (arith, middle, bit_small p.rfu, d', h.ty, k.ty) in
     let sub : p.sub ≡ q.sub = omega (arith, back.0, h.address, k.address) in
     let address : p.address ≡ q.address = omega (arith, back.0, h.address, k.address) in
     λ i. record {

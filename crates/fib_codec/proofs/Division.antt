@@ -38,24 +38,19 @@ pub bits_of-moved : (w n : ℕ) → low_bits (suc w) (n * 2) ≡ low_bits w n ++
 unfolding low_bits
 bits_of-moved zero n = let low : n * 2 / 2 ^ 0 % 2 ≡ 0 = omega arith in rw low refl
 bits_of-moved (suc w) n =
-    let half : n * 2 / 2 ≡ n = omega arith in
-    let top : bit_at (n * 2) (suc w) ≡ bit_at n w = bit_at-suc (n * 2) w ∙ ap (λ k. bit_at k w) half in
-    let e : bit_at (n * 2) (suc w) ∷ low_bits (suc w) (n * 2) ≡ bit_at n w ∷ (low_bits w n ++ 0 ∷ []) =
-    rw (top, bits_of-moved w n) refl in
-    e
+    let top : bit_at (n * 2) (suc w) ≡ bit_at n w = bit_at-suc (n * 2) w ∙ ap (λ k. bit_at k w) (omega arith) in
+    rw (top, bits_of-moved w n) refl
 
 -- multiples of a power of two do not change the bits below it
 pub bits_of-below : (w a k b : ℕ) → w ≤ k → low_bits w (a * 2 ^ k + b) ≡ low_bits w b
 unfolding low_bits
 bits_of-below zero a k b h = refl
 bits_of-below (suc w) a k b h =
-    let lt : w < k = omega arith in
-    rw (bit_at_cat_low a k b w lt, bits_of-below w a k b (omega arith)) refl
+    rw (bit_at_cat_low a k b w (omega arith), bits_of-below w a k b (omega arith)) refl
 
 pub bits_of-word : (w n : ℕ) → w ≤ 16 → low_bits w (n % 65536) ≡ low_bits w n
 bits_of-word w n h =
-    let split : n / 65536 * 2 ^ 16 + n % 65536 ≡ n = omega arith in
-    sym (bits_of-below w (n / 65536) 16 (n % 65536) h) ∙ ap (λ k. low_bits w k) split
+    sym (bits_of-below w (n / 65536) 16 (n % 65536) h) ∙ ap (λ k. low_bits w k) (omega arith)
 
 -- ---- sums of lists
 pub plus-nil : (xs : List ℕ) → plus xs [] ≡ xs
@@ -65,7 +60,6 @@ plus-nil (x ∷ xs) = refl
 pub plus-push_zero : (m xs : List ℕ) → AreBits m → plus m (xs ++ 0 ∷ []) ≡ plus m xs
 plus-push_zero [] xs h = refl
 plus-push_zero (b ∷ m) [] h =
-    let bit : b < 2 = h.0 in
     let same : (b + 0) % 2 ≡ b = omega arith in
     rw (same, plus-nil m) refl
 plus-push_zero (b ∷ m) (x ∷ xs) h = rw (plus-push_zero m xs h.1) refl
@@ -77,14 +71,12 @@ plus-plus (b ∷ m) [] (y ∷ ys) h = cc
 plus-plus (b ∷ m) (x ∷ xs) [] h = cc
 plus-plus (b ∷ m) (x ∷ xs) (y ∷ ys) h =
     let head : ((b + x) % 2 + y) % 2 ≡ (b + (x + y) % 2) % 2 = omega arith in
-    let same : length xs ≡ length ys = omega arith in
-    rw (head, plus-plus m xs ys same) refl
+    rw (head, plus-plus m xs ys (omega arith)) refl
 
 pub plus-append : (xs ys m l : List ℕ) → length xs ≡ length ys → plus (xs ++ m) (ys ++ l) ≡ plus xs ys ++ plus m l
 plus-append [] [] m l h = refl
-plus-append [] (y ∷ ys) m l h = cc
-plus-append (x ∷ xs) [] m l h = cc
 plus-append (x ∷ xs) (y ∷ ys) m l h = rw (plus-append xs ys m l (omega arith)) refl
+plus-append _ _ m l h = cc
 
 pub AreBits-append : (xs ys : List ℕ) → AreBits xs → AreBits ys → AreBits (xs ++ ys)
 AreBits-append [] ys h k = k
@@ -116,11 +108,9 @@ no_place : (r b : ℕ) (m : List ℕ) (n : ℕ) → AreBits m → b < 2 → bit_
     → divided (suc n) (plus (b ∷ m) (low_bits 16 r)) ≡ divided n (plus m (low_bits 16 (r * 2 % 65536)))
 no_place r b m n are bit same =
     let zero_on_top : (b + bit_at r 15) % 2 ≡ 0 = omega arith in
-    let moved : low_bits 16 (r * 2 % 65536) ≡ low_bits 15 r ++ 0 ∷ [] =
-    bits_of-word 16 (r * 2) (omega arith) ∙ bits_of-moved 15 r in
     let left : plus (b ∷ m) (low_bits 16 r) ≡ 0 ∷ plus m (low_bits 15 r) = rw (bits_of-suc 15 r, zero_on_top) refl in
     let right : plus m (low_bits 16 (r * 2 % 65536)) ≡ plus m (low_bits 15 r) =
-    rw (moved) (plus-push_zero m (low_bits 15 r) are) in
+    rw ((bits_of-word 16 (r * 2) (omega arith) ∙ bits_of-moved 15 r)) (plus-push_zero m (low_bits 15 r) are) in
     rw (left) (rw (right) (divided-suc n 0 (plus m (low_bits 15 r))))
 
 -- it is 1
@@ -128,13 +118,11 @@ a_place : (r b : ℕ) (m : List ℕ) (n : ℕ) → AreBits m → b < 2 → (bit_
     → divided (suc n) (plus (b ∷ m) (low_bits 16 r)) ≡ divided n (plus m (low_bits 16 (bit_xor (r * 2 % 65536) 4129)))
 a_place r b m n are bit differ =
     let one_on_top : (b + bit_at r 15) % 2 ≡ 1 = omega (arith, bit_at-lt r 15) in
-    let moved : low_bits 16 (r * 2 % 65536) ≡ low_bits 15 r ++ 0 ∷ [] =
-    bits_of-word 16 (r * 2) (omega arith) ∙ bits_of-moved 15 r in
+    let moved = bits_of-word 16 (r * 2) (omega arith) ∙ bits_of-moved 15 r in
     let left : plus (b ∷ m) (low_bits 16 r) ≡ 1 ∷ plus m (low_bits 15 r) = rw (bits_of-suc 15 r, one_on_top) refl in
-    let long : length (low_bits 16 (r * 2 % 65536)) ≡ length generator = length-bits_of 16 (r * 2 % 65536) in
     let right : plus m (low_bits 16 (bit_xor (r * 2 % 65536) 4129)) ≡ plus (plus m (low_bits 15 r)) generator =
     ap (plus m) (bits_of-xor 16 (r * 2 % 65536) 4129 ∙ ap (plus (low_bits 16 (r * 2 % 65536))) generator_is)
-    ∙ sym (plus-plus m (low_bits 16 (r * 2 % 65536)) generator long)
+    ∙ sym (plus-plus m (low_bits 16 (r * 2 % 65536)) generator (length-bits_of 16 (r * 2 % 65536)))
     ∙ ap (λ t. plus t generator) (ap (plus m) moved ∙ plus-push_zero m (low_bits 15 r) are) in
     rw (left) (rw (right) (divided-suc n 1 (plus m (low_bits 15 r))))
 
@@ -168,9 +156,8 @@ after_more place k r h =
 pub steps : (w k r : ℕ) (m : List ℕ) (n : ℕ) → AreBits m
     → divided (w + n) (plus (low_bits w k ++ m) (low_bits 16 r)) ≡ divided n (plus m (low_bits 16 (after w k r)))
 steps zero k r m n are =
-    let none : low_bits 0 k ≡ [] = bits_of-zero k in
     let count : 0 + n ≡ n = omega arith in
-    rw (none, count, after-zero k r) refl
+    rw ((bits_of-zero k), count, after-zero k r) refl
 steps (suc w) k r m n are =
     let count : suc w + n ≡ suc (w + n) = omega arith in
     let cut : low_bits (suc w) k ++ m ≡ bit_at k w ∷ (low_bits w k ++ m) = rw (bits_of-suc w k) refl in
@@ -191,22 +178,18 @@ taken (b ∷ bs) r m n are =
     rw (count, append_assoc (low_bits 8 b) (bits_of_bytes bs) m)
     (steps 8 b r rest (8 * length bs + n) rest_are ∙ taken bs (after 8 b r) m n are)
 
-all_ones : (w : ℕ) → w < 16 → bit_at 65535 w ≡ 1
-all_ones w h = bit_at_ones 16 w h
-
 -- the inverted register is the CRC
 turned : (w r : ℕ) → w ≤ 16 → map (λ b. 1 - b) (low_bits w r) ≡ low_bits w (bit_xor r 65535)
 unfolding low_bits
 turned zero r h = refl
 turned (suc w) r h =
-    let one : bit_at 65535 w ≡ 1 = all_ones w (omega arith) in
+    let one : bit_at 65535 w ≡ 1 = bit_at_ones 16 w (omega arith) in
     let same : 1 - bit_at r w ≡ (bit_at r w + bit_at 65535 w) % 2 = omega (arith, bit_at-lt r w) in
     rw (bit_at_xor r 65535 w, turned w r (omega arith)) (rw (same) refl)
 
 pub zeros_first : (m : List ℕ) → AreBits m → plus (replicate (length m) 0) m ≡ m
 zeros_first [] h = refl
 zeros_first (b ∷ m) h =
-    let bit : b < 2 = h.0 in
     let same : (0 + b) % 2 ≡ b = omega arith in
     rw (same, zeros_first m h.1) refl
 
@@ -214,9 +197,7 @@ zeros_first (b ∷ m) h =
 pub word_left : (r : ℕ) → divided 0 (plus (replicate 16 0) (low_bits 16 r)) ≡ low_bits 16 r
 word_left r =
     let long : length (low_bits 16 r) ≡ 16 = length-bits_of 16 r in
-    divided-zero (plus (replicate 16 0) (low_bits 16 r))
-    ∙ ap (λ n. plus (replicate n 0) (low_bits 16 r)) (sym long)
-    ∙ zeros_first (low_bits 16 r) (bits_of_are 16 r)
+    cc (divided-zero (plus (replicate 16 0) (low_bits 16 r)), long, zeros_first (low_bits 16 r) (bits_of_are 16 r))
 
 all_ones_start : low_bits 16 65535 ≡ replicate 16 1
 unfolding low_bits
@@ -225,9 +206,7 @@ all_ones_start = refl
 pub word_checks : (bytes : List ℕ) (r : ℕ) → r ≡ after_all bytes 65535
     → low_bits 16 (bit_xor r 65535) ≡ check_bits bytes
 word_checks bytes r is =
-    let message = bits_of_bytes bytes ++ replicate 16 0 in
     let count : 8 * length bytes ≡ 8 * length bytes + 0 = omega arith in
-    let whole : divided (8 * length bytes) (dividend bytes) ≡ low_bits 16 r =
-    rw (← all_ones_start, count) (rw (is) (taken bytes 65535 (replicate 16 0) 0 (AreBits-replicate 16)
-    ∙ word_left (after_all bytes 65535))) in
+    let whole : divided (8 * length bytes) (dividend bytes) ≡ low_bits 16 r = rw (← all_ones_start, count)
+    (rw (is) (taken bytes 65535 (replicate 16 0) 0 (AreBits-replicate 16) ∙ word_left _)) in
     rw (whole) (sym (turned 16 r (omega arith)))

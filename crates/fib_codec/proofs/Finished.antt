@@ -37,19 +37,16 @@ ensemble_is : (e : EnsembleInformation) → IsEnsembleInformation e
     → length (ensemble_bytes e) ≡ ensemble_len (ensemble_bytes e)
 ensemble_is e h =
     let x = e.change * 64 + bit_of e.al * 32 + e.count / 250 in
-    let high : x / 64 ≡ e.change = omega (arith, bit_small e.al, h.count) in
-    omega (arith, occurrence_counts x e.change e.occurrence high h.flagged)
+    omega (arith, occurrence_counts x e.change e.occurrence (omega (arith, bit_small e.al, h.count)) h.flagged)
 
 ensemble_counted : (e : EnsembleInformation) → IsEnsembleInformation e → IsCounted (ensemble_bytes e)
 ensemble_counted e h =
-    let x = e.change * 64 + bit_of e.al * 32 + e.count / 250 in
     (omega (arith, bit_small e.al, h.count), omega arith)
 
 sub_is : (s : SubEntry) → IsSubEntry s → length (sub_bytes s) ≡ sub_len (sub_bytes s)
 sub_is s h =
     let x = 32768 + s.option * 4096 + s.level * 1024 + s.size in
-    let long : x / 256 % 256 / 128 ≡ 1 = omega (arith, h.option, h.level, h.size) in
-    sym (cond-true (eqb (x / 256 % 256 / 128) 1) 4 3 (eq-eqb _ _ long))
+    sym (cond-true (eqb (x / 256 % 256 / 128) 1) 4 3 (eq-eqb _ _ (omega (arith, h.option, h.level, h.size))))
 
 short_is : (s : ShortEntry) → IsShortEntry s → length (short_bytes s) ≡ sub_len (short_bytes s)
 short_is s h =
@@ -65,8 +62,7 @@ ca_org_counts x (Some org) e = sym (cond-true (eqb (x % 2) 1) 7 5 (eq-eqb _ _ e)
 packet_is : (p : PacketEntry) → IsPacketEntry p → length (packet_bytes p) ≡ packet_len (packet_bytes p)
 packet_is p h =
     let x = p.scid * 16 + p.rfa * 2 + bit_of (is_some p.ca_org) in
-    let flag : x % 256 % 2 ≡ bit_of (is_some p.ca_org) = omega (arith, bit_small (is_some p.ca_org)) in
-    omega (arith, ca_org_counts (x % 256) p.ca_org flag)
+    omega (arith, ca_org_counts (x % 256) p.ca_org (omega (arith, bit_small (is_some p.ca_org))))
 
 service_at : (sid : Sid) (x : ℕ) (cs : List ComponentEntry) → x % 16 ≡ length cs
     → length (sid_bytes sid ++ x ∷ components_bytes cs)
@@ -78,8 +74,7 @@ service_is : (s : ServiceEntry) → IsServiceEntry s → length (service_bytes s
     ≡ service_len (is_long_sid s.sid) (service_bytes s)
 service_is s h =
     let x = bit_of s.rfa * 128 + s.ca_id * 16 + length s.components in
-    let count : x % 16 ≡ length s.components = omega (arith, h.few) in
-    service_at s.sid x s.components count
+    service_at s.sid x s.components (omega (arith, h.few))
 
 pub entry_is : (head : Head) (e : Entry) → IsUnder head e → IsWithin e → IsEntry head.ext head.long (entry_bytes e)
 entry_is head (EnsembleOf e) under h = rw (under) (ensemble_is e h)
@@ -98,18 +93,15 @@ entries_are head (e ∷ es) under within =
 
 counted_alone : (head : Head) (e : Entry) → IsUnder head e → IsWithin e → head.ext ≡ 0 → IsCounted (entry_bytes e)
 counted_alone head (EnsembleOf e) under h zero_ext = ensemble_counted e h
-counted_alone head (SubOf s) under h zero_ext = absurd (omega arith)
-counted_alone head (ShortOf s) under h zero_ext = absurd (omega arith)
 counted_alone head (ServiceOf s) under h zero_ext = absurd (omega (arith, under.0))
-counted_alone head (PacketOf p) under h zero_ext = absurd (omega arith)
+counted_alone head _ under h zero_ext = absurd (omega arith)
 
 one_alone : (head : Head) (es : List Entry) → AllByRecursion (IsUnder head) es → AllByRecursion IsWithin es
     → length es ≡ 1 → head.ext ≡ 0
     → (e : List ℕ) × (map entry_bytes es ≡ e ∷ []) × IsCounted e
-one_alone head [] under within one zero_ext = absurd (omega arith)
 one_alone head (e ∷ []) under within one zero_ext =
     (entry_bytes e, refl, counted_alone head e under.0 within.0 zero_ext)
-one_alone head (e ∷ f ∷ es) under within one zero_ext = absurd (omega arith)
+one_alone head _ under within one zero_ext = absurd (omega arith)
 
 pub body_is : (w : Written) → IsWritten w → IsBody w.head.ext w.head.long (entries_bytes w.entries)
     (map entry_bytes w.entries)
@@ -145,8 +137,7 @@ head_open h small ours =
 
 head_closed : (h : Head) → h.ext < 4 → h.oe ≡ true → is_open (head_byte h) ≡ false
 head_closed h small other =
-    let one : head_byte h / 64 % 2 ≡ 1 = oe_bit h small ∙ ap bit_of other in
-    and_left _ _ (ne_eqb (head_byte h / 64 % 2) 0 (λ none. omega (arith, one, none)))
+    and_left _ _ (ne_eqb (head_byte h / 64 % 2) 0 (λ none. omega (arith, oe_bit h small ∙ ap bit_of other, none)))
 
 fig_is_by : (oe : Bool) (w : Written) → w.head.oe ≡ oe → IsWritten w → length (entries_bytes w.entries) < 31
     → IsFig (fig_bytes w.head w.entries)
@@ -163,9 +154,7 @@ fig_is_by false w ours h short =
     )
 fig_is_by true w other h short =
     let small = ext_small w.head w.entries h.formed in
-    let marked : 1 + length (entries_bytes w.entries) ≢ 255 = λ marker. omega (arith, marker) in
-    let counted : (1 + length (entries_bytes w.entries)) % 32 ≡ 1 + length (entries_bytes w.entries) = omega arith in
-    (refl, (marked, counted, and_right _ _ (head_closed w.head small other)))
+    (refl, ((λ marker. omega (arith, marker)), (omega arith), and_right _ _ (head_closed w.head small other)))
 
 pub fig_is : (w : Written) → IsWritten w → length (fig_bytes w.head w.entries) ≤ 30
     → IsFig (fig_bytes w.head w.entries) (fig_of w)
@@ -191,9 +180,8 @@ length-filled bytes h =
     let zeros : List ℕ = replicate (29 - length bytes) 0 in
     let rest : length zeros ≡ 29 - length bytes = length-replicate (29 - length bytes) 0 in
     let marker : List ℕ = 255 ∷ zeros in
-    let whole : length (bytes ++ marker) ≡ length bytes + suc (length zeros) = length-append bytes marker in
     cond_both (ltb (length bytes) 30) (bytes ++ marker) bytes (λ xs. length xs ≡ 30)
-    (λ lt. omega (arith, ltb-true _ _ lt, rest, whole)) (λ ge. omega (arith, ltb-false _ _ ge))
+    (λ lt. omega (arith, ltb-true _ _ lt, rest, length-append bytes marker)) (λ ge. omega (arith, ltb-false _ _ ge))
 
 filled_figs : (figs : List Written) → AllByRecursion IsWritten figs → length (figs_bytes figs) ≤ 30
     → AreFigs (filled (figs_bytes figs)) (map fig_of figs)
@@ -230,12 +218,9 @@ again : (oe : Bool) (w : Written)
 again true w = refl
 again false w = rw (spelled_again w.entries) refl
 
-fig_again : (w : Written) → fig_spelled (fig_of w) ≡ fig_bytes w.head w.entries
-fig_again w = again w.head.oe w
-
 figs_again : (figs : List Written) → flat_map fig_spelled (map fig_of figs) ≡ figs_bytes figs
 figs_again [] = refl
-figs_again (w ∷ ws) = ap₂ (λ xs ys. xs ++ ys) (fig_again w) (figs_again ws)
+figs_again (w ∷ ws) = ap₂ (λ xs ys. xs ++ ys) (again w.head.oe w) (figs_again ws)
 
 open_by : (oe : Bool) (w : Written) → oe ≡ false
     → IsOpen (cond oe (Other (fig_bytes w.head w.entries)) (Open (head_byte w.head) (map entry_bytes w.entries)))

@@ -47,12 +47,9 @@ pub written_over : (size at : ℕ) (bytes fib : List ℕ) → IsInFrame size byt
 written_over size at bytes fib is fits whole =
     let front = take size bytes in
     let rest = drop size bytes in
-    let same : over bytes at fib ≡ over front at fib ++ rest =
-    ap (λ xs. over xs at fib) (sym (take-append-drop size bytes)) ∙ over_front front rest fib at fits in
+    let same = ap (λ xs. over xs at fib) (sym (take-append-drop size bytes)) ∙ over_front front rest fib at fits in
     let len : length front ≡ size = length-take-le size bytes (omega (arith, is.within, is.whole)) in
     let kept : length (over front at fib) ≡ length front = over_length front fib at fits whole in
-    let long : length (over bytes at fib) ≡ length bytes =
-    over_length bytes fib at (omega (arith, fits, len, is.within, is.whole)) whole in
     let end : length (over front at fib) ≡ size = kept ∙ len in
     record {
       frame = ap (take size) same ∙ ap (λ n. take n (over front at fib ++ rest)) (sym end)
@@ -60,7 +57,7 @@ written_over size at bytes fib is fits whole =
       kept = record {
         mode = is.mode;
         within = is.within;
-        whole = long ∙ is.whole;
+        whole = (over_length bytes fib at (omega (arith, fits, len, is.within, is.whole)) whole) ∙ is.whole;
         rest = ap (drop size) same ∙ ap (λ n. drop n (over front at fib ++ rest)) (sym end)
             ∙ drop-append_seam (over front at fib) rest ∙ is.rest;
       };
@@ -83,6 +80,4 @@ front_of index old fib new whole fits is =
     let rest = drop (32 * index + 32) old in
     let count : 32 * index + 32 ≡ length (front ++ fib) =
     omega (arith, whole, fits, length-append front fib, length-take-le (32 * index) old (omega (arith, fits))) in
-    ap (take (32 * index + 32)) is
-    ∙ ap (λ n. take n ((front ++ fib) ++ rest)) count
-    ∙ take-append_seam (front ++ fib) rest
+    cc (is, count, take-append_seam (front ++ fib) rest)

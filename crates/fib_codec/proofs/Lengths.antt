@@ -29,12 +29,10 @@ sid_head s rest = rw (← sid_len s) (length-append (sid_bytes s) rest)
 
 pub entry_length : (e : Entry) → length (entry_bytes e) ≡ entry_size e
 entry_length (EnsembleOf e) = omega (arith, occurrence_len e.occurrence)
-entry_length (SubOf s) = refl
-entry_length (ShortOf s) = refl
 entry_length (ServiceOf s) =
-    let components : length (components_bytes s.components) ≡ 2 * length s.components = components_len s.components in
-    sid_head s.sid _ ∙ omega (arith, components)
+    sid_head s.sid _ ∙ omega (arith, components_len s.components)
 entry_length (PacketOf p) = omega (arith, ca_org_len p.ca_org)
+entry_length _ = refl
 
 -- ---- steps of loops that append
 pub AllByRecursion-append : {T : Type 0} (P : T → Type 0) (xs ys : List T) → AllByRecursion P xs → AllByRecursion P ys
@@ -64,8 +62,7 @@ pub component_fits : (now old : List ℕ) (cs : List ComponentEntry) (i : ℕ) �
 component_fits now old cs i room h written =
     let long : length now ≡ length old + length (components_bytes (take i cs)) =
     rw (written) (length-append old (components_bytes (take i cs))) in
-    let taken : length (take i cs) ≡ i = length-take-le i cs (omega arith) in
-    omega (arith, long, taken, components_len (take i cs))
+    omega (arith, long, length-take-le i cs (omega arith), components_len (take i cs))
 
 -- ---- entries of one FIG
 pub AllByRecursion-at : {T : Type 0} (P : T → Type 0) (xs : List T) (i : ℕ) (d : T) → AllByRecursion P xs
@@ -107,11 +104,8 @@ entry_passes xs i len room more d h is counted sized within past =
     omega (arith, entries_more xs i d h, entries_part xs (i + 1))
 
 under_small : (head : Head) (e : Entry) → IsUnder head e → head.ext < 4
-under_small head (EnsembleOf e) h = omega arith
-under_small head (SubOf s) h = omega arith
-under_small head (ShortOf s) h = omega arith
 under_small head (ServiceOf s) h = omega (arith, h.0)
-under_small head (PacketOf p) h = omega arith
+under_small head _ h = omega arith
 
 some_small : (head : Head) (xs : List Entry) → 0 < length xs → AllByRecursion (IsUnder head) xs → head.ext < 4
 some_small head [] h each = absurd (omega arith)

@@ -31,12 +31,10 @@ unfolding low_bits
 zeros_are = refl
 
 plus-zeros : (xs : List ℕ) (n : ℕ) → AreBits xs → plus xs (replicate n 0) ≡ xs
-plus-zeros [] n h = refl
-plus-zeros (x ∷ xs) zero h = refl
 plus-zeros (x ∷ xs) (suc n) h =
-    let bit : x < 2 = h.0 in
     let same : (x + 0) % 2 ≡ x = omega arith in
     rw (same, plus-zeros xs n h.1) refl
+plus-zeros _ _ h = refl
 
 front_divides : (k n : ℕ) (m : List ℕ) → AreBits m
     → divided (8 + n) (low_bits 8 k ++ m) ≡ divided n (plus m (low_bits 16 (after 8 k 0)))
@@ -49,8 +47,7 @@ front_divides k n m are =
 split_at : (w r : ℕ) → low_bits (w + 8) r ≡ low_bits w (r / 256) ++ low_bits 8 r
 split_at zero r =
     let start : 0 + 8 ≡ 8 = omega arith in
-    let none : low_bits 0 (r / 256) ≡ [] = bits_of-zero (r / 256) in
-    rw (start, none) refl
+    rw (start, (bits_of-zero (r / 256))) refl
 split_at (suc w) r =
     let count : suc w + 8 ≡ suc (w + 8) = omega arith in
     let turn : w + 8 ≡ 8 + w = omega arith in
@@ -67,13 +64,11 @@ no_bits = refl
 -- the low byte moved to the front
 moved_up : (r : ℕ) → low_bits 16 (r * 256 % 65536) ≡ low_bits 8 r ++ replicate 8 0
 moved_up r =
-    let high : r * 256 % 65536 / 256 ≡ r % 256 = omega arith in
     let low : r * 256 % 65536 ≡ r % 256 * 2 ^ 8 + 0 = omega arith in
-    let whole : r / 256 * 2 ^ 8 + r % 256 ≡ r = omega arith in
     split (r * 256 % 65536)
-    ∙ ap (λ n. low_bits 8 n ++ low_bits 8 (r * 256 % 65536)) high
+    ∙ ap (λ n. low_bits 8 n ++ low_bits 8 (r * 256 % 65536)) (omega arith)
     ∙ ap (λ bs. bs ++ low_bits 8 (r * 256 % 65536))
-    (sym (bits_of-below 8 (r / 256) 8 (r % 256) (omega arith)) ∙ ap (low_bits 8) whole)
+    (sym (bits_of-below 8 (r / 256) 8 (r % 256) (omega arith)) ∙ ap (low_bits 8) (omega arith))
     ∙ ap (λ bs. low_bits 8 r ++ bs) (ap (low_bits 8) low ∙ bits_of-below 8 (r % 256) 8 0 (omega arith) ∙ no_bits)
 
 plus-push_zeros : (m xs : List ℕ) (n : ℕ) → AreBits m → plus m (xs ++ replicate n 0) ≡ plus m xs
@@ -87,34 +82,27 @@ plus-bits (x ∷ xs) [] h = h
 plus-bits (x ∷ xs) (y ∷ ys) h = (omega arith, plus-bits xs ys h.1)
 
 pub length-plus : (xs ys : List ℕ) → length (plus xs ys) ≡ length xs
-length-plus [] ys = refl
-length-plus (x ∷ xs) [] = refl
 length-plus (x ∷ xs) (y ∷ ys) = ap suc (length-plus xs ys)
+length-plus _ _ = refl
 
 -- the register's high byte is added to the byte at the front, and its low byte to what follows
 front_turned : (r byte : ℕ) (m : List ℕ)
     → plus (low_bits 8 byte ++ m) (low_bits 16 r) ≡ low_bits 8 (bit_xor (r / 256) byte) ++ plus m (low_bits 8 r)
 front_turned r byte m =
-    let long : length (low_bits 8 byte) ≡ length (low_bits 8 (r / 256)) =
-    length-bits_of 8 byte ∙ sym (length-bits_of 8 (r / 256)) in
-    ap (plus (low_bits 8 byte ++ m)) (split r)
-    ∙ plus-append (low_bits 8 byte) (low_bits 8 (r / 256)) m (low_bits 8 r) long
-    ∙ ap (λ t. t ++ plus m (low_bits 8 r)) (sym (bits_of-xor 8 byte (r / 256))
-    ∙ ap (low_bits 8) (xor_comm byte (r / 256)))
+    let long = length-bits_of 8 byte ∙ sym (length-bits_of 8 (r / 256)) in
+    ap (plus (low_bits 8 byte ++ m)) (split r) ∙ plus-append _ _ _ _ long ∙ ap (λ t. t ++ plus m (low_bits 8 r))
+    (sym (bits_of-xor _ _ _) ∙ ap (low_bits 8) (xor_comm byte (r / 256)))
 
 pub by_table : (r byte t : ℕ) → t ≡ after 8 (bit_xor (r / 256) byte) 0 → (m : List ℕ) (n : ℕ) → AreBits m
     → divided (8 + n) (plus (low_bits 8 byte ++ m) (low_bits 16 r))
     ≡ divided n (plus m (low_bits 16 (bit_xor (r * 256 % 65536) t)))
 by_table r byte t given m n are =
     let moved = r * 256 % 65536 in
-    let long : length (low_bits 16 moved) ≡ length (low_bits 16 t) =
-    length-bits_of 16 moved ∙ sym (length-bits_of 16 t) in
-    let added : plus m (low_bits 16 moved) ≡ plus m (low_bits 8 r) =
-    rw (moved_up r) (plus-push_zeros m (low_bits 8 r) 8 are) in
+    let long = length-bits_of 16 moved ∙ sym (length-bits_of 16 t) in
+    let added : plus m (low_bits 16 moved) ≡ plus m (low_bits 8 r) = rw (moved_up r) (plus-push_zeros m _ 8 are) in
     let sum : plus m (low_bits 16 (bit_xor moved t)) ≡ plus (plus m (low_bits 8 r)) (low_bits 16 t) =
     rw (bits_of-xor 16 moved t) (rw (← added) (sym (plus-plus m (low_bits 16 moved) (low_bits 16 t) long))) in
-    rw (front_turned r byte m) (rw (sum, given) (front_divides (bit_xor (r / 256) byte) n (plus m (low_bits 8 r))
-    (plus-bits m (low_bits 8 r) are)))
+    rw (front_turned _ _ _) (rw (sum, given) (front_divides _ _ _ (plus-bits _ _ are)))
 
 -- ---- the division is linear
 -- two lists can be added in either order
@@ -128,20 +116,18 @@ plus_turned (x ∷ m) (y ∷ a) (c ∷ b) =
     rw (head, plus_turned m a b) refl
 
 plus_inside : (m a b : List ℕ) → length m ≡ length a → plus (plus m a) b ≡ plus m (plus a b)
-plus_inside [] a b h = refl
 plus_inside (x ∷ m) [] b h = cc
-plus_inside (x ∷ m) (y ∷ a) [] h = refl
 plus_inside (x ∷ m) (y ∷ a) (c ∷ b) h =
     let head : ((x + y) % 2 + c) % 2 ≡ (x + (y + c) % 2) % 2 = omega arith in
     rw (head, plus_inside m a b (omega arith)) refl
+plus_inside _ _ _ h = refl
 
 both_gone : (m a g : List ℕ) → length m ≡ length a → AreBits m → AreBits a → plus (plus m g) (plus a g) ≡ plus m a
-both_gone [] a g h p q = refl
 both_gone (x ∷ m) [] g h p q = cc
-both_gone (x ∷ m) (y ∷ a) [] h p q = refl
 both_gone (x ∷ m) (y ∷ a) (c ∷ g) h p q =
     let head : ((x + c) % 2 + (y + c) % 2) % 2 ≡ (x + y) % 2 = omega arith in
     rw (head, both_gone m a g (omega arith) p.1 q.1) refl
+both_gone _ _ _ h p q = refl
 
 pub divided-nil : (n : ℕ) → divided n [] ≡ []
 unfolding divided
@@ -162,20 +148,16 @@ leading zero zero xs ys p q h are bre = refl
 leading zero (suc zero) xs ys p q h are bre = plus_inside xs ys generator h
 leading (suc zero) zero xs ys p q h are bre = plus_turned xs ys generator
 leading (suc zero) (suc zero) xs ys p q h are bre = sym (both_gone xs ys generator h are bre)
-leading zero (suc (suc y)) xs ys p q h are bre = absurd (omega arith)
-leading (suc zero) (suc (suc y)) xs ys p q h are bre = absurd (omega arith)
-leading (suc (suc x)) y xs ys p q h are bre = absurd (omega arith)
+leading _ _ xs ys p q h are bre = absurd (omega arith)
 
 divided-plus : (n : ℕ) (xs ys : List ℕ) → length xs ≡ length ys → AreBits xs → AreBits ys
     → divided n (plus xs ys) ≡ plus (divided n xs) (divided n ys)
 divided-plus zero xs ys h are bre = rw (divided-zero ys, divided-zero xs) (divided-zero (plus xs ys))
-divided-plus (suc n) [] ys h are bre = divided-nil (suc n)
-    ∙ ap (λ t. plus t (divided (suc n) ys)) (sym (divided-nil (suc n)))
+divided-plus (suc n) [] ys h are bre = cc (divided-nil (suc n))
 divided-plus (suc n) (x ∷ xs) [] h are bre = cc
 divided-plus (suc n) (x ∷ xs) (y ∷ ys) h are bre =
     let same : length xs ≡ length ys = omega arith in
-    let after_one : length (without_leading x xs) ≡ length (without_leading y ys) =
-    length-without x xs ∙ same ∙ sym (length-without y ys) in
+    let after_one = length-without x xs ∙ same ∙ sym (length-without y ys) in
     rw (divided-suc n y ys, divided-suc n x xs) (divided-suc n ((x + y) % 2) (plus xs ys)
     ∙ ap (divided n) (leading x y xs ys are.0 bre.0 same are.1 bre.1)
     ∙ divided-plus n (without_leading x xs) (without_leading y ys) after_one (without_bits x xs are.1)
@@ -194,9 +176,7 @@ onto_zeros : (front xs : List ℕ) → length front ≡ 24 → AreBits front
     → plus front xs ≡ plus front (plus (low_bits 8 0 ++ replicate 16 0) xs)
 onto_zeros front xs long are =
     let zeros : low_bits 8 0 ++ replicate 16 0 ≡ replicate 24 0 = rw (no_bits) refl in
-    ap (λ t. plus t xs) (sym (plus-zeros front 24 are))
-    ∙ plus_inside front (replicate 24 0) xs long
-    ∙ ap (λ t. plus front (plus t xs)) (sym zeros)
+    cc (plus-zeros front 24 are, plus_inside front (replicate 24 0) xs long, zeros)
 
 word_long : (k : ℕ) → length (low_bits 8 k ++ replicate 16 0) ≡ 24
 word_long k = length-append (low_bits 8 k) (replicate 16 0) ∙ ap (λ n. n + 16) (length-bits_of 8 k)
@@ -248,18 +228,13 @@ turned_bits r a b =
     let low : low_bits 8 r ≡ low_bits 8 (r % 256) =
     (let whole : r / 256 * 2 ^ 8 + r % 256 ≡ r = omega arith in
     sym (ap (low_bits 8) whole) ∙ bits_of-below 8 (r / 256) 8 (r % 256) (omega arith)) in
-    let long : length (low_bits 8 b) ≡ length (low_bits 8 (r % 256)) =
-    length-bits_of 8 b ∙ sym (length-bits_of 8 (r % 256)) in
     let behind : plus (low_bits 8 b ++ zeros) (low_bits 8 r) ≡ low_bits 8 second ++ zeros =
     ap (plus (low_bits 8 b ++ zeros)) (low ∙ sym (append-nil (low_bits 8 (r % 256))))
-    ∙ plus-append (low_bits 8 b) (low_bits 8 (r % 256)) zeros [] long
+    ∙ plus-append (low_bits 8 b) (low_bits 8 (r % 256)) zeros [] (length-bits_of 8 b ∙ sym (length-bits_of 8 (r % 256)))
     ∙ ap (λ t. plus (low_bits 8 b) (low_bits 8 (r % 256)) ++ t) (plus-nil zeros)
     ∙ ap (λ t. t ++ zeros) (sym (bits_of-xor 8 b (r % 256)) ∙ ap (low_bits 8) (xor_comm b (r % 256))) in
-    sym (word_left (after 8 b (after 8 a r))) ∙ sym (steps 8 b (after 8 a r) zeros 0 are)
-    ∙ sym (steps 8 a r (low_bits 8 b ++ zeros) (8 + 0) (word_bits b))
-    ∙ ap (divided (8 + (8 + 0))) (rw (← behind) (front_turned r a (low_bits 8 b ++ zeros)))
-    ∙ front_divides first (8 + 0) (low_bits 8 second ++ zeros) (word_bits second)
-    ∙ steps 8 second (after 8 first 0) zeros 0 are ∙ word_left (after 8 second (after 8 first 0))
+    sym (word_left _) ∙ sym (steps _ _ _ _ _ are) ∙ sym (steps _ _ _ _ _ (word_bits _)) ∙ ap (divided _)
+    (rw (← behind) (front_turned _ _ _)) ∙ front_divides _ _ _ (word_bits _) ∙ steps _ _ _ _ _ are ∙ word_left _
 
 -- ---- the same for registers as numbers
 next_below : (r b : ℕ) → next r b < 65536
@@ -300,6 +275,4 @@ pub two_bytes : (r a b : ℕ) → after 8 b (after 8 a r)
 two_bytes r a b =
     let first = after 8 (bit_xor (r / 256) a) 0 in
     let second = bit_xor (r % 256) b in
-    one_word (after 8 b (after 8 a r)) (after 8 second first) (byte_below b (after 8 a r)) (byte_below second first)
-    (turned_bits r a b)
-    ∙ apart second first
+    one_word _ _ (byte_below b (after 8 a r)) (byte_below second first) (turned_bits r a b) ∙ apart second first

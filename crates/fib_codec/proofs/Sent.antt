@@ -29,11 +29,8 @@ contains_none y (k, lt, here) = omega arith
 
 -- ---- the P/D flag is for services alone
 long_or : (e : Entry) → (ext_of e ≡ 2) ⊎ (is_long_entry e ≡ false)
-long_or (EnsembleOf e) = inr refl
-long_or (SubOf s) = inr refl
-long_or (ShortOf s) = inr refl
 long_or (ServiceOf s) = inl refl
-long_or (PacketOf p) = inr refl
+long_or _ = inr refl
 
 same_long : (e f : Entry) → ext_of e ≡ ext_of f → (ext_of f ≡ 2 → is_long_entry e ≡ is_long_entry f)
     → is_long_entry e ≡ is_long_entry f
@@ -47,18 +44,12 @@ same_long e f ext given =
     ]
 
 under_ext : (head : Head) (e : Entry) → IsUnder head e → head.ext ≡ ext_of e
-under_ext head (EnsembleOf e) h = h
-under_ext head (SubOf s) h = h
-under_ext head (ShortOf s) h = h
 under_ext head (ServiceOf s) h = h.0
-under_ext head (PacketOf p) h = h
+under_ext head _ h = h
 
 under_long : (head : Head) (e : Entry) → IsUnder head e → ext_of e ≡ 2 → head.long ≡ is_long_entry e
-under_long head (EnsembleOf e) h two = absurd (omega arith)
-under_long head (SubOf s) h two = absurd (omega arith)
-under_long head (ShortOf s) h two = absurd (omega arith)
 under_long head (ServiceOf s) h two = h.1
-under_long head (PacketOf p) h two = absurd (omega arith)
+under_long head _ h two = absurd (omega arith)
 
 -- ---- one entry
 written_said : (head : Head) (e : Entry) → head.ext < 4 → IsUnder head e → IsWithin e
@@ -77,8 +68,7 @@ said_written : (head : Head) (e : Entry) (m : Marked) → head.ext < 4 → IsUnd
 said_written head e m small under within said =
     let ext : ext_of e ≡ ext_of m.entry = sym (under_ext head e under) ∙ sym (head_ext head small) ∙ said.ext in
     let long : is_long_entry e ≡ is_long_entry m.entry =
-    same_long e m.entry ext
-    (λ two. sym (under_long head e under (ext ∙ two)) ∙ sym (head_long head small) ∙ said.long two) in
+    same_long e _ ext (λ two. sym (under_long head e under (ext ∙ two)) ∙ sym (head_long head small) ∙ said.long two) in
     let entry : e ≡ m.entry = entry_told e m.entry within said.within ext long said.spelled in
     let next : head.next ≡ m.next = sym (head_next head small) ∙ said.next in
     λ i. record { next = next i; entry = entry i }
@@ -91,8 +81,7 @@ said_in_list head [] bytes m small under within in_list said = absurd (contains_
 said_in_list head (e ∷ es) bytes m small under within in_list said =
     elim (contains_cases (entry_bytes e) (map entry_bytes es) bytes in_list) [
       | inl here ↦
-          let said_here : IsSaid (head_byte head) (entry_bytes e) m = rw (here) said in
-          let same : marked head.next e ≡ m = said_written head e m small under.0 within.0 said_here in
+          let same : marked head.next e ≡ m = said_written head e m small under.0 within.0 (rw (here) said) in
           subst (λ (n : Marked). Contains (map (marked head.next) (e ∷ es)) n) same
           (contains_first (marked head.next e) (map (marked head.next) es))
       | inr later ↦ contains_later (marked head.next e) (map (marked head.next) es) m

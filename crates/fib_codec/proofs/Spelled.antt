@@ -15,9 +15,8 @@ use Rattle.mux_types.specs.declared.entry.Entry.TheVariants.{Service as ServiceO
 -- ---- numbers
 -- a bit as a flag
 flag_of : (n : ℕ) → n < 2 → bit_of (eqb n 1) ≡ n
-flag_of zero h = refl
-flag_of (suc zero) h = refl
 flag_of (suc (suc n)) h = absurd (omega arith)
+flag_of _ h = refl
 
 two_ways : (n : ℕ) → n < 2 → (n ≡ 0) ⊎ (n ≡ 1)
 two_ways zero h = inl refl
@@ -34,9 +33,7 @@ one_of_four (suc (suc (suc (suc n)))) h = absurd (omega arith)
 -- the two bytes of a number
 u16_bytes : (n high low : ℕ) → n ≡ high * 256 + low → high < 256 → low < 256 → big_bytes 2 n ≡ high ∷ low ∷ []
 u16_bytes n high low e h l =
-    let first : n / 256 % 256 ≡ high = omega arith in
-    let second : n % 256 ≡ low = omega arith in
-    ap₂ (λ x y. x ∷ y ∷ []) first second
+    ap₂ (λ x y. x ∷ y ∷ []) (omega arith) (omega arith)
 
 long_bytes : (n a b c d : ℕ) → n ≡ a * 16777216 + b * 65536 + c * 256 + d → a < 256 → b < 256 → c < 256 → d < 256
     → big_bytes 4 n ≡ a ∷ b ∷ c ∷ d ∷ []
@@ -44,8 +41,7 @@ long_bytes n a b c d e p q r s =
     let first : n / 16777216 % 256 ≡ a = omega arith in
     let second : n / 65536 % 256 ≡ b = omega arith in
     let third : n / 256 % 256 ≡ c = omega arith in
-    let fourth : n % 256 ≡ d = omega arith in
-    ap₂ (λ x y. x ∷ y ∷ n / 256 % 256 ∷ n % 256 ∷ []) first second ∙ ap₂ (λ x y. a ∷ b ∷ x ∷ y ∷ []) third fourth
+    ap₂ (λ x y. x ∷ y ∷ n / 256 % 256 ∷ n % 256 ∷ []) first second ∙ ap₂ (λ x y. a ∷ b ∷ x ∷ y ∷ []) third (omega arith)
 
 -- a choice of two lengths
 chosen : (b : Bool) (n x y : ℕ) → n ≡ cond b x y → ((b ≡ true) × (n ≡ x)) ⊎ ((b ≡ false) × (n ≡ y))
@@ -61,9 +57,6 @@ counted_number : (high low : ℕ) → high < 20 → low < 250 → (high * 250 + 
     × ((high * 250 + low) % 250 ≡ low)
 counted_number high low h l = (omega arith, omega arith, omega arith)
 
-fields_of : (c : ℕ) → c / 64 * 64 + c / 32 % 2 * 32 + c % 32 ≡ c
-fields_of c = omega arith
-
 -- the flags' byte of FIG 0/0 and its CIF count, recovered from the two bytes
 counted : (a b c d : ℕ) (o : Option ℕ) → a < 256 → b < 256 → c < 256 → d < 250 → c % 32 < 20
     → ensemble_bytes (record {
@@ -76,18 +69,13 @@ counted : (a b c d : ℕ) (o : Option ℕ) → a < 256 → b < 256 → c < 256 �
     ≡ a ∷ b ∷ c ∷ d ∷ occurrence_bytes o
 counted a b c d o p q r s high =
     let number = counted_number (c % 32) d high s in
-    let al : bit_of (eqb (c / 32 % 2) 1) ≡ c / 32 % 2 = flag_of (c / 32 % 2) (omega arith) in
-    let flags : c / 64 * 64 + bit_of (eqb (c / 32 % 2) 1) * 32 + (c % 32 * 250 + d) / 250 ≡ c =
-    ap₂ (λ x y. c / 64 * 64 + x * 32 + y) al number.1 ∙ fields_of c in
+    let flags = ap₂ (λ x y. c / 64 * 64 + x * 32 + y) (flag_of (c / 32 % 2) (omega arith)) number.1 ∙ (omega arith) in
     ap₂ (λ xs x. xs ++ x ∷ (c % 32 * 250 + d) % 250 ∷ occurrence_bytes o) (u16_bytes (a * 256 + b) a b refl p q) flags
     ∙ ap (λ x. a ∷ b ∷ c ∷ x ∷ occurrence_bytes o) number.2
 
 ensemble_spelled : (head : Head) (bytes : List ℕ) → head.ext ≡ 0 → AllByRecursion IsByte bytes
     → length bytes ≡ ensemble_len bytes → IsCounted bytes
     → IsSpelled head bytes
-ensemble_spelled head [] e all whole count = absurd (omega arith)
-ensemble_spelled head (a ∷ []) e all whole count = absurd (omega arith)
-ensemble_spelled head (a ∷ b ∷ []) e all whole count = absurd (omega arith)
 ensemble_spelled head (a ∷ b ∷ c ∷ []) e all whole count =
     elim (chosen (eqb (c / 64) 0) 3 4 5 whole) [
       | inl both ↦ absurd (omega (arith, both.1))
@@ -96,8 +84,6 @@ ensemble_spelled head (a ∷ b ∷ c ∷ []) e all whole count =
 ensemble_spelled head (a ∷ b ∷ c ∷ d ∷ []) e all whole count =
     elim (chosen (eqb (c / 64) 0) 4 4 5 whole) [
       | inl both ↦ (
-          let none : c / 64 ≡ 0 = eqb-true (c / 64) 0 both.0 in
-          let number = counted_number (c % 32) d count.0 count.1 in
           let within : IsEnsembleInformation
           (record {
             eid = a * 256 + b;
@@ -109,8 +95,8 @@ ensemble_spelled head (a ∷ b ∷ c ∷ d ∷ []) e all whole count =
           record {
             eid = omega (arith, all.0, all.1.0);
             change = omega (arith, all.1.1.0);
-            count = number.0;
-            flagged = (λ there. absurd cc, λ some. absurd (omega (arith, some, none)));
+            count = (counted_number (c % 32) d count.0 count.1).0;
+            flagged = (λ there. absurd cc, λ some. absurd (omega (arith, some, eqb-true (c / 64) 0 both.0)));
             occurrence = tt;
           } in (
             EnsembleOf (record {
@@ -131,7 +117,6 @@ ensemble_spelled head (a ∷ b ∷ c ∷ d ∷ o ∷ []) e all whole count =
     elim (chosen (eqb (c / 64) 0) 5 4 5 whole) [
       | inl both ↦ absurd (omega (arith, both.1))
       | inr both ↦ (
-          let some : 0 < c / 64 = flagged (c / 64) both.0 in
           let number = counted_number (c % 32) d count.0 count.1 in
           let within : IsEnsembleInformation
           (record {
@@ -145,7 +130,7 @@ ensemble_spelled head (a ∷ b ∷ c ∷ d ∷ o ∷ []) e all whole count =
             eid = omega (arith, all.0, all.1.0);
             change = omega (arith, all.1.1.0);
             count = number.0;
-            flagged = (λ there. some, λ more. refl);
+            flagged = (λ there. (flagged (c / 64) both.0), λ more. refl);
             occurrence = all.1.1.1.1.0;
           } in (
             EnsembleOf (record {
@@ -166,6 +151,7 @@ ensemble_spelled head (a ∷ b ∷ c ∷ d ∷ o ∷ p ∷ more) e all whole cou
       | inl both ↦ absurd (omega (arith, both.1))
       | inr both ↦ absurd (omega (arith, both.1))
     ]
+ensemble_spelled head _ e all whole count = absurd (omega arith)
 
 -- ---- sub-channels
 place_of : (a b : ℕ) → a < 256 → b < 256
@@ -193,11 +179,7 @@ long_sub head a b c d e p q r s long =
       size = omega arith;
     } in
     let there : place / 1024 * 1024 + place % 1024 ≡ place = (place_of a b p q).1 in
-    let back : 32768 + size / 4096 % 8 * 4096 + size / 1024 % 4 * 1024 + size % 1024 ≡ size = omega arith in
-    let first : big_bytes 2 (place / 1024 * 1024 + place % 1024) ≡ a ∷ b ∷ [] = u16_bytes _ a b there p q in
-    let second : big_bytes 2 (32768 + size / 4096 % 8 * 4096 + size / 1024 % 4 * 1024 + size % 1024) ≡ c ∷ d ∷ [] =
-    u16_bytes _ c d back r s in
-    (SubOf entry, e, within, ap₂ (λ xs ys. xs ++ ys) first second)
+    (SubOf entry, e, within, ap₂ (λ xs ys. xs ++ ys) (u16_bytes _ a b there p q) (u16_bytes _ c d (omega arith) r s))
 
 short_sub : (head : Head) (a b c : ℕ) → head.ext ≡ 1 → a < 256 → b < 256 → c < 128 → IsSpelled head (a ∷ b ∷ c ∷ [])
 short_sub head a b c e p q r =
@@ -210,10 +192,8 @@ short_sub head a b c e p q r =
     } in
     let within : IsShortEntry entry = record { id = (place_of a b p q).0; start = omega arith; table = omega arith } in
     let there : place / 1024 * 1024 + place % 1024 ≡ place = (place_of a b p q).1 in
-    let first : big_bytes 2 (place / 1024 * 1024 + place % 1024) ≡ a ∷ b ∷ [] = u16_bytes _ a b there p q in
     let switch : bit_of (eqb (c / 64) 1) ≡ c / 64 = flag_of (c / 64) (omega arith) in
-    let last : c / 64 * 64 + c % 64 ≡ c = omega arith in
-    (ShortOf entry, e, within, ap₂ (λ xs x. xs ++ x ∷ []) first (rw (switch) last))
+    (ShortOf entry, e, within, ap₂ (λ xs x. xs ++ x ∷ []) (u16_bytes _ a b there p q) (rw (switch) (omega arith)))
 
 not_long : (c : ℕ) → c < 256 → eqb (c / 128) 1 ≡ false → c < 128
 not_long c p h = elim (one_of_four (c / 128) (omega arith)) [
@@ -225,9 +205,6 @@ not_long c p h = elim (one_of_four (c / 128) (omega arith)) [
 
 sub_spelled : (head : Head) (bytes : List ℕ) → head.ext ≡ 1 → AllByRecursion IsByte bytes → length bytes ≡ sub_len bytes
     → IsSpelled head bytes
-sub_spelled head [] e all whole = absurd (omega arith)
-sub_spelled head (a ∷ []) e all whole = absurd (omega arith)
-sub_spelled head (a ∷ b ∷ []) e all whole = absurd (omega arith)
 sub_spelled head (a ∷ b ∷ c ∷ []) e all whole =
     elim (chosen (eqb (c / 128) 1) 3 4 3 whole) [
       | inl both ↦ absurd (omega (arith, both.1))
@@ -243,6 +220,7 @@ sub_spelled head (a ∷ b ∷ c ∷ d ∷ o ∷ more) e all whole =
       | inl both ↦ absurd (omega (arith, both.1))
       | inr both ↦ absurd (omega (arith, both.1))
     ]
+sub_spelled head _ e all whole = absurd (omega arith)
 
 -- ---- services
 flags_of : (low : ℕ) → low < 256
@@ -295,22 +273,17 @@ AreComponentsOf n bytes cs = (length cs ≡ n) × AllByRecursion IsComponentEntr
 components_spelled : (n : ℕ) (bytes : List ℕ) → AllByRecursion IsByte bytes → length bytes ≡ 2 * n
     → (cs : List ComponentEntry) × AreComponentsOf n bytes cs
 components_spelled zero [] all whole = ([], (refl, tt, refl))
-components_spelled zero (b ∷ bytes) all whole = absurd (omega arith)
-components_spelled (suc n) [] all whole = absurd (omega arith)
-components_spelled (suc n) (a ∷ []) all whole = absurd (omega arith)
 components_spelled (suc n) (a ∷ b ∷ bytes) all whole =
     let first = component_spelled a b all.0 all.1.0 in
     let rest = components_spelled n bytes all.1.1 (omega (arith, whole)) in
-    let word : big_bytes 2 (component_u16 first.0) ≡ a ∷ b ∷ [] =
-    u16_bytes (component_u16 first.0) a b first.1.1 all.0 all.1.0 in
+    let word = u16_bytes (component_u16 first.0) a b first.1.1 all.0 all.1.0 in
     (first.0 ∷ rest.0, (ap suc rest.1.0, (first.1.0, rest.1.1), ap₂ (λ xs ys. xs ++ ys) word rest.1.2))
+components_spelled _ _ all whole = absurd (omega arith)
 
 -- the byte with the number of components
 count_byte : (f : ℕ) → f < 256 → bit_of (eqb (f / 128) 1) * 128 + f / 16 % 8 * 16 + f % 16 ≡ f
 count_byte f h =
-    let rfa : bit_of (eqb (f / 128) 1) ≡ f / 128 = flag_of (f / 128) (omega arith) in
-    let whole : f / 128 * 128 + f / 16 % 8 * 16 + f % 16 ≡ f = omega arith in
-    rw (rfa) whole
+    rw ((flag_of (f / 128) (omega arith))) (omega arith)
 
 service_from : (head : Head) (sid : Sid) (front : List ℕ) (f : ℕ) (bytes : List ℕ) → head.ext ≡ 2
     → head.long ≡ is_long_sid sid
@@ -328,22 +301,15 @@ service_from head sid front f bytes e long small same byte all whole =
 service_spelled : (head : Head) (long : Bool) (bytes : List ℕ) → head.long ≡ long → head.ext ≡ 2
     → AllByRecursion IsByte bytes
     → length bytes ≡ service_len long bytes → IsSpelled head bytes
-service_spelled head false [] l e all whole = absurd (omega arith)
-service_spelled head false (a ∷ []) l e all whole = absurd (omega arith)
-service_spelled head false (a ∷ b ∷ []) l e all whole = absurd (omega arith)
 service_spelled head false (a ∷ b ∷ f ∷ bytes) l e all whole =
     service_from head (Short (a * 256 + b)) (a ∷ b ∷ []) f bytes e l (omega (arith, all.0, all.1.0))
     (u16_bytes _ a b refl all.0 all.1.0)
     all.1.1.0 all.1.1.1 (omega (arith, whole))
-service_spelled head true [] l e all whole = absurd (omega arith)
-service_spelled head true (a ∷ []) l e all whole = absurd (omega arith)
-service_spelled head true (a ∷ b ∷ []) l e all whole = absurd (omega arith)
-service_spelled head true (a ∷ b ∷ c ∷ []) l e all whole = absurd (omega arith)
-service_spelled head true (a ∷ b ∷ c ∷ d ∷ []) l e all whole = absurd (omega arith)
 service_spelled head true (a ∷ b ∷ c ∷ d ∷ f ∷ bytes) l e all whole =
     let n = a * 16777216 + b * 65536 + c * 256 + d in
     service_from head (Long n) (a ∷ b ∷ c ∷ d ∷ []) f bytes e l (omega (arith, all.0, all.1.0, all.1.1.0, all.1.1.1.0))
     (long_bytes n a b c d refl all.0 all.1.0 all.1.1.0 all.1.1.1.0) all.1.1.1.1.0 all.1.1.1.1.1 (omega (arith, whole))
+service_spelled head _ _ l e all whole = absurd (omega arith)
 
 -- ---- packet components
 packet_front : (a b : ℕ) → a < 256 → b < 256
@@ -352,10 +318,8 @@ packet_front a b p q = (omega arith, omega arith)
 
 packet_flags : (c : ℕ) → c < 256 → bit_of (eqb (c / 128) 1) * 128 + bit_of (eqb (c / 64 % 2) 1) * 64 + c % 64 ≡ c
 packet_flags c h =
-    let dg : bit_of (eqb (c / 128) 1) ≡ c / 128 = flag_of (c / 128) (omega arith) in
     let rfu : bit_of (eqb (c / 64 % 2) 1) ≡ c / 64 % 2 = flag_of (c / 64 % 2) (omega arith) in
-    let whole : c / 128 * 128 + c / 64 % 2 * 64 + c % 64 ≡ c = omega arith in
-    ap₂ (λ x y. x * 128 + y * 64 + c % 64) dg rfu ∙ whole
+    ap₂ (λ x y. x * 128 + y * 64 + c % 64) (flag_of (c / 128) (omega arith)) rfu ∙ (omega arith)
 
 packet_from : (head : Head) (a b c f g : ℕ) (org : Option ℕ) → head.ext ≡ 3 → a < 256 → b < 256 → c < 256 → f < 256
     → g < 256
@@ -382,9 +346,7 @@ packet_from head a b c f g org e p q r s t small has =
       address = omega arith;
       ca_org = small;
     } in
-    let word : (a * 256 + b) / 16 * 16 + b / 2 % 8 * 2 + bit_of (is_some org) ≡ a * 256 + b = rw (has) front.1 in
-    let first : big_bytes 2 ((a * 256 + b) / 16 * 16 + b / 2 % 8 * 2 + bit_of (is_some org)) ≡ a ∷ b ∷ [] =
-    u16_bytes _ a b word p q in
+    let first = u16_bytes _ a b (rw (has) front.1) p q in
     let second : big_bytes 2 (place / 1024 * 1024 + place % 1024) ≡ f ∷ g ∷ [] =
     u16_bytes _ f g ((place_of f g s t).1) s t in (
       PacketOf entry,
@@ -403,8 +365,6 @@ even_byte b h = elim (two_ways (b % 2) (omega arith)) [
 
 packet_spelled : (head : Head) (bytes : List ℕ) → head.ext ≡ 3 → AllByRecursion IsByte bytes
     → length bytes ≡ packet_len bytes → IsSpelled head bytes
-packet_spelled head [] e all whole = absurd (omega arith)
-packet_spelled head (a ∷ []) e all whole = absurd (omega arith)
 packet_spelled head (a ∷ b ∷ []) e all whole =
     elim (chosen (eqb (b % 2) 1) 2 7 5 whole) [
       | inl both ↦ absurd (omega (arith, both.1))
@@ -450,6 +410,7 @@ packet_spelled head (a ∷ b ∷ c ∷ f ∷ g ∷ h ∷ i ∷ j ∷ more) e all
       | inl both ↦ absurd (omega (arith, both.1))
       | inr both ↦ absurd (omega (arith, both.1))
     ]
+packet_spelled head _ e all whole = absurd (omega arith)
 
 -- ---- every entry
 pub entry_spelled : (head : Head) (bytes : List ℕ) → head.ext < 4 → AllByRecursion IsByte bytes

@@ -42,15 +42,13 @@ at_place (t ∷ ts) k (suc i) h lt =
 
 at_next_place : (ps ts : List ℕ) (i : ℕ) → is_next_table ps ts ≡ true → i < length ps → i < length ts
     → get_or ts i 0 ≡ after 8 0 (get_or ps i 0)
-at_next_place [] ts i h lp lt = absurd (omega arith)
-at_next_place (p ∷ ps) [] i h lp lt = absurd (omega arith)
 at_next_place (p ∷ ps) (t ∷ ts) zero h lp lt = eqb-true _ _ (and_parts _ _ h).0
 at_next_place (p ∷ ps) (t ∷ ts) (suc i) h lp lt = at_next_place ps ts i (and_parts _ _ h).1 (omega arith) (omega arith)
+at_next_place _ _ i h lp lt = absurd (omega arith)
 
 pub in_first_table : (k : ℕ) → k < 256 → get_or SLICE_0 k 0 ≡ later 0 (after 8 k 0)
 in_first_table k h =
-    let start : 0 + k ≡ k = omega arith in
-    at_place SLICE_0 0 k first_table h ∙ ap (λ n. after 8 n 0) start
+    at_place SLICE_0 0 k first_table h ∙ ap (λ n. after 8 n 0) (omega arith)
 
 pub in_second_table : (k : ℕ) → k < 256 → get_or SLICE_1 k 0 ≡ later 1 (after 8 k 0)
 in_second_table k h = rw (← in_first_table k h) (at_next_place SLICE_0 SLICE_1 k second_table h h)
@@ -84,9 +82,7 @@ six_bytes r a b c d e f t0 t1 t2 t3 t4 t5 h0 h1 h2 h3 h4 h5 =
     let third : after 8 c both ≡ bit_xor x (bit_xor (z p) (z q)) =
     rw (← ap z (two_bytes r a b) ∙ zeros_apart p q) (apart c both) in
     let fourth : after 8 d (after 8 c both) ≡ bit_xor y (bit_xor (z x) (bit_xor (z (z p)) (z (z q)))) =
-    apart d (after 8 c both)
-    ∙ ap (bit_xor y) (ap z third ∙ zeros_apart x (bit_xor (z p) (z q))
-    ∙ ap (bit_xor (z x)) (zeros_apart (z p) (z q))) in
+    cc (apart d (after 8 c both), third, zeros_apart x (bit_xor (z p) (z q)), zeros_apart (z p) (z q)) in
     let fifth : after 8 e (after 8 d (after 8 c both))
     ≡ bit_xor w (bit_xor (z y) (bit_xor (z (z x)) (bit_xor (z (z (z p))) (z (z (z q)))))) =
     apart e (after 8 d (after 8 c both))

@@ -9,13 +9,11 @@ use Rattle.fib_codec.proofs.Words.{sub_len, subst, sym, take, true, true≢false
 -- lists with equal beginnings, with fronts of one length
 pub same_front : (xs ys r s : List ℕ) → length xs ≡ length ys → xs ++ r ≡ ys ++ s → (xs ≡ ys) × (r ≡ s)
 same_front [] [] r s h e = (refl, e)
-same_front [] (y ∷ ys) r s h e = cc
-same_front (x ∷ xs) [] r s h e = cc
 same_front (x ∷ xs) (y ∷ ys) r s h e =
     let head : x ≡ y = cc in
-    let tail : xs ++ r ≡ ys ++ s = cc in
-    let rest = same_front xs ys r s (omega arith) tail in
+    let rest = same_front xs ys r s (omega arith) cc in
     (ap₂ (λ a as'. a ∷ as') head rest.0, rest.1)
+same_front _ _ r s h e = cc
 
 -- ---- entries
 -- a lower bound of each length, whatever the bytes are
@@ -27,10 +25,6 @@ sub_least bytes = cond_both (eqb (get_or bytes 2 0 / 128) 1) 4 3 (λ n. 3 ≤ n)
 
 packet_least : (bytes : List ℕ) → 5 ≤ packet_len bytes
 packet_least bytes = cond_both (eqb (get_or bytes 1 0 % 2) 1) 7 5 (λ n. 5 ≤ n) (λ _. omega arith) (λ _. omega arith)
-
--- what follows an entry does not decide its length
-ensemble_front : (e rest : List ℕ) → ensemble_len e ≤ length e → ensemble_len (e ++ rest) ≡ ensemble_len e
-ensemble_front e rest h = rw (get_or_append_left e rest 0 2 (omega (arith, ensemble_least e))) refl
 
 sub_front : (e rest : List ℕ) → sub_len e ≤ length e → sub_len (e ++ rest) ≡ sub_len e
 sub_front e rest h = rw (get_or_append_left e rest 0 2 (omega (arith, sub_least e))) refl
@@ -49,7 +43,7 @@ chosen_front : (first second third long : Bool) (e rest : List ℕ)
     → cond first (ensemble_len (e ++ rest))
     (cond second (sub_len (e ++ rest)) (cond third (service_len long (e ++ rest)) (packet_len (e ++ rest))))
     ≡ cond first (ensemble_len e) (cond second (sub_len e) (cond third (service_len long e) (packet_len e)))
-chosen_front true second third long e rest h = ensemble_front e rest h
+chosen_front true second third long e rest h = rw (get_or_append_left e rest 0 2 (omega (arith, ensemble_least e))) refl
 chosen_front false true third long e rest h = sub_front e rest h
 chosen_front false false true long e rest h = service_front long e rest h
 chosen_front false false false long e rest h = packet_front e rest h
@@ -80,11 +74,9 @@ pub one_entries : (ext : ℕ) (long : Bool) (bytes : List ℕ) (es gs : List (Li
     → AreEntries ext long bytes es → AreEntries ext long bytes gs → es ≡ gs
 one_entries ext long bytes [] [] h k = refl
 one_entries ext long bytes [] (g ∷ gs) h (s, e, entry, more) =
-    let none : length (g ++ s) ≡ 0 = ap length (sym e ∙ h) in
-    absurd (omega (arith, none, length-append g s, some_bytes ext long g, entry))
+    absurd (omega (arith, ap length (sym e ∙ h), length-append g s, some_bytes ext long g, entry))
 one_entries ext long bytes (g ∷ gs) [] (s, e, entry, more) k =
-    let none : length (g ++ s) ≡ 0 = ap length (sym e ∙ k) in
-    absurd (omega (arith, none, length-append g s, some_bytes ext long g, entry))
+    absurd (omega (arith, ap length (sym e ∙ k), length-append g s, some_bytes ext long g, entry))
 one_entries ext long bytes (e ∷ es) (g ∷ gs) (r, d, entry, more) (s, d', entry', more') =
     let both = one_entry ext long e g r s entry entry' (sym d ∙ d') in
     let rest = one_entries ext long s es gs (subst (λ (xs : List ℕ). AreEntries ext long xs es) both.1 more) more' in
@@ -110,16 +102,13 @@ fig_header bytes (Other given) h = other_header bytes h.1
 
 pub one_front : (a b r s : List ℕ) → HasHeader a → HasHeader b → a ++ r ≡ b ++ s → (a ≡ b) × (r ≡ s)
 one_front a b r s (h, after, e, marker, long) (h', after', e', marker', long') same =
-    let cut : h ∷ (after ++ r) ≡ h' ∷ (after' ++ s) = ap (λ t. t ++ r) (sym e) ∙ same ∙ ap (λ t. t ++ s) e' in
     let head : h ≡ h' = cc in
-    let tail : after ++ r ≡ after' ++ s = cc in
-    let both = same_front after after' r s (long ∙ ap (λ n. n % 32) head ∙ sym long') tail in
+    let both = same_front after after' r s (long ∙ ap (λ n. n % 32) head ∙ sym long') cc in
     (e ∙ ap₂ (λ x xs. x ∷ xs) head both.0 ∙ sym e', both.1)
 
 open_open : (bytes : List ℕ) (second other : ℕ) (es gs : List (List ℕ))
     → IsFig bytes (Open second es) → IsFig bytes (Open other gs) → Open second es ≡ Open other gs
 open_open bytes second other es gs (body, e, short, looked, given) (body', e', short', looked', given') =
-    let same : (1 + length body) ∷ second ∷ body ≡ (1 + length body') ∷ other ∷ body' = sym e ∙ e' in
     let heads : second ≡ other = cc in
     let bodies : body ≡ body' = cc in
     let moved = subst (λ (b : List ℕ). AreEntries (other % 32) (is_long other) b es) bodies
@@ -128,9 +117,7 @@ open_open bytes second other es gs (body, e, short, looked, given) (body', e', s
 
 open_other : (bytes : List ℕ) (second : ℕ) (es : List (List ℕ)) → IsFig bytes (Open second es) → IsOther bytes → ⊥
 open_other bytes second es (body, e, short, looked, given) other =
-    let here : IsOther ((1 + length body) ∷ second ∷ body) = subst (λ (b : List ℕ). IsOther b) e other in
-    let low : ltb (1 + length body) 32 ≡ true = lt-ltb _ _ (omega arith) in
-    true≢false (sym (and_from _ _ low looked) ∙ here.2)
+    true≢false (sym (and_from _ _ (lt-ltb _ _ (omega arith)) looked) ∙ (subst (λ (b : List ℕ). IsOther b) e other).2)
 
 pub one_fig : (bytes : List ℕ) (f g : Fig) → IsFig bytes f → IsFig bytes g → f ≡ g
 one_fig bytes (Open second es) (Open other gs) h k = open_open bytes second other es gs h k
@@ -140,20 +127,15 @@ one_fig bytes (Other given) (Other too) h k = rw (h.0 ∙ sym k.0) refl
 
 nothing_begins : (bytes front rest : List ℕ) → HasHeader front → bytes ≡ front ++ rest → bytes ≡ [] → ⊥
 nothing_begins bytes front rest (h, after, d, marker, long) e none =
-    let both : [] ≡ h ∷ (after ++ rest) = sym none ∙ e ∙ ap (λ t. t ++ rest) d in
     cc
 
 marker_begins : (bytes front rest tail : List ℕ) → HasHeader front → bytes ≡ front ++ rest → bytes ≡ 255 ∷ tail → ⊥
 marker_begins bytes front rest tail (h, after, d, marker, long) e ends =
-    let both : 255 ∷ tail ≡ h ∷ (after ++ rest) = sym ends ∙ e ∙ ap (λ t. t ++ rest) d in
-    let same : h ≡ 255 = cc in
-    marker same
+    marker cc
 
 no_more : (bytes : List ℕ) (f : Fig) (fs : List Fig) → AreFigs bytes [] → AreFigs bytes (f ∷ fs) → ⊥
-no_more bytes f fs (inl none) (front, rest, e, fig, more) =
-    nothing_begins bytes front rest (fig_header front f fig) e none
-no_more bytes f fs (inr (tail, ends)) (front, rest, e, fig, more) =
-    marker_begins bytes front rest tail (fig_header front f fig) e ends
+no_more bytes f fs (inl none) (front, rest, e, fig, more) = nothing_begins _ _ _ (fig_header _ _ fig) e none
+no_more bytes f fs (inr (tail, ends)) (front, rest, e, fig, more) = marker_begins _ _ _ _ (fig_header _ _ fig) e ends
 
 pub one_figs : (bytes : List ℕ) (fs gs : List Fig) → AreFigs bytes fs → AreFigs bytes gs → fs ≡ gs
 one_figs bytes [] [] h k = refl
@@ -161,9 +143,8 @@ one_figs bytes [] (g ∷ gs) h k = absurd (no_more bytes g gs h k)
 one_figs bytes (f ∷ fs) [] h k = absurd (no_more bytes f fs k h)
 one_figs bytes (f ∷ fs) (g ∷ gs) (front, rest, e, fig, more) (front', rest', e', fig', more') =
     let both = one_front front front' rest rest' (fig_header front f fig) (fig_header front' g fig') (sym e ∙ e') in
-    let first = one_fig front' f g (subst (λ (b : List ℕ). IsFig b f) both.0 fig) fig' in
     let others = one_figs rest' fs gs (subst (λ (b : List ℕ). AreFigs b fs) both.1 more) more' in
-    ap₂ (λ x xs. x ∷ xs) first others
+    ap₂ (λ x xs. x ∷ xs) (one_fig front' f g (subst (λ (b : List ℕ). IsFig b f) both.0 fig) fig') others
 
 pub one_fib : OneList
 one_fib bytes figs others h k = one_figs (take 30 bytes) figs others h.1 k.1

@@ -56,9 +56,7 @@ no_ones tens ones n bad small e =
 
 two_injective : (a b m n : ℕ) → m < 100 → n < 100 → a ∷ b ∷ [] ≡ two_digits m → a ∷ b ∷ [] ≡ two_digits n → m ≡ n
 two_injective a b m n s t e f =
-    let h = ap (λ (xs : List ℕ). get_or xs 0 0) (sym e ∙ f) in
-    let l = ap (λ (xs : List ℕ). get_or xs 1 0) (sym e ∙ f) in
-    omega (arith, h, l)
+    omega (arith, ap (λ (xs : List ℕ). get_or xs 0 0) (sym e ∙ f), ap (λ (xs : List ℕ). get_or xs 1 0) (sym e ∙ f))
 
 -- the digits of a time
 pub record HasTime (a b c d e f t : ℕ) : Type 0 where

@@ -25,10 +25,8 @@ pub record Reading (bs : List ℕ) (i v : ℕ) : Type 0 where
 pub no_digit : (bs : List ℕ) (i v : ℕ) → i < length bs → is_ascii_digit (get_or bs i 0) ≡ false → Reading bs i v
     → (n : ℕ) → n < 1000000000 → bs ≡ decimal n → ⊥
 no_digit bs i v lt bad h n small e =
-    let all : all_ascii_digits bs ≡ true =
-    subst (λ (ds : List ℕ). all_ascii_digits ds ≡ true) (sym e) (digits_decimal own n (omega arith)) in
-    let none : all_ascii_digits bs ≡ false = sym h.digits ∙ rw (cut bs i lt, bad) refl in
-    false≢true (sym none ∙ all)
+    let all = subst (λ (ds : List ℕ). all_ascii_digits ds ≡ true) (sym e) (digits_decimal own n (omega arith)) in
+    false≢true (sym (sym h.digits ∙ rw (cut bs i lt, bad) refl) ∙ all)
 
 pub reads_on : (bs : List ℕ) (i v b : ℕ) → i < length bs → b ≡ get_or bs i 0 → is_ascii_digit b ≡ true → 48 ≤ b → b ≤ 57
     → Reading bs i v → Reading bs (i + 1) (v * 10 + (b - 48))
@@ -51,17 +49,13 @@ read_all bs i v long some short first h =
 
 pub value_small : (bs : List ℕ) (i v : ℕ) → i < length bs → length bs ≤ 9 → Reading bs i v → v < 100000000
 value_small bs i v lt short h =
-    let less = h.small in
-    let le : 10 ^ i ≤ 10 ^ 8 = pow-le-pow_right {n = 10} (omega arith) {i = i} {j = 8} (omega arith) in
-    omega (arith, less, le)
+    omega (arith, pow-le-pow_right {n = 10} (omega arith) {i = i} {j = 8} (omega arith))
 
 value_end : (bs : List ℕ) (i v : ℕ) → length bs ≤ i → length bs ≤ 9 → Reading bs i v → v < 1000000000
 value_end bs i v long short h =
     let end : drop i bs ≡ [] = drop_all i bs long in
-    let is : v ≡ read_on 0 bs = ap (read_on v) (sym end) ∙ h.value in
     let all : all_ascii_digits bs ≡ true = sym h.digits ∙ ap all_ascii_digits end in
-    let small : read_on 0 bs < 10 ^ 9 = digits_value_short own bs 9 all short in
-    omega (arith, small, is)
+    omega (arith, digits_value_short own bs 9 all short, ap (read_on v) (sym end) ∙ h.value)
 
 pub too_long : (bs : List ℕ) → 9 < length bs → (n : ℕ) → n < 1000000000 → bs ≡ decimal n → ⊥
 too_long bs long n small e = let le = length-decimal-le 9 n (omega arith) (omega arith) (omega arith) in let f =
@@ -75,9 +69,8 @@ pub zero_first : (bs : List ℕ) → get_or bs 0 0 ≡ 48 → 1 < length bs → 
 zero_first bs first more zero small e = let f = ap length e in let le =
     length-decimal-le 1 0 (omega arith) (omega arith) (omega arith) in omega (arith, f, le, more)
 zero_first bs first more (suc n) small e =
-    let high = first_decimal (suc n) (omega arith) (omega arith) in
     let is : get_or (decimal (suc n)) 0 0 ≡ 48 = ap (λ (xs : List ℕ). get_or xs 0 0) (sym e) ∙ first in
-    omega (arith, high, is)
+    omega (arith, first_decimal (suc n) (omega arith) (omega arith), is)
 
 pub digit_range : (b : ℕ) → is_ascii_digit b ≡ true → (48 ≤ b) × (b ≤ 57)
 digit_range b e = (grind (arith, nat_tests, e), grind (arith, nat_tests, e))

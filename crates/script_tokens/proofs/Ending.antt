@@ -39,11 +39,9 @@ length_behind (x ∷ front) ts = let h = length_behind front ts in omega (arith,
 pub first_line : (bytes : List ℕ) (all ts : List Token) (t : Token) → AreLastOf all (t ∷ ts)
     → min t.position.line 65535 ≡ line_of_left (shown_lines all) (length (lexemes_of bytes (t ∷ ts)))
 first_line bytes all ts t h =
-    let l = length_words bytes (t ∷ ts) in
-    let m = length_lines all in
     let n = length_behind h.front (t ∷ ts) in
     let same : length (shown_lines all) - length (lexemes_of bytes (t ∷ ts)) ≡ length h.front =
-    (let w = ap length h.whole in omega (arith, l, m, n, w)) in
+    (let w = ap length h.whole in omega (arith, length_words bytes (t ∷ ts), length_lines all, n, w)) in
     rw (same, h.whole) (sym (line_behind h.front ts t))
 
 pub last_line : (all : List Token) (t : Token) → slice_get all (length all - 1) ≡ Some t

@@ -89,8 +89,7 @@ pub statement_given : (ws : Spelled) (s : StatementKeyword) → first_statement 
 unfolding first_statement
 statement_given ws s e =
     let g = bind_some (first_key ws) statement_of s e in
-    let same : g.x ≡ statement_keyword s = sym (kept g.x) ∙ ap (λ r. begun r g.x) g.second in
-    key_given ws g.x g.first ∙ ap (λ k. letters k ∷ drop 1 ws) same
+    key_given ws g.x g.first ∙ ap (λ k. letters k ∷ drop 1 ws) (sym (kept g.x) ∙ ap (λ r. begun r g.x) g.second)
 
 pub statement_found : (k : Keyword) (ws : Spelled) → first_statement (letters k ∷ ws) ≡ statement_of k
 unfolding first_statement
@@ -119,32 +118,20 @@ component_again component.Data = refl
 component_again component.Carry = refl
 
 pub item_again : (k : ItemKeyword) → statement_of (item_keyword k) ≡ Some (statement.Act (act.Edit (edit.Item k)))
-item_again item.Sub = refl
-item_again item.Service = refl
-item_again item.Packet = refl
 item_again (item.Component k) = component_again k
+item_again _ = refl
 
 edit_again : (k : EditKeyword) → statement_of (edit_keyword k) ≡ Some (statement.Act (act.Edit k))
-edit_again edit.Drop = refl
-edit_again edit.Move = refl
-edit_again edit.Rate = refl
 edit_again (edit.Item k) = item_again k
+edit_again _ = refl
 
 act_again : (k : ActKeyword) → statement_of (act_keyword k) ≡ Some (statement.Act k)
-act_again act.Wait = refl
-act_again act.Until = refl
-act_again act.Commit = refl
-act_again act.Join = refl
-act_again act.Settle = refl
 act_again (act.Edit k) = edit_again k
+act_again _ = refl
 
 pub keyword_again : (k : StatementKeyword) → statement_of (statement_keyword k) ≡ Some k
-keyword_again statement.End = refl
-keyword_again statement.If = refl
-keyword_again statement.Repeat = refl
-keyword_again statement.Forever = refl
-keyword_again statement.Apply = refl
 keyword_again (statement.Act k) = act_again k
+keyword_again _ = refl
 
 -- ---- the law
 

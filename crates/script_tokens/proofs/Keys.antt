@@ -11,8 +11,7 @@ use denote.Enum.Bare.{sameb}
 use denote.Enum.Declared.{tag_of}
 use Rattle.std.specs.Cmp.{nat_eq_equiv}
 use Rattle.script_tokens.specs.contracts.keyword.Keyword.{the_type}
-use Rattle.script_tokens.specs.Keywords.{IsNoneOf, change_keywords, flow_keywords, head_keywords, item_keywords}
-use Rattle.script_tokens.specs.Keywords.{letters}
+use Rattle.script_tokens.specs.Keywords.{IsNoneOf, change_keywords, flow_keywords, head_keywords, item_keywords, letters}
 use Rattle.script_tokens.specs.Keywords.{packet_keywords, wait_keywords, word_of}
 use Rattle.script_tokens.proofs.Digits.{own}
 
@@ -91,16 +90,13 @@ word_text w h = none_among keywords w h
 
 pub no_decimal : (k : Keyword) (n : ℕ) → n < 1000000000 → all_ascii_digits (letters k) ≡ false → decimal n ≢ letters k
 no_decimal k n small none e =
-    let digits : all_ascii_digits (letters k) ≡ true =
-    subst (λ (w : List ℕ). all_ascii_digits w ≡ true) e (digits_decimal own n (omega arith)) in
-    false≢true (sym none ∙ digits)
+    false≢true (sym none ∙ (subst (λ (w : List ℕ). all_ascii_digits w ≡ true) e (digits_decimal own n (omega arith))))
 
 -- a keyword is equal to itself
 pub itself : (j k : Keyword) → Some j ≡ Some k → sameb the_type j k ≡ false → ⊥
 itself j k e f =
     let same : j ≡ k = cc in
-    let is : sameb the_type j j ≡ true = nat_eq_equiv.refl (tag_of the_type j) in
-    false≢true (sym f ∙ subst (λ (x : Keyword). sameb the_type j x ≡ true) same is)
+    false≢true (sym f ∙ subst (λ (x : Keyword). sameb the_type j x ≡ true) same (nat_eq_equiv.refl (tag_of the_type j)))
 
 pub found_of : (r : Option Keyword) (w : List ℕ) → IfSome r (λ k. w ≡ letters k) → (r ≡ None → IsNoKeyword w)
     → (k : Keyword) → w ≡ letters k → r ≡ Some k
@@ -115,8 +111,7 @@ both_none (j ∷ js) ks w h k = (h.0, both_none js ks w h.1 k)
 not_among : (ks : List Keyword) (w : List ℕ) → IsNoneOf ks w → lexeme_among ks w ≡ text w
 not_among [] w h = refl
 not_among (k ∷ ks) w h =
-    let e = false_if (bytes_eq w (letters k)) (λ f. h.0 ((bytes_eq-Decides w (letters k)).0 f)) in
-    rw (e) (not_among ks w h.1)
+    rw ((false_if (bytes_eq w (letters k)) (λ f. h.0 ((bytes_eq-Decides w (letters k)).0 f)))) (not_among ks w h.1)
 
 pub no_keyword : (w : List ℕ) → IsNoneOf head_keywords w → IsNoneOf item_keywords w → IsNoneOf packet_keywords w
     → IsNoneOf change_keywords w → IsNoneOf wait_keywords w → IsNoneOf flow_keywords w → IsNoKeyword w
@@ -126,8 +121,7 @@ no_keyword w head item packet change wait flow k e =
     let changes = both_none change_keywords (wait_keywords ++ flow_keywords) w change late in
     let packets = both_none packet_keywords (change_keywords ++ (wait_keywords ++ flow_keywords)) w packet changes in
     let body = packet_keywords ++ (change_keywords ++ (wait_keywords ++ flow_keywords)) in
-    let items = both_none item_keywords body w item packets in
-    let none = both_none head_keywords (item_keywords ++ body) w head items in
+    let none = both_none head_keywords (item_keywords ++ body) w head (both_none item_keywords body w item packets) in
     let other : the k ≡ text w = sym (word_the k) ∙ ap word_of (sym e) ∙ not_among keywords w none in
     absurd cc
 
@@ -140,7 +134,6 @@ no_level lexemes g r true rest e = g rest e
 no_level lexemes g r false rest e = r rest e
 
 pub one_level : (b c : Bool) → level_text b ≡ level_text c → b ≡ c
-one_level true true e = refl
 one_level true false e = let same = letters_injective Closed Open e in absurd cc
 one_level false true e = let same = letters_injective Open Closed e in absurd cc
-one_level false false e = refl
+one_level _ _ e = refl

@@ -34,8 +34,7 @@ pub before_err : (limits : Limits) (ts : List Token) (e : ScriptFault) → token
 before_err limits [] e h = refl
 before_err limits (t ∷ ts) e h =
     let p = not_err limits t (fits limits t) (added t (tokens_before limits ts (Ok []))) (t ∷ ts) h in
-    let q = unadded t (tokens_before limits ts (Ok [])) ts p.1 in
-    rw (p.0, before_err limits ts e q) refl
+    rw (p.0, before_err limits ts e (unadded t (tokens_before limits ts (Ok [])) ts p.1)) refl
 
 later : (t : Token) (r s : Cuts) (e : ScriptFault) → (r ≡ Err e → s ≡ Err e) → added t r ≡ Err e → added t s ≡ Err e
 later t (Ok us) s e f h = absurd cc
@@ -50,9 +49,7 @@ fault_at limits t r s e false f h = h
 pub before_fault : (limits : Limits) (ts : List Token) (r : Cuts) (e : ScriptFault)
     → tokens_before limits ts (Ok []) ≡ Err e → tokens_before limits ts r ≡ Err e
 before_fault limits [] r e h = absurd cc
-before_fault limits (t ∷ ts) r e h =
-    fault_at limits t (tokens_before limits ts (Ok [])) (tokens_before limits ts r) e (fits limits t)
-    (before_fault limits ts r e) h
+before_fault limits (t ∷ ts) r e h = fault_at limits t _ _ e _ (before_fault limits ts r e) h
 
 -- tokens that fit, and more that fit
 pub more_in : (limits : Limits) (ts us : List Token) → tokens_before limits ts (Ok []) ≡ Ok ts
@@ -60,8 +57,7 @@ pub more_in : (limits : Limits) (ts us : List Token) → tokens_before limits ts
 more_in limits [] us h k = k
 more_in limits (t ∷ ts) us h k =
     let p = not_err limits t (fits limits t) (added t (tokens_before limits ts (Ok []))) (t ∷ ts) h in
-    let q = unadded t (tokens_before limits ts (Ok [])) ts p.1 in
-    rw (p.0, more_in limits ts us q k) refl
+    rw (p.0, more_in limits ts us (unadded t (tokens_before limits ts (Ok [])) ts p.1) k) refl
 
 -- ---- the loop
 
@@ -106,8 +102,7 @@ fault_pushed limits all ts us m p bs i k e lt is push h =
     let rest : Cuts = if is_bad m k then Err (Byte p.position) else lexed limits (inside_after m p k)
     (position_after p k) (drop (i + 1) bs) in
     let step : lexed limits m p (drop i bs) ≡ tokens_before limits (made m p k) rest = rw (cut_at bs i lt, ← is) refl in
-    h.given ∙ ap (tokens_before limits ts) (step ∙ before_fault limits (made m p k) rest e push)
-    ∙ before_err limits ts e h.fit
+    cc (h.given, step, before_fault limits (made m p k) rest e push, before_err limits ts e h.fit)
 
 -- a bad byte, after the token that it ends
 pub bad_here : (limits : Limits) (all : Cuts) (ts us : List Token) (m : Inside) (p : Place) (bs : List ℕ) (i : ℕ)
@@ -118,8 +113,7 @@ unfolding lexed
 bad_here limits all ts us m p bs i k lt is push bad h =
     let step : lexed limits m p (drop i bs) ≡ tokens_before limits (made m p k) (Err (Byte p.position)) =
     rw (cut_at bs i lt, ← is, bad) refl in
-    h.given ∙ ap (tokens_before limits ts) (step ∙ before_err limits (made m p k) (Byte p.position) push.1)
-    ∙ before_err limits ts (Byte p.position) h.fit
+    h.given ∙ ap (tokens_before limits ts) (step ∙ before_err _ _ _ push.1) ∙ before_err _ _ _ h.fit
 
 pub cut_end : (limits : Limits) (all : Cuts) (ts us : List Token) (m : Inside) (p : Place) (bs : List ℕ) (i : ℕ)
     → length bs ≤ i
@@ -129,9 +123,8 @@ unfolding lexed
 cut_end limits all ts us m p bs i long push h =
     let step : lexed limits m p (drop i bs) ≡ tokens_before limits (atom_ended m p.at Blank) (Ok []) =
     rw (drop_all i bs long) refl in
-    h.given ∙ ap (tokens_before limits ts) step ∙ before_before limits ts (atom_ended m p.at Blank) (Ok [])
-    ∙ ap (λ vs. tokens_before limits vs (Ok [])) (sym push.0)
-    ∙ rw (push.0) (more_in limits ts (atom_ended m p.at Blank) h.fit push.1)
+    h.given ∙ ap (tokens_before limits ts) step ∙ before_before _ ts _ _ ∙ ap (λ vs. tokens_before limits vs (Ok []))
+    (sym push.0) ∙ rw (push.0) (more_in _ ts _ h.fit push.1)
 
 pub fault_at_end : (limits : Limits) (all : Cuts) (ts : List Token) (m : Inside) (p : Place) (bs : List ℕ) (i : ℕ)
     (e : ScriptFault) → length bs ≤ i
@@ -139,21 +132,13 @@ pub fault_at_end : (limits : Limits) (all : Cuts) (ts : List Token) (m : Inside)
     → CutSoFar limits all ts (lexed limits m p (drop i bs)) → all ≡ Err e
 unfolding lexed
 fault_at_end limits all ts m p bs i e long push h =
-    let step : lexed limits m p (drop i bs) ≡ tokens_before limits (atom_ended m p.at Blank) (Ok []) =
-    rw (drop_all i bs long) refl in
-    h.given ∙ ap (tokens_before limits ts) (step ∙ push) ∙ before_err limits ts e h.fit
+    h.given ∙ ap (tokens_before limits ts) ((rw (drop_all i bs long) refl) ∙ push) ∙ before_err limits ts e h.fit
 
 -- a fault other than out of memory is that of the tokens
 pub its_fault : (limits : Limits) (old new ts : List Token) (e : ScriptFault) → Pushes limits old new ts (Err e)
     → e ≢ Memory → tokens_before limits ts (Ok []) ≡ Err e
 its_fault limits old new ts Memory h ne = absurd (ne refl)
-its_fault limits old new ts (Byte p) h ne = h
-its_fault limits old new ts (Number p) h ne = h
-its_fault limits old new ts (Expected p) h ne = h
-its_fault limits old new ts (Depth p) h ne = h
-its_fault limits old new ts (NameUsed p) h ne = h
-its_fault limits old new ts (NameUnknown p) h ne = h
-its_fault limits old new ts (Limit p) h ne = h
+its_fault limits old new ts _ h ne = h
 
 pub record Follows (p q : Place) : Type 0 where
   pub at : q.at ≡ p.at + 1

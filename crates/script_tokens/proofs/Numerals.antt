@@ -53,15 +53,7 @@ pub eight_bytes : (xs : List ℕ) → 8 ≤ length xs → length xs < 9
     → xs ≡ get_or xs 0 0 ∷ get_or xs 1 0 ∷ get_or xs 2 0 ∷ get_or xs 3 0 ∷ get_or xs 4 0 ∷ get_or xs 5 0 ∷ get_or xs 6 0
     ∷ get_or xs 7 0 ∷ []
 eight_bytes (a ∷ b ∷ c ∷ d ∷ e ∷ f ∷ g ∷ h ∷ []) low high = refl
-eight_bytes [] low high = absurd (omega arith)
-eight_bytes (a ∷ []) low high = absurd (omega arith)
-eight_bytes (a ∷ b ∷ []) low high = absurd (omega arith)
-eight_bytes (a ∷ b ∷ c ∷ []) low high = absurd (omega arith)
-eight_bytes (a ∷ b ∷ c ∷ d ∷ []) low high = absurd (omega arith)
-eight_bytes (a ∷ b ∷ c ∷ d ∷ e ∷ []) low high = absurd (omega arith)
-eight_bytes (a ∷ b ∷ c ∷ d ∷ e ∷ f ∷ []) low high = absurd (omega arith)
-eight_bytes (a ∷ b ∷ c ∷ d ∷ e ∷ f ∷ g ∷ []) low high = absurd (omega arith)
-eight_bytes (a ∷ b ∷ c ∷ d ∷ e ∷ f ∷ g ∷ h ∷ i ∷ xs) low high = absurd (omega arith)
+eight_bytes _ low high = absurd (omega arith)
 
 -- ---- atoms that are not such numbers
 

@@ -35,12 +35,8 @@ letters_on limits q p (b ∷ bs) rest h = rw (h.0) (letters_on limits q (positio
 in_line : (limits : Limits) (p : Place) (b : ℕ) (k : Kind) (rest : List ℕ) → kind_of b ≡ k → k ≢ LineEnd
     → lexed limits Comment p (b ∷ rest) ≡ lexed limits Comment (position_after p k) rest
 unfolding lexed
-in_line limits p b Blank rest e ne = rw (e) refl
 in_line limits p b LineEnd rest e ne = absurd (ne refl)
-in_line limits p b Hash rest e ne = rw (e) refl
-in_line limits p b Brace rest e ne = rw (e) refl
-in_line limits p b Letter rest e ne = rw (e) refl
-in_line limits p b Bad rest e ne = rw (e) refl
+in_line limits p b _ rest e ne = rw (e) refl
 
 line_on : (limits : Limits) (p : Place) (bs rest : List ℕ) → HaveNoLineEnd bs
     → lexed limits Comment p (bs ++ rest) ≡ lexed limits Comment (position_past p bs) rest
@@ -58,12 +54,8 @@ atom_ends_by : (limits : Limits) (q p : Place) (b : ℕ) (k : Kind) (rest : List
     → lexed limits (Atom q) p (b ∷ rest) ≡ tokens_before limits (token_at q p.at ∷ [])
     (lexed limits Nothing p (b ∷ rest))
 unfolding lexed
-atom_ends_by limits q p b Blank rest e ne = rw (e) refl
-atom_ends_by limits q p b LineEnd rest e ne = rw (e) refl
-atom_ends_by limits q p b Hash rest e ne = rw (e) refl
-atom_ends_by limits q p b Brace rest e ne = rw (e) refl
 atom_ends_by limits q p b Letter rest e ne = absurd (ne refl)
-atom_ends_by limits q p b Bad rest e ne = rw (e) refl
+atom_ends_by limits q p b _ rest e ne = rw (e) refl
 
 atom_ends : (limits : Limits) (q p : Place) (bs : List ℕ) → Ends bs
     → lexed limits (Atom q) p bs ≡ tokens_before limits (token_at q p.at ∷ []) (lexed limits Nothing p bs)
@@ -85,19 +77,14 @@ ends_atom bs (atom cs ∷ ps) m h = absurd m
 ends_line : (bs : List ℕ) (ps : List Piece) → CanPrecede (comment bs) ps → EndsLine (text_of ps)
 ends_line bs [] m = tt
 ends_line bs (blank b ∷ ps) m = m
-ends_line bs (comment cs ∷ ps) m = absurd m
-ends_line bs (brace b ∷ ps) m = absurd m
-ends_line bs (atom cs ∷ ps) m = absurd m
+ends_line bs _ m = absurd m
 
 -- the offset after the bytes of an atom
 past_at : (p : Place) (bs : List ℕ) → AreLetters bs → (position_past p bs).at ≡ p.at + length bs
 past_at p [] h = omega arith
 past_at p (b ∷ bs) h =
     let later = past_at (position_after p Letter) bs h.1 in
-    let same : position_past p (b ∷ bs) ≡ position_past (position_after p Letter) bs =
-    ap (λ (k : Kind). position_past (position_after p k) bs) h.0 in
-    let sum : p.at + 1 + length bs ≡ p.at + length (b ∷ bs) = omega arith in
-    ap (λ (q : Place). q.at) same ∙ later ∙ sum
+    ap (λ (q : Place). q.at) (ap (λ (k : Kind). position_past (position_after p k) bs) h.0) ∙ later ∙ (omega arith)
 
 begins_atom : (limits : Limits) (p : Place) (b : ℕ) (rest : List ℕ) → kind_of b ≡ Letter
     → lexed limits Nothing p (b ∷ rest) ≡ lexed limits (Atom p) (position_after p Letter) rest
@@ -107,8 +94,7 @@ begins_atom limits p b rest e = rw (e) refl
 cut_atom : (limits : Limits) (p : Place) (bs rest : List ℕ) → 1 ≤ length bs → AreLetters bs
     → lexed limits Nothing p (bs ++ rest) ≡ lexed limits (Atom p) (position_past p bs) rest
 cut_atom limits p [] rest some h = absurd (omega (arith, some))
-cut_atom limits p (b ∷ bs) rest some h = begins_atom limits p b (bs ++ rest) h.0
-    ∙ rw (h.0) (letters_on limits p (position_after p Letter) bs rest h.1)
+cut_atom limits p (b ∷ bs) rest some h = begins_atom _ _ _ _ h.0 ∙ rw (h.0) (letters_on _ _ _ _ _ h.1)
 
 blank_on : (limits : Limits) (p : Place) (b : ℕ) (rest : List ℕ) → (kind_of b ≡ Blank) ⊎ (kind_of b ≡ LineEnd)
     → lexed limits Nothing p (b ∷ rest) ≡ lexed limits Nothing (position_past p (b ∷ [])) rest
@@ -130,8 +116,7 @@ cut_pieces : (limits : Limits) (p : Place) (ps : List Piece) → AreText ps → 
     → lexed limits Nothing p (text_of ps) ≡ Ok (tokens_of p ps)
 unfolding lexed
 cut_pieces limits p [] h f = refl
-cut_pieces limits p (blank b ∷ ps) h f = blank_on limits p b (text_of ps) h.0
-    ∙ cut_pieces limits (position_past p (b ∷ [])) ps h.2 f
+cut_pieces limits p (blank b ∷ ps) h f = blank_on _ p b _ h.0 ∙ cut_pieces limits (position_past p (b ∷ [])) ps h.2 f
 cut_pieces limits p (comment bs ∷ ps) h f =
     comment_on limits p (bs ++ text_of ps) ∙ line_on limits (position_past p (35 ∷ [])) bs (text_of ps) h.0
     ∙ line_ends limits (position_past p (35 ∷ bs)) (text_of ps) (ends_line bs ps h.1)
@@ -139,10 +124,9 @@ cut_pieces limits p (comment bs ∷ ps) h f =
 cut_pieces limits p (brace b ∷ ps) h f = brace_on limits p b (text_of ps) h.0
     ∙ rw (cut_pieces limits (position_past p (b ∷ [])) ps h.2 f.1, f.0) refl
 cut_pieces limits p (atom bs ∷ ps) h f =
-    let at = past_at p bs h.0.1 in
     cut_atom limits p bs (text_of ps) h.0.0 h.0.1 ∙ atom_ends limits p (position_past p bs) (text_of ps)
     (ends_atom bs ps h.1 h.2)
-    ∙ rw (cut_pieces limits (position_past p bs) ps h.2 f.1, at, f.0) refl
+    ∙ rw (cut_pieces limits (position_past p bs) ps h.2 f.1, (past_at p bs h.0.1), f.0) refl
 
 -- ---- from tokens to pieces
 
@@ -200,22 +184,13 @@ hash_test false false false true x e = absurd cc
 hash_test false false false false true e = absurd cc
 hash_test false false false false false e = absurd cc
 
-is_hash : (b : ℕ) → kind_of b ≡ Hash → 35 ≡ b
-is_hash b e = sym (eqb-true b 35 (hash_test _ _ _ _ _ e))
-
 other_atom : (bs cs : List ℕ) (ps : List Piece) → CanPrecede (atom bs) ps → CanPrecede (atom cs) ps
-other_atom bs cs [] h = tt
-other_atom bs cs (blank b ∷ ps) h = tt
-other_atom bs cs (comment ds ∷ ps) h = tt
-other_atom bs cs (brace b ∷ ps) h = tt
 other_atom bs cs (atom ds ∷ ps) h = h
+other_atom bs cs _ h = tt
 
 other_comment : (bs cs : List ℕ) (ps : List Piece) → CanPrecede (comment bs) ps → CanPrecede (comment cs) ps
 other_comment bs cs [] h = tt
-other_comment bs cs (blank b ∷ ps) h = h
-other_comment bs cs (comment ds ∷ ps) h = h
-other_comment bs cs (brace b ∷ ps) h = h
-other_comment bs cs (atom ds ∷ ps) h = h
+other_comment bs cs _ h = h
 
 atom_more : (q p : Place) (b : ℕ) (bs : List ℕ) (ts : List Token) → kind_of b ≡ Letter
     → Found (Atom q) (position_after p Letter) bs ts → Found (Atom q) p (b ∷ bs) ts
@@ -275,7 +250,7 @@ comment_begins p b bs ts e h = record {
   formed = (h.goes.0, h.goes.1, h.formed);
   goes = (
     refl,
-    ap (λ (x : ℕ). x ∷ (h.begun ++ text_of h.pieces)) (is_hash b e)
+    ap (λ (x : ℕ). x ∷ (h.begun ++ text_of h.pieces)) (sym (eqb-true b 35 (hash_test _ _ _ _ _ e)))
         ∙ ap (λ (xs : List ℕ). b ∷ xs) h.goes.2,
     h.goes.3,
   );
@@ -305,13 +280,10 @@ line_over p b bs ts e h = record {
 
 no_atom : (b : ℕ) (bs : List ℕ) (ps : List Piece) → kind_of b ≢ Letter → AreText ps → text_of ps ≡ b ∷ bs
     → CanPrecede (atom []) ps
-no_atom b bs [] ne h e = tt
-no_atom b bs (blank c ∷ ps) ne h e = tt
-no_atom b bs (comment cs ∷ ps) ne h e = tt
-no_atom b bs (brace c ∷ ps) ne h e = tt
 no_atom b bs (atom [] ∷ ps) ne h e = absurd (let some = h.0.0 in omega (arith, some))
 no_atom b bs (atom (c ∷ cs) ∷ ps) ne h e =
     absurd (ne (let same : b ≡ c = ap (λ (xs : List ℕ). head_of xs) (sym e) in ap kind_of same ∙ h.0.1.0))
+no_atom b bs _ ne h e = tt
 
 -- an atom that ends before a byte that cannot be in an atom
 atom_over : (q p : Place) (b : ℕ) (bs : List ℕ) (ts : List Token) → kind_of b ≢ Letter → Found Nothing p (b ∷ bs) ts
@@ -336,7 +308,6 @@ found_step Nothing p b LineEnd bs ts e good h = blank_more p b LineEnd bs ts e (
 found_step Nothing p b Hash bs ts e good h = comment_begins p b bs ts e h
 found_step Nothing p b Brace bs ts e good h = brace_more p b bs ts e h
 found_step Nothing p b Letter bs ts e good h = atom_begins p b bs ts e h
-found_step Nothing p b Bad bs ts e good h = absurd cc
 found_step Comment p b Blank bs ts e good h = comment_more p b Blank bs ts e (λ f. absurd cc) h
 found_step Comment p b LineEnd bs ts e good h = line_over p b bs ts e h
 found_step Comment p b Hash bs ts e good h = comment_more p b Hash bs ts e (λ f. absurd cc) h
@@ -344,18 +315,15 @@ found_step Comment p b Brace bs ts e good h = comment_more p b Brace bs ts e (λ
 found_step Comment p b Letter bs ts e good h = comment_more p b Letter bs ts e (λ f. absurd cc) h
 found_step Comment p b Bad bs ts e good h = comment_more p b Bad bs ts e (λ f. absurd cc) h
 found_step (Atom q) p b Blank bs ts e good h =
-    atom_over q p b bs ts (λ f. absurd (let g : Blank ≡ Letter = sym e ∙ f in cc))
-    (blank_more p b Blank bs ts e (inl e) h)
+    atom_over _ _ _ _ _ (λ f. absurd (let g : Blank ≡ Letter = sym e ∙ f in cc)) (blank_more _ _ _ _ _ e (inl e) h)
 found_step (Atom q) p b LineEnd bs ts e good h =
-    atom_over q p b bs ts (λ f. absurd (let g : LineEnd ≡ Letter = sym e ∙ f in cc))
-    (blank_more p b LineEnd bs ts e (inr e) h)
+    atom_over _ _ _ _ _ (λ f. absurd (let g : LineEnd ≡ Letter = sym e ∙ f in cc)) (blank_more _ _ _ _ _ e (inr e) h)
 found_step (Atom q) p b Hash bs ts e good h =
     atom_over q p b bs ts (λ f. absurd (let g : Hash ≡ Letter = sym e ∙ f in cc)) (comment_begins p b bs ts e h)
 found_step (Atom q) p b Brace bs ts e good h =
-    atom_over q p b bs (token_at p (p.at + 1) ∷ ts) (λ f. absurd (let g : Brace ≡ Letter = sym e ∙ f in cc))
-    (brace_more p b bs ts e h)
+    atom_over _ _ _ _ _ (λ f. absurd (let g : Brace ≡ Letter = sym e ∙ f in cc)) (brace_more _ _ _ _ e h)
 found_step (Atom q) p b Letter bs ts e good h = atom_more q p b bs ts e h
-found_step (Atom q) p b Bad bs ts e good h = absurd cc
+found_step _ p b Bad bs ts e good h = absurd cc
 
 good_byte : (b : Bool) (p : Place) (r : Cuts) (us : List Token) → cond b (Err (Byte p.position)) r ≡ Ok us → (b ≡ false)
     × (r ≡ Ok us)
@@ -380,8 +348,7 @@ found_end limits (Atom q) p ts e =
     let none : [] ≡ h.later = (let f = h.rest in cc) in
     let is : token_at q p.at ∷ [] ≡ ts = ap (λ (us : List Token). token_at q p.at ∷ us) none ∙ sym h.whole in
     let zero_more : p.at + 0 ≡ p.at = omega arith in
-    subst (λ (us : List Token). Found (Atom q) p [] us × TokensFit limits us) is
-    (record { begun = []; pieces = []; formed = tt; goes = (tt, tt, refl, rw (zero_more) refl) }, h.inside)
+    rw (← is) (record { begun = []; pieces = []; formed = tt; goes = (tt, tt, refl, rw (zero_more) refl) }, h.inside)
 
 found_pieces : (limits : Limits) (m : Inside) (p : Place) (bs : List ℕ) (ts : List Token) → lexed limits m p bs ≡ Ok ts
     → Found m p bs ts × TokensFit limits ts

@@ -10,9 +10,8 @@ use Rattle.script_tokens.proofs.Lexing.{Cuts, cut_at}
 
 -- the atom that is looked for begins before the place
 abbrev pub IsOpen : ℕ → Inside → Place → Type 0
-IsOpen from Nothing p = from ≤ p.at
-IsOpen from Comment p = from ≤ p.at
 IsOpen from (Atom q) p = (from ≤ q.at) × (q.at < p.at)
+IsOpen from _ p = from ≤ p.at
 
 quiet : (m : Inside) (p : Place) (k : Kind) → role_of m k ≡ Passed → (made m p k ≡ []) × (is_bad m k ≡ false)
 quiet Comment p Blank e = (refl, refl)
@@ -101,12 +100,8 @@ ended limits Nothing p b bs Hash r is role = absurd cc
 ended limits Nothing p b bs Brace r is role = absurd cc
 ended limits Nothing p b bs Letter r is role = absurd cc
 ended limits Nothing p b bs Bad r is role = absurd cc
-ended limits (Atom q) p b bs Blank r is role = let e : q ≡ r = cc in rw (← is, e) refl
-ended limits (Atom q) p b bs LineEnd r is role = let e : q ≡ r = cc in rw (← is, e) refl
-ended limits (Atom q) p b bs Hash r is role = let e : q ≡ r = cc in rw (← is, e) refl
-ended limits (Atom q) p b bs Brace r is role = let e : q ≡ r = cc in rw (← is, e) refl
 ended limits (Atom q) p b bs Letter r is role = absurd cc
-ended limits (Atom q) p b bs Bad r is role = let e : q ≡ r = cc in rw (← is, e) refl
+ended limits (Atom q) p b bs _ r is role = let e : q ≡ r = cc in rw (← is, e) refl
 
 -- the atom ends before this byte
 pub found_ended : (limits : Limits) (all : Cuts) (m : Inside) (p r : Place) (text : List ℕ) (k : Kind)
@@ -171,8 +166,7 @@ bad limits (Atom q) p b bs Bad is role = absurd cc
 pub bad_found : (limits : Limits) (all : Cuts) (m : Inside) (p : Place) (text : List ℕ) (k : Kind) → p.at < length text
     → k ≡ kind_of (get_or text p.at 0) → role_of m k ≡ IsBad
     → all ≡ lexed limits m p (drop p.at text) → all ≡ Err (Byte p.position)
-bad_found limits all m p text k lt is role h = h ∙ ap (lexed limits m p) (cut_at text p.at lt)
-    ∙ bad limits m p (get_or text p.at 0) (drop (p.at + 1) text) k is role
+bad_found limits all m p text k lt is role h = h ∙ ap (lexed limits m p) (cut_at text _ lt) ∙ bad _ _ _ _ _ _ is role
 
 -- ---- the end of the text
 

@@ -10,14 +10,12 @@ use Rattle.script_tokens.proofs.Lexing.{Cuts}
 use Rattle.script_tokens.proofs.Pieces.{parts, both_fit}
 
 abbrev begins : Inside → Place → ℕ
-begins Nothing p = p.at
-begins Comment p = p.at
 begins (Atom q) p = q.at
+begins _ p = p.at
 
 abbrev IsOpen : Inside → Place → Type 0
-IsOpen Nothing p = Unit {0}
-IsOpen Comment p = Unit {0}
 IsOpen (Atom q) p = q.at < p.at
+IsOpen _ p = Unit {0}
 
 lower : (n m : ℕ) (ts : List Token) (to : ℕ) → m ≤ n → InOrder n ts to → InOrder m ts to
 lower n m [] to le h = omega (arith, h)
@@ -46,8 +44,6 @@ step (Atom q) p Letter us to o h = h
 step (Atom q) p Bad us to o h = (omega arith, o, lower (p.at + 1) _ us to (omega arith) h)
 
 stays_open : (m : Inside) (p : Place) (k : Kind) → IsOpen m p → IsOpen (inside_after m p k) (position_after p k)
-stays_open Nothing p Letter o = omega arith
-stays_open (Atom q) p Letter o = omega arith
 stays_open Nothing p Blank o = tt
 stays_open Nothing p LineEnd o = tt
 stays_open Nothing p Hash o = tt
@@ -64,6 +60,7 @@ stays_open (Atom q) p LineEnd o = tt
 stays_open (Atom q) p Hash o = tt
 stays_open (Atom q) p Brace o = tt
 stays_open (Atom q) p Bad o = tt
+stays_open _ p Letter o = omega arith
 
 at_after : (p : Place) (k : Kind) → (position_after p k).at ≡ p.at + 1
 at_after p LineEnd = refl
@@ -83,17 +80,13 @@ pub record AreCut (limits : Limits) (from : ℕ) (ts : List Token) (to : ℕ) : 
 
 at_end : (limits : Limits) (m : Inside) (p : Place) (ts : List Token) → IsOpen m p
     → tokens_before limits (atom_ended m p.at Blank) (Ok []) ≡ Ok ts → AreCut limits (begins m p) ts (p.at + 0)
-at_end limits Nothing p ts o e = let is : [] ≡ ts = cc in
-    subst (λ (us : List Token). AreCut limits p.at us (p.at + 0)) is (record { order = omega arith; inside = tt })
-at_end limits Comment p ts o e = let is : [] ≡ ts = cc in
-    subst (λ (us : List Token). AreCut limits p.at us (p.at + 0)) is (record { order = omega arith; inside = tt })
 at_end limits (Atom q) p ts o e =
     let h = parts limits (atom_ended (Atom q) p.at Blank) ts (Ok []) e in
     let none : [] ≡ h.later = (let f = h.rest in cc) in
-    let is : atom_ended (Atom q) p.at Blank ≡ ts = ap (λ (us : List Token). atom_ended (Atom q) p.at Blank ++ us) none
-    ∙ sym h.whole in
-    subst (λ (us : List Token). AreCut limits q.at us (p.at + 0)) is
-    (record { order = (omega arith, o, omega arith); inside = h.inside })
+    let is = ap (λ (us : List Token). atom_ended (Atom q) p.at Blank ++ us) none ∙ sym h.whole in
+    rw (← is) (record { order = (omega arith, o, omega arith); inside = h.inside })
+at_end limits _ p ts o e = let is : [] ≡ ts = cc in
+    subst (λ (us : List Token). AreCut limits p.at us (p.at + 0)) is (record { order = omega arith; inside = tt })
 
 pub cut_in_order : (limits : Limits) (m : Inside) (p : Place) (bs : List ℕ) (ts : List Token) → IsOpen m p
     → lexed limits m p bs ≡ Ok ts → AreCut limits (begins m p) ts (p.at + length bs)
@@ -108,11 +101,8 @@ cut_in_order limits m p (b ∷ bs) ts o e =
     let to : (position_after p k).at + length bs ≡ p.at + length (b ∷ bs) =
     (let a = at_after p k in omega (arith, a)) in
     record {
-      order = subst (λ (us : List Token). InOrder (begins m p) us (p.at + length (b ∷ bs))) (sym h.whole)
-          (step m p k h.later (p.at + length (b ∷ bs)) o
-          (subst (λ (n : ℕ). InOrder (begins (inside_after m p k) (position_after p k)) h.later n) to later.order));
-      inside = subst (λ (us : List Token). TokensFit limits us) (sym h.whole)
-          (both_fit limits (made m p k) h.later h.inside later.inside);
+      order = rw h.whole (step m p k h.later (p.at + length (b ∷ bs)) o (rw (← to) later.order));
+      inside = rw h.whole (both_fit limits (made m p k) h.later h.inside later.inside);
     }
 
 reaches : (from : ℕ) (ts : List Token) (to : ℕ) → InOrder from ts to → from ≤ to
@@ -130,8 +120,7 @@ pub within : (limits : Limits) (bs : List ℕ) (ts : List Token) → lexed limit
     → AreWithin (length bs) ts
 within limits bs ts e =
     let h = cut_in_order limits Nothing first_position bs ts tt e in
-    let z : 0 + length bs ≡ length bs = omega arith in
-    subst (λ (n : ℕ). AreWithin n ts) z (are_within 0 ts (0 + length bs) h.order)
+    subst (λ (n : ℕ). AreWithin n ts) (omega arith) (are_within 0 ts (0 + length bs) h.order)
 
 are_on_lines : (limits : Limits) (ts : List Token) → limits.line ≤ 65535 → TokensFit limits ts → AreOnScriptLines ts
 are_on_lines limits [] small k = tt
@@ -140,5 +129,4 @@ are_on_lines limits (t ∷ ts) small k = let line = line_of limits t k.0 in
 
 pub on_script_lines : (limits : Limits) (bs : List ℕ) (ts : List Token) → limits.line ≤ 65535
     → lexed limits Nothing first_position bs ≡ Ok ts → AreOnScriptLines ts
-on_script_lines limits bs ts small e =
-    are_on_lines limits ts small (cut_in_order limits Nothing first_position bs ts tt e).inside
+on_script_lines limits bs ts small e = are_on_lines _ _ small (cut_in_order _ _ _ _ _ tt e).inside

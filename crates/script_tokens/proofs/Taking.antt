@@ -101,15 +101,13 @@ given_if text fits w ws x a rest true true f b e =
       spelled = ap (λ (v : List ℕ). v ∷ ws) ((bytes_eq-Decides w (text x)).0 b) ∙ ap (λ y. text y ∷ ws) same.0
           ∙ ap (λ (vs : Spelled). text a ∷ vs) same.1;
     }
-given_if text fits w ws x a rest true false f b e = absurd cc
-given_if text fits w ws x a rest false g f b e = absurd cc
+given_if text fits w ws x a rest _ _ f b e = absurd cc
 
 value_given : {A : Type 0} (value : List ℕ → A) (text : A → List ℕ) (fits : A → Bool) (ws : Spelled) (a : A)
     (rest : Spelled) → value_at value text fits ws ≡ Some (a, rest) → IsValue text fits ws a rest
 unfolding value_at
 value_given value text fits [] a rest e = absurd cc
-value_given value text fits (w ∷ ws) a rest e =
-    given_if text fits w ws (value w) a rest (fits (value w)) (bytes_eq w (text (value w))) refl refl e
+value_given value text fits (w ∷ ws) a rest e = given_if _ _ _ _ _ _ _ _ _ refl refl e
 
 pub none_read : {A : Type 0} (r : Reads A) → ((a : A) (rest : Spelled) → r ≡ Some (a, rest) → ⊥) → r ≡ None
 none_read None h = refl
@@ -180,15 +178,13 @@ pub number_next : (low high n : ℕ) (w : List ℕ) (ws : Spelled) → BeginsWit
     → low ≤ n → n ≤ high → number_at low high ws ≡ Some (n, drop 1 ws)
 unfolding number_at
 number_next low high n w ws b e small from to =
-    kind_next number_of decimal (is_number low high) (IsNumber low high) (number_kind low high) n w ws b e
-    (from, to, small)
+    kind_next _ _ _ (IsNumber low high) (number_kind _ _) n w ws b e (from, to, small)
 
 pub number_other : (low high : ℕ) (w : List ℕ) (ws : Spelled) → BeginsWith ws w
     → ((n : ℕ) → n < 1000000000 → w ≢ decimal n) → number_at low high ws ≡ None
 unfolding number_at
 number_other low high w ws b none =
-    kind_other number_of decimal (is_number low high) (IsNumber low high) (number_kind low high) w ws b
-    (λ n is. none n is.2)
+    kind_other _ _ (is_number low high) (IsNumber low high) (number_kind _ _) w ws b (λ n is. none n is.2)
 
 pub number_out : (low high n : ℕ) (w : List ℕ) (ws : Spelled) → BeginsWith ws w → w ≡ decimal n → n < 1000000000
     → (low ≤ n → high < n) → number_at low high ws ≡ None
@@ -197,9 +193,7 @@ number_out low high n w ws b e small out =
     kind_other number_of decimal (is_number low high) (IsNumber low high) (number_kind low high) w ws b (λ m f is. (
     let same : n ≡ m = sym (number_decimal n small) ∙ ap number_of (sym e ∙ is) ∙ number_decimal m f.2 in
     let from : low ≤ n = (let g = f.0 in omega (arith, same, g)) in
-    let more = out from in
-    let to = f.1 in
-    omega (arith, same, more, to)
+    omega (arith, same)
     ))
 
 pub number_no_atom : (low high : ℕ) (ws : Spelled) → NoAtom ws → number_at low high ws ≡ None
@@ -217,11 +211,9 @@ digit_again d small = elim (cases_lt d 10) [
 
 pub four_again : (n : ℕ) → n < 65536 → four_of (hex_text n) ≡ n
 four_again n small =
-    let a = digit_again (n / 256 / 16) (omega arith) in
-    let b = digit_again (n / 256 % 16) (omega arith) in
     let c = digit_again (n % 256 / 16) (omega arith) in
     let d = digit_again (n % 256 % 16) (omega arith) in
-    rw (a, b, c, d) (omega arith)
+    rw ((digit_again (n / 256 / 16) (omega arith)), (digit_again (n / 256 % 16) (omega arith)), c, d) (omega arith)
 
 eid_kind : IsKind four_of hex_text is_eid (λ n. n < 65536)
 eid_kind = record {
@@ -234,14 +226,10 @@ eid_kind = record {
 sid_again : (s : Sid) → IsSid s → sid_of (sid_text s) ≡ s
 sid_again (Short n) h = ap Short (four_again n h)
 sid_again (Long n) h =
-    let a = four_again (n / 65536) (omega (arith, h)) in
-    let b = four_again (n % 65536) (omega arith) in
-    let c : n / 65536 * 65536 + n % 65536 ≡ n = omega arith in
-    rw (a, b) (ap Long c)
+    rw ((four_again (n / 65536) (omega (arith, h))), (four_again (n % 65536) (omega arith))) (ap Long (omega arith))
 
 sid_fits : (s : Sid) → is_sid s ≡ true → IsSid s
-sid_fits (Short n) e = grind (arith, nat_tests, e)
-sid_fits (Long n) e = grind (arith, nat_tests, e)
+sid_fits _ e = grind (arith, nat_tests, e)
 
 fits_sid : (s : Sid) → IsSid s → is_sid s ≡ true
 fits_sid (Short n) h = lt-ltb n 65536 h
@@ -275,10 +263,8 @@ two_again n small = omega arith
 
 time_again : (t : ℕ) → t < 86400 → time_of (time_text t) ≡ t
 time_again t small =
-    let a = two_again (t / 3600) (omega arith) in
-    let b = two_again (t / 60 % 60) (omega arith) in
     let c = two_again (t % 60) (omega arith) in
-    rw (a, b, c) (omega arith)
+    rw ((two_again (t / 3600) (omega arith)), (two_again (t / 60 % 60) (omega arith)), c) (omega arith)
 
 time_kind : IsKind time_of time_text is_time (λ t. t < 86400)
 time_kind = record {
@@ -321,14 +307,12 @@ sid_no_atom ws none = kind_no_atom sid_of sid_text is_sid IsSid sid_kind ws none
 pub profile_next : (p : Profile) (w : List ℕ) (ws : Spelled) → BeginsWith ws w → w ≡ profile_text p → 1 ≤ p.level
     → p.level ≤ 4 → profile_at ws ≡ Some (p, drop 1 ws)
 unfolding profile_at
-profile_next p w ws b e from to =
-    kind_next profile_of profile_text is_profile IsLevelled profile_kind p w ws b e (from, to)
+profile_next p w ws b e from to = kind_next _ _ _ IsLevelled profile_kind p w ws b e (from, to)
 
 pub profile_other : (w : List ℕ) (ws : Spelled) → BeginsWith ws w
     → ((p : Profile) → 1 ≤ p.level → p.level ≤ 4 → w ≢ profile_text p) → profile_at ws ≡ None
 unfolding profile_at
-profile_other w ws b none = kind_other profile_of profile_text is_profile IsLevelled profile_kind w ws b
-    (λ p is. none p is.0 is.1)
+profile_other w ws b none = kind_other _ _ is_profile IsLevelled profile_kind w ws b (λ p is. none p is.0 is.1)
 
 pub profile_no_atom : (ws : Spelled) → NoAtom ws → profile_at ws ≡ None
 unfolding profile_at
@@ -361,9 +345,7 @@ name_fits w is = rw (is.formed, le-leb _ _ is.short, is_bare_own w is.own) refl
 
 all_true : (a b c : Bool) → (a && b && c) ≡ true → (a ≡ true) × (b ≡ true) × (c ≡ true)
 all_true true true true e = (refl, refl, refl)
-all_true true true false e = absurd cc
-all_true true false c e = absurd cc
-all_true false b c e = absurd cc
+all_true _ _ _ e = absurd cc
 
 fits_name : (w : List ℕ) → is_name w ≡ true → IsName w
 fits_name w e =
@@ -395,8 +377,7 @@ name_shown w ws b is = rw (b.begins) (name_found w b.rest is)
 
 pub no_name_next : (ws : Spelled) → ((name : List ℕ) (rest : Spelled) → IsName name → ws ≢ name ∷ rest)
     → name_next ws ≡ None
-no_name_next ws none = none_read (name_next ws) (λ name rest e.
-    (let g = name_given ws (name, rest) e in none name rest g.0 g.1))
+no_name_next ws none = none_read (name_next ws) (λ name rest e. (let g = name_given _ _ e in none name rest g.0 g.1))
 
 -- ---- the laws of values
 

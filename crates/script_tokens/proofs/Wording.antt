@@ -54,11 +54,7 @@ is_letter k = false
 letter_is : (k : Kind) → is_letter k ≡ true → k ≡ Letter
 unfolding is_letter
 letter_is Letter e = refl
-letter_is Blank e = absurd (false≢true e)
-letter_is LineEnd e = absurd (false≢true e)
-letter_is Hash e = absurd (false≢true e)
-letter_is Brace e = absurd (false≢true e)
-letter_is Bad e = absurd (false≢true e)
+letter_is _ e = absurd (false≢true e)
 
 -- the `n` bytes from this one on are letters
 letters_from : (first n : ℕ) → Bool
@@ -145,10 +141,8 @@ decimal_letters n small = digits_letters (decimal n) (digits_decimal own n (omeg
 
 -- values are spelled by one atom
 pub decimal_word : (n : ℕ) → n < 1000000 → IsWord (decimal n)
-decimal_word n small = inl (record {
-  some = decimal_nonempty n (omega arith);
-  are = decimal_letters n (omega (arith, small));
-})
+decimal_word n small =
+    inl (record { some = decimal_nonempty n (omega arith); are = decimal_letters _ (omega (arith, small)); })
 
 pub hex_word_word : (n : ℕ) → n < 65536 → IsWord (hex_text n)
 hex_word_word n small = inl (record { some = omega arith; are = hex_letters n small })
@@ -186,8 +180,7 @@ brace_is : (b : ℕ) (bs : List ℕ) → ((b == 123) || (b == 125)) ≡ true →
 brace_is b [] e f = record {
   byte = b;
   is = refl;
-  kind = or_cases (b == 123) (b == 125) e (λ g. subst (λ (n : ℕ). kind_of n ≡ Brace) (sym (eqb-true b 123 g)) refl)
-      (λ g. subst (λ (n : ℕ). kind_of n ≡ Brace) (sym (eqb-true b 125 g)) refl);
+  kind = or_cases (b == 123) (b == 125) e (λ g. rw (eqb-true b 123 g) refl) (λ g. rw (eqb-true b 125 g) refl);
 }
 brace_is b (x ∷ bs) e f = let none = eqb-true (length (x ∷ bs)) 0 f in absurd (omega (arith, none))
 
@@ -264,15 +257,13 @@ small_byte b e = elim (name_range b e) [
 small_bytes : (bs : List ℕ) → list_all is_name_byte bs ≡ true → (k d : ℕ) → k < length bs → slice_index_or bs k d < 128
 small_bytes [] e k d lt = absurd (omega (arith, lt))
 small_bytes (b ∷ bs) e zero d lt = small_byte b (and_left (is_name_byte b) (list_all is_name_byte bs) e)
-small_bytes (b ∷ bs) e (suc k) d lt =
-    small_bytes bs (and_right (is_name_byte b) (list_all is_name_byte bs) e) k d (omega (arith, lt))
+small_bytes (b ∷ bs) e (suc k) d lt = small_bytes bs (and_right _ _ e) k d (omega (arith, lt))
 
 small_name : (bs : List ℕ) → IsName bs → (k d : ℕ) → k < length bs → slice_index_or bs k d < 128
 small_name [] h k d lt = absurd (omega (arith, lt))
 small_name (b ∷ bs) h zero d lt = let r = lower_range b (and_left (is_lower b) (list_all is_name_byte bs) h.formed) in
     omega (arith, r.1)
-small_name (b ∷ bs) h (suc k) d lt =
-    small_bytes bs (and_right (is_lower b) (list_all is_name_byte bs) h.formed) k d (omega (arith, lt))
+small_name (b ∷ bs) h (suc k) d lt = small_bytes bs (and_right _ _ h.formed) k d (omega (arith, lt))
 
 -- names are UTF-8
 pub name_utf8 : (bs : List ℕ) → IsName bs → IsUtf8 bs

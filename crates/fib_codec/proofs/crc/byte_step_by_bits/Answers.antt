@@ -10,6 +10,4 @@ loop-index-preserved c =
 pub returns : goal.returns
 returns c =
     let end : 8 - c.loop-index.index ≡ 0 = omega arith in
-    sym (after-zero c.args.byte c.loop-index.register)
-    ∙ ap (λ w. after w c.args.byte c.loop-index.register) (sym end)
-    ∙ c.loop-index.invariant
+    cc (after-zero c.args.byte c.loop-index.register, end, c.loop-index.invariant)

@@ -4,7 +4,5 @@ use Rattle.fib_codec.proofs.crc.crc16_by_bits.Goals as goal
 
 pub returns : goal.returns
 returns c =
-    let done : drop c.loop-byte.byte-index c.args.bytes.now ≡ [] =
-    drop_all c.loop-byte.byte-index c.args.bytes.now c.loop-byte-test.false in
-    word_checks c.args.bytes.now c.loop-byte.register
-    (ap (λ t. after_all t c.loop-byte.register) (sym done) ∙ c.loop-byte.invariant)
+    let done = drop_all c.loop-byte.byte-index c.args.bytes.now c.loop-byte-test.false in
+    word_checks _ _ (ap (λ t. after_all t c.loop-byte.register) (sym done) ∙ c.loop-byte.invariant)

@@ -26,8 +26,7 @@ overflow_mul-value c = let small =
 
 pub overflow_add-value : goal.overflow_add-value
 overflow_add-value c =
-    let small = value_small c.args.atom.now c.loop-byte.byte-index c.loop-byte.value c.loop-byte-test.true (omega arith)
-    c.loop-byte.invariant in
+    let small = value_small _ _ _ c.loop-byte-test.true (omega arith) c.loop-byte.invariant in
     let range = digit_range (get_or c.args.atom.now c.loop-byte.byte-index 0)
     (sym c.is_ascii_digit.ensures.value ∙ c.if-not-is_ascii_digit.false) in
     omega (arith, small, range.1, c.from.ensures)
@@ -36,11 +35,8 @@ pub loop-byte-preserved : goal.loop-byte-preserved
 loop-byte-preserved c =
     let good = sym c.is_ascii_digit.ensures.value ∙ c.if-not-is_ascii_digit.false in
     let range = digit_range (get_or c.args.atom.now c.loop-byte.byte-index 0) good in
-    let next = reads_on c.args.atom.now c.loop-byte.byte-index c.loop-byte.value
-    (get_or c.args.atom.now c.loop-byte.byte-index 0) c.loop-byte-test.true refl good range.0 range.1
-    c.loop-byte.invariant in
-    subst (λ (n : ℕ). Reading c.args.atom.now (c.loop-byte.byte-index + 1) (c.loop-byte.value * 10 + n))
-    (sym c.from.ensures) next
+    let next = reads_on _ _ _ _ c.loop-byte-test.true refl good range.0 range.1 c.loop-byte.invariant in
+    rw c.from.ensures next
 
 pub returns-clause-found : goal.returns-clause-found
 returns-clause-found c =

@@ -12,9 +12,8 @@ loop-place-preserved c =
     let f = follows p q c.kind_of-kind.result c.position_after-place.ensures in
     let role = sym c.role_of.ensures ∙ c.in-Passed.is in
     record {
-      left = passed_on c.args.limits all c.loop-place.inside c.inside_after-inside.result p q c.args.text.now
-          c.kind_of-kind.result c.loop-place-test.true c.kind_of-kind.ensures role c.inside_after-inside.ensures
-          c.position_after-place.ensures f.at c.loop-place.invariant.left;
+      left = passed_on _ _ _ _ _ _ _ _ c.loop-place-test.true c.kind_of-kind.ensures role c.inside_after-inside.ensures
+      c.position_after-place.ensures f.at c.loop-place.invariant.left;
       place = record {
         within = omega (arith, f.at, c.loop-place-test.true);
         line = omega (arith, f.at, f.line, c.loop-place.invariant.place.line);
@@ -27,19 +26,16 @@ loop-place-preserved c =
 pub returns-in-Ends-clause-first : goal.returns-in-Ends-clause-first
 returns-in-Ends-clause-first c =
     let all : Cuts = lexed c.args.limits Nothing c.args.from (drop c.args.from.at c.args.text.now) in
-    found_ended c.args.limits all c.loop-place.inside c.loop-place.place c.in-Ends.start c.args.text.now
-    c.kind_of-kind.result c.found.result c.loop-place-test.true c.kind_of-kind.ensures
-    (sym c.role_of.ensures ∙ c.in-Ends.is) c.found.ensures c.loop-place.invariant.left
+    found_ended _ _ _ _ _ _ _ _ c.loop-place-test.true c.kind_of-kind.ensures (sym c.role_of.ensures ∙ c.in-Ends.is)
+    c.found.ensures c.loop-place.invariant.left
 
 pub returns-in-Brace-clause-first : goal.returns-in-Brace-clause-first
 returns-in-Brace-clause-first c =
     let all : Cuts = lexed c.args.limits Nothing c.args.from (drop c.args.from.at c.args.text.now) in
     let f = follows c.loop-place.place c.position_after-next.result c.kind_of-kind.result
     c.position_after-next.ensures in
-    found_brace c.args.limits all c.loop-place.inside c.loop-place.place c.position_after-next.result c.args.text.now
-    c.kind_of-kind.result c.found-in-Brace.result c.loop-place-test.true c.kind_of-kind.ensures
-    (sym c.role_of.ensures ∙ c.in-Brace.is) c.position_after-next.ensures f.at c.found-in-Brace.ensures
-    c.loop-place.invariant.left
+    found_brace _ _ _ _ _ _ _ _ c.loop-place-test.true c.kind_of-kind.ensures (sym c.role_of.ensures ∙ c.in-Brace.is)
+    c.position_after-next.ensures f.at c.found-in-Brace.ensures c.loop-place.invariant.left
 
 pub returns-in-Bad-clause-first : goal.returns-in-Bad-clause-first
 returns-in-Bad-clause-first c =
@@ -53,8 +49,7 @@ returns-in-Bad-clause-first c =
 pub returns-in-Atom-clause-first : goal.returns-in-Atom-clause-first
 returns-in-Atom-clause-first c =
     let all : Cuts = lexed c.args.limits Nothing c.args.from (drop c.args.from.at c.args.text.now) in
-    ended_last c.args.limits all c.loop-place.inside c.loop-place.place c.in-Atom.start c.args.text.now
-    c.found-in-Atom.result c.loop-place-test.false c.in-Atom.is c.found-in-Atom.ensures c.loop-place.invariant.left
+    ended_last _ _ _ _ _ _ _ c.loop-place-test.false c.in-Atom.is c.found-in-Atom.ensures c.loop-place.invariant.left
 
 pub returns-in-Nothing : goal.returns-in-Nothing
 returns-in-Nothing c =

@@ -20,10 +20,8 @@ returns-then-value-high-clause-none c = λ n rest from to small e.
 pub returns-clause-read : goal.returns-clause-read
 returns-clause-read c =
     let found = c.in-Some.ensures.found in
-    let from = c.if-value-low.false in
-    let to = c.if-value-high.false in
     let next = number_next c.args.low c.args.high c.in-Some.value c.in_ok-atom.atom.now c.args.reader.now.lexemes
-    c.in_ok-atom.ensures.begins found.0 found.1 (omega (arith, from)) (omega (arith, to)) in (
+    c.in_ok-atom.ensures.begins found.0 found.1 (omega arith) (omega arith) in (
       onward _ c.in-Some.value c.args.reader.now.lexemes c.advance.new.self.lexemes next c.advance.ensures.lexemes,
       c.advance.ensures.lines,
     )

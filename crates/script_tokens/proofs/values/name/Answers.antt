@@ -17,5 +17,4 @@ returns-then-not-is_name-clause-other c =
 
 pub returns-in-Err-clause-other : goal.returns-in-Err-clause-other
 returns-in-Err-clause-other c =
-    absurd (c.in-Err.ensures.cases.0
-    (name_utf8 c.in_ok-atom.atom.now (c.is_name.ensures.formed c.if-not-is_name.false)))
+    absurd (c.in-Err.ensures.cases.0 (name_utf8 _ (c.is_name.ensures.formed c.if-not-is_name.false)))

@@ -4,5 +4,4 @@ use Rattle.fib_codec.proofs.data.Data.finish.Goals as goal
 
 pub returns-clause-value : goal.returns-clause-value
 returns-clause-value c =
-    c.with_crc.ensures ∙ ap checked (begun_is_filled c.self.inside.len c.self.inside.bytes c.self.invariant
-    ∙ ap filled c.self.view_is)
+    cc (c.with_crc.ensures, begun_is_filled c.self.inside.len c.self.inside.bytes c.self.invariant, c.self.view_is)

@@ -5,8 +5,6 @@ use Rattle.fib_codec.proofs.data.Data.push_two.Goals as goal
 pub invariant_of-self : goal.invariant_of-self
 invariant_of-self c =
     let inside = c.self.inside in
-    let long : length (take inside.len inside.bytes) ≡ inside.len =
-    length-take-le inside.len inside.bytes (omega (arith, c.self.invariant.within, c.self.told)) in
-    let same : length (take inside.len inside.bytes) ≡ length c.args.self.now = ap length c.self.view_is in
+    let long = length-take-le inside.len inside.bytes (omega (arith, c.self.invariant.within, c.self.told)) in
     begun_two inside.len inside.bytes c.args.first c.args.second c.self.invariant
-    (omega (arith, long, same, c.requires))
+    (omega (arith, long, ap length c.self.view_is, c.requires))

@@ -6,12 +6,10 @@ pub returns-clause-figs : goal.returns-clause-figs
 returns-clause-figs c figs written appended =
     let bytes : c.self.inside.bytes ≡ figs_bytes figs = c.self.view_is ∙ appended in
     let whole : c.finish.result ≡ checked (filled (figs_bytes figs)) = rw (← bytes) c.finish.ensures.value in
-    let short : length (figs_bytes figs) ≤ 30 = omega (arith, c.self.invariant, ap length bytes) in
-    rw (whole) (fib_is figs written short)
+    rw (whole) (fib_is figs written (omega (arith, c.self.invariant, ap length bytes)))
 
 pub returns-clause-valid : goal.returns-clause-valid
 returns-clause-valid c figs written appended ours =
     let bytes : c.self.inside.bytes ≡ figs_bytes figs = c.self.view_is ∙ appended in
     let whole : c.finish.result ≡ checked (filled (figs_bytes figs)) = rw (← bytes) c.finish.ensures.value in
-    let short : length (figs_bytes figs) ≤ 30 = omega (arith, c.self.invariant, ap length bytes) in
-    rw (whole) (valid_is figs written short ours)
+    rw (whole) (valid_is figs written (omega (arith, c.self.invariant, ap length bytes)) ours)

@@ -4,8 +4,6 @@ use Rattle.fib_codec.proofs.fib.Fib.put_entry.Goals as goal
 
 pub invariant_of-self : goal.invariant_of-self
 invariant_of-self c =
-    let size : length (entry_bytes c.args.entry.now) ≡ entry_size c.args.entry.now = entry_length c.args.entry.now in
     let grown : length c.put_entry.new.out ≡ length c.self.inside.bytes + length (entry_bytes c.args.entry.now) =
     rw (c.put_entry.ensures.written) (length-append c.self.inside.bytes (entry_bytes c.args.entry.now)) in
-    let before : length c.self.inside.bytes ≡ length c.args.self.now = ap length c.self.view_is in
-    omega (arith, size, grown, before, c.requires)
+    omega (arith, entry_length c.args.entry.now, grown, ap length c.self.view_is, c.requires)

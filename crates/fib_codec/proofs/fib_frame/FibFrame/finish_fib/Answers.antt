@@ -7,22 +7,17 @@ pub invariant_of-self : goal.invariant_of-self
 invariant_of-self c =
     let frame = c.self.inside in
     let fib : List ℕ = checked (take 30 c.row.result.now) in
-    let long : length fib ≡ 32 =
-    checked_len _ (length-take-le 30 c.row.result.now (omega (arith, c.row.ensures.whole))) in
     let is = written_over frame.len (32 * c.args.index) frame.bytes fib c.self.invariant (rw c.self.view_is c.requires)
-    long in
+    (checked_len _ (length-take-le 30 c.row.result.now (omega (arith, c.row.ensures.whole)))) in
     rw (c.write_sealed.ensures) is.kept
 
 pub returns-clause-written : goal.returns-clause-written
 returns-clause-written c =
     let frame = c.self.inside in
     let fib : List ℕ = checked (take 30 c.row.result.now) in
-    let long : length fib ≡ 32 =
-    checked_len _ (length-take-le 30 c.row.result.now (omega (arith, c.row.ensures.whole))) in
     let is = written_over frame.len (32 * c.args.index) frame.bytes fib c.self.invariant (rw c.self.view_is c.requires)
-    long in
-    rw (sym c.self.view_is) (rw (← c.row.ensures.filled) (written_fib frame.len c.args.index frame.bytes fib
-    c.write_sealed.new.bytes is c.write_sealed.ensures))
+    (checked_len _ (length-take-le 30 c.row.result.now (omega (arith, c.row.ensures.whole)))) in
+    rw (sym c.self.view_is) (rw (← c.row.ensures.filled) (written_fib _ _ _ _ _ is c.write_sealed.ensures))
 
 pub returns-clause-front : goal.returns-clause-front
 returns-clause-front c =

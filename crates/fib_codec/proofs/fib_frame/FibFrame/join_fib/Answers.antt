@@ -10,8 +10,7 @@ invariant_of-self g c =
     let long : length fib ≡ 32 =
     checked_len _ (joined_len c.args.fig.now c.args.plain.now (omega (arith, c.requires.few, c.told-fig))
     (omega (arith, c.told-plain))) in
-    let is = written_over frame.len (32 * c.args.index) frame.bytes fib c.self.invariant
-    (rw c.self.view_is c.requires.there) long in
+    let is = written_over _ _ _ _ c.self.invariant (rw c.self.view_is c.requires.there) long in
     rw (c.write_joined.ensures) is.kept
 
 pub returns : goal.returns
@@ -21,7 +20,5 @@ returns g c =
     let long : length fib ≡ 32 =
     checked_len _ (joined_len c.args.fig.now c.args.plain.now (omega (arith, c.requires.few, c.told-fig))
     (omega (arith, c.told-plain))) in
-    let is = written_over frame.len (32 * c.args.index) frame.bytes fib c.self.invariant
-    (rw c.self.view_is c.requires.there) long in
-    rw (sym c.self.view_is) (written_fib frame.len c.args.index frame.bytes fib c.write_joined.new.bytes is
-    c.write_joined.ensures)
+    let is = written_over _ _ _ _ c.self.invariant (rw c.self.view_is c.requires.there) long in
+    rw (sym c.self.view_is) (written_fib _ _ _ _ _ is c.write_joined.ensures)

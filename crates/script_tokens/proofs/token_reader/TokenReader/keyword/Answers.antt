@@ -14,6 +14,4 @@ pub returns-in-None-clause-first : goal.returns-in-None-clause-first
 returns-in-None-clause-first c = sym (nothing_first c.args.self.now.lexemes c.in-None.ensures)
 
 pub returns-in-Some-clause-first : goal.returns-in-Some-clause-first
-returns-in-Some-clause-first c =
-    key_is_first c.of.result c.in-Some.word.now c.args.self.now.lexemes c.in-Some.ensures c.of.ensures.found
-    c.of.ensures.none
+returns-in-Some-clause-first c = key_is_first _ _ _ c.in-Some.ensures c.of.ensures.found c.of.ensures.none
