@@ -168,8 +168,7 @@ headed_at laws plan c n eid count j d some three =
     let f : ℕ → List ℕ = notice_at plan c n eid (base_of plan count 0) in
     let i : ℕ = plan.notice - j * count_step (layout_mode plan.layout) in
     let below : i < plan.notice = header_below (layout_mode plan.layout) plan.notice j some d.notice_from in
-    let whole = header_count (layout_mode plan.layout) plan.notice count j some three d.notice_from d.notice_to
-    d.count_low d.on_step in
+    let whole = header_count _ _ count j some three d.notice_from d.notice_to d.count_low d.on_step in
     let at = frames_get f 0 plan.notice i below ∙ ap (λ (x : ℕ). Some (f x)) (omega arith) in
     (f i, at, header_at laws plan c n eid count i d below whole)
 

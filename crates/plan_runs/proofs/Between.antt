@@ -83,14 +83,11 @@ expects_as p ts pc counters R Q f h =
 swap_resumes : (p : Program) (ts : List Known) (pc : ℕ) (hold : Hold) (left : Option ℕ) (c n : Configuration)
     (counters : List ℕ) → is_due left ≡ true
     → ResumesBy p ts pc hold left c n counters → ResumesBy p ts pc (hold_after_swap hold) None n n counters
-swap_resumes p ts pc Running left c n counters due h =
-    expects_as p ts pc counters _ _ (λ t. swap_comes 0 t.pending t left c n due) h
-swap_resumes p ts pc (Waits k) left c n counters due h =
-    expects_as p ts pc counters _ _ (λ t. swap_comes k t.pending t left c n due) h
+swap_resumes p ts pc Running left c n counters due h = expects_as p ts pc _ _ _ (λ t. swap_comes 0 _ t left c n due) h
+swap_resumes p ts pc (Waits k) left c n counters due h = expects_as p ts pc _ _ _ (λ t. swap_comes k _ t left c n due) h
 swap_resumes p ts pc WaitsSwap left c n counters due h = expects_as p ts pc counters _ _ (λ t. swap_joins t left n) h
 swap_resumes p ts pc Ended left c n counters due h = tt
-swap_resumes p ts pc _ left c n counters due h =
-    expects_as p ts pc counters _ _ (λ t. swap_pauses t.pending t left c n due) h
+swap_resumes p ts pc _ left c n counters due h = expects_as p ts pc _ _ _ (λ t. swap_pauses _ t left c n due) h
 
 committed_next : (p : Program) (left : Option ℕ) (c n : Configuration) → is_due left ≡ true
     → CommittedBy p.plan left c n → IsOnAir p.plan n
@@ -160,8 +157,7 @@ holds p ts s (Waits k) away ahead h =
     }
 holds p ts s WaitsSwap away ahead h = expects_as p ts s.pc s.counters _ _ (λ t. joins_later t s.left s.next) h
 holds p ts s Ended away ahead h = tt
-holds p ts s _ away ahead h = expects_as p ts s.pc s.counters _ _
-    (λ t. pauses_later t.pending t s.left s.current s.next ahead) h
+holds p ts s _ away ahead h = expects_as p ts s.pc _ _ _ (λ t. pauses_later _ t _ _ _ ahead) h
 
 -- while a wait with alternatives continues, frames are left, if it has a number of them
 later_none : (a b : Bool) → (a || b) ≡ false → b ≡ false
@@ -205,8 +201,7 @@ begins p ts ty s h = by (is_here s s.hold) refl
 
 pub frame_bursts : (p : Program) (ts : List Known) → IsProgram p → IsTyping p ts → (s : State) → Between p ts s
     → Bursts p ts p.plan.budget (ready s)
-frame_bursts p ts pr ty s h = bursts p.plan.budget p ts (ready s) pr ty (omega arith)
-    (begins p ts ty (with_due_swap s) (opens p ts s h))
+frame_bursts p ts pr ty s h = bursts _ p ts _ pr ty (omega arith) (begins p ts ty (with_due_swap s) (opens p ts s h))
 
 -- a frame is allowed, and the state after its instructions is as expected
 pub record FrameGoes (p : Program) (ts : List Known) (s : State) : Type 0 where

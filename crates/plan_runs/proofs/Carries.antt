@@ -107,8 +107,7 @@ effect_carries plan (CommitIn k) s f a =
     committed plan s (left_in (count_step (layout_mode plan.layout)) s.count k) a.0.idle
     (in_notice (layout_mode plan.layout) s.count k plan.notice a.1, in_step (layout_mode plan.layout) s.count k)
 effect_carries plan (CommitAt n) s f a =
-    committed plan s (left_at s.count plan.notice n) a.0.idle
-    ((omega arith), at_step (layout_mode plan.layout) s.count plan.notice n a.1.1 a.1.0)
+    committed plan s (left_at s.count plan.notice n) a.0.idle ((omega arith), at_step _ _ _ n a.1.1 a.1.0)
 effect_carries plan Settle s f a = settle_carries plan s.left s
 effect_carries plan (Edits e) s f a =
     record {
@@ -142,5 +141,4 @@ ended_carries plan s = held_carries plan s (is_here s s.hold)
 
 pub frame_carries : (p : Program) → IsProgram p → (s : State) (n : ℕ) → Executes p (ready s) n (after_burst p s)
     → Carries p.plan (with_due_swap s) (after_burst p s)
-frame_carries p pr s n h = carries_joined p.plan (with_due_swap s) (ready s) (after_burst p s)
-    (ended_carries p.plan (with_due_swap s)) (burst_carries p pr (ready s) n (after_burst p s) h)
+frame_carries p pr s n h = carries_joined _ _ _ _ (ended_carries _ _) (burst_carries p pr _ n _ h)

@@ -33,9 +33,7 @@ step_clock plan (Some i) s = effect_clock plan i s
 burst_clock : (most : ℕ) (p : Program) (s : State) → clock (burst most p s) ≡ clock s
 burst_clock zero p s = refl
 burst_clock (suc most) p s =
-    either_clock (is_running s.hold) (burst most p (step p s)) s (clock s)
-    (burst_clock most p (step p s) ∙ step_clock p.plan (instr_at p s.pc) s)
-    refl
+    either_clock _ _ s _ (burst_clock most p (step p s) ∙ step_clock p.plan (instr_at p s.pc) s) refl
 
 ready_clock : (s : State) → clock (ready s) ≡ clock (with_due_swap s)
 ready_clock s =

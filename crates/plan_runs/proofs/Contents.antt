@@ -52,8 +52,7 @@ set_sent plan u = each_from (IsSentOf (is_noticed plan.notice u.left) u.current 
 
 pub fib_sent : (plan : Plan) (u : State) (n : ℕ) → AllByRecursion
     (IsSentOf (is_noticed plan.notice u.left) u.current u.next) (fib_entries plan.layout n (sent_entries plan u))
-fib_sent plan u n = each_where (IsSentOf (is_noticed plan.notice u.left) u.current u.next) (λ m. m == n)
-    (sent_entries plan u) (packing plan.layout (sent_entries plan u)) (set_sent plan u)
+fib_sent plan u n = each_where _ (λ m. m == n) _ _ (set_sent plan u)
 
 fibs_sent : (plan : Plan) (u : State) (ns : List ℕ) → AreSentOf (is_noticed plan.notice u.left) u.current u.next
     (map (λ n. fib_entries plan.layout n (sent_entries plan u)) ns)
@@ -162,8 +161,7 @@ frame_says laws plan u a =
       };
       later = later_say layout es ns (reserved_fibs layout) 1 frame are.1;
       entries_sent = fib_sent plan u (first_fib layout k);
-      more_sent = sent_and_none (is_noticed plan.notice u.left) u.current u.next (map (λ n. fib_entries layout n es) ns)
-          (reserved_fibs layout) (fibs_sent plan u ns);
+      more_sent = sent_and_none _ _ _ _ _ (fibs_sent plan u ns);
       heard = λ m h.
           let inside = (laws.pages.heard layout o k es (pageable laws.pages plan u a) m).0 h in
           let among : In m (page_entries layout k es) = contains_in (page_entries layout k es) m inside in

@@ -130,10 +130,8 @@ frame_waits laws p ts c low s es h w some rest =
     λ other heard.
     let that = of_notice laws p.plan u other (airs p ts c s h) heard in
     let same : that.frames ≡ w.frames = some_low that.frames w.frames u.left that.left left in
-    that.low_is ∙ ap (λ (x : ℕ). (u.count + x) % 5000 % 250) same ∙ sym now in
-    match_no (s.count % 250 == low) (is_due s.left ≡ true)
-    ((is_due s.left ≡ false) × AnnouncesOnly low (frame_bytes p s) × SwapsAt low p (after_frame p s) es)
-    (differ (s.count % 250) low apart) (waits, only, rest (awaits_after p.plan u low of))
+    that.low_is ∙ ap (λ (x : ℕ). (u.count + x) % 5000 % 250) same ∙ sym now in match_no _ _ _
+    (differ (s.count % 250) low apart) (waits, only, rest (awaits_after _ u low of))
 
 -- the frame of the swap
 frame_swaps : (p : Program) (ts : List Known) (low : ℕ) (s : State) (es : List Event) → Holds p ts s

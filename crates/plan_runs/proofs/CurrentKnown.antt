@@ -165,13 +165,10 @@ knows_the_current one_list laws p s h waiting window heard tuned phase long all 
     v.after (fibs_join p s waiting window)
     (hears_join (fibs_of p.plan.layout (run_frames p s waiting)) (fibs_of p.plan.layout (run_frames p t window)) untuned
     w.after v.after w.hears v.hears) in
-    let same : v.after ≡ heard =
-    hears_same one_list (fibs_of p.plan.layout (run_frames p s (waiting ++ window))) untuned v.after heard mine
-    all in
+    let same : v.after ≡ heard = hears_same one_list _ _ _ heard mine all in
     let c : Configuration = (with_due_swap t).current in
     let whole = periods_are_whole laws.pages p s h waiting window phase long in
     let frames : List (List ℕ) = run_frames p t window in
     let shows : Shows v.after.current c =
-    all_shown c (Or Nothing (SomeSaid frames false)) v.after.current v.current
-    (λ e inside. inr (whole_had c false frames whole e inside)) in
+    all_shown c _ _ v.current (λ e inside. inr (whole_had c false _ whole e inside)) in
     subst (λ (l : Listening). Shows l.current c) same shows

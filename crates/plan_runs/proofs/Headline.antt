@@ -68,5 +68,4 @@ frames_keep kept laws p ts c s (Frame ∷ es) h =
     (here, frames_keep kept laws p ts c (after_frame p s) es (frame_holds p ts c s h))
 
 pub reserves_are_kept : PagesKeepReserve → PageLaws → ReservesAreKept
-reserves_are_kept kept laws p s events h =
-    frames_keep kept laws p h.typed.0 (code_of p s h) s events (played_holds p s h)
+reserves_are_kept kept laws p s events h = frames_keep kept laws p _ (code_of p s h) s events (played_holds p s h)

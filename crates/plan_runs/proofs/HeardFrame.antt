@@ -63,10 +63,8 @@ frame_heard laws plan u a C N l h =
     let on : Bool = is_noticed plan.notice u.left in
     let set_c = whole_is_set u.current a.current in
     let set_n = whole_is_set u.next a.next in
-    let one = hears_entries on u.current u.next C N h.awaited says.entries (headed (ensemble_sent plan u) l) set_c set_n
-    says.entries_sent h.knows in
-    let rest = hears_fibs on u.current u.next (Or C (SaidIn false says.entries)) (Or N (SaidIn true says.entries))
-    h.awaited says.later_are says.more one.after set_c set_n says.later says.more_sent one.knows in
+    let one = hears_entries on _ _ C N _ _ _ set_c set_n says.entries_sent h.knows in
+    let rest = hears_fibs on _ _ _ _ _ _ _ _ set_c set_n says.later says.more_sent one.knows in
     let first : HearsFib says.first_fib_is l one.after =
     (says.first.figs, says.first.is_fib, says.first.hears l ∙ one.is) in
     let all : HearsAll (says.first_fib_is ∷ says.later_are) l rest.after = (one.after, first, rest.hears) in
@@ -75,11 +73,8 @@ frame_heard laws plan u a C N l h =
       hears = as_fibs (fibs_in plan u) (says.first_fib_is ∷ says.later_are) l rest.after says.fibs all;
       knows = record {
         awaited = h.awaited;
-        knows = tuned_weaker on u.current u.next (Or (Or C (SaidIn false says.entries)) (SaidInSome false says.more))
-            (Or C (RowSaid (shown_bytes plan u) false))
-            (Or (Or N (SaidIn true says.entries)) (SaidInSome true says.more))
-            (Or N (RowSaid (shown_bytes plan u) true)) h.awaited rest.after
-            (row_heard plan u says false C) (row_heard plan u says true N) rest.knows;
+        knows =
+        tuned_weaker on _ _ _ _ _ _ _ _ (row_heard plan u says false C) (row_heard plan u says true N) rest.knows;
         waits = h.waits;
         headless = h.headless;
       };
@@ -98,18 +93,14 @@ some_heard laws plan u a C N k l h =
     let on : Bool = is_noticed plan.notice u.left in
     let set_c = whole_is_set u.current a.current in
     let set_n = whole_is_set u.next a.next in
-    let one = hears_entries on u.current u.next C N h.awaited says.entries (headed (ensemble_sent plan u) l) set_c set_n
-    says.entries_sent h.knows in
-    let rest = hears_fibs on u.current u.next (Or C (SaidIn false says.entries)) (Or N (SaidIn true says.entries))
-    h.awaited (take k says.later_are) (take k says.more) one.after set_c set_n
-    (some_say k says.later_are says.more says.later) (some_sent on u.current u.next k says.more says.more_sent)
-    one.knows in
+    let one = hears_entries on _ _ C N _ _ _ set_c set_n says.entries_sent h.knows in
+    let rest = hears_fibs on _ _ _ _ _ _ _ _ set_c set_n (some_say k _ _ says.later)
+    (some_sent on _ _ k _ says.more_sent) one.knows in
     let first : HearsFib says.first_fib_is l one.after =
     (says.first.figs, says.first.is_fib, says.first.hears l ∙ one.is) in
     record {
       after = rest.after;
-      hears = as_fibs (take (suc k) (fibs_in plan u)) (take (suc k) (says.first_fib_is ∷ says.later_are)) l rest.after
-          (ap (take (suc k)) says.fibs) (one.after, first, rest.hears);
+      hears = as_fibs _ _ l _ (ap (take (suc k)) says.fibs) (one.after, first, rest.hears);
       current = weaker (whole_of u.current)
           (Or (Or C (SaidIn false says.entries)) (SaidInSome false (take k says.more))) C rest.after.current
           (λ x c. inl (inl c)) rest.knows.current;
@@ -155,8 +146,7 @@ enters p ts c s h C N l due knows =
     let a = airs p ts c s h in
     let link = links p ts c s h in
     let there : Ready plan u.left s.current u.next s.count C M l =
-    ready_by plan s.left u.left s.current s.next u.next s.count C N l (ahead_from s.left due) a.ahead
-    (link.left due) knows in
+    ready_by plan _ _ _ _ _ _ C N l (ahead_from _ due) a.ahead (link.left due) knows in
     let here : Ready plan u.left u.current u.next u.count C M l = rw (link.current due) (rw link.count there) in
     elim (zero_or_not (u.count % count_step (layout_mode plan.layout))) [
       | inl whole ↦ as_headed plan u C M l (Some (ensemble_of plan u)) (is_sent plan u whole)
@@ -193,5 +183,4 @@ enters_untuned p ts c s h whole =
     let u : State = shown p s in
     let plan : Plan = p.plan in
     let here = ap (λ (k : ℕ). k % count_step (layout_mode plan.layout)) (links p ts c s h).count ∙ whole in
-    as_headed plan u (λ x. ⊥) (λ x. ⊥) untuned (Some (ensemble_of plan u)) (is_sent plan u here)
-    (headed_untuned plan u (airs p ts c s h))
+    as_headed plan u (λ x. ⊥) (λ x. ⊥) _ _ (is_sent plan u here) (headed_untuned plan u (airs p ts c s h))

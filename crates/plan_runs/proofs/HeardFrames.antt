@@ -115,9 +115,8 @@ hears_one laws p ts c s h l entered =
     record {
       after = heard.after;
       hears = heard.hears;
-      knows = knows_weaker plan t.left t.current t.next t.count C Nothing N Nothing heard.after
-          (λ x no_entry. absurd no_entry) (λ x no_entry. absurd no_entry)
-          (knows_after plan u C N heard.after a heard.knows);
+      knows = knows_weaker plan _ _ _ _ C _ N _ _ (λ x no_entry. absurd no_entry) (λ x no_entry. absurd no_entry)
+      (knows_after plan u C N _ a heard.knows);
     }
 
 pub known_runs : Laws → (p : Program) (ts : List Known) → IsCode p ts → (s : State) (events : List Event) → Holds p ts s
@@ -132,8 +131,7 @@ known_runs laws p ts c s (Frame ∷ es) h l knows =
     let rest = known_runs laws p ts c (after_frame p s) es (frame_holds p ts c s h) one.after one.knows in
     record {
       after = rest.after;
-      hears = frame_then p s (run_frames p (after_frame p s) es) l one.after rest.after
-          one.hears rest.hears;
+      hears = frame_then p s _ l _ _ one.hears rest.hears;
       knows = rest.knows;
     }
 
@@ -159,8 +157,7 @@ waits_run laws p ts c s (Frame ∷ es) h =
           let rest = known_runs laws p ts c (after_frame p s) es (frame_holds p ts c s h) one.after one.knows in
           record {
             after = rest.after;
-            hears = frame_then p s (run_frames p (after_frame p s) es) untuned one.after rest.after one.hears
-                rest.hears;
+            hears = frame_then p s _ _ _ _ one.hears rest.hears;
             either = inr rest.knows;
             tuned = λ there. rest.knows;
           }
@@ -171,8 +168,7 @@ waits_run laws p ts c s (Frame ∷ es) h =
           let rest = waits_run laws p ts c (after_frame p s) es (frame_holds p ts c s h) in
           record {
             after = rest.after;
-            hears = frame_then p s (run_frames p (after_frame p s) es) untuned untuned rest.after
-                (frame_passed laws p.plan u (airs p ts c s h) here) rest.hears;
+            hears = frame_then p s _ _ _ _ (frame_passed laws _ u (airs p ts c s h) here) rest.hears;
             either = rest.either;
             tuned = λ there. elim there [ inl now ↦ absurd (apart now) | inr later ↦ rest.tuned later ];
           }

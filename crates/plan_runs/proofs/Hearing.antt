@@ -108,9 +108,7 @@ joined_heard m (f ∷ fs) l = joined_by m f fs l (same_head (head_of m) f.head) 
 
 pub figs_heard : (ms : List Marked) (l : Listening) → hear_figs (map fig_of (figs_of ms)) l ≡ hear_marked ms l
 figs_heard [] l = refl
-figs_heard (m ∷ ms) l =
-    joined_heard m (figs_of ms) l ∙ then_last (hear_entry m.next (raw_entry m.entry) l)
-    (hear_figs (map fig_of (figs_of ms))) (hear_marked ms) (figs_heard ms)
+figs_heard (m ∷ ms) l = joined_heard m _ l ∙ then_last _ _ _ (figs_heard ms)
 
 -- ---- FIG 0/0 before the entries
 

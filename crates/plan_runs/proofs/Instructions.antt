@@ -198,8 +198,7 @@ settle_by p ts b s t (Perhaps hi) is h arrives (inl agrees) =
     settle_pending p ts b s (spent (known_after_swap t)) agrees.frames agrees.is agrees.ahead h.kept arrives
     (omega (arith, h.affords, h.within)) h.set refl agrees.next agrees.next
 settle_by p ts b s t (Perhaps hi) is h arrives (inr agrees) =
-    settle_idle p ts h.typing b s (spent (known_after_swap t)) agrees.none h.runs arrives (omega (arith, h.affords))
-    agrees h.set h.kept
+    settle_idle p ts h.typing b s _ agrees.none h.runs arrives (omega (arith, h.affords)) agrees h.set h.kept
 
 -- ---- edits and commits
 
@@ -337,11 +336,7 @@ loop_by p ts b s r target t true e h =
     let arrives = target_arrives p ts target (spent t) (h.safe.targets target refl) in
     let after = lower_one t.counters s.counters r (counter_of s r - 1) h.formed.0 h.kept.eight (omega arith) h.set in
     let kept : IsKept p.plan s.left s.current s.next (slice_set s.counters r (counter_of s r - 1)) =
-    record {
-      on_air = h.kept.on_air;
-      committed = h.kept.committed;
-      eight = still_eight s.counters r (counter_of s r - 1) h.kept.eight;
-    } in
+    record { on_air = h.kept.on_air; committed = h.kept.committed; eight = still_eight _ r _ h.kept.eight; } in
     inr (arrive p ts h.typing b x (spent t) h.runs arrives (omega (arith, h.affords)) h.agrees after kept)
 loop_by p ts b s r target t false e h =
     let x : State = record s { counters = slice_set s.counters r (counter_of s r - 1); pc = s.pc + 1 } in

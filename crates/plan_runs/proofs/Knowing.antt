@@ -103,17 +103,14 @@ ready_early plan k c n m count C N l late some h =
           let same : k ≡ plan.notice = omega (arith, within, late) in
           record {
             awaited = None;
-            knows = as_noticed (is_noticed plan.notice (Some k)) true c m C (Still plan (Some k) N) None l
-                (noticed plan.notice k some within)
-                (begun c n m C N (Still plan (Some k) N) None l (λ x. none_still plan k N x same) h);
+            knows = as_noticed _ true c m C _ None l (noticed plan.notice k some within)
+            (begun c n m C N (Still plan (Some k) N) None l (λ x. none_still plan k N x same) h);
             waits = record { outside = λ past. refl; inside = λ inside. omega (arith, same) };
           }
       | inr past ↦
           record {
             awaited = None;
-            knows = as_noticed (is_noticed plan.notice (Some k)) false c m C (Still plan (Some k) N) None l
-                (not_noticed plan.notice k past)
-                (retuned c n m C N (Still plan (Some k) N) None l h);
+            knows = as_noticed _ false c m C _ None l (not_noticed plan.notice k past) (retuned c n m C N _ None l h);
             waits = record { outside = λ past. refl; inside = λ inside. absurd (omega (arith, past, inside)) };
           }
     ]
@@ -135,9 +132,8 @@ ready_pending plan k c n count C N l some h =
           let at = h.inside below in
           record {
             awaited = at.awaited;
-            knows = as_noticed (is_noticed plan.notice (Some k)) true c n C (Still plan (Some k) N) at.awaited l
-                (noticed plan.notice k some (omega (arith, below)))
-                (tuned_weaker true c n C C N (Still plan (Some k) N) at.awaited l (λ x y. y) (λ x y. y.1) at.knows);
+            knows = as_noticed _ true c n C _ _ l (noticed plan.notice k some (omega (arith, below)))
+            (tuned_weaker true c n C C N _ _ l (λ x y. y) (λ x y. y.1) at.knows);
             waits = record { outside = λ past. absurd (omega (arith, past, below)); inside = λ inside. at.waits };
           }
     ]
@@ -246,8 +242,7 @@ settled : (plan : Plan) (u : State) → Airs plan u → (C N : Raw → Type 0) (
     → IsPartial (whole_of u.current) C pc → NextBy (is_noticed plan.notice u.left) u.next N pn
     → (is_noticed plan.notice u.left ≡ false → a ≡ None)
     → InFrame plan u C N (awaiting (ensemble_of plan u) (record { tuned = true; current = pc; next = pn; awaited = a }))
-settled plan u airs C N pc pn a is_part next none =
-    settled_by plan u airs C N pc pn a is_part next none (is_noticed plan.notice u.left) refl
+settled plan u airs C N pc pn a is_part next none = settled_by plan u airs C N pc pn a is_part next none _ refl
 
 -- ---- no swap is assumed in a frame that makes none
 
@@ -316,8 +311,7 @@ headed_swap plan u c n count C N l airs long below same current h =
     ∙ made_by plan u count at.awaited long below same at.waits in
     let is_part = subst (λ (x : Configuration). IsPartial (whole_of x) N l.next) (sym current) at.knows.next in
     subst (λ (x : Listening). InFrame plan u N (λ x. ⊥) x) (sym (heard_swap e l made))
-    (settled plan u airs N (λ x. ⊥) l.next blank None is_part (next_blank (is_noticed plan.notice u.left) u.next)
-    (λ off. refl))
+    (settled plan u airs N (λ x. ⊥) l.next blank None is_part (next_blank _ _) (λ off. refl))
 
 -- the first FIG 0/0 that is heard
 pub headed_untuned : (plan : Plan) (u : State) → Airs plan u

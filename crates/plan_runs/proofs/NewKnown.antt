@@ -77,10 +77,8 @@ heard_first : (p : Program) (ts : List Known) → IsCode p ts → (s : State) �
 heard_first p ts code s h first =
     let u : State = shown p s in
     let some : 1 ≤ p.plan.notice = omega (arith, code.program.planned.notice_from) in
-    sym (heard_frame p ts code s h)
-    ∙ after_noticed p s (heard_of p.plan s) (noticed_first p.plan.notice u.left some first)
-    ∙ ap (λ xs. xs ++ frame_bytes p s ∷ [])
-    (before_first p.plan s u (links p ts code s h) (begun_left p.plan.notice u.left first) (is_due s.left) refl)
+    sym (heard_frame p ts code s h) ∙ after_noticed p s _ (noticed_first _ _ some first) ∙ ap
+    (λ xs. xs ++ frame_bytes p s ∷ []) (before_first _ s u (links p ts code s h) (begun_left _ _ first) _ refl)
 
 heard_later : (p : Program) (ts : List Known) → IsCode p ts → (s : State) → Holds p ts s → is_due s.left ≡ false
     → is_noticed p.plan.notice (shown p s).left ≡ true
@@ -137,14 +135,12 @@ notice_on laws p ts code s (Frame ∷ es) h k is below phase l knows =
       | inr now ↦ inr (said_one (frame_bytes p s) true x now)
     ] in
     let here : KnowsAt plan t Nothing (OfNotice plan t) heard.after =
-    knows_weaker plan t.left t.current t.next t.count D Nothing O (OfNotice plan t) heard.after
-    (λ x none. absurd none) had (knows_after plan u D O heard.after a heard.knows) in
+    knows_weaker plan _ _ _ _ D _ O _ _ (λ x none. absurd none) had (knows_after plan u D O _ a heard.knows) in
     let rest = notice_on laws p ts code t es (frame_holds p ts code s h) (k - 1) (ap left_after_frame left)
     (omega (arith, below)) phase.1 heard.after here in
     record {
       after = rest.after;
-      hears = frame_then p s (run_frames p t es) l heard.after rest.after heard.hears
-          rest.hears;
+      hears = frame_then p s _ l _ _ heard.hears rest.hears;
       knows = rest.knows;
     }
 
@@ -167,15 +163,13 @@ notice_from laws p ts code s (Frame ∷ es) h is l tunes =
     let had : (x : Raw) → OfNotice plan t x → O x = λ x said.
     inr (said_one (frame_bytes p s) true x (subst (λ (xs : List (List ℕ)). SomeSaid xs true x) one said)) in
     let here : KnowsAt plan t Nothing (OfNotice plan t) heard.after =
-    knows_weaker plan t.left t.current t.next t.count D Nothing O (OfNotice plan t) heard.after
-    (λ x none. absurd none) had (knows_after plan u D O heard.after a heard.knows) in
+    knows_weaker plan _ _ _ _ D _ O _ _ (λ x none. absurd none) had (knows_after plan u D O _ a heard.knows) in
     let left : t.left ≡ Some (plan.notice - 1) = ap left_after_frame (begun_left plan.notice u.left is.0) in
     let rest = notice_on laws p ts code t es (frame_holds p ts code s h) (plan.notice - 1) left
     (omega (arith, code.program.planned.notice_from)) is.1 heard.after here in
     record {
       after = rest.after;
-      hears = frame_then p s (run_frames p t es) l heard.after rest.after heard.hears
-          rest.hears;
+      hears = frame_then p s _ l _ _ heard.hears rest.hears;
       knows = rest.knows;
     }
 
@@ -227,9 +221,7 @@ frame_take laws p ts code s es h c same C N j l entered later =
           let some = some_heard laws plan u a C N j l entered in
           record {
             after = some.after;
-            hears = as_fibs (take (suc j) (fibs_of plan.layout (frame_bytes p s ∷ run_frames p (after_frame p s) es)))
-                (take (suc j) here) l some.after
-                (ap (take (suc j)) cut ∙ take-append-le (suc j) here more within) some.hears;
+            hears = as_fibs _ _ l _ (ap (take (suc j)) cut ∙ take-append-le (suc j) here more within) some.hears;
             current = subst (λ (x : Configuration). IsPartial (whole_of x) C some.after.current) same some.current;
           }
       | inr past ↦
@@ -288,9 +280,8 @@ after_swap laws p ts code s (Contact d closed ∷ es) h is C N j l knows =
     record { after = rest.after; hears = rest.hears; current = rest.current }
 after_swap laws p ts code s (Frame ∷ es) h is C N j l knows =
     let current : (shown p s).current ≡ s.next = current_shown p ts code s h ∙ due_current s is.0 in
-    frame_take laws p ts code s es h s.next current N Nothing j l (enters_swap p ts code s h C N l is.0 knows)
-    (λ d m here. after_on laws p ts code (after_frame p s) es (frame_holds p ts code s h) is.1 s.next current
-    (Or N (RowSaid (frame_bytes p s) false)) (Or Nothing (RowSaid (frame_bytes p s) true)) d m here)
+    frame_take laws p ts code s es h _ current N _ j l (enters_swap p ts code s h C N l is.0 knows)
+    (λ d m here. after_on laws p ts code _ es (frame_holds p ts code s h) is.1 _ current _ _ d m here)
 
 -- ---- the law
 

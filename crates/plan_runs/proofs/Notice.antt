@@ -161,9 +161,8 @@ pub heard_is : (plan : Plan) (s : State) (l : ℕ) → s.left ≡ Some l
 heard_is plan s l is =
     let base : ℕ = base_of plan s.count l in
     let whole : plan.notice ≡ plan.notice - 0 = omega arith in
-    ap (heard_left plan s) is
-    ∙ notice_is plan (plan.notice - l) 0 base (notice_begin plan l s) (ap (λ (x : ℕ). Some x) whole) (omega arith)
-    (sym (page_of_first (both_rounds plan s.current s.next))) (omega arith)
+    ap (heard_left plan s) is ∙ notice_is plan (plan.notice - l) 0 base (notice_begin plan l s)
+    (ap (λ (x : ℕ). Some x) whole) (omega arith) (sym (page_of_first _)) (omega arith)
 
 heard_none : (plan : Plan) (s : State) → s.left ≡ None → heard_of plan s ≡ []
 heard_none plan s none = ap (heard_left plan s) none
@@ -205,8 +204,7 @@ pub links : (p : Program) (ts : List Known) → IsCode p ts → (s : State) → 
 links p ts c s h =
     let goes = frame_goes p ts c.program c.typing s h.between in
     let carried = frame_carries p c.program s goes.allowed.steps goes.allowed.executes in
-    links_turned p.plan s (after_burst p s) (links_by p.plan s (after_burst p s) (is_due s.left) refl carried)
-    (is_first_noticed p.plan.notice (after_burst p s).left)
+    links_turned _ s _ (links_by _ s _ _ refl carried) _
 
 -- ---- what was heard before the frame
 
@@ -241,10 +239,9 @@ late_heard : (plan : Plan) (s u : State) (before : Option ℕ) (l : ℕ) → s.l
 late_heard plan s u None l e g is below c k i =
     absurd (omega (arith, (subst (λ (o : Option ℕ). IsNewly plan s.count o) is g).0, below))
 late_heard plan s u (Some k) l e g is below c d i =
-    let equal : k ≡ l = cc (sym g.0 ∙ is) in
     let form : Configuration → Configuration → ℕ → ℕ → ℕ → List (List ℕ) =
     λ x y z w v. frames_from (notice_at plan x y z (base_of plan w v)) 0 (plan.notice - v) in
-    cc (heard_is plan s k e, equal, c, g.1, i, d)
+    cc (heard_is plan s k e, c, g.1, i, d)
 
 new_late : (plan : Plan) (count : ℕ) (left : Option ℕ) (l : ℕ) → IsNewly plan count left → left ≡ Some l
     → plan.notice ≤ l
@@ -254,14 +251,12 @@ new_late plan count left l new is =
 before_none : (plan : Plan) (s u : State) → Links plan s u → u.left ≡ None → (b : Bool) → is_due s.left ≡ b
     → heard_before s (heard_of plan s) ≡ []
 before_none plan s u h none true e = due_nothing s (heard_of plan s) e
-before_none plan s u h none false e = not_due_same s (heard_of plan s) e
-    ∙ nothing_heard plan s u s.left refl (h.left e) none
+before_none plan s u h none false e = not_due_same s _ e ∙ nothing_heard plan s u s.left refl (h.left e) none
 
 before_early : (plan : Plan) (s u : State) (l : ℕ) → Links plan s u → u.left ≡ Some l → plan.notice ≤ l → (b : Bool)
     → is_due s.left ≡ b → heard_before s (heard_of plan s) ≡ []
 before_early plan s u l h is past true e = due_nothing s (heard_of plan s) e
-before_early plan s u l h is past false e = not_due_same s (heard_of plan s) e
-    ∙ early_heard plan s u s.left l refl (h.left e) is past
+before_early plan s u l h is past false e = not_due_same s _ e ∙ early_heard plan s u _ l refl (h.left e) is past
 
 before_late : (plan : Plan) (s u : State) (l : ℕ) → Links plan s u → u.left ≡ Some l → l < plan.notice → (b : Bool)
     → is_due s.left ≡ b
@@ -269,8 +264,7 @@ before_late : (plan : Plan) (s u : State) (l : ℕ) → Links plan s u → u.lef
     (plan.notice - l)
 before_late plan s u l h is below true e = absurd (omega (arith, below, new_late plan s.count u.left l (h.due e) is))
 before_late plan s u l h is below false e =
-    not_due_same s (heard_of plan s) e ∙ late_heard plan s u s.left l refl (h.left e) is below (h.current e) h.count
-    h.eid
+    not_due_same s _ e ∙ late_heard plan s u _ l refl (h.left e) is below (h.current e) h.count h.eid
 
 -- in a frame of the notice: what was heard are the frames before it
 before_noticed : (plan : Plan) (s u : State) (l : ℕ) → Links plan s u → u.left ≡ Some l → l ≤ plan.notice
@@ -337,5 +331,4 @@ heard_next plan s u bytes (Some l) short is h a shows =
 pub heard_frame : (p : Program) (ts : List Known) → IsCode p ts → (s : State) → Holds p ts s
     → heard_after p s (heard_of p.plan s) ≡ heard_of p.plan (after_frame p s)
 heard_frame p ts c s h =
-    heard_next p.plan s (shown p s) (frame_bytes p s) (shown p s).left (omega (arith, c.program.planned.notice_to)) refl
-    (links p ts c s h) (airs p ts c s h) refl
+    heard_next _ s _ _ _ (omega (arith, c.program.planned.notice_to)) refl (links p ts c s h) (airs p ts c s h) refl

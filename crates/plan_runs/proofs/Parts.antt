@@ -38,8 +38,7 @@ each_cond P x ys false h hs = hs
 pub each_partly : (P : Raw → Type 0) (known : ℕ → Bool) (xs : List Raw) → AllByRecursion P xs
     → AllByRecursion P (partly known xs)
 each_partly P known [] h = tt
-each_partly P known (x ∷ xs) h =
-    each_cond P x (partly known xs) (known (identifier_of x)) h.0 (each_partly P known xs h.1)
+each_partly P known (x ∷ xs) h = each_cond P x _ _ h.0 (each_partly P known xs h.1)
 
 ascends_cond : (x : Raw) (ys : List Raw) (b : Bool) → AllByRecursion (λ y. identifier_of x < identifier_of y) ys
     → IsAscending identifier_of ys → IsAscending identifier_of (cond b (x ∷ ys) ys)
@@ -117,9 +116,7 @@ unknown : (known : ℕ → Bool) (full : List Raw) (raw : Raw) → known (identi
     → is_known raw (partly known full) ≡ false
 unknown known [] raw new = refl
 unknown known (x ∷ xs) raw new =
-    unknown_by raw x (partly known xs) (known (identifier_of x))
-    (λ here same. clash (known (identifier_of raw)) (sym (ap known same) ∙ here) new)
-    (unknown known xs raw new)
+    unknown_by raw x _ _ (λ here same. clash _ (sym (ap known same) ∙ here) new) (unknown known xs raw new)
 
 short_by : (x : Raw) (ps : List Raw) (n : ℕ) (b : Bool) → length ps ≤ n → length (cond b (x ∷ ps) ps) ≤ suc n
 short_by x ps n true h = omega (arith, h)
@@ -140,8 +137,7 @@ fewer known (x ∷ xs) raw (inl same) new =
     let here : known (identifier_of x) ≡ false = ap (λ (y : Raw). known (identifier_of y)) same ∙ new in
     let e : partly known (x ∷ xs) ≡ partly known xs = ap (λ b. cond b (x ∷ partly known xs) (partly known xs)) here in
     subst (λ (ys : List Raw). length ys < suc (length xs)) (sym e) (omega (arith, short known xs))
-fewer known (x ∷ xs) raw (inr more) new =
-    fewer_by x (partly known xs) (length xs) (known (identifier_of x)) (fewer known xs raw more new)
+fewer known (x ∷ xs) raw (inr more) new = fewer_by x _ _ _ (fewer known xs raw more new)
 
 -- ---- an entry that is already known
 
@@ -156,8 +152,7 @@ in_partly known (x ∷ xs) raw (inl same) old =
     let here : known (identifier_of x) ≡ true = ap (λ (y : Raw). known (identifier_of y)) same ∙ old in
     let now : In raw (x ∷ partly known xs) = inl same in
     subst (λ (ys : List Raw). In raw ys) (sym (ap (λ b. cond b (x ∷ partly known xs) (partly known xs)) here)) now
-in_partly known (x ∷ xs) raw (inr more) old =
-    in_cond x raw (partly known xs) (known (identifier_of x)) (in_partly known xs raw more old)
+in_partly known (x ∷ xs) raw (inr more) old = in_cond x raw _ _ (in_partly known xs raw more old)
 
 place_of : (xs : List Raw) (raw : Raw) → In raw xs → (place : ℕ) × (slice_get xs place ≡ Some raw)
 place_of [] raw h = absurd h
@@ -216,8 +211,7 @@ take_by full C raw known up few inside has false e =
 
 pub part_takes : (full : List Raw) (C : Raw → Type 0) (raw : Raw) (part : List Raw) → IsAscending identifier_of full
     → length full ≤ 64 → In raw full → IsPart full C part → IsTaken full C raw part
-part_takes full C raw part up few inside h =
-    rw h.is (take_by full C raw h.known up few inside h.has (h.known (identifier_of raw)) refl)
+part_takes full C raw part up few inside h = rw h.is (take_by full C raw h.known up few inside h.has _ refl)
 
 pub part_weaker : (full : List Raw) (C D : Raw → Type 0) (part : List Raw) → ((x : Raw) → In x full → D x → C x)
     → IsPart full C part → IsPart full D part

@@ -323,7 +323,6 @@ fits_by (Within lo hi) (Perhaps high) t d left c n f h =
       current = h.current ∙ f.0.0;
       next = h.next ∙ f.0.1;
     })
-fits_by (Perhaps hi) (Perhaps high) t d left c n f (inl h) =
-    inl (pending_as d.current d.next 1 high f.0.0 f.0.1 (omega arith) f.1 h)
+fits_by (Perhaps hi) (Perhaps high) t d left c n f (inl h) = inl (pending_as _ _ 1 high f.0.0 f.0.1 (omega arith) f.1 h)
 fits_by (Perhaps hi) (Perhaps high) t d left c n f (inr h) = inr (idle_as d.next d.next f.0.1 f.0.1 h)
 fits_by _ _ t d left c n f h = absurd f

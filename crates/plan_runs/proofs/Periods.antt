@@ -197,8 +197,7 @@ sends p ts c s h no_phase ms page_index g =
     record {
       entries = ap (λ (x : Configuration). page_set x (cond (is_noticed p.plan.notice u.left) (Some u.next) None))
           (link.current parts.0) ∙ same;
-      turn_is = turn_kept v (is_first_noticed p.plan.notice v.left) other ∙ carried.page_index
-          ∙ due_turn s (is_due s.left) parts.0 ∙ g.turn_is;
+      turn_is = turn_kept v _ other ∙ carried.page_index ∙ due_turn s _ parts.0 ∙ g.turn_is;
     }
 
 -- a page that is in turn d frames later is heard
@@ -257,8 +256,7 @@ way_heard : PageLaws → (p : Program) (ts : List Known) → IsCode p ts → (s 
 way_heard laws p ts c s es h phase u is a ms e page zero there below m inside =
     let here = sym there ∙ pages_none (rounds p.plan.layout ms) (shown p s).page_index in
     let now = subst (λ (x : ℕ). Contains (page_entries p.plan.layout x ms) m) here inside in
-    heard_first (frame_bytes p s) (run_frames p (after_frame p s) es) m
-    (heard_page laws p.plan (shown p s) a ms e m now)
+    heard_first (frame_bytes p s) (run_frames p (after_frame p s) es) m (heard_page laws _ _ a ms e m now)
 way_heard laws p ts c s es h phase u is a ms e page (suc d) there below m inside =
     let pages : ℕ = rounds p.plan.layout ms in
     let next = after_goes p.plan (shown p s) a ms e in

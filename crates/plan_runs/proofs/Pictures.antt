@@ -76,8 +76,7 @@ grows full C raw p set (inl (ext, inside)) h =
         subs = (part_takes full.subs C raw p.subs set.subs_ascend set.subs_few inside h.subs).part_is;
         services = part_weaker full.services C (Also C raw) p.services
             (others 1 2 C raw full.services ext (λ e. omega (arith, e)) set.services) h.services;
-        packets = part_weaker full.packets C (Also C raw) p.packets
-            (others 1 3 C raw full.packets ext (λ e. omega (arith, e)) set.packets) h.packets;
+        packets = part_weaker _ C _ _ (others 1 3 C raw full.packets ext (λ e. omega (arith, e)) set.packets) h.packets;
       };
     }
 grows full C raw p set (inr (inl (ext, inside))) h =
@@ -90,8 +89,7 @@ grows full C raw p set (inr (inl (ext, inside))) h =
       after = s;
       is = ap (λ (n : ℕ). by_ext n a b c) ext ∙ ap (λ (t : Bool). cond t (Some s) None) taken.room;
       partial = record {
-        subs = part_weaker full.subs C (Also C raw) p.subs
-            (others 2 1 C raw full.subs ext (λ e. omega (arith, e)) set.subs) h.subs;
+        subs = part_weaker _ C _ _ (others 2 1 C raw full.subs ext (λ e. omega (arith, e)) set.subs) h.subs;
         services = taken.part_is;
         packets = part_weaker full.packets C (Also C raw) p.packets
             (others 2 3 C raw full.packets ext (λ e. omega (arith, e)) set.packets) h.packets;
@@ -107,8 +105,7 @@ grows full C raw p set (inr (inr (ext, inside))) h =
       after = s;
       is = ap (λ (n : ℕ). by_ext n a b c) ext ∙ ap (λ (t : Bool). cond t (Some s) None) taken.room;
       partial = record {
-        subs = part_weaker full.subs C (Also C raw) p.subs
-            (others 3 1 C raw full.subs ext (λ e. omega (arith, e)) set.subs) h.subs;
+        subs = part_weaker _ C _ p.subs (others 3 1 C raw full.subs ext (λ e. omega (arith, e)) set.subs) h.subs;
         services = part_weaker full.services C (Also C raw) p.services
             (others 3 2 C raw full.services ext (λ e. omega (arith, e)) set.services) h.services;
         packets = taken.part_is;

@@ -150,8 +150,7 @@ where_inside : (test : ℕ → Bool) (es : List Marked) (ns : List ℕ) (m : Mar
     → Contains es m
 where_inside test [] ns m h = h
 where_inside test (e ∷ es) [] m h = absurd (omega (arith, h.1))
-where_inside test (e ∷ es) (n ∷ ns) m h =
-    where_by e es (entries_where test es ns) m (where_inside test es ns m) (test n) h
+where_inside test (e ∷ es) (n ∷ ns) m h = where_by e es _ m (where_inside test es ns m) _ h
 
 pub page_inside : (layout : FrameLayout) (k : ℕ) (es : List Marked) (m : Marked) → Contains (page_entries layout k es) m
     → Contains es m
@@ -169,8 +168,7 @@ entries_right : PageLaws → (plan : Plan) (s : State) → Airs plan s → (m : 
 entries_right laws plan s h m heard =
     let inside = (laws.heard plan.layout (ensemble_sent plan s) s.page_index (sent_entries plan s)
     (pageable laws plan s h) m).0 heard in
-    set_by s.current s.next (is_noticed plan.notice s.left) m
-    (page_inside plan.layout s.page_index (sent_entries plan s) m inside)
+    set_by s.current s.next (is_noticed plan.notice s.left) m (page_inside _ _ _ m inside)
 
 -- ---- FIGs that are not FIG 0/0
 
@@ -314,9 +312,7 @@ others_organized : PageLaws → (plan : Plan) (s : State) → Airs plan s
     (packing plan.layout (sent_entries plan s))))
 others_organized laws plan s h =
     let es : List Marked = sent_entries plan s in
-    figs_organized (entries_in_fib (first_fib plan.layout s.page_index) es (packing plan.layout es))
-    (sendable_where (λ x. x == first_fib plan.layout s.page_index) es (packing plan.layout es)
-    (first_sendable laws plan s h))
+    figs_organized _ (sendable_where (λ x. x == first_fib plan.layout s.page_index) es _ (first_sendable laws plan s h))
 
 -- the content of FIG 0/0
 flagged_right : (plan : Plan) (s : State) (left : Option ℕ) → (e : EnsembleInformation)
@@ -415,8 +411,7 @@ others_unheaded : PageLaws → (plan : Plan) (s : State) → Airs plan s → (n 
     → IsUnheaded (fib_at (shown_bytes plan s) n)
 others_unheaded laws plan s h n some below =
     let at = valid_at laws plan s h n below in
-    let organized = later_figs plan.layout (ensemble_sent plan s) s.page_index (sent_entries plan s)
-    (first_sendable laws plan s h) n at.figs some at.there in
+    let organized = later_figs _ _ _ _ (first_sendable laws plan s h) n _ some at.there in
     (map fig_of at.figs, at.valid.fib, no_headers at.figs organized)
 
 pub frame_right : PageLaws → (plan : Plan) (s : State) → Airs plan s → IsRight plan s (shown_bytes plan s)

@@ -71,8 +71,7 @@ committed p ts c s h i left commits (k, below, instr) =
     let goes = frame_goes p ts c.program c.typing s h.between in
     let end : State = after_burst p s in
     let at : State = burst k p (ready s) in
-    let m = midway p (ready s) end goes.allowed.steps k goes.allowed.executes
-    (omega (arith, below, goes.allowed.counted)) in
+    let m = midway p _ end _ k goes.allowed.executes (omega (arith, below, goes.allowed.counted)) in
     let same : m.allowed.instr ≡ i = some_is m.allowed.instr i (sym m.allowed.within ∙ instr) in
     let stepped : step p at ≡ commit (left at.count) at = step_is p at i instr ∙ commits at in
     let carried : Carries p.plan (commit (left at.count) at) end =
@@ -118,8 +117,7 @@ first_due : (p : Program) (ts : List Known) → IsCode p ts
     → IsAwaited Q number s.count left → IsFirstWhere (λ t. is_due t.left) (λ later t. Q later t.count) number p s events
 first_due p ts c Q number left s [] h is w = tt
 first_due p ts c Q number left s (Contact d closed ∷ es) h is w =
-    first_due p ts c Q number left (happens p s (Contact d closed)) es (happens_holds p ts c s (Contact d closed) h) is
-    w
+    first_due p ts c Q number left _ es (happens_holds p ts c s (Contact d closed) h) is w
 first_due p ts c Q number left s (Frame ∷ es) h is w =
     elim (zero_or_more left) [
       | inl none ↦

@@ -152,8 +152,7 @@ swaps_on_later plan count (Some l) a h = swaps_later (layout_mode plan.layout) c
 
 page_step : (pages l notice : ℕ) → 1 ≤ l → l ≤ notice → page_after pages (page_of pages (notice - l))
     ≡ page_of pages (notice - (l - 1))
-page_step pages l notice some within =
-    sym (ap (page_of pages) (omega (arith, some, within)) ∙ page_of_next pages (notice - l))
+page_step pages l notice some within = sym (ap (page_of pages) (omega (arith, some, within)) ∙ page_of_next pages _)
 
 turn_later : (plan : Plan) (left : Option ℕ) (c n : Configuration) (page_index : ℕ) → IsAhead left
     → TurnShown plan left c n page_index
@@ -256,9 +255,8 @@ carried_by plan s u true h g =
       page_index = at.1;
     }
 carried_by plan s u false h g =
-    let at = at_state plan u s.count s.page_index s.current g.count g.page_index g.current
-    (swaps_carried plan s.count s.left u.left s.next u.next g.left h.swaps)
-    (turn_carried plan s.count s.left u.left s.current s.next u.next s.page_index g.left h.page_index) in
+    let at = at_state plan u _ _ _ g.count g.page_index g.current (swaps_carried plan _ _ _ _ _ g.left h.swaps)
+    (turn_carried plan _ _ _ _ _ _ _ g.left h.page_index) in
     record {
       count = g.count;
       eid = g.eid;
@@ -307,21 +305,18 @@ airs_by : (p : Program) (ts : List Known) (s u : State) (first : Bool) → is_fi
     → Tracked p.plan s → Suspends p ts u → Carried p.plan s u
     → Airs p.plan (cond first (let r : State = record u { page_index = 0 } in r) u)
 airs_by p ts s u true e h d g = airs_with p ts s u 0 h d g (first_turn p.plan u.left u.current u.next u.page_index e)
-airs_by p ts s u false e h d g =
-    airs_with p ts s u u.page_index h d g (other_turn p.plan u.left u.current u.next u.page_index e g.page_index)
+airs_by p ts s u false e h d g = airs_with p ts s u _ h d g (other_turn _ _ _ _ _ e g.page_index)
 
 pub frame_carried : (p : Program) (ts : List Known) → IsProgram p → IsTyping p ts → (s : State) → Between p ts s
     → Tracked p.plan s → Carried p.plan s (after_burst p s)
 frame_carried p ts pr ty s b h =
     let goes = frame_goes p ts pr ty s b in
-    carried_by p.plan s (after_burst p s) (is_due s.left) h
-    (frame_carries p pr s goes.allowed.steps goes.allowed.executes)
+    carried_by _ s _ _ h (frame_carries p pr s goes.allowed.steps goes.allowed.executes)
 
 pub frame_airs : (p : Program) (ts : List Known) → IsProgram p → IsTyping p ts → (s : State) → Between p ts s
     → Tracked p.plan s → Airs p.plan (shown p s)
 frame_airs p ts pr ty s b h =
-    airs_by p ts s (after_burst p s) (is_first_noticed p.plan.notice (after_burst p s).left) refl h
-    (frame_goes p ts pr ty s b).suspends (frame_carried p ts pr ty s b h)
+    airs_by p ts s _ _ refl h (frame_goes p ts pr ty s b).suspends (frame_carried p ts pr ty s b h)
 
 pub frame_tracked : (p : Program) (ts : List Known) → IsProgram p → IsTyping p ts → (s : State) → Between p ts s
     → Tracked p.plan s → Tracked p.plan (after_frame p s)

@@ -116,8 +116,7 @@ hears_entry noticed c n C N awaited m l set_c set_n (inl (flag, inside)) h =
         is_tuned = h.is_tuned;
         current = weaker (whole_of c) (Also C (raw_entry m.entry)) (Or C (IsSaying false m)) grown.after
             (also_said false C m) grown.partial;
-        next = next_weaker noticed n N (Or N (IsSaying true m)) l.next
-            (λ x. not_said true false N m x (λ e. other_flag m.next flag e)) h.next;
+        next = next_weaker _ n N _ _ (λ x. not_said true false N m x (λ e. other_flag _ flag e)) h.next;
         awaits = h.awaits;
       };
     }
@@ -174,9 +173,7 @@ hears_entries noticed c n C N awaited (m ∷ ms) l set_c set_n sent h =
     record {
       after = rest.after;
       is = ap (λ (o : Option Listening). where_heard o (hear_marked ms)) one.is ∙ rest.is;
-      knows = tuned_weaker noticed c n (Or (Or C (IsSaying false m)) (SaidIn false ms)) (Or C (SaidIn false (m ∷ ms)))
-          (Or (Or N (IsSaying true m)) (SaidIn true ms)) (Or N (SaidIn true (m ∷ ms))) awaited rest.after
-          (regroup C (IsSaying false m) (SaidIn false ms)) (regroup N (IsSaying true m) (SaidIn true ms)) rest.knows;
+      knows = tuned_weaker _ c n _ _ _ _ _ _ (regroup C _ _) (regroup N _ _) rest.knows;
     }
 
 pub sent_ext : (noticed : Bool) (c n : Configuration) (m : Marked) → IsSentOf noticed c n m
@@ -229,11 +226,7 @@ hears_fibs noticed c n C N awaited (f ∷ fs) (ms ∷ mss) l set_c set_n say sen
     record {
       after = rest.after;
       hears = (one.after, (say.0.figs, say.0.is_fib, say.0.hears l ∙ one.is), rest.hears);
-      knows = tuned_weaker noticed c n (Or (Or C (SaidIn false ms)) (SaidInSome false mss))
-          (Or C (SaidInSome false (ms ∷ mss))) (Or (Or N (SaidIn true ms)) (SaidInSome true mss))
-          (Or N (SaidInSome true (ms ∷ mss))) awaited rest.after
-          (regroup C (SaidIn false ms) (SaidInSome false mss)) (regroup N (SaidIn true ms) (SaidInSome true mss))
-          rest.knows;
+      knows = tuned_weaker _ c n _ _ _ _ _ _ (regroup C _ _) (regroup N _ _) rest.knows;
     }
 hears_fibs noticed c n C N awaited _ _ l set_c set_n say sent h = absurd say
 

@@ -61,8 +61,7 @@ started_between p ts start s ty st =
     let on_air : IsOnAir p.plan s.current =
     rw (← current) (record { sound = o.opening.sound; within_period = o.opening.within_period }) in
     record {
-      resumes = resumes_at p ts s 0 Running None (replicate 8 0) (sym st.pc) (sym st.hold) (sym st.left)
-          (sym st.counters) expects;
+      resumes = resumes_at p ts s 0 _ None _ (sym st.pc) (sym st.hold) (sym st.left) (sym st.counters) expects;
       kept = record {
         on_air = on_air;
         committed = subst (λ (l : Option ℕ). CommittedBy p.plan l s.current s.next) (sym st.left) tt;

@@ -62,6 +62,5 @@ swaps_are_committed p s idle other =
     let t : State = with_due_swap s in
     let before = either_left (is_here t t.hold) (record t { hold = Running }) t refl ∙ begun s idle in
     let end : State = after_burst p s in
-    let shows = either_left (is_first_noticed p.plan.notice end.left) (record end { page_index = 0 }) end refl
-    ∙ (burst_left p.plan.budget p (ready s) (λ k i below at. other i (k, below, at)) ∙ before) in
+    let shows = either_left _ _ end refl ∙ (burst_left _ p _ (λ k i below at. other i (k, below, at)) ∙ before) in
     ap left_after_frame shows

@@ -55,8 +55,7 @@ ready_runs s false e = still_stops s s.hold e
 active_is : (p : Program) (s : State) → 1 ≤ p.plan.budget → is_active p s ≡ ends_by s s.hold
 active_is p s some =
     let t : State = with_due_swap s in
-    steps_by p.plan.budget p (ready s) (is_here t t.hold) (ready_runs t (is_here t t.hold) refl) some
-    ∙ ends_is s (is_due s.left) refl
+    steps_by _ p _ _ (ready_runs t _ refl) some ∙ ends_is s _ refl
 
 -- ---- otherwise it is still suspended after the frame
 
@@ -182,8 +181,7 @@ has_come Running n s h held e = held
 has_come (Waits frames) n s h held e =
     omega (arith, eqb-true (frames - n) 0 (sym (ap (ends_by s) held.0) ∙ e), held.1)
 has_come (WaitsDay t) n s h held e = eqb-true s.day t (sym (ap (ends_by s) held) ∙ e)
-has_come (WaitsContact c closed) n s h held e =
-    same_flag (is_closed s.contacts c) closed (sym (ap (ends_by s) held) ∙ e)
+has_come (WaitsContact c closed) n s h held e = same_flag _ closed (sym (ap (ends_by s) held) ∙ e)
 has_come (WaitsAny closed opened until frames) n s h held e =
     alternative s closed opened until frames n held.1 (sym (ap (ends_by s) held.0) ∙ e)
 has_come WaitsSwap n s h held e = sym (ap (ends_by s) held) ∙ e
@@ -234,8 +232,7 @@ waits_from p hold n s [] some held = tt
 waits_from p hold n s (Contact c closed ∷ es) some held =
     waits_from p hold n (happens p s (Contact c closed)) es some held
 waits_from p hold n s (Frame ∷ es) some held =
-    frame_waits p hold n s es some held (λ later. waits_from p hold (n + 1) (after_frame p s) es some later)
-    (ends_by s s.hold) refl
+    frame_waits p hold n s es some held (λ later. waits_from p hold (n + 1) (after_frame p s) es some later) _ refl
 
 held_first : (h : Hold) → IsSuspended h → IsHeld h 1 (hold_after_frame h)
 held_first Running e = absurd e
@@ -263,8 +260,7 @@ leaves p s i hold h stops holds (k, below, instr) =
     let c = code_of p s h in
     let goes = frame_goes p h.typed.0 c.program c.typing s (played_holds p s h).between in
     let at : State = burst k p (ready s) in
-    let m = midway p (ready s) (after_burst p s) goes.allowed.steps k goes.allowed.executes
-    (omega (arith, below, goes.allowed.counted)) in
+    let m = midway p _ _ _ k goes.allowed.executes (omega (arith, below, goes.allowed.counted)) in
     let now : (step p at).hold ≡ hold = ap (λ (t : State). t.hold) (step_is p at i instr) ∙ holds at in
     let formed : IsInstr i = line_formed p.lines at.pc i h.program.lines_formed instr in
     let end = suspended_end p (step p at) (after_burst p s) m.more (ap is_running now ∙ stops formed) m.executes in
@@ -273,11 +269,9 @@ leaves p s i hold h stops holds (k, below, instr) =
 pub instructions_suspend : InstructionsSuspend
 instructions_suspend p s (Wait n) h carries = leaves p s (Wait n) (Waits n) h (λ formed. refl) (λ t. refl) carries
 instructions_suspend p s (Until d) h carries = leaves p s (Until d) (WaitsDay d) h (λ formed. refl) (λ t. refl) carries
-instructions_suspend p s (WaitContact d closed) h carries =
-    leaves p s (WaitContact d closed) (WaitsContact d closed) h (λ formed. refl) (λ t. refl) carries
+instructions_suspend p s (WaitContact d closed) h carries = leaves p s _ _ h (λ formed. refl) (λ t. refl) carries
 instructions_suspend p s (WaitAny closed opened until frames) h carries =
-    leaves p s (WaitAny closed opened until frames) (WaitsAny closed opened until frames) h (λ formed. refl) (λ t. refl)
-    carries
+    leaves p s _ _ h (λ formed. refl) (λ t. refl) carries
 instructions_suspend p s Join h carries = leaves p s Join WaitsSwap h (λ formed. refl) (λ t. refl) carries
 instructions_suspend p s End h carries = leaves p s End Ended h (λ formed. refl) (λ t. refl) carries
 instructions_suspend p s _ h carries = tt
