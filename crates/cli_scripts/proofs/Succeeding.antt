@@ -1,5 +1,5 @@
 -- What the success of the other commands means, from what their steps leave.
-use Rattle.cli_scripts.proofs.Words.{◌∙◌, ◌≡◌, Consumes, Consumes-whole, Diffs, Done, Faulty, FrameScriptRequest}
+use Rattle.cli_scripts.proofs.Words.{◌≡◌, Consumes, Consumes-whole, Diffs, Done, Faulty, FrameScriptRequest}
 use Rattle.cli_scripts.proofs.Words.{FramesScript, GivesFrame, HasPlan, HasScript, HasScriptOpening, HearsNamed, IfOk}
 use Rattle.cli_scripts.proofs.Words.{IfSome, IsAtEnd, IsReadOf, Keeps, List, ListenScriptRequest, Misused, Named, None}
 use Rattle.cli_scripts.proofs.Words.{Ok, Opening, Opens, Option, Refused, Result, Some, TellsScript, count_of, subst}

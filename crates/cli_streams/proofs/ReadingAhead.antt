@@ -1,5 +1,5 @@
 -- Bytes that are buffered ahead of a source.
-use Rattle.cli_streams.proofs.Words.{[], ◌++◌, ◌+◌, ◌-◌, ◌∙◌, ◌≡◌, ◌≤◌, Buffered, Consumes, Keeps, Keeps-refl, List}
+use Rattle.cli_streams.proofs.Words.{◌++◌, ◌+◌, ◌-◌, ◌∙◌, ◌≡◌, ◌≤◌, Buffered, Consumes, Keeps, Keeps-refl, List}
 use Rattle.cli_streams.proofs.Words.{None, Option, Some, ap, append_assoc, arith, drop, drop-take, left_of, length}
 use Rattle.cli_streams.proofs.Words.{length-take, prepend_known, slice_range, subst, sym, take, take-append-drop, ℕ}
 use lib.Seq.{drop-drop}

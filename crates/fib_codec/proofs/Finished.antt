@@ -1,5 +1,5 @@
 -- A FIB that is written is in the grammar with exactly the FIGs that were appended.
-use Rattle.fib_codec.proofs.Words.{[], ◌%◌, ◌*◌, ◌++◌, ◌+◌, ◌-◌, ◌/◌, ◌<◌, ◌↔◌, ◌∙◌, ◌∷◌, ◌≡◌, ◌≢◌, ◌≤◌, AllByRecursion}
+use Rattle.fib_codec.proofs.Words.{[], ◌%◌, ◌*◌, ◌++◌, ◌+◌, ◌-◌, ◌/◌, ◌<◌, ◌↔◌, ◌∙◌, ◌∷◌, ◌≡◌, ◌≤◌, AllByRecursion}
 use Rattle.fib_codec.proofs.Words.{AreEntries, AreFigs, Bool, ComponentEntry, EnsembleInformation, Entry, Head, IsBody}
 use Rattle.fib_codec.proofs.Words.{IsCounted, IsEnsembleInformation, IsEntry, IsFib, IsFig, IsOpen, IsOurs}
 use Rattle.fib_codec.proofs.Words.{IsPacketEntry, IsServiceEntry, IsShortEntry, IsSome, IsSubEntry, IsUnder, IsValid}

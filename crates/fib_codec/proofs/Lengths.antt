@@ -5,7 +5,7 @@ use Rattle.fib_codec.proofs.Words.{append-nil, append_assoc, arith, ca_org_bytes
 use Rattle.fib_codec.proofs.Words.{entries_bytes, entry_bytes, entry_size, flat_map, get_or, is_some, length}
 use Rattle.fib_codec.proofs.Words.{length-append, length-take-le, occurrence_bytes, refl, sid_bytes, sid_size, suc, sym}
 use Rattle.fib_codec.proofs.Words.{take, take-append-drop, take_more, zero, ℕ}
-use Rattle.mux_types.specs.declared.entry.Entry.TheVariants.{Ensemble as EnsembleOf, Sub as SubOf, Short as ShortOf}
+use Rattle.mux_types.specs.declared.entry.Entry.TheVariants.{Ensemble as EnsembleOf}
 use Rattle.mux_types.specs.declared.entry.Entry.TheVariants.{Service as ServiceOf, Packet as PacketOf}
 
 occurrence_len : (o : Option ℕ) → 4 + length (occurrence_bytes o) ≡ cond (is_some o) 5 4

@@ -6,8 +6,7 @@ use Rattle.fib_codec.proofs.Words.{head_byte, inl, inr, is_long_entry, map, mark
 use Rattle.fib_codec.proofs.Words.{true, zero, ℕ}
 use Rattle.std.proofs.lemmas.List.Elements.{Contains-append_left, Contains-append_right, Contains-append_cases}
 use Rattle.mux_types.specs.Facts.{Marked, marked}
-use Rattle.mux_types.specs.declared.entry.Entry.TheVariants.{Ensemble as EnsembleOf, Sub as SubOf, Short as ShortOf}
-use Rattle.mux_types.specs.declared.entry.Entry.TheVariants.{Service as ServiceOf, Packet as PacketOf}
+use Rattle.mux_types.specs.declared.entry.Entry.TheVariants.{Service as ServiceOf}
 use Rattle.fib_codec.proofs.Lengths.{ext_small}
 use Rattle.fib_codec.proofs.Finished.{head_ext, head_long, head_next}
 use Rattle.fib_codec.proofs.Determined.{entry_told}

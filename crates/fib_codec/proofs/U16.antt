@@ -171,7 +171,7 @@ pub joined_into : (offset : ℕ) (bytes fig plain joined rest sealed : List ℕ)
     ++ (checked (fig ++ take (30 - length fig) plain) ++ drop (offset + 32) bytes)
 joined_into offset bytes fig plain joined rest sealed few whole is seals =
     let thirty : List ℕ = fig ++ take (30 - length fig) plain in
-    piece_into offset bytes sealed _ (rw ( ← take_at thirty rest 30 (joined_len fig plain few whole), ← is, ) seals)
+    piece_into offset bytes sealed _ (rw (← take_at thirty rest 30 (joined_len fig plain few whole), ← is) seals)
 
 pub checked_len : (bytes : List ℕ) → length bytes ≡ 30 → length (checked bytes) ≡ 32
 checked_len bytes h = length-append bytes (big_bytes 2 (crc_value bytes)) ∙ omega (arith, h)

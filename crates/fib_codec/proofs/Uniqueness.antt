@@ -2,7 +2,7 @@
 use Rattle.fib_codec.proofs.Words.{[], ◌%◌, ◌++◌, ◌+◌, ◌/◌, ◌∙◌, ◌∷◌, ◌≡◌, ◌≢◌, ◌≤◌, AreEntries, AreFigs, Bool}
 use Rattle.fib_codec.proofs.Words.{Fig, IsEntry, IsFig, IsOther, List, OneList, Open, Other, and_from, ap, ap₂, arith}
 use Rattle.fib_codec.proofs.Words.{cond, cond_both, ensemble_len, entry_len, eqb, false, get_or, get_or_append_left}
-use Rattle.fib_codec.proofs.Words.{inl, inr, is_long, length, length-append, lt-ltb, ltb, packet_len, refl, service_len}
+use Rattle.fib_codec.proofs.Words.{inl, inr, is_long, length, length-append, lt-ltb, packet_len, refl, service_len}
 use Rattle.fib_codec.proofs.Words.{sub_len, subst, sym, take, true, true≢false, ℕ}
 
 -- ---- lists

@@ -4,7 +4,7 @@ use Rattle.fib_reader.proofs.Words.{IsAscending, IsComponent, IsComponentEntry, 
 use Rattle.fib_reader.proofs.Words.{List, Raw, Sound, SpellingIdentifies, Stream, ap, arith, component_entries}
 use Rattle.fib_reader.proofs.Words.{component_entry, component_limit, false, get_or, identifier_of, length, length-map}
 use Rattle.fib_reader.proofs.Words.{map, option_of, packet_entry, packet_key, raw_entry, refl, service_entry}
-use Rattle.fib_reader.proofs.Words.{service_key, sid_key, sub_entry, sub_key, subst, suc, sym, take, true, zero, ℕ}
+use Rattle.fib_reader.proofs.Words.{service_key, sid_key, sub_entry, sub_key, suc, sym, take, true, zero, ℕ}
 use Rattle.mux_eep.specs.declared.sizes.EepSet.{EepSet}
 use Rattle.mux_eep.specs.declared.sizes.EepSet.TheVariants.{A, B}
 use Rattle.mux_types.specs.declared.parts.Sub.{Sub}

@@ -1,5 +1,5 @@
 -- Sets of entries, kept in ascending order of their identifiers.
-use Rattle.fib_reader.proofs.Words.{[], ◌++◌, ◌+◌, ◌-◌, ◌<◌, ◌==◌, ◌||◌, ◌∙◌, ◌∷◌, ◌≡◌, ◌≢◌, ◌≤◌, AllByRecursion, Bool}
+use Rattle.fib_reader.proofs.Words.{[], ◌++◌, ◌+◌, ◌-◌, ◌<◌, ◌||◌, ◌∙◌, ◌∷◌, ◌≡◌, ◌≢◌, ◌≤◌, AllByRecursion, Bool}
 use Rattle.fib_reader.proofs.Words.{Bor, IsAscending, IsRaw, List, Option, Raw, Some, absent_told, ap, arith}
 use Rattle.fib_reader.proofs.Words.{ascends_with, cases_Bool, cases_eq, cond, cond_both, each_changed, each_weaker}
 use Rattle.fib_reader.proofs.Words.{each_with, entry_at, eq-eqb, false, found_here, get_or_from_slice_get, has_entry}

@@ -9,7 +9,7 @@ use Rattle.fig_merge.proofs.Words.{carried_by, carried_in, cond, count_due, coun
 use Rattle.fig_merge.proofs.Words.{ensemble_in, entries_in, false, false≢true, fib_items, fibs_in, fibs_items}
 use Rattle.fig_merge.proofs.Words.{figs_items, filled_fib, first_in, first_in_figs, first_line, first_of_frame}
 use Rattle.fig_merge.proofs.Words.{first_opening, first_or, first_raw, flat_map, frame_findings, hear_entries, hear_fib}
-use Rattle.fig_merge.proofs.Words.{hear_fig, hear_figs, heard_or, hearing_fib, hearing_fibs, holds_ensemble, is_damaged}
+use Rattle.fig_merge.proofs.Words.{hear_figs, heard_or, hearing_fib, hearing_fibs, holds_ensemble, is_damaged}
 use Rattle.fig_merge.proofs.Words.{is_next, is_there, lacks_opening, length, limited, list_all, ltb, map, merged, most}
 use Rattle.fig_merge.proofs.Words.{not, nothing_taken, one_fib, opening, opening_in_figs, past_after_frame}
 use Rattle.fig_merge.proofs.Words.{placed_count, refl, room_of, said, sent_in, subst, suc, sym, taken_of, true}

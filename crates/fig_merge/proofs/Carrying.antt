@@ -3,7 +3,7 @@ use Rattle.fig_merge.proofs.Words.{[], ◌++◌, ◌+◌, ◌-◌, ◌<◌, ◌�
 use Rattle.fig_merge.proofs.Words.{append_assoc, ap₂, arith, carried_in, carried_of, cases_lt, concat, cond-false}
 use Rattle.fig_merge.proofs.Words.{cond-true, drop, drop-cons, drop_at, false, filled, get_or, inl, inr, le-leb, le-ltb}
 use Rattle.fig_merge.proofs.Words.{leb, left_waiting, length, length-append, length-drop, length-take-le, lt-leb}
-use Rattle.fig_merge.proofs.Words.{lt-ltb, ltb, refl, replicate, room_after, stale_in, stale_of, subst, subst₂, suc}
+use Rattle.fig_merge.proofs.Words.{lt-ltb, ltb, refl, replicate, room_after, stale_in, stale_of, subst₂, suc}
 use Rattle.fig_merge.proofs.Words.{sym, take, take_at, true, turns_in, zero, ℕ}
 use Rattle.std.proofs.lemmas.List.{length-replicate, take_more}
 

@@ -15,7 +15,6 @@ use Rattle.stream_check.specs.Listening.{Listening}
 use Rattle.stream_check.specs.declared.contradiction.Contradiction.{Contradiction}
 use Rattle.stream_check.specs.declared.finding.Finding.{Finding}
 use Rattle.stream_check.specs.declared.heard_table.Lookup.TheVariants.{Absent, Full}
-use Rattle.stream_check.specs.Contradictions.{noted_with}
 use Rattle.stream_check.specs.Lookup.{lookup, lookup_among, lookup_in}
 use Rattle.stream_check.specs.Rules.{known_of, finds_no_room, has_no_room}
 use Rattle.stream_check.specs.Sent.{Sent, FigSent, fig_sent, figs_sent, fibs_sent, items_in, contradictions_at}

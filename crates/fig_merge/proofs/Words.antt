@@ -36,9 +36,8 @@ pub use Rattle.stream_check.specs.Frames.{lacks_opening, opening, opening_in_fig
 pub use Rattle.stream_check.specs.History.{Ended, Item, Moment, Said, due, fib_items, fibs_items, fig_items, figs_items}
 pub use Rattle.stream_check.specs.History.{frame_items, frames_ended, is_ensemble, items_of, listener, listener_after}
 pub use Rattle.stream_check.specs.History.{listening, said}
-pub use Rattle.stream_check.specs.Listening.{Pictured, at_ensemble, has_room, hear_entries, hear_entry, hear_fig}
-pub use Rattle.stream_check.specs.Listening.{hear_figs, identifier_of, into, kept, picture_of, pictured, untuned}
-pub use Rattle.stream_check.specs.Listening.{where_heard}
+pub use Rattle.stream_check.specs.Listening.{Pictured, at_ensemble, has_room, hear_entries, hear_entry, hear_figs}
+pub use Rattle.stream_check.specs.Listening.{identifier_of, into, kept, picture_of, pictured, untuned, where_heard}
 pub use Rattle.stream_check.specs.Raw.{Raw, ensemble_in, entries_in}
 pub use Rattle.stream_check.specs.Reporting.{in_frame, when}
 pub use Rattle.stream_check.specs.Stream.{count_due, count_in, count_of_frame, findings_at_sent, findings_from}

@@ -390,9 +390,6 @@ same_itself : (a : Carrier) → is_same_carrier a a ≡ true
 same_itself (BySub n) = eq-eqb n n refl
 same_itself (ByPacket n) = eq-eqb n n refl
 
-pub names_told : (carrier : Carrier) (m : Component) → names carrier m ≡ false → carrier_of m ≢ carrier
-names_told carrier m e same = false≢true (sym e ∙ rw same (same_itself carrier))
-
 different_by : (test : Component → Bool) (m : Component) (ms : List Component) (t : Bool)
     → AllByRecursion (λ d. carrier_of m ≢ carrier_of d) (filter test ms) → AreDifferent (filter test ms)
     → AreDifferent (cond t (m ∷ filter test ms) (filter test ms))

@@ -3,7 +3,7 @@ use Rattle.mux_config.proofs.Words.{[], ◌↔◌, ◌∷◌, ◌≡◌, A, B, B
 use Rattle.mux_config.proofs.Words.{HaveSameMembers, List, OneRate, Packet, Service, Sid, Sound, Stream, Sub, ap}
 use Rattle.mux_config.proofs.Words.{eq-eqb, eqb, eqb-true, false, false≢true, has_same_services, has_same_subs}
 use Rattle.mux_config.proofs.Words.{is_same_component, is_same_flag, is_same_list, is_same_packet, is_same_service}
-use Rattle.mux_config.proofs.Words.{is_same_set, is_same_sid, is_same_sub, map, not, refl, service_entries, sub_entries}
+use Rattle.mux_config.proofs.Words.{is_same_set, is_same_sid, is_same_sub, map, not, refl, service_entries}
 use Rattle.mux_config.proofs.Words.{sub_entry, subst, sym, true, ℕ}
 use Rattle.mux_types.specs.declared.numbers.Sid.TheVariants.{Short, Long}
 use Rattle.mux_config.specs.declared.flags.Change.{Change}

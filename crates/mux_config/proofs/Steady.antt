@@ -4,7 +4,7 @@ use Rattle.mux_config.proofs.Words.{CutsAreShort, EepFault, Err, FaultsAreFirst,
 use Rattle.mux_config.proofs.Words.{List, Ok, Order, Reads, RecordFault, Result, Short, ap, append-nil, arith}
 use Rattle.mux_config.proofs.Words.{carrier_of, component_limit, config_at, config_bytes, drop, inl, inr, length}
 use Rattle.mux_config.proofs.Words.{length-append, length-take-le, list_any, ltb, names, packet_key, refl, service_key}
-use Rattle.mux_config.proofs.Words.{sid_key, size_or_fault, size_or_field, sub_key, subst, suc, sym, take}
+use Rattle.mux_config.proofs.Words.{sid_key, size_or_fault, size_or_field, sub_key, suc, sym, take}
 use Rattle.mux_config.proofs.Words.{take-append-drop, w16, zero, ℕ}
 use Rattle.mux_config.specs.Reading.{read_sub, components_at, read_service, read_packet, members_at, record_at}
 use Rattle.mux_config.proofs.FieldLaws.{ok_is}

@@ -6,14 +6,13 @@ use Rattle.mux_tables.proofs.Users.{sharing_told, two_found}
 crowded_told : (c : Configuration) → IsConfiguration c → ((u : ℕ) × (1 < users c.subs u)) → IsCrowded c
 crowded_told c is found =
     let pair = sharing_told c.subs found.0 is.subs_ascend found.1 in
-    let less = pair.less in
     record {
       first = pair.first;
       second = pair.second;
       unit = found.0;
       has_first = pair.has_first;
       has_second = pair.has_second;
-      differ = λ same. omega (arith, less, same);
+      differ = λ same. omega (arith, same);
       of_first = pair.of_first;
       of_second = pair.of_second;
     }
@@ -21,9 +20,7 @@ crowded_told c is found =
 unit_within : (c : Configuration) → IsConfiguration c → (h : IsCrowded c) → h.unit < 864
 unit_within c is h =
     let placed = each_contains IsPlaced c.subs h.first is.subs_placed h.has_first in
-    let ends = placed.ends in
-    let unit = h.of_first.1 in
-    omega (arith, ends, unit)
+    omega arith
 
 pub crowded_by : (c : Configuration) (blocks : List Block) (t : Bool) → IsConfiguration c → Counts blocks (users c.subs)
     → ((uses : ℕ → ℕ) → Counts blocks uses → t ≡ true → (u : ℕ) × (1 < uses u))
@@ -34,8 +31,7 @@ crowded_by c blocks false is counts told none = (
   λ e. absurd (false≢true e),
   λ h.
       absurd (
-      let low = none (users c.subs) counts refl h.unit (unit_within c is h) in
       let high = two_found c.subs h.unit h.first h.second h.has_first h.has_second h.differ h.of_first h.of_second in
-      omega (arith, low, high)
+      omega (arith, none (users c.subs) counts refl h.unit (unit_within c is h), high)
       ),
 )

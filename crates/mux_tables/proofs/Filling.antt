@@ -25,8 +25,7 @@ absent_before [] i y h e = absurd (cc)
 absent_before (x ∷ xs) zero y h e = refl
 absent_before (x ∷ xs) (suc i) y h e =
     let less = member (λ (z : Sub). x.id < z.id) xs i y h.0 e in
-    let other : (x.id == y.id) ≡ false = ne_eqb x.id y.id (λ f. omega (arith, less, f)) in
-    rw (other) (absent_before xs i y h.1 e)
+    rw ((ne_eqb x.id y.id (λ f. omega (arith, less, f)))) (absent_before xs i y h.1 e)
 
 with_next : (xs : List Sub) (i : ℕ) (y : Sub) → IsAscending sub_key xs → slice_get xs i ≡ Some y
     → with_entry sub_key y (take i xs) ≡ take (suc i) xs
@@ -34,20 +33,15 @@ with_next [] i y h e = absurd (cc)
 with_next (x ∷ xs) zero y h e = let is : x ≡ y = cc in ap (λ (z : Sub). z ∷ []) (sym is)
 with_next (x ∷ xs) (suc i) y h e =
     let less = member (λ (z : Sub). x.id < z.id) xs i y h.0 e in
-    let after : ltb y.id x.id ≡ false = le-ltb y.id x.id (omega (arith, less)) in
-    rw (after) (ap (λ (zs : List Sub). x ∷ zs) (with_next xs i y h.1 e))
+    rw ((le-ltb y.id x.id (omega (arith, less)))) (ap (λ (zs : List Sub). x ∷ zs) (with_next xs i y h.1 e))
 
 placing_none : (y : Sub) → IsPlaced y → placing_fault y ≡ None
 placing_none y h =
     let size = h.sized in
-    let positive = size.positive in
-    let multiple = size.multiple in
-    let some : (y.kbits == 0) ≡ false = ne_eqb y.kbits 0 (λ e. omega (arith, positive, e)) in
-    let whole : ltb 0 (y.kbits % rate_step y.protection.set) ≡ false =
-    le-ltb 0 (y.kbits % rate_step y.protection.set) (omega (arith, multiple)) in
+    let some : (y.kbits == 0) ≡ false = ne_eqb y.kbits 0 (λ e. omega (arith, e)) in
     let within : ltb 864 (size_of_sub y) ≡ false = le-ltb 864 (size_of_sub y) size.within in
     let ends : ltb 864 (y.start + size_of_sub y) ≡ false = le-ltb 864 (y.start + size_of_sub y) h.ends in
-    rw (some, whole, within, ends) refl
+    rw (some, (le-ltb 0 (y.kbits % rate_step y.protection.set) (omega arith)), within, ends) refl
 
 pub fits_next : (c d : Configuration) (xs : List Sub) (i : ℕ) (y : Sub) → IsAscending sub_key xs
     → AllByRecursion IsPlaced xs → slice_get xs i ≡ Some y → d ≡ record c { subs = take i xs }

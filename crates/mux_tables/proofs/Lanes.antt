@@ -14,8 +14,7 @@ pub map_agree : {X : Type 0} (f g : ℕ → X) (a n : ℕ) → ((j : ℕ) → a 
     → map f (range_with_len a n) ≡ map g (range_with_len a n)
 map_agree f g a zero h = refl
 map_agree f g a (suc n) h =
-    ap (λ x. x ∷ map f (range_with_len (a + 1) n)) (h a (omega arith) (omega arith))
-    ∙ ap (λ xs. g a ∷ xs) (map_agree f g (a + 1) n (λ j le lt. h j (omega arith) (omega arith)))
+    cc (h a (omega arith) (omega arith), map_agree f g (a + 1) n (λ j le lt. h j (omega arith) (omega arith)))
 
 pub block_agree : (f g : ℕ → ℕ) (b : ℕ) → ((j : ℕ) → j < 32 → f (32 * b + j) ≡ g (32 * b + j))
     → counts_of_block f b ≡ counts_of_block g b
@@ -29,13 +28,6 @@ top_of false = refl
 abbrev pub lane : ℕ → ℕ → ℕ → ℕ
 lane from to j = cond (top 7 (cond (ltb j to) 255 0)) (cond (top 7 (cond (ltb j from) 255 0)) 0 1) 0
 
-lane_is : (s : Span) (base from to j : ℕ) → j < 32
-    → from ≡ cond (ltb s.start base) 0 (cond (ltb s.start (base + 32)) (s.start - base) 32)
-    → to ≡ cond (ltb (s.start + s.size) base) 0 (cond (ltb (s.start + s.size) (base + 32)) (s.start + s.size - base) 32)
-    → lane from to j ≡ share s (base + j)
-lane_is s base from to j lt e f =
-    rw (top_of (ltb j to), top_of (ltb j from), e, f) (grind (arith, nat_tests))
-
 pub mask_is : (s : Span) (b from to : ℕ)
     → from ≡ cond (ltb s.start (b * 32)) 0 (cond (ltb s.start (b * 32 + 32)) (s.start - b * 32) 32)
     → to ≡ cond (ltb (s.start + s.size) (b * 32)) 0
@@ -45,7 +37,7 @@ unfolding counts_of_block
 mask_is s b from to e f =
     map_agree (lane from to) (λ j. share s (32 * b + j)) 0 32
     (λ j le lt. let swapped : b * 32 ≡ 32 * b = omega arith in
-    lane_is s (b * 32) from to j (omega arith) e f ∙ ap (λ n. share s (n + j)) swapped)
+    (rw (top_of (ltb j to), top_of (ltb j from), e, f) (grind (arith, nat_tests))) ∙ ap (λ n. share s (n + j)) swapped)
 
 -- ---- counting in and out, block by block
 
@@ -165,9 +157,7 @@ set_told (x ∷ xs) some =
     elim (cases_lt 1 x) [
       | inl lt ↦ (0, omega arith, lt)
       | inr ge ↦
-          let low : ltb 1 x ≡ false = le-ltb 1 x ge in
-          let later : mask_l (map is_high xs) ≡ 0 → ⊥ = λ e. some (rw (low, e) refl) in
-          let found = set_told xs later in
+          let found = set_told xs (λ e. some (rw ((le-ltb 1 x ge), e) refl)) in
           (found.0 + 1, omega (arith, found.1), rw (add-one) found.2)
     ]
 
@@ -200,9 +190,8 @@ none_high lanes uses counts h u lt =
     let b : u / 32 < 27 = omega arith in
     let j : u % 32 < 32 = omega arith in
     let at : 32 * (u / 32) + u % 32 ≡ u = omega arith in
-    let e = lane_at uses (u / 32) (u % 32) j in
     let f = counts.each (u / 32) b in
-    subst (λ (n : ℕ). uses n ≤ 1) at (rw (f, e) at (h (u / 32) (u % 32) b j))
+    subst (λ (n : ℕ). uses n ≤ 1) at (rw (f, (lane_at uses (u / 32) (u % 32) j)) at (h (u / 32) (u % 32) b j))
 
 -- ---- no spans
 

@@ -56,20 +56,18 @@ module _ {T : Type 0} (key : T → ℕ) where
 
   pub removed : (n : ℕ) (xs : List (Option T)) (i : ℕ) (x : T) → InPlace key n xs → get_or xs i None ≡ Some x
       → members (set xs i None) ≡ without_entry key (n + i) (members xs)
-  removed n [] i y h e = absurd (cc)
-  removed n (None ∷ xs) zero y h e = absurd (cc)
   removed n (Some x ∷ xs) zero y h e =
-      let same : (key x == n + 0) ≡ true = eq-eqb (key x) (n + 0) (omega (arith, h.0)) in
       let rest = without_below (n + 0) (members xs)
       (weaker (λ z. suc n ≤ key z) (λ z. n + 0 < key z) (members xs) (λ z le. omega arith)
       (above (suc n) xs h.1)) in
-      rw (same, rest) refl
+      rw ((eq-eqb (key x) (n + 0) (omega (arith, h.0))), rest) refl
   removed n (None ∷ xs) (suc i) y h e = let up : suc n + i ≡ n + suc i = omega arith in
       removed (suc n) xs i y h e ∙ ap (λ k. without_entry key k (members xs)) up
   removed n (Some x ∷ xs) (suc i) y h e =
       let up : suc n + i ≡ n + suc i = omega arith in
       let other : (key x == n + suc i) ≡ false = ne_eqb (key x) (n + suc i) (λ f. let g = h.0 in omega (arith, f, g)) in
       rw (other) (ap (λ ys. x ∷ ys) (removed (suc n) xs i y h.1 e ∙ ap (λ k. without_entry key k (members xs)) up))
+  removed n _ _ y h e = absurd (cc)
 
   pub unchanged : (y : T) (xs : List T) → AllByRecursion (λ x. key y < key x) xs → with_entry_changed key y xs ≡ xs
   unchanged y [] h = refl
@@ -85,16 +83,14 @@ module _ {T : Type 0} (key : T → ℕ) where
       → entry_at key (n + i) (members xs) ≡ get_or xs i None
   found n [] i h = refl
   found n (None ∷ xs) zero h =
-      unfound (n + 0) (members xs)
-      (weaker (λ z. suc n ≤ key z) (λ z. n + 0 < key z) (members xs) (λ z le. omega arith) (above (suc n) xs h))
+      unfound _ _ (weaker (λ z. suc n ≤ key z) (λ z. n + 0 < key z) (members xs) (λ z le. omega arith) (above _ xs h))
   found n (Some x ∷ xs) zero h = let same : (key x == n + 0) ≡ true = eq-eqb (key x) (n + 0) (omega (arith, h.0)) in
       rw (same) refl
   found n (None ∷ xs) (suc i) h = let up : suc n + i ≡ n + suc i = omega arith in
       sym (ap (λ k. entry_at key k (members xs)) up) ∙ found (suc n) xs i h
   found n (Some x ∷ xs) (suc i) h =
-      let up : suc n + i ≡ n + suc i = omega arith in
       let other : (key x == n + suc i) ≡ false = ne_eqb (key x) (n + suc i) (λ f. let g = h.0 in omega (arith, f, g)) in
-      rw (other) (sym (ap (λ k. entry_at key k (members xs)) up) ∙ found (suc n) xs i h.1)
+      rw (other) (sym (ap (λ k. entry_at key k (members xs)) (omega arith)) ∙ found (suc n) xs i h.1)
 
   pub in_place_set : (n : ℕ) (xs : List (Option T)) (i : ℕ) (y : T) → InPlace key n xs → key y ≡ n + i
       → InPlace key n (set xs i (Some y))
@@ -180,18 +176,16 @@ module _ {T : Type 0} (key : T → ℕ) where
 
   pub changed_at_place : (n : ℕ) (xs : List (Option T)) (i : ℕ) (x y : T) → InPlace key n xs → get_or xs i None ≡ Some x
       → key y ≡ n + i → members (set xs i (Some y)) ≡ with_entry_changed key y (members xs)
-  changed_at_place n [] i x y h e k = absurd (cc)
-  changed_at_place n (None ∷ xs) zero x y h e k = absurd (cc)
   changed_at_place n (Some z ∷ xs) zero x y h e k =
-      let same : (key z == key y) ≡ true = eq-eqb (key z) (key y) (omega (arith, h.0, k)) in
       let rest = unchanged y (members xs)
       (weaker (λ z. suc n ≤ key z) (λ z. key y < key z) (members xs) (λ z le. omega (arith, k))
       (above (suc n) xs h.1)) in
-      rw (same, rest) refl
+      rw ((eq-eqb (key z) (key y) (omega (arith, h.0, k))), rest) refl
   changed_at_place n (None ∷ xs) (suc i) x y h e k = changed_at_place (suc n) xs i x y h e (omega (arith, k))
   changed_at_place n (Some z ∷ xs) (suc i) x y h e k =
       let other : (key z == key y) ≡ false = ne_eqb (key z) (key y) (λ f. let g = h.0 in omega (arith, f, g, k)) in
       rw (other) (ap (λ ys. z ∷ ys) (changed_at_place (suc n) xs i x y h.1 e (omega (arith, k))))
+  changed_at_place n _ _ x y h e k = absurd (cc)
 
   pub is_changed : (xs : List (Option T)) (x y : T) → InPlace key 0 xs → get_or xs (key y) None ≡ Some x
       → members (set xs (key y) (Some y)) ≡ with_entry_changed key y (members xs)

@@ -25,15 +25,13 @@ found_at places id p d long lt h e = with_default places p d (omega (arith, long
 
 pub id_absent : (places : List (Option Sub)) (ids : List ListedId) (id : ℕ) → ids ≡ ids_of places
     → entry_at sub_key id (members places) ≡ None → entry_at listed_key id ids ≡ None
-id_absent places ids id same absent =
-    rw (same) (found_mapped sub_key listed_key listed (λ x. refl) id (members places) absent)
+id_absent places ids id same absent = rw (same) (found_mapped _ _ listed (λ x. refl) id (members places) absent)
 
 pub id_room : (places : List (Option Sub)) (ids : List ListedId) (id : ℕ) → length places ≡ 64 → id < 64
     → InPlace sub_key 0 places → ids ≡ ids_of places → entry_at sub_key id (members places) ≡ None → length ids < 64
 id_room places ids id long lt h same absent =
-    let few = room sub_key places id (omega (arith, long, lt)) (is_found sub_key places id h ∙ absent) in
     let len : length ids ≡ length (members places) = ap length same ∙ simp length-map in
-    omega (arith, few, len, long)
+    omega (arith, room sub_key places id (omega (arith, long, lt)) (is_found sub_key places id h ∙ absent), len, long)
 
 pub added : (places : List (Option Sub)) (y : Sub) (p : ℕ) → length places ≡ 64 → y.id < 64 → InPlace sub_key 0 places
     → p ≡ y.id → entry_at sub_key y.id (members places) ≡ None
@@ -48,9 +46,7 @@ pub ids_added : (places : List (Option Sub)) (ids : List ListedId) (y : Sub) (p 
     → InPlace sub_key 0 places → ids ≡ ids_of places → p ≡ y.id → entry_at sub_key y.id (members places) ≡ None
     → with_entry listed_key (listed y) ids ≡ ids_of (set places p (Some y))
 ids_added places ids y p long lt h same e absent =
-    ap (with_entry listed_key (listed y)) same
-    ∙ with_mapped sub_key listed_key listed (λ x. refl) y (members places)
-    ∙ ap (λ (xs : List Sub). map listed xs) (sym (added places y p long lt h e absent))
+    cc (same, with_mapped sub_key listed_key listed (λ x. refl) y (members places), added places y p long lt h e absent)
 
 pub removed : (places : List (Option Sub)) (id p : ℕ) → InPlace sub_key 0 places → p ≡ id
     → members (set places p None) ≡ without_entry sub_key id (members places)
@@ -64,10 +60,7 @@ pub ids_removed : (places : List (Option Sub)) (ids : List ListedId) (id k p : �
     → ids ≡ ids_of places → p ≡ id → k ≡ id
     → without_entry listed_key k ids ≡ ids_of (set places p None)
 ids_removed places ids id k p h same e f =
-    ap (without_entry listed_key k) same
-    ∙ ap (λ (n : ℕ). without_entry listed_key n (ids_of places)) f
-    ∙ without_mapped sub_key listed_key listed (λ x. refl) id (members places)
-    ∙ ap (λ (xs : List Sub). map listed xs) (sym (removed places id p h e))
+    cc (same, f, without_mapped sub_key listed_key listed (λ x. refl) id (members places), removed places id p h e)
 
 same_listed : (x y : Sub) → sub_key x ≡ sub_key y → listed x ≡ listed y
 same_listed x y e = ap (λ (n : ℕ). let l : ListedId = record { id = n } in l) e
@@ -97,8 +90,7 @@ pub item_at : (places : List (Option Sub)) (ids : List ListedId) (i : ℕ) (l : 
     ≡ entry_at sub_key l.id (members places)
 item_at places ids i l h same e =
     let found = listed_at (members places) i l (sym (e ∙ ap (λ (ls : List ListedId). slice_get ls i) same)) in
-    found.1 ∙ sym (stands sub_key places i found.0 h found.1) ∙ is_found sub_key places found.0.id h
-    ∙ ap (λ (n : ℕ). entry_at sub_key n (members places)) found.2
+    cc (found.1, stands sub_key places i found.0 h found.1, is_found sub_key places found.0.id h, found.2)
 
 pub item_there : {T : Type 0} (xs : List T) (i : ℕ) → i < length xs → slice_get xs i ≡ None → ⊥
 item_there [] i lt e = omega arith
@@ -108,15 +100,12 @@ item_there (x ∷ xs) (suc i) lt e = item_there xs i (omega arith) e
 -- equal tables
 pub same_place : (xs ys : List (Option Sub)) (i : ℕ) → InPlace sub_key 0 xs → InPlace sub_key 0 ys
     → members xs ≡ members ys → get_or xs i None ≡ get_or ys i None
-same_place xs ys i h k e = is_found sub_key xs i h ∙ ap (λ (ms : List Sub). entry_at sub_key i ms) e
-    ∙ sym (is_found sub_key ys i k)
+same_place xs ys i h k e = cc (is_found sub_key xs i h, e, is_found sub_key ys i k)
 
 pub all_same : (xs ys : List (Option Sub)) → length xs ≡ length ys
     → ((i : ℕ) → i < length xs → get_or xs i None ≡ get_or ys i None) → xs ≡ ys
 all_same [] [] long h = refl
-all_same [] (y ∷ ys) long h = absurd (omega (arith, long))
-all_same (x ∷ xs) [] long h = absurd (omega (arith, long))
 all_same (x ∷ xs) (y ∷ ys) long h =
-    let first : x ≡ y = h 0 (omega arith) in
     let rest = all_same xs ys (omega (arith, long)) (λ i lt. h (suc i) (omega (arith, lt))) in
-    ap (λ (z : Option Sub). z ∷ xs) first ∙ ap (λ (zs : List (Option Sub)). y ∷ zs) rest
+    ap (λ (z : Option Sub). z ∷ xs) (h 0 (omega arith)) ∙ ap (λ (zs : List (Option Sub)). y ∷ zs) rest
+all_same _ _ long h = absurd (omega (arith, long))

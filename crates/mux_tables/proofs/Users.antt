@@ -33,12 +33,11 @@ pub users_with : (y : Sub) (xs : List Sub) (u : ℕ) → users (with_entry sub_k
     + share (span_of y) u
 users_with y [] u = let e = users_cons y [] u in omega (arith, e)
 users_with y (x ∷ xs) u =
-    let e = users_cons y (x ∷ xs) u in
     let f = users_cons x (with_entry sub_key y xs) u in
     let g = users_cons x xs u in
     let rest = users_with y xs u in
     users_cond (ltb (sub_key y) (sub_key x)) (y ∷ x ∷ xs) (x ∷ with_entry sub_key y xs) u
-    (users (x ∷ xs) u + share (span_of y) u) (omega (arith, e)) (omega (arith, f, g, rest))
+    (users (x ∷ xs) u + share (span_of y) u) (omega (arith, users_cons y (x ∷ xs) u)) (omega (arith, f, g, rest))
 
 without_by : (t : Bool) (x s : Sub) (k u : ℕ) (xs : List Sub) → (sub_key x == k) ≡ t → IsAscending sub_key (x ∷ xs)
     → cond t (Some x) (entry_at sub_key k xs) ≡ Some s
@@ -48,17 +47,12 @@ without_by : (t : Bool) (x s : Sub) (k u : ℕ) (xs : List Sub) → (sub_key x =
 without_by true x s k u xs is h e rest =
     let same : x ≡ s = cc in
     let at : sub_key x ≡ k = eqb-true (sub_key x) k is in
-    let none : without_entry sub_key k xs ≡ xs =
-    without_below sub_key k xs (subst (λ (n : ℕ). AllByRecursion (λ y. n < sub_key y) xs) at h.0) in
-    let f = users_cons x xs u in
-    let g : users (without_entry sub_key k xs) u ≡ users xs u = ap (λ (ys : List Sub). users ys u) none in
+    let none = without_below sub_key k xs (subst (λ (n : ℕ). AllByRecursion (λ y. n < sub_key y) xs) at h.0) in
     let i : share (span_of x) u ≡ share (span_of s) u = ap (λ (y : Sub). share (span_of y) u) same in
-    omega (arith, f, g, i)
+    omega (arith, users_cons x xs u, ap (λ (ys : List Sub). users ys u) none, i)
 without_by false x s k u xs is h e rest =
     let f = users_cons x xs u in
-    let g = users_cons x (without_entry sub_key k xs) u in
-    let i = rest e in
-    omega (arith, f, g, i)
+    omega (arith, f, users_cons x (without_entry sub_key k xs) u)
 
 pub users_without : (k : ℕ) (xs : List Sub) (s : Sub) (u : ℕ) → IsAscending sub_key xs → entry_at sub_key k xs ≡ Some s
     → users xs u ≡ users (without_entry sub_key k xs) u + share (span_of s) u
@@ -74,25 +68,19 @@ changed_by : (t : Bool) (x y s : Sub) (u : ℕ) (xs : List Sub) → (sub_key x =
 changed_by true x y s u xs is h e rest =
     let same : x ≡ s = cc in
     let at : sub_key x ≡ sub_key y = eqb-true (sub_key x) (sub_key y) is in
-    let none : with_entry_changed sub_key y xs ≡ xs =
-    unchanged sub_key y xs (subst (λ (n : ℕ). AllByRecursion (λ z. n < sub_key z) xs) at h.0) in
-    let f = users_cons x xs u in
+    let none = unchanged sub_key y xs (subst (λ (n : ℕ). AllByRecursion (λ z. n < sub_key z) xs) at h.0) in
     let j = users_cons y (with_entry_changed sub_key y xs) u in
-    let g : users (with_entry_changed sub_key y xs) u ≡ users xs u = ap (λ (ys : List Sub). users ys u) none in
     let i : share (span_of x) u ≡ share (span_of s) u = ap (λ (z : Sub). share (span_of z) u) same in
-    omega (arith, f, g, i, j)
+    omega (arith, users_cons x xs u, ap (λ (ys : List Sub). users ys u) none, i, j)
 changed_by false x y s u xs is h e rest =
     let f = users_cons x xs u in
-    let g = users_cons x (with_entry_changed sub_key y xs) u in
-    let i = rest e in
-    omega (arith, f, g, i)
+    omega (arith, f, users_cons x (with_entry_changed sub_key y xs) u)
 
 pub users_changed : (y : Sub) (xs : List Sub) (s : Sub) (u : ℕ) → IsAscending sub_key xs
     → entry_at sub_key (sub_key y) xs ≡ Some s → users (with_entry_changed sub_key y xs) u + share (span_of s) u
     ≡ users xs u + share (span_of y) u
 users_changed y [] s u h e = absurd (cc)
-users_changed y (x ∷ xs) s u h e =
-    changed_by (sub_key x == sub_key y) x y s u xs refl h e (λ f. users_changed y xs s u h.1 f)
+users_changed y (x ∷ xs) s u h e = changed_by _ _ _ _ _ _ refl h e (λ f. users_changed y xs s u h.1 f)
 
 -- ---- the map of the units
 
@@ -124,14 +112,13 @@ pub counts_changed : (before between after : List Block) (y s : Sub) (xs : List 
     → CountsOut before between (span_of s) → CountsIn between after (span_of y) → Counts before (users xs)
     → Counts after (users (with_entry_changed sub_key y xs))
 counts_changed before between after y s xs few order there out_map in_map counts =
-    let rest = counts_without before between (sub_key y) s xs few order there out_map counts in
     same_counts after (λ u. users (without_entry sub_key (sub_key y) xs) u + share (span_of y) u)
     (users (with_entry_changed sub_key y xs))
     (λ u. let e = users_without (sub_key y) xs s u order there in let f = users_changed y xs s u order there in
     omega (arith, e, f))
     (in_map (users (without_entry sub_key (sub_key y) xs))
     (λ u. let n = few_users xs u few in let e = users_without (sub_key y) xs s u order there in omega (arith, n, e))
-    rest)
+    (counts_without before between (sub_key y) s xs few order there out_map counts))
 
 -- ---- two that share a unit
 
@@ -162,8 +149,6 @@ pub record Sharing (xs : List Sub) (u : ℕ) : Type 0 where
 pub sharing_told : (xs : List Sub) (u : ℕ) → IsAscending sub_key xs → 1 < users xs u → Sharing xs u
 sharing_told [] u order h = absurd (omega arith)
 sharing_told (x ∷ xs) u order h =
-    let e = users_cons x xs u in
-    let small = share_small (span_of x) u in
     elim (cases_lt 1 (users xs u)) [
       | inl lt ↦
           let rest = sharing_told xs u order.1 lt in
@@ -177,8 +162,8 @@ sharing_told (x ∷ xs) u order h =
             of_second = rest.of_second;
           }
       | inr ge ↦
-          let here : 0 < share (span_of x) u = omega (arith, e, small, ge, h) in
-          let other = user_told xs u (omega (arith, e, small, ge, h)) in
+          let here : 0 < share (span_of x) u = omega (arith, users_cons x xs u, share_small (span_of x) u, ge, h) in
+          let other = user_told xs u (omega (arith, users_cons x xs u, share_small (span_of x) u, ge, h)) in
           record {
             first = x;
             second = other.0;
@@ -193,20 +178,17 @@ sharing_told (x ∷ xs) u order h =
 user_found : (xs : List Sub) (u : ℕ) (s : Sub) → Contains xs s → IsUnitOf s u → 0 < users xs u
 user_found [] u s there h = absurd (contains_none s there)
 user_found (x ∷ xs) u s there h =
-    let e = users_cons x xs u in
     elim (contains_cases x xs s there) [
       | inl same ↦ let one = shares s u h in let f : share (span_of x) u ≡ share (span_of s) u =
-          ap (λ (y : Sub). share (span_of y) u) same in omega (arith, e, f, one)
-      | inr later ↦ let rest = user_found xs u s later h in omega (arith, e, rest)
+          ap (λ (y : Sub). share (span_of y) u) same in omega (arith, users_cons x xs u, f, one)
+      | inr later ↦ let rest = user_found xs u s later h in omega (arith, users_cons x xs u, rest)
     ]
 
 both_first : (x a b : Sub) (xs : List Sub) (u : ℕ) → x ≡ a → IsUnitOf a u → Contains xs b → IsUnitOf b u
     → 1 < users (x ∷ xs) u
 both_first x a b xs u same h later k =
-    let e = users_cons x xs u in
-    let one = shares a u h in
     let f : share (span_of x) u ≡ share (span_of a) u = ap (λ (y : Sub). share (span_of y) u) same in
-    let rest = user_found xs u b later k in omega (arith, e, f, one, rest)
+    let rest = user_found xs u b later k in omega (arith, users_cons x xs u, f, shares a u h, rest)
 
 pub two_found : (xs : List Sub) (u : ℕ) (a b : Sub) → Contains xs a → Contains xs b → a.id ≢ b.id → IsUnitOf a u
     → IsUnitOf b u → 1 < users xs u

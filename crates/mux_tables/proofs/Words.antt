@@ -2,7 +2,7 @@
 pub use Rattle.mux_config.proofs.Keeping.{absent_found, add_sub_fits, add_sub_keeps, changed_here, drop_sub_keeps}
 pub use Rattle.mux_config.proofs.Keeping.{edits_keep, entry_holds, entry_key, subs_keep}
 pub use Rattle.mux_config.specs.Configuration.{Configuration, IsAscending, IsComponent, IsConfiguration, IsPlaced}
-pub use Rattle.mux_config.specs.Configuration.{IsSid, size_of_sub, sub_key}
+pub use Rattle.mux_config.specs.Configuration.{size_of_sub, sub_key}
 pub use Rattle.mux_config.specs.Edits.{IsInRange, add_sub_fault, at_rate, at_start, changed, edit_fault}
 pub use Rattle.mux_config.specs.Edits.{placing_fault, sub_added}
 pub use Rattle.mux_config.specs.Sound.{IsCrowded, IsUnitOf}

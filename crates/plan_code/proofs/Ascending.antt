@@ -54,8 +54,7 @@ are_labels_start count xs = (
 pub not_labels_below : (count low i pc : ℕ) (xs : List Label) (d : Label) → i < length xs → pc ≡ (get_or xs i d).pc
     → pc < low → AreLabels count low (drop i xs) → ⊥
 not_labels_below count low i pc xs d lt is below h =
-    let cut : AreLabels count low (get_or xs i d ∷ drop (i + 1) xs) = rw (drop_more xs i d lt) at h in
-    omega (arith, is, below, cut.ascending.0)
+    omega (arith, is, below, (rw (drop_more xs i d lt) at h).ascending.0)
 
 -- ---- binary search
 
@@ -80,16 +79,14 @@ find_at key k [] i d up lt same = absurd (omega (arith, lt))
 find_at key k (x ∷ xs) zero d up lt same = rw (eq-eqb _ _ same) refl
 find_at key k (x ∷ xs) (suc i) d up lt same =
     let within : i < length xs = omega (arith, lt) in
-    let above : key x < key (get_or xs i d) = each_at (λ y. key x < key y) xs i d up.0 within in
-    let other : key x ≡ k → ⊥ = λ e. omega (arith, e, same, above) in
+    let other : key x ≡ k → ⊥ = λ e. omega (arith, e, same, each_at (λ y. key x < key y) xs i d up.0 within) in
     rw (ne_eqb _ _ other) (find_at key k xs i d up.1 within same)
 
 pub find_none : {T : Type 0} (key : T → ℕ) (k : ℕ) (xs : List T) (d : T)
     → ((i : ℕ) → i < length xs → key (get_or xs i d) ≡ k → ⊥) → find (λ x. eqb (key x) k) xs ≡ None
 find_none key k [] d absent = refl
 find_none key k (x ∷ xs) d absent =
-    let other : key x ≡ k → ⊥ = absent 0 (omega arith) in
-    rw (ne_eqb _ _ other) (find_none key k xs d (λ i lt. absent (suc i) (omega (arith, lt))))
+    rw (ne_eqb _ _ (absent 0 (omega arith))) (find_none key k xs d (λ i lt. absent (suc i) (omega (arith, lt))))
 
 -- if the key at an index is below k, so are all keys before it; likewise above
 pub below_middle : {T : Type 0} (key : T → ℕ) (k : ℕ) (xs : List T) (m : ℕ) (e : T) → IsAscending key xs → m < length xs

@@ -60,11 +60,8 @@ contacts_change_alone contacts c false lt = (
 
 pub all_included : (a b : Counters) → eqb (bit_and a.0 b.0) b.0 ≡ true → Includes a b
 all_included a b e = λ r has.
-    let same : bit_and a.0 b.0 ≡ b.0 = eqb-true _ _ e in
-    let both : min (bit_at a.0 r) (bit_at b.0 r) ≡ bit_at b.0 r =
-    sym (bit_at_and a.0 b.0 r) ∙ ap (λ (n : ℕ). bit_at n r) same in
-    let here : bit_at b.0 r ≡ 1 = eqb-true _ _ has in
-    one_is (bit_at a.0 r) (omega (arith, both, here, bit_at-lt a.0 r))
+    let both = sym (bit_at_and a.0 b.0 r) ∙ ap (λ (n : ℕ). bit_at n r) (eqb-true _ _ e) in
+    one_is (bit_at a.0 r) (omega (arith, both, eqb-true _ _ has, bit_at-lt a.0 r))
 
 eqb_same : (a b : ℕ) → a ≡ b → eqb a b ≡ true
 eqb_same a b e = grind (arith, e)

@@ -1,7 +1,7 @@
 -- Bytes have at most one fault, and have one exactly where they are not a code file; none is out of memory.
 use Rattle.plan_code.proofs.Words.{[], ◌∙◌, ◌∷◌, ◌≡◌, AreBytes, BytesLackNoMemory, CodeFault, Err, HasCodeFault}
 use Rattle.plan_code.proofs.Words.{HasFaultWithoutCode, HasOneFault, IsNoFile, List, Ok, Program, Result, ap, arith}
-use Rattle.plan_code.proofs.Words.{code_of, length, refl, subst, sym, ℕ}
+use Rattle.plan_code.proofs.Words.{code_of, length, refl, subst, ℕ}
 use Rattle.plan_code.proofs.FileLaws.{code_front, code_again}
 use Rattle.plan_code.proofs.PlacedFiles.{EndsWithin, within_code, none_read}
 
@@ -12,7 +12,6 @@ lacks_no_memory (b ∷ rest) e =
 
 pub one_fault : HasOneFault
 one_fault bytes f g first second =
-    let same : (let failed : Result Program CodeFault = Err f in failed) ≡ Err g = sym first ∙ second in
     cc
 
 -- reading gives a code or a fault
@@ -26,7 +25,6 @@ pub fault_without_code : HasFaultWithoutCode
 fault_without_code bytes fits = (
   λ found p formed spelled.
       let read : code_of bytes ≡ Ok p = ap code_of spelled ∙ code_again p formed in
-      let both : (let failed : Result Program CodeFault = Err found.0 in failed) ≡ Ok p = sym found.1 ∙ read in
       absurd cc,
   λ none. fault_or_code bytes (code_of bytes) refl fits none,
 )

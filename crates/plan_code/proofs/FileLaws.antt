@@ -2,9 +2,9 @@
 use Rattle.plan_code.proofs.Words.{[], ◌++◌, ◌+◌, ◌∙◌, ◌∷◌, ◌≡◌, ◌≤◌, AllByRecursion, CodeFault, Configuration, Err}
 use Rattle.plan_code.proofs.Words.{Front, Gives, Header, IfOk, IsAscending, IsBytes, IsConfiguration, IsLabel, IsLine}
 use Rattle.plan_code.proofs.Words.{IsPlan, IsProgram, Label, List, Ok, Parses, Program, Result, Trailing, ap}
-use Rattle.plan_code.proofs.Words.{append-nil, append_assoc, arith, code_bytes, config_at, config_bytes, config_in, eqb}
+use Rattle.plan_code.proofs.Words.{append-nil, append_assoc, arith, code_bytes, config_bytes, config_in, eqb}
 use Rattle.plan_code.proofs.Words.{eqb-true, flat_map, front_then, header_at, header_bytes, label_bytes, label_from}
-use Rattle.plan_code.proofs.Words.{label_key, labels_in, length, line, line_bytes, line_in, nil_from_length, not, place}
+use Rattle.plan_code.proofs.Words.{label_key, labels_in, length, line, line_bytes, line_in, nil_from_length, not}
 use Rattle.plan_code.proofs.Words.{refl, subst, suc, sym, zero, ℕ}
 use Rattle.mux_config.proofs.RecordLaws.{record_front, record_again, members_front, members_again}
 use Rattle.plan_code.specs.declared.instr.Line.{Line}
@@ -25,10 +25,8 @@ pub record IsParsing {T : Type 0} (read : List ℕ → Parses T) (spell : T → 
 
 config_parsing : (total : ℕ) → IsParsing (config_in total) config_bytes IsConfiguration
 config_parsing total = record {
-  front = λ bytes x fits e. record_front (length bytes) bytes x fits
-      (read_ok (place total bytes) (config_at bytes) x e);
-  again = λ c rest formed. ok_read (place total (config_bytes c ++ rest)) _ (c, rest)
-      (record_again (length (config_bytes c ++ rest)) c rest formed);
+  front = λ bytes x fits e. record_front _ _ _ fits (read_ok _ _ _ e);
+  again = λ c rest formed. ok_read _ _ _ (record_again _ _ _ formed);
 }
 
 line_parsing : (total : ℕ) → IsParsing (line_in total) line_bytes IsLine
@@ -51,8 +49,7 @@ items_front : {T : Type 0} (read : List ℕ → Parses T) (spell : T → List �
     → items_at read before count bytes ≡ Ok x → AreItemsRead spell P before count bytes x
 unfolding items_at
 items_front {T} read spell P parsing before zero bytes x fits e =
-    let here : List T × List ℕ = (before, bytes) in
-    subst (λ (y : List T × List ℕ). AreItemsRead spell P before 0 bytes y) (given_is here x e)
+    subst (λ (y : List T × List ℕ). AreItemsRead spell P before 0 bytes y) (given_is (before, bytes) x e)
     (record {
       more = [];
       is = sym (append-nil before);
@@ -79,9 +76,7 @@ unfolding items_at
 items_again {T} read spell P parsing before [] rest all =
     ap (λ (ls : List T). let y : List T × List ℕ = (ls, rest) in given y) (sym (append-nil before))
 items_again {T} read spell P parsing before (l ∷ more) rest all =
-    let grouped : flat_map spell (l ∷ more) ++ rest ≡ spell l ++ (flat_map spell more ++ rest) =
-    append_assoc (spell l) (flat_map spell more) rest in
-    ap (items_at read before (suc (length more))) grouped
+    ap (items_at read before (suc (length more))) (append_assoc (spell l) (flat_map spell more) rest)
     ∙ rw (parsing.again l (flat_map spell more ++ rest) all.0)
     (items_again read spell P parsing (before ++ l ∷ []) more rest all.1
     ∙ ap (λ (ls : List T). let y : List T × List ℕ = (ls, rest) in given y) (append_assoc before (l ∷ []) more))
@@ -117,9 +112,7 @@ record IsRow {T : Type 0} (spell : T → List ℕ) (P : T → Type 0) (count : �
 
 is_row : {T : Type 0} (spell : T → List ℕ) (P : T → Type 0) (count : ℕ) (bytes : List ℕ) (xs : List T) (rest : List ℕ)
     → AreItemsRead spell P [] count bytes (xs, rest) → IsRow spell P count bytes xs rest
-is_row {T} spell P count bytes xs rest r =
-    subst (λ (ys : List T). IsRow spell P count bytes ys rest) (sym r.is)
-    (record { front = r.front; many = r.many; formed = r.formed })
+is_row {T} spell P count bytes xs rest r = rw r.is (record { front = r.front; many = r.many; formed = r.formed })
 
 labels_row : (total count : ℕ) (n : ℕ) (bytes : List ℕ) (ls : List Label) (rest : List ℕ) → IsCount 256 count
     → IsBytes bytes → labels_in total count n bytes ≡ Ok (ls, rest)
@@ -140,16 +133,11 @@ tables_made : (total : ℕ) (h : Header) (b0 b1 b2 b3 : List ℕ) (cs : List Con
     → items_at (line_in total) [] h.lines b2 ≡ Ok (is, b3)
     → AreTablesRead h b0 (record { plan = h.plan; configurations = cs; labels = ls; lines = is }) b3
 tables_made total h b0 b1 b2 b3 cs ls is known fits ec el ei =
-    let fc = is_row config_bytes IsConfiguration h.configurations b0 cs b1
-    (items_front (config_in total) config_bytes IsConfiguration (config_parsing total) [] h.configurations b0
-    (cs, b1) fits ec) in
+    let fc = is_row _ _ _ _ _ _ (items_front _ _ _ (config_parsing _) _ _ _ _ fits ec) in
     let fl = labels_row total h.configurations h.labels b1 ls b2 known fc.front.rest_fits el in
-    let fi = is_row line_bytes IsLine h.lines b2 is b3
-    (items_front (line_in total) line_bytes IsLine (line_parsing total) [] h.lines b2 (is, b3) fl.0.front.rest_fits
-    ei) in
+    let fi = is_row _ _ _ _ _ _ (items_front _ _ _ (line_parsing _) _ _ _ _ fl.0.front.rest_fits ei) in
     let one = front_then b0 (flat_map config_bytes cs) b1 (flat_map label_bytes ls) b2 fc.front fl.0.front in
-    let all = front_then b0 (flat_map config_bytes cs ++ flat_map label_bytes ls) b2 (flat_map line_bytes is) b3 one
-    fi.front in
+    let all = front_then _ _ _ _ _ one fi.front in
     record {
       front = all;
       plan = refl;
@@ -171,8 +159,7 @@ tables_front total h bytes x known fits e =
     let i = then_ok (items_at (line_in total) [] h.lines l.0.1) _ x l.2 in
     let found : Program × List ℕ =
     (record { plan = h.plan; configurations = c.0.0; labels = l.0.0; lines = i.0.0 }, i.0.1) in
-    subst (λ (y : Program × List ℕ). AreTablesRead h bytes y.0 y.1) (given_is found x i.2)
-    (tables_made total h bytes c.0.1 l.0.1 i.0.1 c.0.0 l.0.0 i.0.0 known fits c.1 l.1 i.1)
+    rw (← given_is found x i.2) (tables_made total h bytes c.0.1 l.0.1 i.0.1 c.0.0 l.0.0 i.0.0 known fits c.1 l.1 i.1)
 
 -- what was read is a code, and the bytes are its file
 pub record IsCodeRead (bytes : List ℕ) (p : Program) : Type 0 where
@@ -188,11 +175,9 @@ code_made bytes b1 b2 h p header tables ended =
     let configurations = flat_map config_bytes p.configurations in
     let labels = flat_map label_bytes p.labels in
     let lines = flat_map line_bytes p.lines in
-    let none : b2 ≡ [] = nil_from_length b2 ended in
     let head : Front bytes (header_bytes p.plan (length p.configurations) (length p.labels) (length p.lines)) b1 =
     rw (tables.plan, tables.configuration_count, tables.label_count, tables.line_count) header.front in
-    let whole = front_then bytes (header_bytes p.plan (length p.configurations) (length p.labels) (length p.lines)) b1
-    (configurations ++ labels ++ lines) b2 head tables.front in
+    let whole = front_then _ _ _ _ _ head tables.front in
     let grouped : header_bytes p.plan (length p.configurations) (length p.labels) (length p.lines)
     ++ (configurations ++ labels ++ lines) ≡ code_bytes p =
     sym (append_assoc (header_bytes p.plan (length p.configurations) (length p.labels) (length p.lines)
@@ -207,7 +192,7 @@ code_made bytes b1 b2 h p header tables ended =
     record {
       spelled = whole.parts ∙ ap
           (λ (r : List ℕ). header_bytes p.plan (length p.configurations) (length p.labels) (length p.lines)
-          ++ (configurations ++ labels ++ lines) ++ r) none
+          ++ (configurations ++ labels ++ lines) ++ r) (nil_from_length b2 ended)
           ∙ append-nil (header_bytes p.plan (length p.configurations) (length p.labels) (length p.lines)
           ++ (configurations ++ labels ++ lines)) ∙ grouped;
       formed = record {
@@ -233,8 +218,7 @@ code_front bytes p fits e =
     let t = then_ok (program_at (length bytes) h.0.0 h.0.1) _ p h.2 in
     let ft = tables_front (length bytes) h.0.0 h.0.1 t.0 fh.configurations fh.front.rest_fits t.1 in
     let z = refuse_then (not (eqb (length t.0.1) 0)) Trailing (λ ended. given t.0.0) p t.2 in
-    subst (λ (q : Program). IsCodeRead bytes q) (given_is t.0.0 p z.1)
-    (code_made bytes h.0.1 t.0.1 h.0.0 t.0.0 fh ft (eqb-true _ _ (not_false _ z.0)))
+    rw (← given_is t.0.0 p z.1) (code_made bytes h.0.1 t.0.1 h.0.0 t.0.0 fh ft (eqb-true _ _ (not_false _ z.0)))
 
 -- ---- spelling and reading again
 
@@ -277,8 +261,7 @@ parted p =
     let c = flat_map config_bytes p.configurations in
     let l = flat_map label_bytes p.labels in
     let i = flat_map line_bytes p.lines in
-    append_assoc (h ++ c) l i ∙ append_assoc h c (l ++ i)
-    ∙ ap (λ (t : List ℕ). h ++ (c ++ (l ++ t))) (sym (append-nil i))
+    cc (append_assoc (h ++ c) l i, append_assoc h c (l ++ i), append-nil i)
 
 whole_again : (bytes : List ℕ) (p : Program) → IsProgram p
     → bytes ≡ header_bytes p.plan (length p.configurations) (length p.labels) (length p.lines)
@@ -311,17 +294,12 @@ unfolding code_of program_at
 read_in_turn bytes b0 b1 b2 b3 b4 t0 t1 t2 t3 h cs ls is start all s1 s2 s3 rh rc rl ri ended =
     let e1 : t1 ≡ length bytes = s1 ∙ all in
     let e2 : t2 ≡ length bytes = s2 ∙ e1 in
-    let e3 : t3 ≡ length bytes = s3 ∙ e2 in
     let qh : header_at (length bytes) bytes ≡ Ok (h, b1) =
     subst (λ (b : List ℕ). header_at (length bytes) b ≡ Ok (h, b1)) start
     (subst (λ (t : ℕ). header_at t b0 ≡ Ok (h, b1)) all rh) in
-    let qc : items_at (config_in (length bytes)) [] h.configurations b1 ≡ Ok (cs, b2) =
-    subst (λ (t : ℕ). items_at (config_in t) [] h.configurations b1 ≡ Ok (cs, b2)) e1 rc in
-    let ql : labels_in (length bytes) h.configurations h.labels b2 ≡ Ok (ls, b3) =
-    subst (λ (t : ℕ). labels_in t h.configurations h.labels b2 ≡ Ok (ls, b3)) e2 rl in
-    let qi : items_at (line_in (length bytes)) [] h.lines b3 ≡ Ok (is, b4) =
-    subst (λ (t : ℕ). items_at (line_in t) [] h.lines b3 ≡ Ok (is, b4)) e3 ri in
-    rw (qh, qc, ql, qi, ended) refl
+    let ql = subst (λ (t : ℕ). labels_in t h.configurations h.labels b2 ≡ Ok (ls, b3)) e2 rl in
+    let qi = subst (λ (t : ℕ). items_at (line_in t) [] h.lines b3 ≡ Ok (is, b4)) (s3 ∙ e2) ri in
+    rw (qh, (subst (λ (t : ℕ). items_at (config_in t) [] h.configurations b1 ≡ Ok (cs, b2)) e1 rc), ql, qi, ended) refl
 
 -- ---- results of calls
 
@@ -337,8 +315,7 @@ formed_so bytes (Err e) fits given = tt
 
 pub read_so : (bytes : List ℕ) (r : Result Program CodeFault) (p : Program) → IsProgram p → bytes ≡ code_bytes p
     → Gives (λ (q : Program). q) r (code_of bytes) → Gives (λ (q : Program). q) r (Ok p)
-read_so bytes r p is e given =
-    subst (λ (f : Result Program CodeFault). Gives (λ (q : Program). q) r f) (ap code_of e ∙ code_again p is) given
+read_so bytes r p is e given = rw (← ap code_of e ∙ code_again p is) given
 
 pub written_again : {V E : Type 0} (items : V → List ℕ) (r : Result V E) (p : Program) → IsProgram p
     → IfOk r (λ v. items v ≡ code_bytes p) → IfOk r (λ v. code_of (items v) ≡ Ok p)

@@ -48,9 +48,8 @@ follows_is {A} {B} {a} {P} b Q first second = record {
       let fl = first.front total bytes l.0 fits l.1 in
       let r = bind_ok ((b l.0.0).read total l.0.1) _ x l.2 in
       let fr = (second l.0.0).front total l.0.1 r.0 fl.0.rest_fits r.1 in
-      let found : (A × B) × List ℕ = ((l.0.0, r.0.0), r.0.1) in
       subst (λ (y : (A × B) × List ℕ). Front bytes (a.spell y.0.0 ++ (b y.0.0).spell y.0.1) y.1
-      × (P y.0.0 × Q y.0.0 y.0.1)) (ok_is found x r.2)
+      × (P y.0.0 × Q y.0.0 y.0.1)) (ok_is ((l.0.0, r.0.0), r.0.1) x r.2)
       (front_then bytes (a.spell l.0.0) l.0.1 ((b l.0.0).spell r.0.0) r.0.1 fl.0 fr.0, (fl.1, fr.1));
   again = λ total x rest is.
       ap ((follows a b).read total) (append_assoc (a.spell x.0) ((b x.0).spell x.1) rest)
@@ -75,8 +74,7 @@ made_is {A} {T} {a} {P} make parts Q law there back = record {
       let x = bind_ok (a.read total bytes) _ t e in
       let f = law.front total bytes x.0 fits x.1 in
       let is = there x.0.0 f.1 in
-      let found : T × List ℕ = (make x.0.0, x.0.1) in
-      subst (λ (y : T × List ℕ). Front bytes (a.spell (parts y.0)) y.1 × Q y.0) (ok_is found t x.2)
+      subst (λ (y : T × List ℕ). Front bytes (a.spell (parts y.0)) y.1 × Q y.0) (ok_is (make x.0.0, x.0.1) t x.2)
       (subst (λ (v : A). Front bytes (a.spell v) x.0.1) (sym is.1) f.0, is.0);
   again = λ total t rest is. let p = back t is in rw (law.again total (parts t) rest p.0, p.1) refl;
   goes = λ total bytes more. goes_bind more _ _ _ _ (law.goes total bytes more) (λ x rest. refl);
@@ -117,19 +115,15 @@ tagged_is {K} {T} {tag} {P} kinds spell Q law each known = record {
       let fx = is.lawful.front total k.0.1 x.0 fk.0.rest_fits x.1 in
       let found : T × List ℕ = ((kinds k.0.0).make x.0.0, x.0.1) in
       let both = front_then bytes (tag.spell k.0.0) k.0.1 ((kinds k.0.0).format.spell x.0.0) x.0.1 fk.0 fx.0 in
-      let here : Front bytes (spell found.0) x.0.1 =
-      subst (λ (s : List ℕ). Front bytes s x.0.1) (sym (is.spelled fk.1 x.0.0)) both in
+      let here = subst (λ (s : List ℕ). Front bytes s x.0.1) (sym (is.spelled fk.1 x.0.0)) both in
       subst (λ (y : T × List ℕ). Front bytes (spell y.0) y.1 × Q y.0) (ok_is found t x.2) (here, fx.1);
   again = λ total t rest formed.
       let by = known t formed in
       let is = each by.tag in
       let text = (kinds by.tag).format.spell by.parts in
-      let whole : spell t ≡ tag.spell by.tag ++ text = ap spell (sym by.is) ∙ is.spelled by.known by.parts in
-      let read : tagged_at tag kinds total (tag.spell by.tag ++ (text ++ rest))
-      ≡ (kinds by.tag).read total (text ++ rest) = rw (law.again total by.tag (text ++ rest) by.known) refl in
-      ap (λ (s : List ℕ). tagged_at tag kinds total (s ++ rest)) whole
+      ap (λ (s : List ℕ). tagged_at tag kinds total (s ++ rest)) (ap spell (sym by.is) ∙ is.spelled by.known by.parts)
       ∙ ap (tagged_at tag kinds total) (append_assoc (tag.spell by.tag) text rest)
-      ∙ read ∙ is.read total (text ++ rest)
+      ∙ (rw (law.again total by.tag (text ++ rest) by.known) refl) ∙ is.read total (text ++ rest)
       ∙ rw (is.lawful.again total by.parts rest (subst Q (sym by.is) formed), by.is) refl;
   goes = λ total bytes more. goes_bind more _ _ _ _ (law.goes total bytes more) (λ k rest.
       rw ((each k).read total rest, (each k).read (total + length more) (rest ++ more))

@@ -1,11 +1,11 @@
 -- Reading the header of a code file and spelling it are inverse.
-use Rattle.plan_code.proofs.Words.{[], ◌++◌, ◌-◌, ◌<◌, ◌>>=◌, ◌∙◌, ◌∷◌, ◌≡◌, ◌≢◌, ◌≤◌, Bool, CodeFault, Err, Field}
+use Rattle.plan_code.proofs.Words.{[], ◌++◌, ◌-◌, ◌<◌, ◌>>=◌, ◌∙◌, ◌∷◌, ◌≡◌, ◌≤◌, Bool, CodeFault, Err}
 use Rattle.plan_code.proofs.Words.{Front, Header, I, II, III, IV, IsBytes, IsPlan, Limit, List, Magic, Ok, Plan}
 use Rattle.plan_code.proofs.Words.{RecordFault, ReserveOne, ReserveTwo, Result, Version, Whole, ap, append_assoc, arith}
 use Rattle.plan_code.proofs.Words.{byte_at, byte_front, byte_of, byte_within, cases_eq, cond, count_at, eq-eqb, eqb}
 use Rattle.plan_code.proofs.Words.{eqb-false, eqb-true, false, fib_count, front_then, header_bytes, in_file, inl, inr}
 use Rattle.plan_code.proofs.Words.{layout_bytes, layout_in, le-ltb, long_again, long_front, ltb, ltb-false, magic}
-use Rattle.plan_code.proofs.Words.{magic_at, mode_bytes, mode_of, ne_eqb, not, number_at, place, plan_after, plan_bytes}
+use Rattle.plan_code.proofs.Words.{magic_at, mode_bytes, mode_of, ne_eqb, not, number_at, plan_after, plan_bytes}
 use Rattle.plan_code.proofs.Words.{read_from, refl, refuse_code, reserving, subst, suc, sym, to_be_bytes, true, w16}
 use Rattle.plan_code.proofs.Words.{w32, zero, ℕ}
 use Rattle.fib_codec.specs.declared.frame_layout.FrameLayout.{FrameLayout}
@@ -50,9 +50,7 @@ magic_front bytes x fits e =
     let a = then_ok (in_file (number_at w32 bytes)) _ x e in
     let f = long_front bytes a.0 fits (read_ok 0 _ a.0 a.1) in
     let k = refuse_then (not (eqb a.0.0 magic)) Magic (λ known. given a.0) x a.2 in
-    let is : a.0.0 ≡ magic = eqb-true _ _ (not_false _ k.0) in
-    let here : Front bytes (to_be_bytes w32 magic) a.0.1 =
-    subst (λ (n : ℕ). Front bytes (to_be_bytes w32 n) a.0.1) is f.0 in
+    let here = subst (λ (n : ℕ). Front bytes (to_be_bytes w32 n) a.0.1) (eqb-true _ _ (not_false _ k.0)) f.0 in
     subst (λ (y : ℕ × List ℕ). Front bytes (to_be_bytes w32 magic) y.1) (given_is a.0 x k.1) here
 
 magic_again : (rest : List ℕ) → magic_at (to_be_bytes w32 magic ++ rest) ≡ Ok (magic, rest)
@@ -70,8 +68,7 @@ first_version : (bytes rest : List ℕ) (x : FrameLayout × List ℕ)
     → (let first : FrameLayout × List ℕ = (Whole I, rest) in given first) ≡ Ok x → Front bytes (byte_of 1) rest
     → Front bytes (layout_bytes x.0) x.1
 first_version bytes rest x e front =
-    let found : FrameLayout × List ℕ = (Whole I, rest) in
-    subst (λ (y : FrameLayout × List ℕ). Front bytes (layout_bytes y.0) y.1) (given_is found x e) front
+    subst (λ (y : FrameLayout × List ℕ). Front bytes (layout_bytes y.0) y.1) (given_is (Whole I, rest) x e) front
 
 second_version : (total : ℕ) (bytes rest : List ℕ) (x : FrameLayout × List ℕ)
     → (in_file (byte_within total 2 4 rest) >>= λ number. let found : FrameLayout
@@ -81,24 +78,20 @@ second_version total bytes rest x e front =
     let n = then_ok (in_file (byte_within total 2 4 rest)) _ x e in
     let fn = (byte_is 2 4).front total rest n.0 front.rest_fits (read_ok 0 _ n.0 n.1) in
     let found : FrameLayout × List ℕ = (Whole (mode_of n.0.0), n.0.1) in
-    let both : Front bytes (2 ∷ n.0.0 ∷ []) n.0.1 =
-    front_then bytes (byte_of 2) rest (byte_of n.0.0) n.0.1 front fn.0 in
-    let here : Front bytes (mode_bytes (mode_of n.0.0)) n.0.1 =
-    subst (λ (t : List ℕ). Front bytes t n.0.1) (sym (number_bytes n.0.0 fn.1.0 fn.1.1)) both in
+    let both = front_then bytes (byte_of 2) rest (byte_of n.0.0) n.0.1 front fn.0 in
+    let here = subst (λ (t : List ℕ). Front bytes t n.0.1) (sym (number_bytes n.0.0 fn.1.0 fn.1.1)) both in
     subst (λ (y : FrameLayout × List ℕ). Front bytes (layout_bytes y.0) y.1) (given_is found x n.2) here
 
 reserving_bytes : (n r : ℕ) → 1 ≤ n → n ≤ 4 → 1 ≤ r → r ≤ fib_count (mode_of n) - 2
     → layout_bytes (reserving (mode_of n) r) ≡ 3 ∷ n ∷ r ∷ []
 reserving_bytes zero r from to some few = absurd (omega (arith, from))
-reserving_bytes (suc zero) r from to some few = let one : r ≡ 1 = omega (arith, some, few) in rw one refl
-reserving_bytes (suc (suc zero)) r from to some few = let one : r ≡ 1 = omega (arith, some, few) in rw one refl
 reserving_bytes (suc (suc (suc zero))) zero from to some few = absurd (omega (arith, some))
-reserving_bytes (suc (suc (suc zero))) (suc zero) from to some few = refl
-reserving_bytes (suc (suc (suc zero))) (suc (suc zero)) from to some few = refl
 reserving_bytes (suc (suc (suc zero))) (suc (suc (suc r))) from to some few = absurd (omega (arith, few))
 reserving_bytes (suc (suc (suc (suc zero)))) r from to some few = let one : r ≡ 1 = omega (arith, some, few) in
     rw one refl
 reserving_bytes (suc (suc (suc (suc (suc more))))) r from to some few = absurd (omega (arith, to))
+reserving_bytes (suc (suc (suc zero))) _ from to some few = refl
+reserving_bytes _ r from to some few = let one : r ≡ 1 = omega (arith, some, few) in rw one refl
 
 third_version : (total : ℕ) (bytes rest : List ℕ) (x : FrameLayout × List ℕ) → reserving_at total rest ≡ Ok x
     → Front bytes (byte_of 3) rest → Front bytes (layout_bytes x.0) x.1
@@ -111,11 +104,8 @@ third_version total bytes rest x e front =
     let fr = (byte_is 1 most).front total n.0.1 r.0 fn.0.rest_fits (read_ok 0 _ r.0 r.1) in
     let found : FrameLayout × List ℕ = (reserving (mode_of n.0.0) r.0.0, r.0.1) in
     let two : Front bytes (3 ∷ n.0.0 ∷ []) n.0.1 = front_then bytes (byte_of 3) rest (byte_of n.0.0) n.0.1 front fn.0 in
-    let all : Front bytes (3 ∷ n.0.0 ∷ r.0.0 ∷ []) r.0.1 =
-    front_then bytes (3 ∷ n.0.0 ∷ []) n.0.1 (byte_of r.0.0) r.0.1 two fr.0 in
-    let here : Front bytes (layout_bytes found.0) r.0.1 =
-    subst (λ (t : List ℕ). Front bytes t r.0.1) (sym (reserving_bytes n.0.0 r.0.0 fn.1.0 fn.1.1 fr.1.0 fr.1.1))
-    all in
+    let here : Front bytes (layout_bytes found.0) r.0.1 = rw (reserving_bytes n.0.0 r.0.0 fn.1.0 fn.1.1 fr.1.0 fr.1.1)
+    (front_then bytes (3 ∷ n.0.0 ∷ []) n.0.1 (byte_of r.0.0) r.0.1 two fr.0) in
     subst (λ (y : FrameLayout × List ℕ). Front bytes (layout_bytes y.0) y.1) (given_is found x r.2) here
 
 -- this version, or one of those tested later
@@ -195,11 +185,8 @@ plan_again : (total : ℕ) (p : Plan) (rest : List ℕ) → IsPlan p → plan_at
 unfolding plan_at
 plan_again total p rest is =
     let fields = (plan_after p.layout).spell p in
-    ap (plan_at total) (append_assoc (layout_bytes p.layout) fields rest)
-    ∙ rw (
-      layout_again total p.layout (fields ++ rest),
-      ok_read 0 _ _ ((plan_after_is p.layout).again total p rest (is, refl)),
-    ) refl
+    ap (plan_at total) (append_assoc (layout_bytes p.layout) fields rest) ∙ rw
+    (layout_again _ _ _, ok_read _ _ _ ((plan_after_is _).again total p rest (is, refl))) refl
 
 abbrev pub IsCount : ℕ → ℕ → Type 0
 IsCount limit n = (1 ≤ n) × (n ≤ limit)
@@ -208,21 +195,17 @@ count_front : (total limit : ℕ) (bytes : List ℕ) (x : ℕ × List ℕ) → I
     → Front bytes (u16_bytes x.0) x.1 × IsCount limit x.0
 count_front total limit bytes x fits e =
     let a = then_ok (in_file (number_at w16 bytes)) _ x e in
-    let f = any_u16_is.front 0 bytes a.0 fits (read_ok 0 _ a.0 a.1) in
-    let s = refuse_then (eqb a.0.0 0) (Field (place total bytes))
-    (λ some. refuse_code (ltb limit a.0.0) Limit >>= λ few. given a.0) x a.2 in
+    let s = refuse_then _ _ (λ some. refuse_code (ltb limit a.0.0) Limit >>= λ few. given a.0) _ a.2 in
     let k = refuse_then (ltb limit a.0.0) Limit (λ few. given a.0) x s.1 in
-    let some : a.0.0 ≢ 0 = eqb-false _ _ s.0 in
     let few : a.0.0 ≤ limit = ltb-false _ _ k.0 in
     subst (λ (y : ℕ × List ℕ). Front bytes (u16_bytes y.0) y.1 × IsCount limit y.0) (given_is a.0 x k.1)
-    (f.0, (omega (arith, some), few))
+    ((any_u16_is.front 0 bytes a.0 fits (read_ok 0 _ a.0 a.1)).0, (omega (arith, eqb-false _ _ s.0), few))
 
 count_again : (total limit n : ℕ) (rest : List ℕ) → limit < 65536 → IsCount limit n
     → count_at total limit (u16_bytes n ++ rest) ≡ Ok (n, rest)
 count_again total limit n rest small is =
     let some : eqb n 0 ≡ false = ne_eqb _ _ (λ e. omega (arith, e, is.0)) in
-    let few : ltb limit n ≡ false = le-ltb _ _ is.1 in
-    rw (ok_read 0 _ _ (any_u16_is.again 0 n rest (omega (arith, is.1, small))), some, few) refl
+    rw (ok_read 0 _ _ (any_u16_is.again 0 n rest (omega (arith, is.1, small))), some, (le-ltb _ _ is.1)) refl
 
 -- the header read is within its limits
 pub record IsHeaderRead (bytes : List ℕ) (h : Header) (rest : List ℕ) : Type 0 where
@@ -246,10 +229,8 @@ header_made total h b0 b2 b3 b4 b5 b6 m fits em ep ec el ei =
     let plan_text : List ℕ = plan_bytes h.plan in
     let planned = front_then b0 magic_text b2 plan_text b3 fm fp.0 in
     let one = front_then b0 (magic_text ++ plan_text) b3 (u16_bytes h.configurations) b4 planned fc.0 in
-    let two = front_then b0 (magic_text ++ plan_text ++ u16_bytes h.configurations) b4 (u16_bytes h.labels) b5 one
-    fl.0 in
-    let all = front_then b0 (magic_text ++ plan_text ++ u16_bytes h.configurations ++ u16_bytes h.labels) b5
-    (u16_bytes h.lines) b6 two fi.0 in
+    let two = front_then _ _ _ _ _ one fl.0 in
+    let all = front_then _ _ _ _ _ two fi.0 in
     record { front = all; planned = fp.1; configurations = fc.1; labels = fl.1; lines = fi.1 }
 
 pub header_front : (total : ℕ) (bytes : List ℕ) (x : Header × List ℕ) → IsBytes bytes → header_at total bytes ≡ Ok x

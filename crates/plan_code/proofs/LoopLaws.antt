@@ -16,10 +16,8 @@ left_of plan r target n zero s inside set = set ∙ omega arith
 left_of plan r target n (suc k) s inside set =
     let before = looped plan r target k s in
     let here : r < length before.counters = omega (arith, inside, same_length plan r target k s) in
-    let lowered : counter_of (looped plan r target (suc k) s) r ≡ counter_of before r - 1 =
-    get_or-set_same before.counters r (counter_of before r - 1) 0 here in
     let so_far : counter_of before r ≡ n - k = left_of plan r target n k s inside set in
-    omega (arith, lowered, so_far)
+    omega (arith, get_or-set_same before.counters r (counter_of before r - 1) 0 here, so_far)
 
 jump : (plan : Plan) (r target : ℕ) (s : State) → 1 < counter_of s r → (effect plan (Loop r target) s).pc ≡ target
 jump plan r target s more = rw (lt-ltb 1 (counter_of s r) more) refl
@@ -36,14 +34,12 @@ as_set plan r target n s inside some set = record {
       ap (λ (m : ℕ). (looped plan r target m s).pc) next
       ∙ jump plan r target (looped plan r target k s) (omega (arith, left, lt));
   ends =
-      let left : counter_of (looped plan r target (n - 1) s) r ≡ n - (n - 1) =
-      left_of plan r target n (n - 1) s inside set in
+      let left = left_of plan r target n (n - 1) s inside set in
       let last : n ≡ suc (n - 1) = omega (arith, some) in
       ap (λ (m : ℕ). (looped plan r target m s).pc) last
       ∙ pass plan r target (looped plan r target (n - 1) s) (omega (arith, left, some));
   set = λ k lt.
-      let left : counter_of (looped plan r target k s) r ≡ n - k = left_of plan r target n k s inside set in
-      omega (arith, left, lt);
+      omega (arith, left_of plan r target n k s inside set, lt);
   unset = left_of plan r target n n s inside set ∙ omega arith;
 }
 

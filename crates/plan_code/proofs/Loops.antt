@@ -1,20 +1,15 @@
 -- One iteration of the loops that read tables: reading the remaining items gives the same result as reading all.
-use Rattle.plan_code.proofs.Words.{[], ◌++◌, ◌+◌, ◌-◌, ◌<◌, ◌>>=◌, ◌∙◌, ◌∷◌, ◌≡◌, ◌≤◌, CodeFault, Err, Fails, Field}
-use Rattle.plan_code.proofs.Words.{Limit, List, Magic, Memory, Ok, Order, Parses, RecordFault, Result, Short, Trailing}
-use Rattle.plan_code.proofs.Words.{Truncated, Version, ap, arith, fault_from, in_file, refl, subst, suc, sym, ℕ}
+use Rattle.plan_code.proofs.Words.{[], ◌++◌, ◌+◌, ◌-◌, ◌<◌, ◌>>=◌, ◌∙◌, ◌∷◌, ◌≡◌, ◌≤◌, CodeFault, Err, Fails}
+use Rattle.plan_code.proofs.Words.{List, Memory, Ok, Order, Parses, RecordFault, Result, Short}
+use Rattle.plan_code.proofs.Words.{ap, arith, fault_from, in_file, refl, subst, suc, sym, ℕ}
 use Rattle.mux_config.specs.declared.record.RecordFault.TheVariants.{Field as FieldOfRecord}
 use Rattle.plan_code.specs.Reading.{items_at}
 
 -- the fault of a step is the fault of the whole
 pub fails_then : {A B : Type 0} (e : CodeFault) (r : Result A CodeFault) (f : A → Result B CodeFault) → Fails e r
     → Fails e (r >>= f)
-fails_then Magic r f h = rw h refl
-fails_then Version r f h = rw h refl
-fails_then Truncated r f h = rw h refl
-fails_then (Field at) r f h = rw h refl
-fails_then Limit r f h = rw h refl
-fails_then Trailing r f h = rw h refl
 fails_then Memory r f h = tt
+fails_then _ r f h = rw h refl
 
 -- items read by a reader over `total` bytes, which still has this total at `t`
 module _ {T : Type 0} (item_at : ℕ → List ℕ → Parses T) (total t : ℕ) (same : t ≡ total) where
@@ -26,9 +21,7 @@ module _ {T : Type 0} (item_at : ℕ → List ℕ → Parses T) (total t : ℕ) 
   items_next before count i bytes whole x rest lt so_far read =
       let more : count - i ≡ suc (count - (i + 1)) = omega (arith, lt) in
       let here : item_at total bytes ≡ Ok (x, rest) = subst (λ (n : ℕ). item_at n bytes ≡ Ok (x, rest)) same read in
-      let one : items_at (item_at total) before (count - i) bytes
-      ≡ items_at (item_at total) (before ++ x ∷ []) (count - (i + 1)) rest = rw (more, here) refl in
-      sym one ∙ so_far
+      sym (rw (more, here) refl) ∙ so_far
 
   pub items_fault : (before : List T) (count i : ℕ) (bytes : List ℕ) (whole : Parses (List T)) (e : CodeFault)
       → i < count
@@ -36,11 +29,8 @@ module _ {T : Type 0} (item_at : ℕ → List ℕ → Parses T) (total t : ℕ) 
   unfolding items_at
   items_fault before count i bytes whole e lt so_far fault =
       let more : count - i ≡ suc (count - (i + 1)) = omega (arith, lt) in
-      let at_total : Fails e (item_at total bytes) = subst (λ (n : ℕ). Fails e (item_at n bytes)) same fault in
-      let here : Fails e (items_at (item_at total) before (suc (count - (i + 1))) bytes) =
-      fails_then e (item_at total bytes) _ at_total in
       subst (λ (r : Parses (List T)). Fails e r) (ap (λ (n : ℕ). items_at (item_at total) before n bytes) (sym more)
-      ∙ so_far) here
+      ∙ so_far) (fails_then e (item_at total bytes) _ (subst (λ (n : ℕ). Fails e (item_at n bytes)) same fault))
 
 pub items_done : {T : Type 0} (item_at : List ℕ → Parses T) (before : List T) (count i : ℕ) (bytes : List ℕ)
     (whole : Parses (List T)) → count ≤ i

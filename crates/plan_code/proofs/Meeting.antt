@@ -47,19 +47,16 @@ tested_bits : (p : ℕ → Bool) (x y : ℕ)
     → ((i : ℕ) → bit_at x i ≡ bit_at y i → p i ≡ false) → (same any : Bool) → eqb x y ≡ same
     → list_any p contact_ids ≡ any → not same ≡ any
 tested_bits p x y below above none true true is found =
-    let alike : x ≡ y = eqb-true x y is in
-    let not_found = all_none p 16 0 (λ i. none i (ap (λ (n : ℕ). bit_at n i) alike)) in
+    let not_found = all_none p 16 0 (λ i. none i (ap (λ (n : ℕ). bit_at n i) (eqb-true x y is))) in
     absurd (false≢true (sym not_found ∙ found))
-tested_bits p x y below above none true false is found = refl
-tested_bits p x y below above none false true is found = refl
 tested_bits p x y below above none false false is found =
     let bits : (i : ℕ) → bit_at x i ≡ bit_at y i =
     λ i. elim (cases_lt i 16) [
       | inl low ↦ below i low (none_in p 16 0 i found (omega arith) (omega (arith, low)))
       | inr high ↦ above i high
     ] in
-    let alike : x ≡ y = same_from_bits x y bits in
-    absurd (grind (arith, alike, is))
+    absurd (grind (arith, same_from_bits x y bits, is))
+tested_bits p x y below above none _ _ is found = refl
 
 -- ---- one of a set of contacts
 
@@ -87,8 +84,7 @@ pub is_closed_one : (set contacts : Contacts) (c : ℕ) → c < 16 → is_in set
     → any_closed set contacts ≡ true
 unfolding any_closed
 is_closed_one set contacts c low has level =
-    holds_in (λ k. is_in set k && is_closed contacts k) c low (by_both (is_in set c) (is_closed contacts c) has level) _
-    refl
+    holds_in (λ k. is_in set k && is_closed contacts k) _ low (by_both _ _ has level) _ refl
 
 pub open_is : (set contacts : Contacts) → any_open set contacts ≡ true → (c : ℕ) × (c < 16) × (is_in set c ≡ true)
     × (is_closed contacts c ≡ false)
@@ -102,8 +98,7 @@ pub is_open_one : (set contacts : Contacts) (c : ℕ) → c < 16 → is_in set c
     → any_open set contacts ≡ true
 unfolding any_open
 is_open_one set contacts c low has level =
-    holds_in (λ k. is_in set k && not (is_closed contacts k)) c low
-    (by_both (is_in set c) (not (is_closed contacts c)) has (ap not level)) _ refl
+    holds_in (λ k. is_in set k && not (is_closed contacts k)) _ low (by_both _ _ has (ap not level)) _ refl
 
 -- ---- bits of both sets
 
@@ -144,8 +139,7 @@ meets set contacts small =
     (λ i low e. bit_at_and set.0 contacts.0 i ∙ not_both (bit_at set.0 i) (bit_at contacts.0 i) (bit_at-lt set.0 i)
     (bit_at-lt contacts.0 i) e ∙ sym (bit_at-zero i))
     (λ i high.
-    let none = bit_at_above set.0 16 i small high in
-    bit_at_and set.0 contacts.0 i ∙ omega (arith, none) ∙ sym (bit_at-zero i))
+    bit_at_and set.0 contacts.0 i ∙ omega (arith, bit_at_above set.0 16 i small high) ∙ sym (bit_at-zero i))
     (λ i e. both_none (bit_at set.0 i) (bit_at contacts.0 i) (bit_at-lt set.0 i) (bit_at-lt contacts.0 i)
     (sym (bit_at_and set.0 contacts.0 i) ∙ e ∙ bit_at-zero i))
     _ _ refl refl
@@ -158,8 +152,7 @@ lacks set contacts small =
     (λ i low e. bit_at_and contacts.0 set.0 i ∙ not_left (bit_at contacts.0 i) (bit_at set.0 i) (bit_at-lt contacts.0 i)
     (bit_at-lt set.0 i) e)
     (λ i high.
-    let none = bit_at_above set.0 16 i small high in
-    bit_at_and contacts.0 set.0 i ∙ omega (arith, none))
+    bit_at_and contacts.0 set.0 i ∙ omega (arith, bit_at_above set.0 16 i small high))
     (λ i e. left_none (bit_at contacts.0 i) (bit_at set.0 i) (bit_at-lt contacts.0 i) (bit_at-lt set.0 i)
     (sym (bit_at_and contacts.0 set.0 i) ∙ e))
     _ _ refl refl

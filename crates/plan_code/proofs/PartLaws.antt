@@ -145,14 +145,11 @@ record IsNumbered (n : ℕ × List ℕ) (x : Option ℕ × List ℕ) : Type 0 wh
 numbered_by : (at : ℕ) (n : ℕ × List ℕ) (x : Option ℕ × List ℕ) (none : Bool) → (none ≡ true → n.0 ≡ no_day_frame)
     → some_or_none at n none ≡ Ok x → IsNumbered n x
 numbered_by at n x true is e =
-    let found : Option ℕ × List ℕ = (None, n.1) in
-    subst (λ (y : Option ℕ × List ℕ). IsNumbered n y) (ok_is found x e)
-    (record { number = sym (is refl); rest = refl; formed = tt })
+    rw (← ok_is (None, n.1) x e) (record { number = sym (is refl); rest = refl; formed = tt })
 numbered_by at n x false is e =
     let b = bind_ok (judged at 0 3599999 n) _ x e in
     let j = judged_is at 0 3599999 n b.0 b.1 in
-    let found : Option ℕ × List ℕ = (Some b.0.0, b.0.1) in
-    subst (λ (y : Option ℕ × List ℕ). IsNumbered n y) (ok_is found x b.2)
+    subst (λ (y : Option ℕ × List ℕ). IsNumbered n y) (ok_is (Some b.0.0, b.0.1) x b.2)
     (record {
       number = ap (λ (m : ℕ × List ℕ). m.0) (sym j.0);
       rest = ap (λ (m : ℕ × List ℕ). m.1) j.0;
@@ -171,8 +168,7 @@ day_frame_or_none_again total (Some t) rest is =
 goes_none : (more : List ℕ) (at by n : ℕ) (rest : List ℕ) (none : Bool) → at ≡ by
     → Goes more (some_or_none at (n, rest) none) (some_or_none by (n, rest ++ more) none)
 goes_none more at by n rest true e = refl
-goes_none more at by n rest false e =
-    goes_bind more _ _ _ _ (goes_judged more at by 0 3599999 n rest e) (λ frame last. refl)
+goes_none more at by n rest false e = goes_bind more _ _ _ _ (goes_judged more at by 0 _ n rest e) (λ frame last. refl)
 
 placed_none : (total at n : ℕ) (rest : List ℕ) (none : Bool) → at < total → length rest ≤ total
     → Placed total (some_or_none at (n, rest) none)
@@ -183,18 +179,15 @@ placed_none total at n rest false within left =
 placed_day_frame_or_none : (total : ℕ) (bytes : List ℕ) → length bytes ≤ total
     → Placed total (day_frame_or_none.read total bytes)
 placed_day_frame_or_none total bytes left =
-    placed_wide w32 4294967296 total bytes _ wide32 left
-    (λ within n rest after. placed_none total (place total bytes) n rest (eqb n no_day_frame) within after)
+    placed_wide w32 _ total bytes _ wide32 left (λ within n rest after. placed_none total _ n rest _ within after)
 
 day_frame_or_none_is : IsLawful day_frame_or_none IsDayFrameOrNone
 day_frame_or_none_is = record {
   front = λ total bytes x fits e.
       let b = bind_ok (number_at w32 bytes) _ x e in
       let f = long_front bytes b.0 fits b.1 in
-      let n = numbered_by (place total bytes) b.0 x (eqb b.0.0 no_day_frame) (λ same. eqb-true b.0.0 no_day_frame same)
-      b.2 in
-      let here : Front bytes (day_frame_or_none.spell x.0) b.0.1 =
-      subst (λ (m : ℕ). Front bytes (to_be_bytes w32 m) b.0.1) (sym n.number) f.0 in
+      let n = numbered_by _ _ _ _ (λ same. eqb-true b.0.0 no_day_frame same) b.2 in
+      let here = subst (λ (m : ℕ). Front bytes (to_be_bytes w32 m) b.0.1) (sym n.number) f.0 in
       (subst (λ (rest : List ℕ). Front bytes (day_frame_or_none.spell x.0) rest) n.rest here, n.formed);
   again = day_frame_or_none_again;
   goes = λ total bytes more. goes_bind more _ _ _ _ (goes_number w32 bytes more)
@@ -347,8 +340,7 @@ placed_known total rest (Some o) at within left = left
 
 placed_opcode : (total : ℕ) (bytes : List ℕ) → length bytes ≤ total → Placed total (opcode.read total bytes)
 placed_opcode total [] left = tt
-placed_opcode total (b ∷ rest) left =
-    placed_known total rest (opcode_of b) (place total (b ∷ rest)) (omega (arith, left)) (omega (arith, left))
+placed_opcode total (b ∷ rest) left = placed_known _ _ _ _ (omega (arith, left)) (omega (arith, left))
 
 opcode_is : IsLawful opcode IsKnown
 opcode_is = record {

@@ -1,7 +1,7 @@
 -- The offset of a field at fault is within the file, and the bytes before it are truncated.
 use Rattle.plan_code.proofs.Words.{[], ◌++◌, ◌-◌, ◌<◌, ◌>>=◌, ◌∷◌, ◌≡◌, ◌≤◌, ◌⊎◌, Bool, CodeFault, Err, Field}
 use Rattle.plan_code.proofs.Words.{HasCodeFault, Header, Limit, List, Magic, Memory, Ok, Order, Parses, Placed, Program}
-use Rattle.plan_code.proofs.Words.{Reads, Result, Short, Trailing, Truncated, TruncatedBeforePlaces, Version, arith}
+use Rattle.plan_code.proofs.Words.{Reads, Result, Short, Trailing, Truncated, TruncatedBeforePlaces, arith}
 use Rattle.plan_code.proofs.Words.{cond, config_at, config_in, count_at, eqb, false, fib_count, in_file, inl, inr}
 use Rattle.plan_code.proofs.Words.{label_from, label_key, labels_in, layout_in, length, length-take-le, line, line_in}
 use Rattle.plan_code.proofs.Words.{ltb, magic, magic_at, mode_of, not, number_at, place, placed_byte}
@@ -17,13 +17,9 @@ use Rattle.plan_code.proofs.SteadyFiles.{file_faults_are_first}
 
 -- the offset in a fault is below `total`, and the fault is not out of memory
 abbrev pub IsWithin : ℕ → CodeFault → Type 0
-IsWithin total Magic = Unit {0}
-IsWithin total Version = Unit {0}
-IsWithin total Truncated = Unit {0}
 IsWithin total (Field at) = at < total
-IsWithin total Limit = Unit {0}
-IsWithin total Trailing = Unit {0}
 IsWithin total Memory = ⊥
+IsWithin total _ = Unit {0}
 
 -- a reading of some of `total` bytes leaves no more than those, and a fault has an offset among them
 abbrev Stands : {T : Type 0} → ℕ → Parses T → Type 0
@@ -64,10 +60,9 @@ stands_field total (Err Order) some placed = some
 -- a part that begins with the next byte
 stands_part : {T : Type 0} (total b : ℕ) (rest : List ℕ) (r : Reads T) → length (b ∷ rest) ≤ total
     → Placed (length (b ∷ rest)) r → Stands total (read_from (place total (b ∷ rest)) r)
-stands_part total b rest (Ok x) left placed = omega (arith, left, placed)
 stands_part total b rest (Err Short) left placed = tt
-stands_part total b rest (Err (FieldOfRecord at)) left placed = omega (arith, left, placed)
 stands_part total b rest (Err Order) left placed = omega (arith, left)
+stands_part total b rest _ left placed = omega (arith, left, placed)
 
 -- ---- the header
 

@@ -1,7 +1,7 @@
 -- Appended bytes do not affect the reading of a code file: any fault except `Truncated` stays the same.
 use Rattle.plan_code.proofs.Words.{[], ◌++◌, ◌+◌, ◌-◌, ◌<◌, ◌>>=◌, ◌∙◌, ◌∷◌, ◌≡◌, ◌≢◌, ◌⊎◌, Bool, CodeFault}
 use Rattle.plan_code.proofs.Words.{CutsAreTruncated, Err, Field, FileFaultsAreFirst, FileFaultsStay, Goes, Header}
-use Rattle.plan_code.proofs.Words.{IsProgram, Limit, List, Magic, Memory, Ok, Order, Parses, Program, Reads, Result}
+use Rattle.plan_code.proofs.Words.{IsProgram, Limit, List, Magic, Ok, Order, Parses, Program, Reads, Result}
 use Rattle.plan_code.proofs.Words.{Short, Trailing, Truncated, Version, ap, append-nil, arith, code_bytes, cond}
 use Rattle.plan_code.proofs.Words.{config_in, count_at, drop, eqb, false, fib_count, goes_byte, goes_byte_within}
 use Rattle.plan_code.proofs.Words.{goes_number, in_file, inl, inr, label_from, label_key, layout_in, length}
@@ -87,8 +87,7 @@ runs_plan : (total : ℕ) (bytes more : List ℕ) → Runs more (plan_at total b
     (plan_at (total + length more) (bytes ++ more))
 unfolding plan_at
 runs_plan total bytes more =
-    runs_bind more _ _ _ _ (runs_layout total bytes more)
-    (λ layout rest. runs_field more _ _ ((plan_after_is layout).goes total rest more))
+    runs_bind _ _ _ _ _ (runs_layout _ _ _) (λ layout rest. runs_field _ _ _ ((plan_after_is _).goes total rest more))
 
 runs_count : (total limit : ℕ) (bytes more : List ℕ) → Runs more (count_at total limit bytes)
     (count_at (total + length more) limit (bytes ++ more))
@@ -156,8 +155,7 @@ ended : (p : Program) (more rest : List ℕ) → Ends more (refuse_code (not (eq
 ended p [] [] = λ some. absurd (some refl)
 ended p (m ∷ more) [] = λ some. refused p (length (m ∷ more)) (omega arith)
 ended p more (b ∷ rest) =
-    subst (λ r. Ends more r (refuse_code (not (eqb (length (b ∷ rest ++ more)) 0)) Trailing >>= λ _. Ok p))
-    (sym (refused p (length (b ∷ rest)) (omega arith))) (λ _. refused p (length (b ∷ rest ++ more)) (omega arith))
+    rw (refused p (length (b ∷ rest)) (omega arith)) (λ _. refused p (length (b ∷ rest ++ more)) (omega arith))
 
 ends_code : (bytes more : List ℕ) → Ends more (code_of bytes) (code_of (bytes ++ more))
 unfolding code_of
@@ -173,12 +171,7 @@ ends_code bytes more =
 
 truncated_or_other : (f : CodeFault) → (f ≡ Truncated) ⊎ (f ≢ Truncated)
 truncated_or_other Truncated = inl refl
-truncated_or_other Magic = inr (λ e. absurd cc)
-truncated_or_other Version = inr (λ e. absurd cc)
-truncated_or_other (Field at) = inr (λ e. absurd cc)
-truncated_or_other Limit = inr (λ e. absurd cc)
-truncated_or_other Trailing = inr (λ e. absurd cc)
-truncated_or_other Memory = inr (λ e. absurd cc)
+truncated_or_other _ = inr (λ e. absurd cc)
 
 stays_by : (more : List ℕ) (r s : Result Program CodeFault) (fault : CodeFault) → Ends more r s → r ≡ Err fault
     → fault ≢ Truncated → s ≡ Err fault
@@ -207,9 +200,8 @@ cut_by more p (Err f) s h e some =
 pub cuts_are_truncated : CutsAreTruncated
 cuts_are_truncated p n is less =
     let whole = code_bytes p in
-    let all : code_of (take n whole ++ drop n whole) ≡ Ok p = ap code_of (take-append-drop n whole) ∙ code_again p is in
     cut_by (drop n whole) p (code_of (take n whole)) (code_of (take n whole ++ drop n whole))
-    (ends_code (take n whole) (drop n whole)) all
+    (ends_code (take n whole) (drop n whole)) (ap code_of (take-append-drop n whole) ∙ code_again p is)
     (λ none. let left : length (drop n whole) ≡ 0 = ap length none in
     let both : length (take n whole ++ drop n whole) ≡ length whole = ap length (take-append-drop n whole) in
     omega (

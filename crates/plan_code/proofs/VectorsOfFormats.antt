@@ -1,5 +1,5 @@
 -- Formats: for each way to make one, an example that is read and one that is refused, and what is spelled.
-use Rattle.plan_code.proofs.Words.{[], ◌∷◌, ◌≡◌, Bool, Err, List, Ok, false, refl, true, ℕ}
+use Rattle.plan_code.proofs.Words.{[], ◌∷◌, ◌≡◌, Bool, Err, Ok, false, refl, true, ℕ}
 use Rattle.std.specs.Prelude.{◌+◌, ◌-◌, zero, suc}
 use Rattle.mux_config.specs.declared.record.RecordFault.TheVariants.{Field, Short}
 use Rattle.plan_code.specs.Formats.{Format, Kind, ◌▸◌, any_byte, byte_from, flag, follows, kind, mapped, tagged_at}

@@ -16,30 +16,27 @@ in_window a b = (λ e. ltb-true a b e, λ lt. lt-ltb a b lt)
 within_a_day : (from to day : ℕ) → to < FRAMES_A_DAY → from < FRAMES_A_DAY → day < FRAMES_A_DAY → from ≤ to
     → (frames_until from day < frames_until from to) ↔ (from ≤ day) × (day < to)
 within_a_day from to day below first here after =
-    let end = until_after from to below after in
     elim (cases_lt day from) [
       | inl early ↦
           let now = until_before from day first early in
-          (λ lt. absurd (omega (arith, end, now, lt)), λ h. absurd (omega (arith, h.0, early)))
+          (λ lt. absurd (omega (arith, now, lt)), λ h. absurd (omega (arith, h.0, early)))
       | inr late ↦
-          let now = until_after from day here late in
-          (λ lt. (late, omega (arith, end, now, lt)), λ h. omega (arith, end, now, h.1))
+          (λ lt. (late, omega (arith, lt)), λ h. omega (arith, h.1))
     ]
 
 over_midnight : (from to day : ℕ) → from < FRAMES_A_DAY → day < FRAMES_A_DAY → to < from
     → (frames_until from day < frames_until from to) ↔ (from ≤ day) ⊎ (day < to)
 over_midnight from to day first here before =
-    let end = until_before from to first before in
     elim (cases_lt day from) [
       | inl early ↦
           let now = until_before from day first early in (
-            λ lt. inr (omega (arith, end, now, lt)),
+            λ lt. inr (omega (arith, now, lt)),
             λ h.
-                elim h [ inl late ↦ absurd (omega (arith, late, early)) | inr lt ↦ omega (arith, end, now, lt) ],
+                elim h [ inl late ↦ absurd (omega (arith, late, early)) | inr lt ↦ omega (arith, now, lt) ],
           )
       | inr late ↦
           let now = until_after from day here late in
-          (λ lt. inl late, λ h. omega (arith, end, now, before, here))
+          (λ lt. inl late, λ h. omega (arith, now, before, here))
     ]
 
 through : {P Q R : Type 0} → P ↔ Q → Q ↔ R → P ↔ R

@@ -1,5 +1,5 @@
 -- Warnings that are kept once.
-use Rattle.std.proofs.Common.{◌≡◌, ◌↔◌, ◌⊎◌, inl, inr, List, [], ◌∷◌, ◌++◌, Contains, sym, subst}
+use Rattle.std.proofs.Common.{◌≡◌, inl, inr, List, [], ◌∷◌, ◌++◌, Contains, sym, subst}
 use Rattle.std.proofs.lemmas.List.Elements.{Contains-append_left, Contains-append_right, Contains-append_cases}
 use Rattle.mux_types.proofs.Elements.{contains_first, contains_later, contains_none}
 use Rattle.plan_explain.specs.declared.warning.Warning.{Warning}

@@ -1,5 +1,5 @@
 -- Statements in a row that wait for the next day, and such that do not.
-use Rattle.std.proofs.Common.{◌≡◌, ℕ, true, false, inl, inr, [], ◌∷◌, Some, refl}
+use Rattle.std.proofs.Common.{◌≡◌, ℕ, true, false, inl, [], ◌∷◌, Some, refl}
 use Rattle.mux_config.specs.declared.edit.Edit.TheVariants.{DropSub}
 use Rattle.script_front.specs.declared.tree.Act.TheVariants.{Edit as Edits, WaitAny, Until, CommitIn, Join}
 use Rattle.script_front.specs.declared.moment.MomentForm.{MomentForm as Moment}

@@ -1,5 +1,5 @@
 -- Short configurations, codes and blocks, with what is to be said of them and what is not.
-use Rattle.std.proofs.Common.{◌≡◌, true, inl, inr, [], ◌∷◌, Some, None, Contains, refl, sym, ap, ◌∙◌, arith}
+use Rattle.std.proofs.Common.{◌≡◌, true, inl, inr, [], ◌∷◌, Some, None, refl, sym, ap, ◌∙◌, arith}
 use Rattle.mux_types.proofs.Elements.{contains_cases, contains_first, contains_later, contains_none}
 use Rattle.mux_eep.specs.declared.sizes.EepSet.TheVariants.{A}
 use Rattle.mux_types.specs.declared.parts.Sub.{Sub}

@@ -2,10 +2,10 @@
 use Rattle.plan_map.proofs.Words.{[], ◌+◌, ◌<◌, ◌==◌, ◌∙◌, ◌∷◌, ◌≡◌, Arrives, Begin, Beginning, Bool, CommitsAreRows}
 use Rattle.plan_map.proofs.Words.{Configuration, Contact, Edits, End, Event, Frame, HasCommit, Instr, IsCommit}
 use Rattle.plan_map.proofs.Words.{IsPlayed, IsSafe, IsStart, IsTyping, Jump, Known, Label, Line, List, Loop, None, One}
-use Rattle.plan_map.proofs.Words.{Option, Program, Row, RunsBeginWithTheFirst, Settle, Some, Start, State, Test}
+use Rattle.plan_map.proofs.Words.{Option, Program, RunsBeginWithTheFirst, Settle, Some, Start, State, Test}
 use Rattle.plan_map.proofs.Words.{TestTime, Until, Wait, WaitAny, WaitContact, after_burst, ap, arith, burst, changed}
 use Rattle.plan_map.proofs.Words.{commits_before, cond, effect, eqb-true, false, found, get_some, happens, instr_at}
-use Rattle.plan_map.proofs.Words.{is_due, is_first_noticed, is_here, is_in_window, is_running, label_at, leaves, length}
+use Rattle.plan_map.proofs.Words.{is_due, is_first_noticed, is_here, is_in_window, label_at, leaves}
 use Rattle.plan_map.proofs.Words.{nothing, opening_of, option_map, ready, refl, rows_of, run, same_Some, settle, shown}
 use Rattle.plan_map.proofs.Words.{slice_get, slice_get_within, spent, step, step_is, subst, suc, sym, target_of, true}
 use Rattle.plan_map.proofs.Words.{with_due_swap, with_swap, zero, ℕ}
@@ -26,13 +26,11 @@ arrives_by : (p : Program) (typing : List Known) → IsTyping p typing → (pc :
 arrives_by p typing ty pc None t e h = record { known = t; there = h; same = refl }
 arrives_by p typing ty pc (Some label) t e h =
     let within = found (λ (l : Label). l.pc == pc) p.labels label e in
-    let at : label.pc ≡ pc = eqb-true label.pc pc within.1 in
     let typed = ty.labels label within.0 in
-    let one : h.declared.next ≡ typed.known.next =
-    same_Some h.declared.next typed.known.next (sym h.declares.next ∙ typed.declares.next) in
+    let one = same_Some h.declared.next typed.known.next (sym h.declares.next ∙ typed.declares.next) in
     record {
       known = typed.known;
-      there = subst (λ k. slice_get typing k ≡ Some typed.known) at typed.there;
+      there = subst (λ k. slice_get typing k ≡ Some typed.known) (eqb-true label.pc pc within.1) typed.there;
       same = next_fits t.pending h.declared.pending t h.declared h.fits.swap ∙ one;
     }
 
@@ -69,30 +67,23 @@ reaches : (p : Program) (typing : List Known) → IsTyping p typing → (s : Sta
     → target_of i ≡ Some target → IsKnownNext typing target s.next
 reaches p typing ty s i t safe e target is =
     let r = safe.targets target is in
-    arrives p typing ty target (spent t) s.next
-    (subst (λ (o : Option Label). Arrives p typing target o (spent t)) (sym r.there) r.comes) e
+    arrives p typing ty target (spent t) s.next (rw r.there r.comes) e
 
 effect_known : (p : Program) (typing : List Known) → IsTyping p typing → (s : State) (i : Instr) (t : Known)
     → IsSafe p typing s.pc i t → slice_get typing s.pc ≡ Some t → s.next ≡ t.next
     → IsAtKnown typing (effect p.plan i s)
 effect_known p typing ty s (Wait n) t safe there e =
-    arrives p typing ty (s.pc + 1) (leaves p.plan (Wait n) t) s.next (safe.onward refl)
-    (e ∙ sym (waited_next n t.pending t))
+    arrives p _ ty _ _ _ (safe.onward refl) (e ∙ sym (waited_next n _ t))
 effect_known p typing ty s (Until d) t safe there e =
-    arrives p typing ty (s.pc + 1) (leaves p.plan (Until d) t) s.next (safe.onward refl)
-    (e ∙ sym (paused_next t.pending t))
+    arrives _ _ ty _ _ _ (safe.onward refl) (e ∙ sym (paused_next t.pending t))
 effect_known p typing ty s (WaitContact c b) t safe there e =
-    arrives p typing ty (s.pc + 1) (leaves p.plan (WaitContact c b) t) s.next (safe.onward refl)
-    (e ∙ sym (paused_next t.pending t))
+    arrives _ _ ty _ _ _ (safe.onward refl) (e ∙ sym (paused_next t.pending t))
 effect_known p typing ty s (WaitAny closed opened until frames) t safe there e =
-    arrives p typing ty (s.pc + 1) (leaves p.plan (WaitAny closed opened until frames) t) s.next (safe.onward refl)
-    (e ∙ sym (paused_next t.pending t))
+    arrives _ _ ty _ _ _ (safe.onward refl) (e ∙ sym (paused_next t.pending t))
 effect_known p typing ty s Settle t safe there e =
-    settles typing s.left s (arrives p typing ty (s.pc + 1) (leaves p.plan Settle t) s.next (safe.onward refl)
-    (e ∙ sym (settled_next t.pending t)))
+    settles _ _ _ (arrives _ _ ty _ _ _ (safe.onward refl) (e ∙ sym (settled_next _ _)))
 effect_known p typing ty s End t safe there e = record { known = t; there = there; same = e }
-effect_known p typing ty s (Edits c) t safe there e =
-    arrives p typing ty (s.pc + 1) (leaves p.plan (Edits c) t) (changed c s.next) (safe.onward refl) (ap (changed c) e)
+effect_known p typing ty s (Edits c) t safe there e = arrives _ _ ty _ _ _ (safe.onward refl) (ap (changed _) e)
 effect_known p typing ty s (Test c target) t safe there e =
     either_pc typing (is_closed s.contacts c) (s.pc + 1) target s.next
     (arrives p typing ty (s.pc + 1) (leaves p.plan (Test c target) t) s.next (safe.onward refl) e)
@@ -105,18 +96,15 @@ effect_known p typing ty s (Jump target) t safe there e = reaches p typing ty s 
 effect_known p typing ty s (Loop r target) t safe there e =
     either_pc typing _ target (s.pc + 1) s.next (reaches p typing ty s (Loop r target) t safe e target refl)
     (arrives p typing ty (s.pc + 1) (leaves p.plan (Loop r target) t) s.next (safe.onward refl) e)
-effect_known p typing ty s i t safe there e =
-    arrives p typing ty (s.pc + 1) (leaves p.plan i t) s.next (safe.onward refl) e
+effect_known p typing ty s i t safe there e = arrives _ _ ty _ _ _ (safe.onward refl) e
 
 pub step_known : (p : Program) (typing : List Known) → IsTyping p typing → (s : State) → IsAtKnown typing s
     → IsAtKnown typing (step p s)
 step_known p typing ty s h =
-    let within : s.pc < length p.lines = subst (λ n. s.pc < n) ty.each (slice_get_within typing s.pc h.known h.there) in
-    let line = get_some p.lines s.pc within in
+    let line = get_some p.lines s.pc (subst (λ n. s.pc < n) ty.each (slice_get_within typing s.pc h.known h.there)) in
     let i : Instr = line.0.instr in
     let at : instr_at p s.pc ≡ Some i = ap (λ o. option_map (λ (l : Line). l.instr) o) line.1 in
-    subst (λ (t : State). IsAtKnown typing t) (sym (step_is p s i at))
-    (effect_known p typing ty s i h.known (ty.safe s.pc i h.known at h.there) h.there h.same)
+    rw (step_is p s i at) (effect_known p typing ty s i h.known (ty.safe s.pc i h.known at h.there) h.there h.same)
 
 -- ---- frames and runs
 
@@ -124,8 +112,7 @@ pub burst_known : (most : ℕ) (p : Program) (typing : List Known) → IsTyping 
     → IsAtKnown typing (burst most p s)
 burst_known zero p typing ty s h = h
 burst_known (suc most) p typing ty s h =
-    either_known typing (is_running s.hold) (burst most p (step p s)) s
-    (burst_known most p typing ty (step p s) (step_known p typing ty s h)) h
+    either_known _ _ _ _ (burst_known most p typing ty (step p s) (step_known _ _ ty _ h)) h
 
 pub ready_known : (typing : List Known) (s : State) → IsAtKnown typing s → IsAtKnown typing (ready s)
 ready_known typing s h =
@@ -165,16 +152,12 @@ pub begins : (p : Program) (typing : List Known) (start : Start) (s : State) →
 begins p typing start s ty st =
     let o = ty.opening in
     let within = found (λ (l : Label). l.pc == 0) p.labels o.label o.first in
-    let at : o.label.pc ≡ 0 = eqb-true o.label.pc 0 within.1 in
     let typed = ty.labels o.label within.0 in
-    let there : slice_get typing 0 ≡ Some typed.known =
-    subst (λ k. slice_get typing k ≡ Some typed.known) at typed.there in
+    let there = subst (λ k. slice_get typing k ≡ Some typed.known) (eqb-true o.label.pc 0 within.1) typed.there in
     let one : st.label ≡ o.label = same_Some st.label o.label (sym st.first ∙ o.first) in
-    let gets : slice_get p.configurations o.label.cur ≡ Some s.current =
-    subst (λ (l : Label). slice_get p.configurations l.cur ≡ Some s.current) one st.current in
+    let gets = subst (λ (l : Label). slice_get p.configurations l.cur ≡ Some s.current) one st.current in
     let current : s.current ≡ o.known.current = same_Some s.current o.known.current (sym gets ∙ o.declares.current) in
-    let next : o.known.next ≡ typed.known.next =
-    same_Some o.known.next typed.known.next (sym o.declares.next ∙ typed.declares.next) in
+    let next = same_Some o.known.next typed.known.next (sym o.declares.next ∙ typed.declares.next) in
     let same : s.current ≡ typed.known.next = current ∙ o.opening.initial.same ∙ next in
     record {
       known = typed.known;
@@ -198,16 +181,14 @@ played_known p s h =
     let r = h.reached in
     let ts : List Known = h.typed.0 in
     let ty : IsTyping p ts = h.typed.1 in
-    subst (λ (t : State). IsAtKnown ts t) r.leads
-    (run_known p ts ty r.first r.events (started_known p ts r.start r.first ty r.started))
+    rw (← r.leads) (run_known p ts ty r.first r.events (started_known p ts r.start r.first ty r.started))
 
 -- ---- the laws
 
 pub runs_begin : RunsBeginWithTheFirst
 runs_begin begin p start s typed st =
-    let first : Row = record { kind = Begin; line = begin; block = []; lead = None; config = opening_of p } in
     record {
-      row = first;
+      row = (record { kind = Begin; line = begin; block = []; lead = None; config = opening_of p });
       there = refl;
       kind = refl;
       line = refl;
@@ -219,9 +200,7 @@ pub row_at_state : (begin : ℕ) (p : Program) (typing : List Known) → IsTypin
     → IsAtKnown typing s → slice_get p.lines s.pc ≡ Some l → IsCommit l.instr
     → HasCommit (rows_of begin p) (1 + commits_before p s.pc) l s.next
 row_at_state begin p typing ty s l h at commits =
-    let place : s.pc ≡ 0 + s.pc = omega arith in
-    let there : slice_get typing (0 + s.pc) ≡ Some h.known =
-    subst (λ k. slice_get typing k ≡ Some h.known) place h.there in
+    let there = subst (λ k. slice_get typing k ≡ Some h.known) (omega arith) h.there in
     let row = row_of p typing ty 0 (One Beginning) [] (opening_of p) p.lines (all_from p)
     (at_first p typing (opening_of p) ty) s.pc l h.known at there (commits_if l.instr commits) in
     let e : suc (commits_before p s.pc) ≡ 1 + commits_before p s.pc = omega arith in
@@ -241,5 +220,4 @@ commits_are_rows begin p s pc l c h at =
     let known : IsAtKnown ts u = burst_known at.steps p ts ty (ready s) (ready_known ts s (played_known p s h)) in
     let line : slice_get p.lines u.pc ≡ Some l = subst (λ k. slice_get p.lines k ≡ Some l) (sym at.reached) at.there in
     let row = row_at_state begin p ts ty u l known line at.commits in
-    subst (λ (x : Configuration). HasCommit (rows_of begin p) (1 + commits_before p pc) l x) at.next
-    (subst (λ k. HasCommit (rows_of begin p) (1 + commits_before p k) l u.next) at.reached row)
+    rw (← at.next) (rw (← at.reached) row)

@@ -68,10 +68,8 @@ labelled : (p : Program) (typing : List Known) (pc : ℕ) (label : Label) (next 
     → declared_by p (Some label) next ≡ t.next
 labelled p typing pc label next t h e there =
     let within = found (λ (l : Label). l.pc == pc) p.labels label e in
-    let at : label.pc ≡ pc = eqb-true label.pc pc within.1 in
     let typed = h.labels label within.0 in
-    let here : slice_get typing pc ≡ Some typed.known =
-    subst (λ k. slice_get typing k ≡ Some typed.known) at typed.there in
+    let here = subst (λ k. slice_get typing k ≡ Some typed.known) (eqb-true label.pc pc within.1) typed.there in
     let same : typed.known ≡ t = same_Some typed.known t (sym here ∙ there) in
     ap (λ o. or_else o next) typed.declares.next ∙ ap (λ (k : Known). k.next) same
 
@@ -87,8 +85,7 @@ entering p typing pc i t u next (Some label) h at there left e later = labelled 
 onward : (p : Program) (typing : List Known) (pc : ℕ) (i : Instr) (t : Known) (next : Configuration) → IsTyping p typing
     → instr_at p pc ≡ Some i → slice_get typing pc ≡ Some t
     → next ≡ (leaves p.plan i t).next → KnowsNext p typing (pc + 1) next
-onward p typing pc i t next h at there left u later =
-    entering p typing pc i t u next (label_at p (pc + 1)) h at there left refl later
+onward p typing pc i t next h at there left u later = entering _ _ _ _ _ _ _ _ h at there left refl later
 
 -- at the first one
 pub at_first : (p : Program) (typing : List Known) (next : Configuration) → IsTyping p typing
@@ -108,14 +105,12 @@ all_from p k = let e : 0 + k ≡ k = omega arith in ap (λ n. slice_get p.lines 
 
 from_next : (p : Program) (pc : ℕ) (l : Line) (ls : List Line) → AreFrom p pc (l ∷ ls) → AreFrom p (pc + 1) ls
 from_next p pc l ls h k =
-    let e : pc + 1 + k ≡ pc + suc k = omega arith in
-    ap (λ n. slice_get p.lines n) e ∙ h (suc k)
+    ap (λ n. slice_get p.lines n) (omega arith) ∙ h (suc k)
 
 first_of_them : (p : Program) (pc : ℕ) (l : Line) (ls : List Line) → AreFrom p pc (l ∷ ls)
     → slice_get p.lines pc ≡ Some l
 first_of_them p pc l ls h =
-    let e : pc ≡ pc + 0 = omega arith in
-    ap (λ n. slice_get p.lines n) e ∙ h 0
+    ap (λ n. slice_get p.lines n) (omega arith) ∙ h 0
 
 knows_next : (p : Program) (typing : List Known) (pc : ℕ) (next : Configuration) (l : Line) (ls : List Line)
     → IsTyping p typing → AreFrom p pc (l ∷ ls) → KnowsNext p typing pc next
@@ -123,11 +118,9 @@ knows_next : (p : Program) (typing : List Known) (pc : ℕ) (next : Configuratio
 knows_next p typing pc next l ls ty rest knows =
     let line : slice_get p.lines pc ≡ Some l = first_of_them p pc l ls rest in
     let at : instr_at p pc ≡ Some l.instr = ap (λ o. option_map (λ (x : Line). x.instr) o) line in
-    let within : pc < length typing = subst (λ n. pc < n) (sym ty.each) (slice_get_within p.lines pc l line) in
-    let here = get_some typing pc within in
+    let here = get_some typing pc (subst (λ n. pc < n) (sym ty.each) (slice_get_within p.lines pc l line)) in
     let fine = (ty.safe pc l.instr here.0 at here.1).fine in
-    let left : left_by l.instr (known_next p pc next) ≡ (leaves p.plan l.instr here.0).next =
-    ap (λ c. left_by l.instr c) (knows here.0 here.1) ∙ left_known p.plan l.instr here.0 fine in
+    let left = ap (λ c. left_by l.instr c) (knows here.0 here.1) ∙ left_known p.plan l.instr here.0 fine in
     onward p typing pc l.instr here.0 (left_by l.instr (known_next p pc next)) ty at here.1 left
 
 -- ---- commits
@@ -169,13 +162,12 @@ row_of p typing ty pc before passed next (x ∷ ls) rest knows zero l t at there
     let behind : List Row = commits_from p (pc + 1) (after x.instr ways)
     (passed ++ record { instr = x.instr; ways = ways } ∷ []) (left_by x.instr here) ls in
     let on : commits x.instr ≡ true = subst (λ (y : Line). commits y.instr ≡ true) same c in
-    let place : pc + 0 ≡ pc = omega arith in
     record {
       row = row;
       there = ap (λ b. slice_get (cond b (row ∷ []) [] ++ behind) 0) on;
       kind = refl;
       line = ap (λ (y : Line). y.number) (sym same);
-      config = knows t (subst (λ n. slice_get typing n ≡ Some t) place there);
+      config = knows t (subst (λ n. slice_get typing n ≡ Some t) (omega arith) there);
     }
 row_of p typing ty pc before passed next (x ∷ ls) rest knows (suc k) l t at there c =
     let here : Configuration = known_next p pc next in
@@ -183,11 +175,10 @@ row_of p typing ty pc before passed next (x ∷ ls) rest knows (suc k) l t at th
     let row : Row = record { kind = Commit; line = x.number; block = []; lead = lead_of ways; config = here } in
     let behind : List Row = commits_from p (pc + 1) (after x.instr ways)
     (passed ++ record { instr = x.instr; ways = ways } ∷ []) (left_by x.instr here) ls in
-    let place : pc + suc k ≡ pc + 1 + k = omega arith in
     let more =
     row_of p typing ty (pc + 1) (after x.instr ways) (passed ++ record { instr = x.instr; ways = ways } ∷ [])
     (left_by x.instr here) ls (from_next p pc x ls rest) (knows_next p typing pc next x ls ty rest knows) k l t at
-    (subst (λ n. slice_get typing n ≡ Some t) place there) c
+    (subst (λ n. slice_get typing n ≡ Some t) (omega arith) there) c
     in
     record {
       row = more.row;
@@ -214,7 +205,6 @@ pub record IsFrom (typing : List Known) (pc : ℕ) (ls : List Line) (n : ℕ) (r
 from_later : (typing : List Known) (pc : ℕ) (x : Line) (ls : List Line) (b : Bool) (m : ℕ) (row : Row)
     → commits x.instr ≡ b → IsFrom typing (pc + 1) ls m row → IsFrom typing pc (x ∷ ls) (cond b (suc m) m) row
 from_later typing pc x ls b m row e h =
-    let place : pc + 1 + h.at ≡ pc + suc h.at = omega arith in
     record {
       at = suc h.at;
       instr = h.instr;
@@ -222,7 +212,7 @@ from_later typing pc x ls b m row e h =
       there = h.there;
       commits = h.commits;
       order = ap (λ t. length (cond t (x ∷ kept h) (kept h))) e ∙ counted b h ∙ ap (λ n. cond b (suc n) n) h.order;
-      knows = subst (λ n. slice_get typing n ≡ Some h.known) place h.knows;
+      knows = subst (λ n. slice_get typing n ≡ Some h.known) (omega arith) h.knows;
       kind = h.kind;
       line = h.line;
       config = h.config;
@@ -242,7 +232,6 @@ from_here : (p : Program) (typing : List Known) (pc : ℕ) (lead : Option Lead) 
     → row ≡ record { kind = Commit; line = x.number; block = []; lead = lead; config = known_next p pc next }
     → IsFrom typing pc (x ∷ ls) 0 row
 from_here p typing pc lead next x ls t row there knows c is =
-    let place : pc ≡ pc + 0 = omega arith in
     record {
       at = 0;
       instr = x;
@@ -250,7 +239,7 @@ from_here p typing pc lead next x ls t row there knows c is =
       there = refl;
       commits = c;
       order = refl;
-      knows = subst (λ n. slice_get typing n ≡ Some t) place there;
+      knows = subst (λ n. slice_get typing n ≡ Some t) (omega arith) there;
       kind = ap (λ (r : Row). r.kind) is;
       line = ap (λ (r : Row). r.line) is;
       config = ap (λ (r : Row). r.config) is ∙ knows t there;
@@ -275,8 +264,7 @@ of_row p typing ty pc before passed next (x ∷ ls) rest knows n row at =
     let here : Configuration = known_next p pc next in
     let ways : Ways = ways_from pc before passed in
     let r : Row = record { kind = Commit; line = x.number; block = []; lead = lead_of ways; config = here } in
-    let within : pc < length typing =
-    subst (λ k. pc < k) (sym ty.each) (slice_get_within p.lines pc x (first_of_them p pc x ls rest)) in
+    let within = subst (λ k. pc < k) (sym ty.each) (slice_get_within p.lines pc x (first_of_them p pc x ls rest)) in
     let known = get_some typing pc within in
     from_either typing pc x ls r
     (commits_from p (pc + 1) (after x.instr ways) (passed ++ record { instr = x.instr; ways = ways } ∷ [])
@@ -325,7 +313,6 @@ rows_are_commits begin p typing ty =
       λ n row at.
           let h = of_row p typing ty 0 (One Beginning) [] (opening_of p) p.lines (all_from p)
           (at_first p typing (opening_of p) ty) n row (later_row begin n p row at) in
-          let place : 0 + h.at ≡ h.at = omega arith in
           record {
             pc = h.at;
             instr = h.instr;
@@ -333,7 +320,7 @@ rows_are_commits begin p typing ty =
             there = h.there;
             commits = is_commit h.instr.instr h.commits;
             order = h.order;
-            at = subst (λ k. slice_get typing k ≡ Some h.known) place h.knows;
+            at = subst (λ k. slice_get typing k ≡ Some h.known) (omega arith) h.knows;
             kind = h.kind;
             line = h.line;
             config = h.config;

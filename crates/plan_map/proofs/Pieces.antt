@@ -1,6 +1,6 @@
 -- Texts and ranges, one element after another.
 use Rattle.plan_map.proofs.Words.{[], ◌++◌, ◌+◌, ◌<◌, ◌∙◌, ◌∷◌, ◌≡◌, List, ap, append-nil, append_assoc, arith}
-use Rattle.plan_map.proofs.Words.{flat_map, get_or, length, range_with_len, suc, sym, take, take_more, zero, ℕ}
+use Rattle.plan_map.proofs.Words.{flat_map, get_or, length, range_with_len, suc, take, take_more, zero, ℕ}
 use Rattle.std.proofs.lemmas.Grind.{flat_map-append}
 
 -- one more element
@@ -8,17 +8,14 @@ pub texts_more : {X A : Type 0} (f : X → List A) (xs : List X) (i : ℕ) (x : 
     → flat_map f (take i xs) ++ f x ≡ flat_map f (take (i + 1) xs)
 texts_more {X = X} {A = A} f xs i x lt same =
     let one : flat_map f (x ∷ []) ≡ f x = append-nil (f x) in
-    ap (λ (l : List A). flat_map f (take i xs) ++ l) (sym one) ∙ sym (flat_map-append f (take i xs) (x ∷ []))
-    ∙ ap (λ (y : X). flat_map f (take i xs ++ y ∷ [])) same ∙ ap (flat_map f) (sym (take_more xs i x lt))
+    cc (one, flat_map-append f (take i xs) (x ∷ []), same, take_more xs i x lt)
 
 cells_more_suc : {A : Type 0} (f : ℕ → List A) (a n : ℕ)
     → flat_map f (range_with_len a (suc n)) ≡ flat_map f (range_with_len a n) ++ f (a + n)
 cells_more_suc {A = A} f a zero = let same : a + 0 ≡ a = omega arith in rw same (append-nil (f a))
 cells_more_suc {A = A} f a (suc n) =
     let same : (a + 1) + n ≡ a + suc n = omega arith in
-    ap (λ (l : List A). f a ++ l) (cells_more_suc f (a + 1) n)
-    ∙ sym (append_assoc (f a) (flat_map f (range_with_len (a + 1) n)) (f ((a + 1) + n)))
-    ∙ ap (λ (k : ℕ). (f a ++ flat_map f (range_with_len (a + 1) n)) ++ f k) same
+    cc (cells_more_suc f (a + 1) n, append_assoc (f a) (flat_map f (range_with_len (a + 1) n)) (f ((a + 1) + n)), same)
 
 cells_more : {A : Type 0} (f : ℕ → List A) (a n : ℕ) → flat_map f (range_with_len a (n + 1))
     ≡ flat_map f (range_with_len a n) ++ f (a + n)

@@ -41,14 +41,11 @@ any_place : (P : Sub → Bool) (subs : List Sub) (a n id : ℕ) (l : Sub) → a 
     → list_any P (flat_map (place_of subs) (range_with_len a n)) ≡ true
 any_place P subs a zero id l low high found holds = absurd (omega (arith, low, high))
 any_place P subs a (suc n) id l low high found holds =
-    let behind = flat_map (place_of subs) (range_with_len (a + 1) n) in
-    let cut = list_any-append P (place_of subs a) behind in
+    let cut = list_any-append P (place_of subs a) (flat_map (place_of subs) (range_with_len (a + 1) n)) in
     elim (cases_lt a id) [
       | inl lt ↦
-          let low' : a + 1 ≤ id = omega arith in
-          let high' : id < (a + 1) + n = omega arith in
           cut ∙ ap (λ (b : Bool). list_any P (place_of subs a) || b)
-          (any_place P subs (a + 1) n id l low' high' found holds) ∙ or_true _
+          (any_place P subs (a + 1) n id l (omega arith) (omega arith) found holds) ∙ or_true _
       | inr ge ↦
           let same : a ≡ id = omega arith in
           let here : first_with a subs ≡ Some l = rw same found in
@@ -81,9 +78,7 @@ same_if_apart l s e h = let k : not (is_same_sub l s) ≡ false = sym (rw e refl
 apart_by : (subs : List Sub) (s l : Sub) (b : Bool) → clashes l s ≡ b → s.id < 64 → first_with s.id subs ≡ Some l
     → list_any (λ k. clashes k s) (flat_map (place_of subs) (range_with_len 0 64)) ≡ false → b ≡ false
 apart_by subs s l true e low found free =
-    let in_range : s.id < 0 + 64 = omega arith in
-    let hit = any_place (λ k. clashes k s) subs 0 64 s.id l (omega arith) in_range found e in
-    let never : true ≡ false = sym hit ∙ free in
+    let hit = any_place (λ k. clashes k s) subs 0 64 s.id l (omega arith) (omega arith) found e in
     absurd cc
 apart_by subs s l false e low found free = refl
 
@@ -104,8 +99,7 @@ all_served layout before (s ∷ ss) subs is cut named none =
     let same = same_if_apart first.one s first.named apart in
     let in_range : s.id < 0 + 64 = omega arith in
     let served = any_place (λ k. is_same_sub k s) subs 0 64 s.id first.one (omega arith) in_range first.found same in
-    let rest = all_served layout (before ++ s ∷ []) ss subs is (append_assoc before (s ∷ []) ss ∙ cut) named.1
-    split.behind in
+    let rest = all_served layout (before ++ s ∷ []) ss subs is (append_assoc before _ _ ∙ cut) named.1 split.behind in
     record { each = (ap (list_any (λ k. is_same_sub k s)) is ∙ served, rest.each); apart = (free, rest.apart) }
 
 places_is : (subs : List Sub) → places subs ≡ flat_map (place_of subs) (range_with_len 0 64)
@@ -197,9 +191,8 @@ between_by c layout s ss None e behind h =
       clash = later.clash;
     }
 between_by c layout s ss (Some l) e behind h =
-    let same : in_order l s ≡ c = cc in
     let found = with_found s l layout e in
-    record { place = l; sub = s; is = same; first = found.occurs; second = inl refl; clash = found.clash }
+    record { place = l; sub = s; is = cc; first = found.occurs; second = inl refl; clash = found.clash }
 
 between : (c : Clash) (layout ss : List Sub) → first_clash layout ss ≡ Some c → Between c layout ss
 between c layout [] h = absurd cc
@@ -208,11 +201,9 @@ between c layout (s ∷ ss) h = between_by c layout s ss (clash_with s layout) r
 -- other sub-channels share a unit whichever is named first
 turned : (l s : Sub) → s.id < l.id → clashes l s ≡ true → clashes s l ≡ true
 turned l s lt h =
-    let one : (l.id == s.id) ≡ false = ne_eqb l.id s.id (λ same. omega (arith, lt, same)) in
-    let other : (s.id == l.id) ≡ false = ne_eqb s.id l.id (λ same. omega (arith, lt, same)) in
-    let shared : shares l s ≡ true = sym (rw one refl) ∙ h in
+    let shared : shares l s ≡ true = sym (rw (ne_eqb l.id s.id (λ same. omega (arith, lt, same))) refl) ∙ h in
     let turn : shares s l ≡ shares l s = and_comm (ltb s.start (end_of l)) (ltb l.start (end_of s)) in
-    rw other (turn ∙ shared)
+    rw (ne_eqb s.id l.id (λ same. omega (arith, lt, same))) (turn ∙ shared)
 
 ordered_clash : (l s : Sub) (subs : List Sub) → Occurs l subs → Occurs s subs → clashes l s ≡ true
     → IsClash (in_order l s) subs
@@ -228,8 +219,7 @@ pub is_clash : (c : Clash) (layout subs : List Sub) → layout ≡ places subs �
     → IsClash c subs
 is_clash c layout subs is h =
     let found = between c layout subs h in
-    let among : Occurs found.place (flat_map (place_of subs) (range_with_len 0 64)) =
-    subst (Occurs found.place) (is ∙ places_is subs) found.first in
+    let among = subst (Occurs found.place) (is ∙ places_is subs) found.first in
     subst (λ (x : Clash). IsClash x subs) found.is
     (ordered_clash found.place found.sub subs (places_occur subs 0 64 found.place among) found.second found.clash)
 
@@ -254,10 +244,8 @@ pub subs_more : (subs now more : List Sub) (rows : List Row) (i : ℕ) (r : Row)
 subs_more subs now more rows i r lt same before is mores formed =
     let all = is ∙ ap (λ (l : List Sub). l ++ more) before.all ∙ ap (λ (l : List Sub). subs_of (take i rows) ++ l) mores
     ∙ texts_more row_subs rows i r lt same in
-    let placed : AllByRecursion (λ s. s.id < 64) more =
-    subst (AllByRecursion (λ (s : Sub). s.id < 64)) (sym mores) (placed_named (row_subs r) formed.subs_placed) in
+    let placed : AllByRecursion (λ s. s.id < 64) more = rw mores (placed_named (row_subs r) formed.subs_placed) in
     record {
       all = all;
-      named = subst (AllByRecursion (λ (s : Sub). s.id < 64)) (sym is)
-          (all_join _ subs more before.named placed);
+      named = rw is (all_join _ subs more before.named placed);
     }

@@ -4,7 +4,7 @@ use Rattle.plan_map.proofs.Words.{EventIsAllowed, Executes, Frame, FrameIsAllowe
 use Rattle.plan_map.proofs.Words.{IsAllowed, IsCommit, IsCommitted, IsPlayed, IsShown, IsStart, IsTyping, Known, Line}
 use Rattle.plan_map.proofs.Words.{List, None, Option, Plan, Program, Row, RunIsAllowed, Settle, Some, Start, State}
 use Rattle.plan_map.proofs.Words.{TypedCodeRuns, after_burst, changed, cond, contains_at, contains_first, effect, false}
-use Rattle.plan_map.proofs.Words.{happens, instr_at, is_due, is_first_noticed, is_here, is_noticed, left_after_frame}
+use Rattle.plan_map.proofs.Words.{happens, instr_at, is_due, is_noticed, left_after_frame}
 use Rattle.plan_map.proofs.Words.{mapped, ready, refl, rows_of, run, settle, shown, slice_get, step, step_is, subst}
 use Rattle.plan_map.proofs.Words.{suc, sym, true, with_due_swap, with_swap, zero, ℕ}
 use Rattle.plan_runs.proofs.Reached.{starts_are_reached}
@@ -25,9 +25,6 @@ pub record AreRows (rows : List Row) (s : State) : Type 0 where
 either_rows : (rows : List Row) (b : Bool) (s t : State) → AreRows rows s → AreRows rows t → AreRows rows (cond b s t)
 either_rows rows true s t h g = h
 either_rows rows false s t h g = g
-
-shown_of : (rows : List Row) (c : Configuration) → IsCommitted rows c → IsShown rows c
-shown_of rows c h = (h.0, h.1, h.3)
 
 -- ---- one instruction
 
@@ -50,8 +47,7 @@ committed_there : (begin : ℕ) (p : Program) (typing : List Known) → IsTyping
 committed_there begin p typing ty s i h at c =
     let line = mapped (λ (l : Line). l.instr) (slice_get p.lines s.pc) i at in
     let l : Line = line.0 in
-    let commits : IsCommit l.instr = subst (λ (j : Instr). IsCommit j) (sym line.2) c in
-    let row = row_at_state begin p typing ty s l h line.1 commits in
+    let row = row_at_state begin p typing ty s l h line.1 (subst (λ (j : Instr). IsCommit j) (sym line.2) c) in
     (row.row, contains_at (rows_of begin p) _ row.row row.there, row.kind, row.config)
 
 executes_rows : (begin : ℕ) (p : Program) (typing : List Known) → IsTyping p typing → (s : State) (n : ℕ) (t : State)
@@ -60,10 +56,8 @@ executes_rows : (begin : ℕ) (p : Program) (typing : List Known) → IsTyping p
 executes_rows begin p typing ty s zero t h k rows = subst (λ (u : State). AreRows (rows_of begin p) u) h.1 rows
 executes_rows begin p typing ty s (suc n) t h k rows =
     let i : Instr = h.1.instr in
-    let one = effect_rows (rows_of begin p) p.plan i s h.1.allowed (committed_there begin p typing ty s i k h.1.within)
-    rows in
-    let first : AreRows (rows_of begin p) (step p s) =
-    subst (λ (u : State). AreRows (rows_of begin p) u) (sym (step_is p s i h.1.within)) one in
+    let one = effect_rows _ p.plan i s h.1.allowed (committed_there begin p typing ty s i k h.1.within) rows in
+    let first = subst (λ (u : State). AreRows (rows_of begin p) u) (sym (step_is p s i h.1.within)) one in
     executes_rows begin p typing ty (step p s) n t h.2 (step_known p typing ty s k) first
 
 -- ---- frames and runs
@@ -71,7 +65,7 @@ executes_rows begin p typing ty s (suc n) t h k rows =
 due_shown : (rows : List Row) (left : Option ℕ) (n : Configuration) → is_due left ≡ true → IsPending rows left n
     → IsShown rows n
 due_shown rows None n due h = absurd cc
-due_shown rows (Some k) n due h = shown_of rows n h
+due_shown rows (Some k) n due h = (h.0, h.1, h.3)
 
 due_rows : (rows : List Row) (s : State) → AreRows rows s → AreRows rows (with_due_swap s)
 due_rows rows s h = by (is_due s.left) refl
@@ -83,8 +77,7 @@ due_rows rows s h = by (is_due s.left) refl
 ready_rows : (rows : List Row) (s : State) → AreRows rows s → AreRows rows (ready s)
 ready_rows rows s h =
     let due : AreRows rows (with_due_swap s) = due_rows rows s h in
-    either_rows rows (is_here (with_due_swap s) (with_due_swap s).hold) _ (with_due_swap s)
-    (record { current = due.current; pending = due.pending }) due
+    either_rows _ _ _ _ (record { current = due.current; pending = due.pending }) due
 
 shown_rows : (begin : ℕ) (p : Program) (typing : List Known) → IsTyping p typing → (s : State) → FrameIsAllowed p s
     → IsAtKnown typing s → AreRows (rows_of begin p) s
@@ -92,10 +85,8 @@ shown_rows : (begin : ℕ) (p : Program) (typing : List Known) → IsTyping p ty
 shown_rows begin p typing ty s f k h =
     let t : State = after_burst p s in
     let after : AreRows (rows_of begin p) t =
-    executes_rows begin p typing ty (ready s) f.steps t f.executes (ready_known typing s k)
-    (ready_rows (rows_of begin p) s h) in
-    either_rows (rows_of begin p) (is_first_noticed p.plan.notice t.left) _ t
-    (record { current = after.current; pending = after.pending }) after
+    executes_rows begin p _ ty _ _ t f.executes (ready_known _ s k) (ready_rows _ s h) in
+    either_rows _ _ _ _ (record { current = after.current; pending = after.pending }) after
 
 later_pending : (rows : List Row) (left : Option ℕ) (n : Configuration) → IsPending rows left n
     → IsPending rows (left_after_frame left) n
@@ -116,15 +107,13 @@ run_rows : (begin : ℕ) (p : Program) (typing : List Known) → IsTyping p typi
     → AreRows (rows_of begin p) (run p s events)
 run_rows begin p typing ty s [] a k h = h
 run_rows begin p typing ty s (e ∷ es) a k h =
-    run_rows begin p typing ty (happens p s e) es a.1 (happens_known p typing ty s e k)
-    (happens_rows begin p typing ty s e a.0 k h)
+    run_rows begin p typing ty (happens p s e) es a.1 (happens_known _ _ ty _ _ k) (happens_rows _ _ _ ty _ _ a.0 k h)
 
 started_rows : (begin : ℕ) (p : Program) (typing : List Known) (start : Start) (s : State) → IsTyping p typing
     → IsStart p start s → AreRows (rows_of begin p) s
 started_rows begin p typing start s ty st =
-    let b = begins p typing start s ty st in
     record {
-      current = (_, contains_first _ _, sym b.current);
+      current = (_, contains_first _ _, sym (begins p typing start s ty st).current);
       pending = subst (λ (o : Option ℕ). IsPending (rows_of begin p) o s.next) (sym st.left) tt;
     }
 
@@ -143,8 +132,7 @@ played_rows begin p s goes h =
     } in
     let allowed = (goes p r.first r.events first).allowed in
     subst (λ (t : State). AreRows (rows_of begin p) t) r.leads
-    (run_rows begin p ts ty r.first r.events allowed (started_known p ts r.start r.first ty r.started)
-    (started_rows begin p ts r.start r.first ty r.started))
+    (run_rows _ _ _ ty _ _ allowed (started_known _ _ _ _ ty r.started) (started_rows _ _ _ _ _ ty r.started))
 
 sent_next : (rows : List Row) (notice : ℕ) (left : Option ℕ) (n : Configuration) → IsPending rows left n
     → IfSome (cond (is_noticed notice left) (Some n) None) (IsCommitted rows)
@@ -158,8 +146,7 @@ sent_next rows notice (Some k) n h = by (is_noticed notice (Some k))
 pub frames_send_rows : TypedCodeRuns → FramesSendRows
 frames_send_rows goes begin p s h =
     let ts : List Known = h.typed.0 in
-    let ty : IsTyping p ts = h.typed.1 in
     let frame = (goes p s (Frame ∷ []) h).allowed.0 in
-    let x = shown_rows begin p ts ty s frame (played_known p s h) (played_rows begin p s goes h) in
+    let x = shown_rows begin p ts h.typed.1 s frame (played_known p s h) (played_rows begin p s goes h) in
     let t : State = shown p s in
     record { current = x.current; next = sent_next (rows_of begin p) p.plan.notice t.left t.next x.pending }

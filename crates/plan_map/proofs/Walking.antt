@@ -12,17 +12,13 @@ pub row_more : (p : Program) (rows more all : List Row) (ls : List Line) (i : �
     ++ commits_from p (i + 1) onward longer (left_by l.instr here) (drop (i + 1) ls) ≡ all
 row_more p rows more all ls i l before ways onward passed longer next here lt same is leads pushed passes leaves
     so_far =
-    let cut : drop i ls ≡ l ∷ drop (i + 1) ls = drop_more ls i l lt
-    ∙ ap (λ (x : Line). x ∷ drop (i + 1) ls) (sym same) in
     let behind = commits_from p (i + 1) onward longer (left_by l.instr here) (drop (i + 1) ls) in
     let step : row_at l ways here ++ behind ≡ commits_from p i before passed next (drop i ls) =
-    rw (cut, is, leaves, passes, leads) refl in
-    ap (λ (rs : List Row). rs ++ behind) pushed ∙ append_assoc rows (row_at l ways here) behind
-    ∙ ap (λ (rs : List Row). rows ++ rs) step ∙ so_far
+    rw ((drop_more ls i l lt ∙ ap (λ (x : Line). x ∷ drop (i + 1) ls) (sym same)), is, leaves, passes, leads) refl in
+    cc (pushed, append_assoc rows (row_at l ways here) behind, step, so_far)
 
 -- no instruction is left
 pub rows_all : (p : Program) (rows all : List Row) (ls : List Line) (i : ℕ) (before : Ways) (passed : List Reached)
     (next : Configuration) → length ls ≤ i → rows ++ commits_from p i before passed next (drop i ls) ≡ all → rows ≡ all
 rows_all p rows all ls i before passed next past so_far =
-    let none : commits_from p i before passed next (drop i ls) ≡ [] = rw (drop_all i ls past) refl in
-    sym (append-nil rows) ∙ sym (ap (λ (rs : List Row). rows ++ rs) none) ∙ so_far
+    sym (append-nil rows) ∙ sym (ap (λ (rs : List Row). rows ++ rs) (rw (drop_all i ls past) refl)) ∙ so_far

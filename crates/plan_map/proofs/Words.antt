@@ -32,7 +32,7 @@ pub use Rattle.plan_map.specs.declared.rows.RowKind.TheVariants.{Begin, Commit}
 pub use Rattle.plan_runs.proofs.Between.{step_is}
 pub use Rattle.plan_runs.proofs.Lookups.{get_some}
 pub use Rattle.plan_runs.specs.Frames.{Executes, FrameIsAllowed, after_burst, burst, is_due, is_first_noticed, is_here}
-pub use Rattle.plan_runs.specs.Frames.{is_noticed, is_running, left_after_frame, ready, shown, with_due_swap, with_swap}
+pub use Rattle.plan_runs.specs.Frames.{is_noticed, left_after_frame, ready, shown, with_due_swap, with_swap}
 pub use Rattle.plan_runs.specs.Runs.{EventIsAllowed, IsStart, RunIsAllowed, happens, run}
 pub use Rattle.plan_runs.specs.Swaps.{IsCommit}
 pub use Rattle.plan_runs.specs.TypedRuns.{IsPlayed, TypedCodeRuns}

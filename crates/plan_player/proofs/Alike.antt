@@ -1,9 +1,9 @@
 -- Frames that differ in the count alone, one after another.
 use Rattle.plan_player.proofs.Words.{[], ◌%◌, ◌*◌, ◌++◌, ◌+◌, ◌-◌, ◌/◌, ◌<◌, ◌==◌, ◌∙◌, ◌∷◌, ◌≡◌, ◌≤◌, AreAlike, Bool}
-use Rattle.plan_player.proofs.Words.{COUNTS, EnsembleInformation, FrameLayout, Header, I, IsAlike, IsPageable, List}
+use Rattle.plan_player.proofs.Words.{COUNTS, FrameLayout, Header, I, IsAlike, IsPageable, List}
 use Rattle.plan_player.proofs.Words.{Marked, Mode, None, Plan, Some, State, Written, ap, append-nil, append_assoc, ap₂}
 use Rattle.plan_player.proofs.Words.{arith, checked, checked_len, concat, cond, count_step, counted_on, drop, drop_at}
-use Rattle.plan_player.proofs.Words.{ensemble_at, ensemble_figs, ensemble_of, ensemble_sent, entries_bytes, false}
+use Rattle.plan_player.proofs.Words.{ensemble_at, ensemble_figs, ensemble_sent, entries_bytes, false}
 use Rattle.plan_player.proofs.Words.{fib_bytes, fib_entries, figs_bytes, figs_of, filled, first_fib, flat_map}
 use Rattle.plan_player.proofs.Words.{frame_fibs, head_byte, head_of, header_of, later_fibs, layout_mode, length}
 use Rattle.plan_player.proofs.Words.{length-append, ltb, map, marked, ne_eqb, notice_frames, occurrence_bytes}
@@ -293,7 +293,3 @@ continued plan header n count at number step size offset width high low s t byte
     ∙ passed_over plan header n (suc at) m s t alike (omega (arith, all))
     (λ j from below. none_between plan count at j t fits counts (rw (← at_number) on) (omega (arith, from))
     (omega (arith, below, all, is_step))))
-
-pub first_near : (mode : Mode) (count : ℕ) → (count_step mode - count % count_step mode) % count_step mode ≤ 4
-first_near I count = omega arith
-first_near _ count = omega arith

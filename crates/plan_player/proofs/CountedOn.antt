@@ -1,10 +1,9 @@
 -- Advancing the counts, frame by frame or by many frames at once.
 use Rattle.plan_player.proofs.Words.{[], ◌%◌, ◌++◌, ◌+◌, ◌-◌, ◌<◌, ◌∙◌, ◌∷◌, ◌≡◌, ◌≤◌, Bool, COUNTS, FRAMES_A_DAY}
-use Rattle.plan_player.proofs.Words.{HasRounds, Hold, None, Option, Plan, Some, State, Waits, WaitsAny, ap, arith}
-use Rattle.plan_player.proofs.Words.{cond, counted_on, false, hold_after_frame, hold_later, left_after_frame}
-use Rattle.plan_player.proofs.Words.{left_later, ltb, ltb-false, ltb-true, mod-add-mod, mod-eq_of_lt, mod-lt, mod_self}
-use Rattle.plan_player.proofs.Words.{notice_frames, page_after, refl, sent_rounds, shown_bytes, suc, sym, true}
-use Rattle.plan_player.proofs.Words.{with_next_counts, zero, ℕ}
+use Rattle.plan_player.proofs.Words.{HasRounds, Hold, None, Option, Plan, Some, State, Waits, WaitsAny, ap, arith, cond}
+use Rattle.plan_player.proofs.Words.{counted_on, false, hold_after_frame, hold_later, left_after_frame, left_later, ltb}
+use Rattle.plan_player.proofs.Words.{ltb-false, ltb-true, mod-add-mod, mod-eq_of_lt, mod-lt, mod_self, notice_frames}
+use Rattle.plan_player.proofs.Words.{page_after, refl, shown_bytes, suc, sym, true, with_next_counts, zero, ℕ}
 
 -- ---- one frame more
 

@@ -1,5 +1,5 @@
 -- Quiet frames that come whole cycles after others, and differ from these in the count alone.
-use Rattle.plan_player.proofs.Words.{◌%◌, ◌*◌, ◌++◌, ◌+◌, ◌-◌, ◌<◌, ◌==◌, ◌∙◌, ◌∷◌, ◌≡◌, ◌≤◌, AreAlike, AreRecounted}
+use Rattle.plan_player.proofs.Words.{◌%◌, ◌*◌, ◌++◌, ◌+◌, ◌-◌, ◌<◌, ◌==◌, ◌∙◌, ◌≡◌, ◌≤◌, AreAlike, AreRecounted}
 use Rattle.plan_player.proofs.Words.{COUNTS, Header, I, IsAlike, IsStretch, List, Mode, Option, PhasePages}
 use Rattle.plan_player.proofs.Words.{Plan, State, SwapIsAway, ap, ap₂, arith, concat, concat-append}
 use Rattle.plan_player.proofs.Words.{copy_within, count_step, counted_on, drop, drop-take, drop_at, fib_count}
@@ -82,7 +82,7 @@ one_alike plan n done k s pages header h is cycle steps lt =
     let page = stretch_page plan n (done + k) s pages h lt in
     record {
       page_index = turn_on plan k _ s inside (fewer_rounds plan k n s _ (omega (arith, few)) rounds) ∙ turn_again _
-      done k _ cycle ∙ sym (turn_on plan _ _ s inside (fewer_rounds plan _ n s _ (omega (arith, lt)) rounds));
+          done k _ cycle ∙ sym (turn_on plan _ _ s inside (fewer_rounds plan _ n s _ (omega (arith, lt)) rounds));
       entries = entries_later plan n k s h.away few ∙ sym (entries_later plan n (done + k) s h.away lt);
       first = header_later plan n k s h.away few ∙ sym is;
       second = header_later plan n (done + k) s h.away lt ∙ sym is;

@@ -44,7 +44,7 @@ stopped_later a b c es fs x y z m n k d s =
       whole = omega (arith, d.whole, s.whole, count, counts_join a es s.done);
       part = rw (← next) s.part;
       state = s.state ∙ ap (λ (p : Playing). played p (s.done ++ Frame ∷ [])) d.state ∙ sym (played_join a es _) ∙ ap
-      (λ (l : List Event). played a l) (sym (append_assoc es s.done (Frame ∷ [])));
+          (λ (l : List Event). played a l) (sym (append_assoc es s.done (Frame ∷ [])));
       out = subst (λ (l : List ℕ). Appends x z l) bytes
           (Appends-trans x y z (played_bytes a es) (played_bytes b s.done ++ take k (next_frame (played b s.done)))
           d.out s.out);

@@ -2,15 +2,15 @@
 use Rattle.plan_player.proofs.Words.{[], ◌<◌, ◌∙◌, ◌∷◌, ◌≡◌, Arrives, Bool, Contact, End, Ended, Event, Executes, Frame}
 use Rattle.plan_player.proofs.Words.{Hold, Holds, IsCode, IsPlayed, IsSome, IsTyping, Join, Known, Line, List, None}
 use Rattle.plan_player.proofs.Words.{Option, Plan, Program, Running, Settle, Some, State, Until, Wait, WaitAny}
-use Rattle.plan_player.proofs.Words.{WaitContact, after_burst, after_frame, ap, arith, code_of, cond, effect, eqb}
-use Rattle.plan_player.proofs.Words.{eqb-true, false, frame_goes, happens, happens_holds, hold_after_frame, is_due}
-use Rattle.plan_player.proofs.Words.{is_first_noticed, is_here, is_running, label_at, left_after_frame, length, line_at}
+use Rattle.plan_player.proofs.Words.{WaitContact, after_burst, after_frame, arith, code_of, cond, effect, eqb}
+use Rattle.plan_player.proofs.Words.{eqb-true, false, frame_goes, happens, happens_holds, hold_after_frame}
+use Rattle.plan_player.proofs.Words.{is_first_noticed, is_running, label_at, left_after_frame, length, line_at}
 use Rattle.plan_player.proofs.Words.{option_map, played_holds, ready, refl, run, settle, slice_get, starts_are_reached}
-use Rattle.plan_player.proofs.Words.{step, step_is, subst, suc, sym, true, with_due_swap, with_swap, zero, ℕ}
+use Rattle.plan_player.proofs.Words.{step, step_is, suc, true, with_swap, zero, ℕ}
 use Rattle.plan_code.specs.declared.instr.Instr.{Instr}
 use Rattle.plan_code.specs.declared.label.Label.{Label}
 use Rattle.plan_runs.proofs.Lookups.{found, get_below}
-use Rattle.plan_runs.proofs.Steps.{Expects, ResumesBy}
+use Rattle.plan_runs.proofs.Steps.{ResumesBy}
 
 abbrev pub IsInside : Program → ℕ → Type 0
 IsInside p pc = pc < length p.lines

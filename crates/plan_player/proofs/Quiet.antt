@@ -5,9 +5,9 @@ use Rattle.plan_player.proofs.Words.{Program, QuietFramesAreCopied, Running, Som
 use Rattle.plan_player.proofs.Words.{WaitsContact, WaitsDay, WaitsSwap, after_burst, after_frame, ap, arith}
 use Rattle.plan_player.proofs.Words.{burst_steps, cond, eqb-true, false, frame_bytes, frame_steps}
 use Rattle.plan_player.proofs.Words.{hold_after_frame, is_day, is_due, is_first_noticed, is_here, is_running}
-use Rattle.plan_player.proofs.Words.{last_steps, left_after_frame, mod-eq_of_lt, notice_frames, or_from, ready, refl}
+use Rattle.plan_player.proofs.Words.{last_steps, left_after_frame, notice_frames, or_from, ready, refl}
 use Rattle.plan_player.proofs.Words.{replicate, run_frames, shown, shown_bytes, still_stops, subst, suc, sym, true}
-use Rattle.plan_player.proofs.Words.{with_due_swap, with_hold_ended, with_next_counts, with_swap, zero, ℕ}
+use Rattle.plan_player.proofs.Words.{with_due_swap, with_next_counts, with_swap, zero, ℕ}
 use Rattle.plan_code.specs.Flags.{is_closed, any_closed, any_open}
 use Rattle.mux_config.specs.Sameness.{is_same_flag}
 use Rattle.plan_runs.proofs.Waits.{burst_stays}

@@ -5,9 +5,9 @@ use Rattle.plan_player.proofs.Words.{KeptPage, List, Marked, None, Option, Phase
 use Rattle.plan_player.proofs.Words.{ap, append-nil, append_assoc, arith, bits_of, change_of, concat, concat-append}
 use Rattle.plan_player.proofs.Words.{cond, count_step, counted_on, ensemble_at, ensemble_of, ensemble_sent, false}
 use Rattle.plan_player.proofs.Words.{frame_fibs, headed_at, header_of, inl, inr, is_noticed, layout_mode, left_later}
-use Rattle.plan_player.proofs.Words.{length, length-append, low_of_swap, mod-add-div', mod-add-mod, mod-lt, not_noticed}
+use Rattle.plan_player.proofs.Words.{length, length-append, low_of_swap, mod-add-mod, mod-lt, not_noticed}
 use Rattle.plan_player.proofs.Words.{notice_frames, noticed, page_after, page_bytes, pages_are_valid, refl}
-use Rattle.plan_player.proofs.Words.{sent_entries, shown_bytes, slice_get, split_le, subst, suc, suc-mul, sym, take}
+use Rattle.plan_player.proofs.Words.{sent_entries, shown_bytes, slice_get, split_le, subst, suc, sym, take}
 use Rattle.plan_player.proofs.Words.{take-append-add, take-append-le, true, with_next_counts, zero, ℕ}
 use Rattle.fib_codec.specs.Ranges.{IsEnsembleInformation}
 use Rattle.plan_player.proofs.Keeping.{held_is}

@@ -58,7 +58,7 @@ pub use Rattle.plan_runs.specs.Frames.{Executes, after_burst, after_frame, begin
 pub use Rattle.plan_runs.specs.Frames.{ensemble_of, ensemble_sent, frame_bytes, frame_steps, hold_after_frame, is_day}
 pub use Rattle.plan_runs.specs.Frames.{is_due, is_first_noticed, is_here, is_noticed, is_running, left_after_frame}
 pub use Rattle.plan_runs.specs.Frames.{low_of_swap, ready, sent_entries, sent_rounds, shown, shown_bytes, with_due_swap}
-pub use Rattle.plan_runs.specs.Frames.{with_hold_ended, with_next_counts, with_swap}
+pub use Rattle.plan_runs.specs.Frames.{with_next_counts, with_swap}
 pub use Rattle.plan_runs.specs.Runs.{IsStart, StartIsInRange, happens, run, run_frames}
 pub use Rattle.plan_runs.specs.TypedRuns.{IsPlayed}
 pub use Rattle.plan_runs.specs.declared.event.Event.{Event}
@@ -68,10 +68,10 @@ pub use Rattle.plan_verifier.specs.Typing.{Arrives, IsTyped, IsTyping, Known}
 pub use Rattle.std.proofs.Common.{[], ◌%◌, ◌&&◌, ◌*◌, ◌++◌, ◌+◌, ◌-◌, ◌/◌, ◌<◌, ◌==◌, ◌∙◌, ◌∷◌, ◌≡◌, ◌≤◌, Bool, IfErr}
 pub use Rattle.std.proofs.Common.{IfOk, IfSome, List, None, OnOk, Option, Some, ap, append_assoc, ap₂, arith, cond}
 pub use Rattle.std.proofs.Common.{drop, eqb, false, flat_map, get_or, inl, inr, length, length-append, length-drop}
-pub use Rattle.std.proofs.Common.{length-set, length-take, length-take-le, ltb, map, refl, replicate, subst, suc, sym}
+pub use Rattle.std.proofs.Common.{length-set, length-take-le, ltb, map, refl, replicate, subst, suc, sym}
 pub use Rattle.std.proofs.Common.{take, take-append-drop, true, zero, ℕ}
 pub use Rattle.std.proofs.KnownBytes.{Appends-trans}
-pub use Rattle.std.proofs.Math.Nat.{mod-add-div', mod-add-mod, mod-eq_of_lt, mod-lt, mod_self, mul-le-mul_right}
+pub use Rattle.std.proofs.Math.Nat.{mod-add-mod, mod-eq_of_lt, mod-lt, mod_self, mul-le-mul_right}
 pub use Rattle.std.proofs.Math.Nat.{mul-mod_left, mul_comm, suc-mul}
 pub use Rattle.std.proofs.Math.Seq.{paste, take-add, take-append-add, take-take}
 pub use Rattle.std.proofs.lemmas.Bool.{and_parts, eqb-false, eqb-true, ltb-false, ltb-true, ne_eqb, or_from}

@@ -4,7 +4,7 @@ use Rattle.plan_runs.proofs.Words.{[], ◌%◌, ◌+◌, ◌<◌, ◌∙◌, ◌
 use Rattle.plan_runs.proofs.Words.{ContactsAreAsSet, Event, Frame, FramesAreCounted, Instr, List, None, Option, Plan}
 use Rattle.plan_runs.proofs.Words.{Program, Settle, Some, State, after_burst, after_frame, ap, arith, burst, cond}
 use Rattle.plan_runs.proofs.Words.{contacts_change_alone, effect, effect_of, eqb, eqb-false, eqb-true, false, happens}
-use Rattle.plan_runs.proofs.Words.{instr_at, is_closed, is_due, is_first_noticed, is_here, is_running, length}
+use Rattle.plan_runs.proofs.Words.{instr_at, is_closed, is_due, is_first_noticed, is_here, length}
 use Rattle.plan_runs.proofs.Words.{level_after, ready, refl, run, run_frames, settle, shown, step, subst, suc, sym}
 use Rattle.plan_runs.proofs.Words.{true, with_contact, with_due_swap, with_swap, zero, ℕ}
 

@@ -5,7 +5,7 @@ use Rattle.plan_runs.proofs.Words.{List, Marked, None, Option, PageIsFibs, Plan,
 use Rattle.plan_runs.proofs.Words.{State, Whole, ap, arith, cond, drop, drop-drop, ensemble_figs, ensemble_sent}
 use Rattle.plan_runs.proofs.Words.{entries_where, facts_of, false, fib_at, fib_entries, fibs_from, fig_of, figs_of}
 use Rattle.plan_runs.proofs.Words.{first_fib, flat_map, frame_fibs, inl, inr, is_noticed, later_fibs, length, map}
-use Rattle.plan_runs.proofs.Words.{packing, page_entries, page_set, raw_entry, refl, replicate, reserved_fibs}
+use Rattle.plan_runs.proofs.Words.{page_entries, page_set, raw_entry, refl, replicate, reserved_fibs}
 use Rattle.plan_runs.proofs.Words.{sent_entries, shown_bytes, subst, suc, sym, true, zero, ℕ}
 use Rattle.plan_runs.proofs.Tracked.{Airs}
 use Rattle.plan_runs.proofs.Right.{PageLaws, pageable, sent_within}

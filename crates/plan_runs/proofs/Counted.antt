@@ -2,7 +2,7 @@
 use Rattle.plan_runs.proofs.Words.{[], ◌%◌, ◌+◌, ◌-◌, ◌<◌, ◌==◌, ◌∙◌, ◌∷◌, ◌≡◌, ◌≢◌, ◌≤◌, AnnouncesOnly, Bool, Contact}
 use Rattle.plan_runs.proofs.Words.{EnsembleInformation, Event, Frame, IsAnnouncedIn, KeepsCount, Known, List, MatchBool}
 use Rattle.plan_runs.proofs.Words.{None, Option, Plan, Program, Some, State, SwapsAt, SwapsComeAsAnnounced, after_frame}
-use Rattle.plan_runs.proofs.Words.{ap, arith, bits_of, change_of, cond, ensemble_of, ensemble_sent, eq-eqb, eqb-true}
+use Rattle.plan_runs.proofs.Words.{ap, arith, ensemble_of, ensemble_sent, eq-eqb, eqb-true}
 use Rattle.plan_runs.proofs.Words.{false, frame_bytes, happens, inl, inr, is_due, is_noticed, left_after_frame}
 use Rattle.plan_runs.proofs.Words.{low_of_swap, refl, sent_entries, shown, shown_bytes, sym, true, with_next_counts, ℕ}
 use Rattle.plan_runs.proofs.Passing.{not_due_from}
@@ -20,20 +20,6 @@ pub record IsOfNotice (plan : Plan) (u : State) (low : ℕ) : Type 0 where
   pub some : 1 ≤ frames
   pub within : frames ≤ plan.notice
   pub low_is : low ≡ (u.count + frames) % 5000 % 250
-
-unflagged_by : (s : State) (b : Bool) → b ≡ false
-    → (let e : EnsembleInformation =
-    cond b (let r : EnsembleInformation = record {
-      eid = s.eid;
-      change = bits_of (change_of s.current s.next);
-      al = false;
-      count = s.count;
-      occurrence = Some (low_of_swap s.count s.left);
-    } in r)
-    (record { eid = s.eid; change = 0; al = false; count = s.count; occurrence = None }) in
-    e.occurrence ≡ None)
-unflagged_by s true e = absurd cc
-unflagged_by s false e = refl
 
 some_low : (a b : ℕ) (o : Option ℕ) → o ≡ Some a → o ≡ Some b → a ≡ b
 some_low a b o e f = cc (sym e ∙ f)

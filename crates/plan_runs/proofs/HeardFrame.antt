@@ -74,7 +74,7 @@ frame_heard laws plan u a C N l h =
       knows = record {
         awaited = h.awaited;
         knows =
-        tuned_weaker on _ _ _ _ _ _ _ _ (row_heard plan u says false C) (row_heard plan u says true N) rest.knows;
+            tuned_weaker on _ _ _ _ _ _ _ _ (row_heard plan u says false C) (row_heard plan u says true N) rest.knows;
         waits = h.waits;
         headless = h.headless;
       };

@@ -116,7 +116,7 @@ hears_one laws p ts c s h l entered =
       after = heard.after;
       hears = heard.hears;
       knows = knows_weaker plan _ _ _ _ C _ N _ _ (λ x no_entry. absurd no_entry) (λ x no_entry. absurd no_entry)
-      (knows_after plan u C N _ a heard.knows);
+          (knows_after plan u C N _ a heard.knows);
     }
 
 pub known_runs : Laws → (p : Program) (ts : List Known) → IsCode p ts → (s : State) (events : List Event) → Holds p ts s

@@ -336,7 +336,7 @@ loop_by p ts b s r target t true e h =
     let arrives = target_arrives p ts target (spent t) (h.safe.targets target refl) in
     let after = lower_one t.counters s.counters r (counter_of s r - 1) h.formed.0 h.kept.eight (omega arith) h.set in
     let kept : IsKept p.plan s.left s.current s.next (slice_set s.counters r (counter_of s r - 1)) =
-    record { on_air = h.kept.on_air; committed = h.kept.committed; eight = still_eight _ r _ h.kept.eight; } in
+    record { on_air = h.kept.on_air; committed = h.kept.committed; eight = still_eight _ r _ h.kept.eight } in
     inr (arrive p ts h.typing b x (spent t) h.runs arrives (omega (arith, h.affords)) h.agrees after kept)
 loop_by p ts b s r target t false e h =
     let x : State = record s { counters = slice_set s.counters r (counter_of s r - 1); pc = s.pc + 1 } in

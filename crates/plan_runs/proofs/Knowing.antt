@@ -104,7 +104,7 @@ ready_early plan k c n m count C N l late some h =
           record {
             awaited = None;
             knows = as_noticed _ true c m C _ None l (noticed plan.notice k some within)
-            (begun c n m C N (Still plan (Some k) N) None l (λ x. none_still plan k N x same) h);
+                (begun c n m C N (Still plan (Some k) N) None l (λ x. none_still plan k N x same) h);
             waits = record { outside = λ past. refl; inside = λ inside. omega (arith, same) };
           }
       | inr past ↦
@@ -133,7 +133,7 @@ ready_pending plan k c n count C N l some h =
           record {
             awaited = at.awaited;
             knows = as_noticed _ true c n C _ _ l (noticed plan.notice k some (omega (arith, below)))
-            (tuned_weaker true c n C C N _ _ l (λ x y. y) (λ x y. y.1) at.knows);
+                (tuned_weaker true c n C C N _ _ l (λ x y. y) (λ x y. y.1) at.knows);
             waits = record { outside = λ past. absurd (omega (arith, past, below)); inside = λ inside. at.waits };
           }
     ]

@@ -1,11 +1,10 @@
 -- The frames of a notice, one after another; what was heard of them is a function of the state.
 use Rattle.plan_runs.proofs.Words.{[], ◌%◌, ◌++◌, ◌+◌, ◌-◌, ◌<◌, ◌∙◌, ◌∷◌, ◌≡◌, ◌≤◌, Bool, Configuration, Contains}
-use Rattle.plan_runs.proofs.Words.{Known, List, None, Option, Plan, Program, Running, Some, State, after_burst}
-use Rattle.plan_runs.proofs.Words.{after_frame, ap, arith, cond, false, frame_bytes, heard_after, heard_before}
-use Rattle.plan_runs.proofs.Words.{heard_left, heard_of, inl, inr, is_due, is_first_noticed, is_noticed}
-use Rattle.plan_runs.proofs.Words.{left_after_frame, notice_begin, notice_frames, page_set, refl, rounds, sent_rounds}
-use Rattle.plan_runs.proofs.Words.{shown, shown_bytes, slice_get, subst, suc, sym, true, with_next_counts, with_swap}
-use Rattle.plan_runs.proofs.Words.{zero, ℕ}
+use Rattle.plan_runs.proofs.Words.{Known, List, None, Option, Plan, Program, Running, Some, State, after_frame, ap}
+use Rattle.plan_runs.proofs.Words.{arith, cond, false, heard_after, heard_before, heard_left, heard_of, inl, inr}
+use Rattle.plan_runs.proofs.Words.{is_due, is_noticed, left_after_frame, notice_begin, notice_frames, page_set, refl}
+use Rattle.plan_runs.proofs.Words.{rounds, sent_rounds, shown, shown_bytes, slice_get, subst, suc, sym, true}
+use Rattle.plan_runs.proofs.Words.{with_next_counts, with_swap, zero, ℕ}
 use Rattle.plan_runs.proofs.Knowledge.{IsAhead}
 use Rattle.plan_runs.proofs.Tracked.{Airs, TurnShown, page_of, page_of_first, page_of_next, noticed, not_noticed}
 use Rattle.plan_runs.proofs.Tracked.{split_le}

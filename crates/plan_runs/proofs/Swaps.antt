@@ -4,7 +4,7 @@ use Rattle.plan_runs.proofs.Words.{CommitIn, CommitsAreKept, Contact, Event, Exe
 use Rattle.plan_runs.proofs.Words.{IsFirstWhere, IsSwapAfterDelay, IsSwapAtCount, Known, List, Mode, None, Option, Plan}
 use Rattle.plan_runs.proofs.Words.{Program, Some, State, StepIsAllowed, SwapsAreOnSteps, SwapsAtCount}
 use Rattle.plan_runs.proofs.Words.{SwapsChangeTheCurrent, SwapsInTime, after_burst, after_frame, ap, arith, burst}
-use Rattle.plan_runs.proofs.Words.{commit, cond, count_step, effect, false, happens, inl, inr, is_due, is_first_noticed}
+use Rattle.plan_runs.proofs.Words.{commit, cond, count_step, effect, false, inl, inr, is_due, is_first_noticed}
 use Rattle.plan_runs.proofs.Words.{layout_mode, left_after_frame, left_at, left_in, ready, refl, shown, step, subst}
 use Rattle.plan_runs.proofs.Words.{suc, sym, true, zero, ℕ}
 use Rattle.plan_runs.proofs.Passing.{some_is, due_is, not_due_from}

@@ -2,7 +2,7 @@
 use Rattle.plan_runs.proofs.Words.{◌%◌, ◌+◌, ◌-◌, ◌<◌, ◌∙◌, ◌≡◌, ◌≤◌, ◌⊎◌, Bool, Configuration, FrameLayout, I}
 use Rattle.plan_runs.proofs.Words.{IsConfiguration, IsProgram, IsTyping, Known, List, Marked, Mode, None, Option, Plan}
 use Rattle.plan_runs.proofs.Words.{Program, Some, State, after_burst, after_frame, and_parts, ap, arith, cond}
-use Rattle.plan_runs.proofs.Words.{count_step, eqb-false, eqb-true, false, inl, inr, is_due, is_first_noticed}
+use Rattle.plan_runs.proofs.Words.{count_step, eqb-false, eqb-true, false, inl, inr, is_first_noticed}
 use Rattle.plan_runs.proofs.Words.{is_noticed, layout_mode, leb, leb-false, leb-true, left_after_frame, ltb-true}
 use Rattle.plan_runs.proofs.Words.{nat_le, nat_lt, page_after, page_set, refl, rounds, sent_rounds, shown, subst, suc}
 use Rattle.plan_runs.proofs.Words.{sym, true, with_next_counts, with_swap, zero, ℕ}

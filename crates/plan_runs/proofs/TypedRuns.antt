@@ -1,7 +1,7 @@
 -- A typed code never traps.
 use Rattle.plan_runs.proofs.Words.{[], ◌∙◌, ◌∷◌, ◌≡◌, Arrives, CanEnter, Configuration, Contact, Counters, Event}
 use Rattle.plan_runs.proofs.Words.{FitsSwap, Frame, Hold, Idle, IsProgram, IsReached, IsStart, IsTyping, Known, Label}
-use Rattle.plan_runs.proofs.Words.{List, None, Option, Program, RunIsAllowed, Running, Some, Start, State, Swap}
+use Rattle.plan_runs.proofs.Words.{List, None, Option, Program, RunIsAllowed, Some, Start, State, Swap}
 use Rattle.plan_runs.proofs.Words.{TypedCodeRuns, after_frame, ap, arith, bit_at, bit_at-zero, eqb, happens, inl}
 use Rattle.plan_runs.proofs.Words.{label_at, length, refl, replicate, run, slice_get, subst, sym, ℕ}
 use Rattle.plan_runs.proofs.Lookups.{found}

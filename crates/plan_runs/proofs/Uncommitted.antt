@@ -2,7 +2,7 @@
 use Rattle.plan_runs.proofs.Words.{◌+◌, ◌<◌, ◌∙◌, ◌≡◌, ◌⊎◌, Bool, CommitAt, CommitIn, Instr, IsCommit, None, Option}
 use Rattle.plan_runs.proofs.Words.{Plan, Program, Running, Settle, Some, State, SwapsAreCommitted, after_burst, ap}
 use Rattle.plan_runs.proofs.Words.{arith, burst, burst_steps, cond, effect, effect_of, false, inl, inr, instr_at}
-use Rattle.plan_runs.proofs.Words.{is_due, is_first_noticed, is_here, is_running, left_after_frame, ready, refl, settle}
+use Rattle.plan_runs.proofs.Words.{is_due, is_here, is_running, left_after_frame, refl, settle}
 use Rattle.plan_runs.proofs.Words.{step, suc, sym, true, with_due_swap, with_swap, zero, ℕ}
 
 settle_left : (left : Option ℕ) (s : State) → (settle left s).left ≡ s.left

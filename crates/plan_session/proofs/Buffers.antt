@@ -1,6 +1,6 @@
 -- Bytes that went through a buffer which holds none of them any more.
-use Rattle.plan_session.proofs.Words.{[], ◌++◌, ◌∙◌, ◌∷◌, ◌≡◌, Appends, Keeps, List, None, Option, Some, ap, append-nil}
-use Rattle.plan_session.proofs.Words.{append_known, arith, length, sym, ℕ}
+use Rattle.plan_session.proofs.Words.{[], ◌∷◌, ◌≡◌, Appends, Keeps, List, None, Option, Some, append-nil}
+use Rattle.plan_session.proofs.Words.{append_known, arith, length, ℕ}
 
 pub handed_on : (before begun taken after : Option (List ℕ)) (held text : List ℕ) → Keeps before begun
     → Appends begun taken text → Keeps taken (append_known after held) → length held ≡ 0 → Appends before after text

@@ -86,7 +86,7 @@ module _ {T : Type 0} (spelled : T → List (List ℕ)) (IsItem : T → Type 0) 
       h.1 items in_range (ap (lexemes_of text) (sym (append-nil front)) ∙ all)
   not_listed text front (t ∷ ts) e items h in_range all =
       let begins : Begins spelled IsItem (lexemes_of text (front ++ t ∷ ts)) = record
-      { items = items; more = []; in_range = in_range; whole = sym all ∙ sym (append-nil (lexemes_of text _)); } in
+      { items = items; more = []; in_range = in_range; whole = sym all ∙ sym (append-nil (lexemes_of text _)) } in
       not_among text front ts ts t e begins h
   not_listed text front [] _ items h in_range all = h
 

@@ -1,8 +1,8 @@
 -- Where tokens stop spelling items: within the first item that can't be read.
 use Rattle.plan_session.proofs.Words.{[], ◌++◌, ◌∙◌, ◌∷◌, ◌≡◌, ◌≢◌, ◌⊎◌, AllByRecursion, AreUnique, Begins, BeginsItem}
-use Rattle.plan_session.proofs.Words.{Bool, Byte, EventFault, Expected, HasItemFault, HasLexemes, IsFaultAfter}
-use Rattle.plan_session.proofs.Words.{IsWrongAfter, IsWrongItem, List, Memory, Number, Option, Token, WantsNumber}
-use Rattle.plan_session.proofs.Words.{Wrong, ap, append-nil, append_assoc, arith, end_position, false, fault_at}
+use Rattle.plan_session.proofs.Words.{Bool, EventFault, Expected, HasItemFault, HasLexemes, IsFaultAfter}
+use Rattle.plan_session.proofs.Words.{IsWrongAfter, IsWrongItem, List, Number, Token, WantsNumber}
+use Rattle.plan_session.proofs.Words.{Wrong, ap, append-nil, append_assoc, arith, false, fault_at}
 use Rattle.plan_session.proofs.Words.{flat_map, inl, inr, length, lexemes_of, named_fault, position_or_end, refl}
 use Rattle.plan_session.proofs.Words.{reported_fault, slice_get, subst, sym, true, word_at, ℕ}
 

@@ -1,6 +1,6 @@
 -- The tokens of items, and the texts that list them.
-use Rattle.plan_session.proofs.Words.{◌∙◌, ◌∷◌, ◌≡◌, AreUnique, HasLexemes, HoldsOneListOf, List, NO_LIMITS, Nothing}
-use Rattle.plan_session.proofs.Words.{Ok, Token, ap, first_position, lexed, lexemes_of, sym, ℕ}
+use Rattle.plan_session.proofs.Words.{◌∙◌, ◌∷◌, ◌≡◌, AreUnique, HasLexemes, HoldsOneListOf, List}
+use Rattle.plan_session.proofs.Words.{ap, lexemes_of, sym, ℕ}
 use Rattle.plan_session.proofs.Listed.{one_list}
 
 -- ---- tokens

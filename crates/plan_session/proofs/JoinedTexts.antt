@@ -2,9 +2,9 @@
 -- those of the second. No token of the first goes on in the second.
 use Rattle.plan_session.proofs.Words.{[], ◌++◌, ◌+◌, ◌-◌, ◌∙◌, ◌∷◌, ◌≡◌, ◌≤◌, AllByRecursion, Bad, Blank, Brace, Hash}
 use Rattle.plan_session.proofs.Words.{HoldsItems, Kind, Letter, LineEnd, List, NO_LIMITS, Nothing, Ok, Place, Token, ap}
-use Rattle.plan_session.proofs.Words.{append_assoc, arith, drop, drop-append_seam, first_position, fits, flat_map, inr}
+use Rattle.plan_session.proofs.Words.{append_assoc, arith, drop-append_seam, first_position, fits, flat_map, inr}
 use Rattle.plan_session.proofs.Words.{kind_of, le-leb, length, length-append, lexed, lexemes_of, position_after}
-use Rattle.plan_session.proofs.Words.{position_past, refl, slice_range, sym, take, take-append_seam, token_at, true, ℕ}
+use Rattle.plan_session.proofs.Words.{position_past, refl, slice_range, sym, take-append_seam, token_at, true, ℕ}
 use Rattle.std.proofs.lemmas.Grind.{flat_map-append}
 use Rattle.script_tokens.specs.Texts.{AreText, CanPrecede, IsCutInto, Piece, TokensFit, atom, blank, brace, comment}
 use Rattle.script_tokens.specs.Texts.{text_of, tokens_of}

@@ -6,7 +6,7 @@ use Rattle.plan_session.proofs.Words.{subst, sym, take, take-add, take-append_se
 use Rattle.std.proofs.lemmas.List.{take-append-le, take-append-drop, length-drop}
 use Rattle.std.proofs.lemmas.Str.{IsUtf8-append, IsUtf8-drop, IsUtf8-encode, IsCharBoundary-from_take, length-encode}
 use Rattle.std.proofs.lemmas.Str.{len_utf8_bounds}
-use Rattle.std.specs.Char.{encode_utf8, len_utf8}
+use Rattle.std.specs.Char.{encode_utf8}
 use lib.Utf8.{scalar}
 
 -- no prefix of these bytes is UTF-8, other than the empty one

@@ -296,7 +296,7 @@ module _ {T : Type 0} (spelled : T → List (List ℕ)) (IsItem : T → Type 0) 
     done = h.done ++ item ∷ [];
     in_range = each_pushed h.done item h.in_range f.0;
     left = h.left ∙ ap (preceded (flat_map spelled h.done)) f.1 ∙ preceded_twice _ _ _ ∙ ap
-    (λ (l : List (List ℕ)). preceded l (lexemes_left new)) (sym (flat_pushed h.done item));
+        (λ (l : List (List ℕ)). preceded l (lexemes_left new)) (sym (flat_pushed h.done item));
     on = λ all l. let o = h.on all l in let t = took spelled IsItem unique has mid new item o.0 f o.1 in (t.0, t.2);
     fault = λ e later. h.fault e (fault_left spelled IsItem unique has mid new item e f later);
   }

@@ -1,9 +1,8 @@
 -- A request has at most one playback.
-use Rattle.plan_session.proofs.Words.{◌∙◌, ◌≡◌, Appends, Code, Configuration, Delivered, Events, IsAtStart, IsPlayFault}
+use Rattle.plan_session.proofs.Words.{◌∙◌, ◌≡◌, Appends, Configuration, Delivered, Events, IsAtStart, IsPlayFault}
 use Rattle.plan_session.proofs.Words.{IsPlayback, IsRunFault, IsStarted, IsTypedFileOf, List, None, Option, Playing}
-use Rattle.plan_session.proofs.Words.{Program, Refused, Request, Some, Step, Stopped, Write, ap, events_of, frames_of}
-use Rattle.plan_session.proofs.Words.{length, played_bytes, refl, replicate, slice_get, start_fault, start_of, subst}
-use Rattle.plan_session.proofs.Words.{sym, ℕ}
+use Rattle.plan_session.proofs.Words.{Program, Request, Step, Stopped, Write, ap, events_of, frames_of, length}
+use Rattle.plan_session.proofs.Words.{played_bytes, refl, replicate, slice_get, start_fault, start_of, subst, sym, ℕ}
 use Rattle.plan_code.specs.declared.hold.Hold.TheVariants.{Running}
 use Rattle.plan_code.specs.declared.label.Label.{Label}
 use Rattle.plan_code.specs.Machine.{State}

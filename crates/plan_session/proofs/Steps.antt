@@ -1,6 +1,6 @@
 -- The events of steps, and of more steps.
-use Rattle.plan_session.proofs.Words.{[], ◌++◌, ◌<◌, ◌∙◌, ◌∷◌, ◌≡◌, ◌≤◌, ◌⊎◌, Contact, Event, Frames, IsStep, List}
-use Rattle.plan_session.proofs.Words.{Scan, Step, ap, append-nil, append_assoc, arith, bytes_left, events_of}
+use Rattle.plan_session.proofs.Words.{[], ◌++◌, ◌<◌, ◌∙◌, ◌∷◌, ◌≡◌, ◌≤◌, ◌⊎◌, Contact, Frames, IsStep, List}
+use Rattle.plan_session.proofs.Words.{Scan, Step, append-nil, append_assoc, arith, bytes_left, events_of}
 use Rattle.plan_session.proofs.Words.{events_of_step, inl, inr, length, length_replicate, refl, subst, sym}
 
 pub events_join : (xs ys : List Step) → events_of (xs ++ ys) ≡ events_of xs ++ events_of ys

@@ -1,7 +1,7 @@
 -- The position just past a text, byte by byte.
-use Rattle.plan_session.proofs.Words.{◌+◌, ◌<◌, ◌∙◌, ◌∷◌, ◌≡◌, ◌≤◌, Bad, Blank, Brace, Hash, Kind, Letter, LineEnd}
-use Rattle.plan_session.proofs.Words.{List, Place, add-one, ap, arith, drop, drop-cons, get_or, kind_of, length}
-use Rattle.plan_session.proofs.Words.{position_after, position_past, refl, sym, ℕ}
+use Rattle.plan_session.proofs.Words.{◌+◌, ◌<◌, ◌∷◌, ◌≡◌, ◌≤◌, Bad, Blank, Brace, Hash, Kind, Letter, LineEnd}
+use Rattle.plan_session.proofs.Words.{List, Place, add-one, arith, drop, drop-cons, get_or, kind_of, length}
+use Rattle.plan_session.proofs.Words.{position_after, position_past, refl, ℕ}
 
 pub record Follows (p q : Place) : Type 0 where
   pub at : q.at ≡ p.at + 1

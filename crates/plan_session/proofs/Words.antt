@@ -28,7 +28,7 @@ pub use Rattle.plan_session.specs.declared.commands.Keyword.{Keyword}
 pub use Rattle.plan_session.specs.declared.event_fault.EventFault.{EventFault}
 pub use Rattle.plan_session.specs.declared.event_fault.EventFault.TheVariants.{Byte, Expected, Memory, Number}
 pub use Rattle.plan_session.specs.declared.item_fault.Wrong.{Wrong}
-pub use Rattle.plan_session.specs.declared.run_fault.RunFault.TheVariants.{Code, Events, Refused, Write}
+pub use Rattle.plan_session.specs.declared.run_fault.RunFault.TheVariants.{Code, Events, Write}
 pub use Rattle.plan_session.specs.declared.step.Step.{Step}
 pub use Rattle.plan_session.specs.declared.step.Step.TheVariants.{Contact, Frames}
 pub use Rattle.script_tokens.proofs.Keys.{one_level}

@@ -1,5 +1,5 @@
 -- The cause found at an instruction is the first of the definition, and none is found where the instruction is fine.
-use Rattle.plan_verifier.proofs.Words.{◌<◌, ◌↔◌, ◌≡◌, ◌≤◌, Bool, CanCommit, Cause, CommitAt, CommitIn, CommitRefused}
+use Rattle.plan_verifier.proofs.Words.{◌↔◌, ◌≡◌, ◌≤◌, Bool, CanCommit, Cause, CommitAt, CommitIn, CommitRefused}
 use Rattle.plan_verifier.proofs.Words.{Counters, Edits, Err, Flow, FlowRefused, HasItsCounter, Idle, IfErr, Instr}
 use Rattle.plan_verifier.proofs.Words.{IsConfiguration, Join, Loop, None, Ok, Option, Perhaps, Plan, Result, Some, Swap}
 use Rattle.plan_verifier.proofs.Words.{Wait, Within, ap, arith, both_ways, cause_if, cause_of, commit_cause, false}

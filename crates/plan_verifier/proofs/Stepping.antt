@@ -3,7 +3,7 @@ use Rattle.plan_verifier.proofs.Words.{◌+◌, ◌<◌, ◌∙◌, ◌≡◌, C
 use Rattle.plan_verifier.proofs.Words.{OnOk, Option, PassesInstr, Program, Result, Some, ap, arith, continues}
 use Rattle.plan_verifier.proofs.Words.{declared_by, drop, entered, instr_at, instr_or_end, known_at_pc, known_cause}
 use Rattle.plan_verifier.proofs.Words.{known_if_reached, label_at, leaves, length, opening_cause, opening_known}
-use Rattle.plan_verifier.proofs.Words.{option_map, passed_on, refl, refusal_of, refused_at, subst, suc, sym, taken}
+use Rattle.plan_verifier.proofs.Words.{option_map, passed_on, refl, refusal_of, refused_at, subst, suc, taken}
 use Rattle.plan_verifier.proofs.Words.{unless, walk, whole_cause, zero, ℕ}
 use Rattle.plan_verifier.proofs.Finding.{unless_err, unless_ok}
 use Rattle.plan_verifier.proofs.Verdicts.{slice_there, stops, passes, dropped}

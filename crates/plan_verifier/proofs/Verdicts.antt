@@ -342,7 +342,7 @@ verdict_past code typing h below (Some label) is =
     let past : length code.lines ≤ label.pc = (decides_le (length code.lines) label.pc).told f.1 in
     let none = ap (option_map (λ (l : Line). l.instr)) (slice_get_past code.lines label.pc past) in
     let first : IsFirstPast code label.pc =
-    record { label = label; there = (tabled code h).there label f.0; first = first_past _ _ _ h.labels_ascend is; } in
+    record { label = label; there = (tabled code h).there label f.0; first = first_past _ _ _ h.labels_ascend is } in
     (typing, subst (λ (o : Option Instr). IsRefusedAt code typing label.pc o Table) (sym none) (below, first, refl))
 
 found_next : (code : Program) → IsProgram code → (line : Line) (lines : List Line) (pc : ℕ) (typing : List Known)

@@ -44,7 +44,7 @@ pub use Rattle.plan_verifier.specs.Walking.{refusal_of, refused_at, taken, targe
 pub use Rattle.plan_verifier.specs.declared.cause.Cause.{Cause}
 pub use Rattle.plan_verifier.specs.declared.cause.Cause.TheVariants.{Cost, FallsOff, JoinIdle, Mismatch, Notice}
 pub use Rattle.plan_verifier.specs.declared.cause.Cause.TheVariants.{Pending, Round, Table, Target}
-pub use Rattle.plan_verifier.specs.declared.fitting.Condition.TheVariants.{Both, Never, NextTwice}
+pub use Rattle.plan_verifier.specs.declared.fitting.Condition.TheVariants.{NextTwice}
 pub use Rattle.plan_verifier.specs.declared.indices.IndexedFlow.{IndexedFlow}
 pub use Rattle.plan_verifier.specs.declared.indices.Indices.{Indices}
 pub use Rattle.plan_verifier.specs.declared.refusal.Refusal.{Refusal}

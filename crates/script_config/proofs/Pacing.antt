@@ -2,11 +2,10 @@
 use Rattle.script_config.proofs.Words.{[], ◌%◌, ◌*◌, ◌++◌, ◌+◌, ◌-◌, ◌<◌, ◌==◌, ◌∙◌, ◌∷◌, ◌≡◌, ◌≤◌, Act, All}
 use Rattle.script_config.proofs.Words.{AllByRecursion, Bool, Configuration, Edit, FitFrames, IsAct, IsConfiguration}
 use Rattle.script_config.proofs.Words.{IsEdit, IsPlan, List, Plan, SizesGrow, Transform, Wait, ap, append-nil}
-use Rattle.script_config.proofs.Words.{append_assoc, arith}
-use Rattle.script_config.proofs.Words.{cases_eq, committed, edits_between, edits_in, eq-eqb, eqb-true, false, get_or}
-use Rattle.script_config.proofs.Words.{if◌then◌else◌, inl, inr, length, length-append, length-take-le, mod-eq_of_lt}
-use Rattle.script_config.proofs.Words.{mod-lt, mod_self, paced, pause_after, plan_acts, refl, subst, suc, suc-mod, sym}
-use Rattle.script_config.proofs.Words.{take, take_more, true, ℕ}
+use Rattle.script_config.proofs.Words.{append_assoc, arith, cases_eq, committed, edits_between, edits_in, eq-eqb}
+use Rattle.script_config.proofs.Words.{eqb-true, false, get_or, if◌then◌else◌, inl, inr, length, length-append}
+use Rattle.script_config.proofs.Words.{length-take-le, mod-eq_of_lt, mod-lt, mod_self, paced, pause_after, plan_acts}
+use Rattle.script_config.proofs.Words.{refl, subst, suc, suc-mod, sym, take, take_more, true, ℕ}
 use Rattle.std.proofs.Math.Numerals.{suc-eq-add-one}
 use Rattle.script_front.specs.declared.tree.Act.TheVariants.{Edit as Edits}
 use Rattle.script_config.proofs.FewEdits.{between_few}

@@ -7,8 +7,6 @@ use Rattle.script_front.proofs.Words.{slice_range, sym, take-append_seam, text_o
 use Rattle.script_tokens.specs.declared.token.Kind.{Kind}
 use Rattle.script_tokens.specs.declared.token.Place.{Place}
 use Rattle.script_tokens.specs.declared.fault.ScriptFault.{ScriptFault}
-use Rattle.script_tokens.specs.declared.token.Inside.TheVariants.{Nothing}
-use Rattle.script_tokens.specs.Lexing.{lexed}
 use Rattle.script_tokens.proofs.Pieces.{texts_are_cut}
 
 after_byte : (p : Place) (k : Kind) → (position_after p k).at ≡ p.at + 1

@@ -190,14 +190,14 @@ begun_found : (fuel depth left : ℕ) (names : Names) (lines : List ℕ) (k : St
     left k ws
 unfolding block_at begun_at stops
 begun_found fuel depth left names lines k ws =
-    rw ( other_next _ _ _ (differs k the.CloseBrace refl), statement_found _ _, keyword_again _, ) refl
+    rw (other_next _ _ _ (differs k the.CloseBrace refl), statement_found _ _, keyword_again _) refl
 
 body_found : (go : Statements) (depth left mid : ℕ) (b : Block) (body rest : Spelled) → 1 ≤ depth
     → go (depth - 1) left (body ++ letters the.CloseBrace ∷ rest) ≡ Some (passed b mid (letters the.CloseBrace ∷ rest))
     → body_at go depth left (letters the.OpenBrace ∷ (body ++ letters the.CloseBrace ∷ rest)) ≡ Some (passed b mid rest)
 unfolding body_at open_at
 body_found go depth left mid b body rest room e =
-    rw ( not_zero depth room, after_itself _ _, e, after_itself _ _, ) refl
+    rw (not_zero depth room, after_itself _ _, e, after_itself _ _) refl
 
 -- tokens that end here do not begin with a keyword that begins no statement
 ends_so : (j : Keyword) (ws : Spelled) → (the.CloseBrace ≡ j → ⊥) → stops ws ≡ true → is_next j ws ≡ false

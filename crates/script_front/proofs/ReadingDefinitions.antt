@@ -1,14 +1,13 @@
 -- The reading of definitions: what is read is spelled so, on its lines, and what is spelled so is read.
 use Rattle.script_front.proofs.Words.{[], ◌++◌, ◌+◌, ◌<◌, ◌>>=◌, ◌∙◌, ◌∷◌, ◌≡◌, ◌≢◌, ◌≤◌, All, All-push, AllFit}
-use Rattle.script_front.proofs.Words.{AreNamedApart, Block, BlockOn, Bool, Defined, DefinedOn, Global, Input}
-use Rattle.script_front.proofs.Words.{IsInBounds, IsName, List, None, Option, Passage, ReadsDefinition}
-use Rattle.script_front.proofs.Words.{ReadsDefinitions, Some, Spelled, Statement, Vec, after_blocks, all_pairs_push, ap}
-use Rattle.script_front.proofs.Words.{append-nil, append_assoc, arith, bind_some, block_at, block_lexemes, block_of}
-use Rattle.script_front.proofs.Words.{bodies, body_at, braced, bytes_eq, bytes_eq-Decides, counted, counted_in}
-use Rattle.script_front.proofs.Words.{defined_lexemes, drop, false, finish, if◌then◌else◌, is_next, length}
-use Rattle.script_front.proofs.Words.{length-append, letters, lt-ltb, map, name_at, name_next, new_if, next_begins}
-use Rattle.script_front.proofs.Words.{next_itself, position, position_or_len, refl, said_by, slice_index_or, subst, suc}
-use Rattle.script_front.proofs.Words.{sym, true, unlined, values_are_read, zero, ℕ}
+use Rattle.script_front.proofs.Words.{AreNamedApart, Block, Bool, Defined, DefinedOn, Global, Input, IsInBounds, IsName}
+use Rattle.script_front.proofs.Words.{List, None, Option, Passage, ReadsDefinition, ReadsDefinitions, Some, Spelled}
+use Rattle.script_front.proofs.Words.{Statement, Vec, after_blocks, all_pairs_push, ap, append-nil, append_assoc, arith}
+use Rattle.script_front.proofs.Words.{bind_some, block_at, block_lexemes, block_of, bodies, body_at, braced, bytes_eq}
+use Rattle.script_front.proofs.Words.{bytes_eq-Decides, counted, counted_in, defined_lexemes, drop, false, finish}
+use Rattle.script_front.proofs.Words.{if◌then◌else◌, is_next, length, length-append, letters, lt-ltb, map, name_at}
+use Rattle.script_front.proofs.Words.{name_next, new_if, next_begins, next_itself, position, position_or_len, refl}
+use Rattle.script_front.proofs.Words.{said_by, slice_index_or, subst, suc, sym, true, unlined, values_are_read, zero, ℕ}
 use Rattle.script_front.specs.BlockReader.{new_name_at, definition_at, definitions_at}
 use Rattle.script_tokens.specs.declared.keyword.Keyword.TheVariants as the
 use Rattle.script_front.proofs.ReadingBlocks.{Names, Agree, passed, closed, body_given, block_given}
@@ -176,7 +175,7 @@ one_defined room names lines left ws name p more x xs next e is h =
       spelled = next_begins the.Define ws next ∙ ap (λ (us : Spelled). letters the.Define ∷ us)
           (n.spelled ∙ ap (λ (w : List ℕ). w ∷ a.x.1) (same ∙ sym (rw (front) (name_mid names name h.later)))
           ∙ ap (λ (us : Spelled). name_at more.names (length names) ∷ us) whole);
-      lined = ( rw (← later) (rw (← is) g.lined), rw (← one_longer names name) h.lined, );
+      lined = (rw (← later) (rw (← is) g.lined), rw (← one_longer names name) h.lined);
     }
 
 name_new : (names : Names) (lines : List ℕ) (left : ℕ) (ws : Spelled) (x : List ℕ × Passage)
@@ -339,7 +338,7 @@ definitions_found (n ∷ later) all names (suc room) lines left new (b ∷ bs) r
     let others' = subst (λ k. definitions_at room (names ++ n ∷ []) lines mid (defined_lexemes all k bs ++ rest)
     ≡ Some (record { names = all; blocks = defined_on all lines k bs rest; left = new; rest = rest })) step
     others in
-    rw ( next_itself _ _, mine, one, others', ) refl
+    rw (next_itself _ _, mine, one, others') refl
 definitions_found _ all names room lines left new _ rest front named different each few fit counts none =
     absurd (omega (arith, each))
 

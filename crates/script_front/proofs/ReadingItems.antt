@@ -2,7 +2,7 @@
 use Rattle.script_front.proofs.Words.{[], ◌++◌, ◌+◌, ◌-◌, ◌>>=◌, ◌∙◌, ◌∷◌, ◌≡◌, ◌≢◌, ◌≤◌, AddComponent, AddPacket}
 use Rattle.script_front.proofs.Words.{AddService, AddSub, Adds, All, Edit, HasMore, Input, IsItem, Item, ItemKeyword}
 use Rattle.script_front.proofs.Words.{Items, ItemsOn, List, None, Option, ReadsItems, Some, Spelled, added_by}
-use Rattle.script_front.proofs.Words.{after_items, ap, append-nil, append_assoc, arith, bind_some, drop, edit_keyword}
+use Rattle.script_front.proofs.Words.{after_items, ap, append-nil, append_assoc, arith, bind_some, drop}
 use Rattle.script_front.proofs.Words.{edit_lexemes, finish, first_item, item_again, item_found, item_from, item_given}
 use Rattle.script_front.proofs.Words.{item_keyword, item_of, item_on, items_from, items_if, items_lexemes, length}
 use Rattle.script_front.proofs.Words.{letters, line_of, refl, statement_of, suc, sym, zero, ℕ}

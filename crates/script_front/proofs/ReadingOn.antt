@@ -97,7 +97,7 @@ pub none_next : (names : Names) (depth old left : ℕ) (i j : Input) (ss : List 
     → GoesOn names depth old left i j ss → ReadsNone names depth left j → ReadsNone names depth old i
 none_next names depth old left i j ss h none = λ fuel lt. (
     let f = h.read fuel lt in
-    cc (f.read, h.same, ap (put (and_then [] ss)) (none f.fuel f.enough) ))
+    cc (f.read, h.same, ap (put (and_then [] ss)) (none f.fuel f.enough)))
 
 -- ---- a statement, and its first keyword
 

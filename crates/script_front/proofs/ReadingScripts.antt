@@ -1,6 +1,6 @@
 -- The reading of a script: what is read is the content of the script that the tokens spell. So tokens are those of one
 -- script, apart from lines, and a text is that of one script.
-use Rattle.script_front.proofs.Words.{[], ◌++◌, ◌+◌, ◌-◌, ◌∙◌, ◌∷◌, ◌≡◌, ◌≤◌, All, All-nil, AreNamedApart, AreTokens}
+use Rattle.script_front.proofs.Words.{[], ◌++◌, ◌+◌, ◌-◌, ◌∙◌, ◌∷◌, ◌≡◌, All, All-nil, AreNamedApart, AreTokens}
 use Rattle.script_front.proofs.Words.{Block, BlockOn, Content, DefinedOn, HasLines, Input, IsInBounds, IsItem, IsName}
 use Rattle.script_front.proofs.Words.{IsNoScript, IsPlan, IsScript, Item, ItemsOn, List, None, ScriptsAreRead}
 use Rattle.script_front.proofs.Words.{ScriptsHaveTheirOwnTokens, Some, Spelled, SpellsTree, Statement}
@@ -204,5 +204,5 @@ pub none_spelled : (text : List ℕ) (tokens : List Token) (i : Input) → AreTo
 none_spelled text tokens i are lexemes lines none t is s =
     let on = subst (λ (ts : List Token). HasLines (lines_of ts) t) (sym (are_its_tokens text tokens t are s)) s.lined in
     let read =
-    scripts_are_read.found i t is (record { spells = lexemes ∙ denoted_words _ _ _ are s; lined = rw (lines) on; }) in
+    scripts_are_read.found i t is (record { spells = lexemes ∙ denoted_words _ _ _ are s; lined = rw (lines) on }) in
     let f : None ≡ Some (content_of t) = sym none ∙ read in absurd cc

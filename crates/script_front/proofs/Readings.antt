@@ -10,7 +10,7 @@ use Rattle.script_front.proofs.Words.{component_keyword, decimal, drop, dropping
 use Rattle.script_front.proofs.Words.{either_given, false, finish, from_one, giving, groups_text, inl, inr, keyed}
 use Rattle.script_front.proofs.Words.{keyed_given, keyed_law, letters, made_found, made_given, moment_at, next_itself}
 use Rattle.script_front.proofs.Words.{number_at, other_next, packet_of, profile_at, profile_text, refl, sid_at}
-use Rattle.script_front.proofs.Words.{sid_text, sub_of, subst, true, values_are_read, within_lexemes, ℕ}
+use Rattle.script_front.proofs.Words.{sid_text, sub_of, true, values_are_read, within_lexemes, ℕ}
 use Rattle.mux_eep.specs.Sizes.{Profile}
 use Rattle.mux_types.specs.declared.parts.Sub.{Sub}
 use Rattle.mux_types.specs.declared.parts.Packet.{Packet}

@@ -11,8 +11,8 @@ use denote.Enum.Bare.{sameb}
 use denote.Enum.Declared.{tag_of}
 use Rattle.std.specs.Cmp.{nat_eq_equiv}
 use Rattle.script_tokens.specs.contracts.keyword.Keyword.{the_type}
-use Rattle.script_tokens.specs.Keywords.{IsNoneOf, change_keywords, flow_keywords, head_keywords, item_keywords, letters}
-use Rattle.script_tokens.specs.Keywords.{packet_keywords, wait_keywords, word_of}
+use Rattle.script_tokens.specs.Keywords.{IsNoneOf, change_keywords, flow_keywords, head_keywords, item_keywords}
+use Rattle.script_tokens.specs.Keywords.{letters, packet_keywords, wait_keywords, word_of}
 use Rattle.script_tokens.proofs.Digits.{own}
 
 pub word_the : (k : Keyword) → word_of (letters k) ≡ the k

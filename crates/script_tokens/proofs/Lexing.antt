@@ -1,7 +1,7 @@
 -- A step of the lexer: the tokens that it puts before those of the rest.
 use Rattle.script_tokens.proofs.Words.{[], ◌++◌, ◌+◌, ◌<◌, ◌∙◌, ◌∷◌, ◌≡◌, ◌≢◌, ◌≤◌, Bad, Blank, Bool, Brace, Byte}
-use Rattle.script_tokens.proofs.Words.{Depth, Err, Expected, Hash, Inside, IsQuiet, Kind, Letter, Limit, Limits}
-use Rattle.script_tokens.proofs.Words.{LineEnd, List, Memory, NameUnknown, NameUsed, Number, Ok, Place, Pushes, Result}
+use Rattle.script_tokens.proofs.Words.{Err, Hash, Inside, IsQuiet, Kind, Letter, Limit, Limits}
+use Rattle.script_tokens.proofs.Words.{LineEnd, List, Memory, Ok, Place, Pushes, Result}
 use Rattle.script_tokens.proofs.Words.{ScriptFault, Token, add-one, added, ap, append-nil, arith, atom_ended, cond}
 use Rattle.script_tokens.proofs.Words.{drop, drop-cons, drop_all, false, fits, get_or, if◌then◌else◌, inside_after}
 use Rattle.script_tokens.proofs.Words.{is_bad, kind_of, length, made, position_after, refl, sym, tokens_before, true, ℕ}

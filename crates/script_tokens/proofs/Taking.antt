@@ -1,5 +1,5 @@
 -- What is read as a value is spelled so, and what is spelled so is read as it.
-use Rattle.script_tokens.proofs.Words.{[], ◌%◌, ◌&&◌, ◌*◌, ◌+◌, ◌-◌, ◌/◌, ◌<◌, ◌>>=◌, ◌∙◌, ◌∷◌, ◌≡◌, ◌≢◌, ◌≤◌, A}
+use Rattle.script_tokens.proofs.Words.{[], ◌%◌, ◌&&◌, ◌+◌, ◌-◌, ◌/◌, ◌<◌, ◌>>=◌, ◌∙◌, ◌∷◌, ◌≡◌, ◌≢◌, ◌≤◌, A}
 use Rattle.script_tokens.proofs.Words.{AreLetters, B, BeginsWith, Bool, EepSet, IsName, IsNoKeyword, IsSid, Keyword}
 use Rattle.script_tokens.proofs.Words.{List, Long, None, Option, Profile, Reads, ReadsAsSpelled, Short, Sid, Some}
 use Rattle.script_tokens.proofs.Words.{Spelled, ap, arith, bytes_eq, bytes_eq-Decides, cases_lt, decimal, digit_of}

@@ -1,7 +1,7 @@
 -- Which lists of bytes are tokens, each a brace or an atom; the letters of values and names.
 use Rattle.script_tokens.proofs.Words.{[], ◌%◌, ◌&&◌, ◌++◌, ◌+◌, ◌/◌, ◌<◌, ◌==◌, ◌||◌, ◌∙◌, ◌∷◌, ◌≡◌, ◌≤◌, ◌⊎◌, A}
-use Rattle.script_tokens.proofs.Words.{AreLetters, B, Bad, Blank, Bool, Brace, EepSet, Hash, IsName, IsSid, IsUtf8}
-use Rattle.script_tokens.proofs.Words.{Keyword, Kind, Letter, Lexeme, LineEnd, List, Long, Profile, Short, Sid, Spelled}
+use Rattle.script_tokens.proofs.Words.{AreLetters, B, Bool, Brace, EepSet, IsName, IsSid, IsUtf8}
+use Rattle.script_tokens.proofs.Words.{Keyword, Kind, Letter, Lexeme, List, Long, Profile, Short, Sid, Spelled}
 use Rattle.script_tokens.proofs.Words.{all_ascii_digits, ap, arith, bytes_eq, bytes_eq-Decides, cases_lt, decimal}
 use Rattle.script_tokens.proofs.Words.{decimal_nonempty, digits_decimal, eqb-true, false, false≢true, hex_digit}
 use Rattle.script_tokens.proofs.Words.{hex_text, if◌then◌else◌, inl, inr, is_ascii_digit, is_lower, is_name_byte}
@@ -142,7 +142,7 @@ decimal_letters n small = digits_letters (decimal n) (digits_decimal own n (omeg
 -- values are spelled by one atom
 pub decimal_word : (n : ℕ) → n < 1000000 → IsWord (decimal n)
 decimal_word n small =
-    inl (record { some = decimal_nonempty n (omega arith); are = decimal_letters _ (omega (arith, small)); })
+    inl (record { some = decimal_nonempty n (omega arith); are = decimal_letters _ (omega (arith, small)) })
 
 pub hex_word_word : (n : ℕ) → n < 65536 → IsWord (hex_text n)
 hex_word_word n small = inl (record { some = omega arith; are = hex_letters n small })

@@ -25,8 +25,7 @@ pub use Rattle.script_tokens.specs.Texts.{AreLetters, AreText, AreTokens, CanPre
 pub use Rattle.script_tokens.specs.Texts.{TextsAreCut, TokensFit, atom, blank, brace, comment, script_limits, text_of}
 pub use Rattle.script_tokens.specs.Texts.{tokens_of}
 pub use Rattle.script_tokens.specs.declared.fault.ScriptFault.{ScriptFault}
-pub use Rattle.script_tokens.specs.declared.fault.ScriptFault.TheVariants.{Byte, Depth, Expected, Limit, Memory}
-pub use Rattle.script_tokens.specs.declared.fault.ScriptFault.TheVariants.{NameUnknown, NameUsed, Number}
+pub use Rattle.script_tokens.specs.declared.fault.ScriptFault.TheVariants.{Byte, Limit, Memory}
 pub use Rattle.script_tokens.specs.declared.keyword.Keyword.{Keyword}
 pub use Rattle.script_tokens.specs.declared.keyword.Keyword.TheVariants.{Address, Apply, At, Audio, Begin, Budget}
 pub use Rattle.script_tokens.specs.declared.keyword.Keyword.TheVariants.{Carry, CloseBrace, Closed, Commit, Component}

@@ -1,6 +1,6 @@
 -- Entries that agree are equal.
-use Rattle.stream_check.proofs.Words.{◌&&◌, ◌==◌, ◌↔◌, ◌∙◌, ◌≡◌, Bool, IsTrue, List, Raw, agree, ap, bool_eq, bytes_eq}
-use Rattle.stream_check.proofs.Words.{eq-eqb, eqb-true, false, false≢true, refl, sym, true, ℕ}
+use Rattle.stream_check.proofs.Words.{◌&&◌, ◌==◌, ◌↔◌, ◌∙◌, ◌≡◌, Bool, IsTrue, Raw, agree, ap, bool_eq, bytes_eq}
+use Rattle.stream_check.proofs.Words.{eq-eqb, eqb-true, false, false≢true, refl, sym, true}
 use Rattle.std.proofs.lemmas.Slice.Eq.{bytes_eq-Decides}
 
 both : (a b : Bool) → (a && b) ≡ true → (a ≡ true) × (b ≡ true)
@@ -26,9 +26,6 @@ agree_self a =
     and_true (a.ext == a.ext) (bool_eq a.long a.long && bytes_eq a.bytes a.bytes) (eq-eqb a.ext a.ext refl)
     (and_true (bool_eq a.long a.long) (bytes_eq a.bytes a.bytes) (same_bool a.long)
     ((bytes_eq-Decides a.bytes a.bytes).1 refl))
-
-abbrev raw_with : ℕ → Bool → List ℕ → Raw
-raw_with n l bs = record { ext = n; long = l; bytes = bs }
 
 pub agree_same : (a b : Raw) → agree a b ≡ true → a ≡ b
 agree_same a b h =

@@ -1,6 +1,6 @@
 -- Hearing what is sent, one after the other.
 use Rattle.stream_check.proofs.Words.{[], ◌++◌, ◌∙◌, ◌∷◌, ◌≡◌, ◌≤◌, All, AtMost, Bool, CheckerState}
-use Rattle.stream_check.proofs.Words.{FrameAt, Hears, IsHeard, Knows, List, Moment, Reported, Sent, Unknown, What, ap}
+use Rattle.stream_check.proofs.Words.{FrameAt, Hears, IsHeard, Knows, List, Reported, Sent, Unknown, What, ap}
 use Rattle.stream_check.proofs.Words.{append-nil, append_assoc, arith, cond, false, false≢true, findings_at_sent}
 use Rattle.stream_check.proofs.Words.{in_frame, items_in, kept_findings, leb-false, length, length-append, lt-leb, map}
 use Rattle.stream_check.proofs.Words.{map-append, nat_le, noted_after, refl, said, subst, sym, true, with_more, ℕ}

@@ -3,9 +3,9 @@ use Rattle.stream_check.proofs.Words.{[], ◌%◌, ◌&&◌, ◌+◌, ◌==◌, 
 use Rattle.stream_check.proofs.Words.{Each, EnsembleInformation, HasNotice, IsLastHeard, IsStamped, Item, Knows, List}
 use Rattle.stream_check.proofs.Words.{Listening, Moment, None, Option, Said, Some, ap, append-nil, arith, at_ensemble}
 use Rattle.stream_check.proofs.Words.{at_most, awaiting, began_early, begins_notice, cases_lt, cond, eid_after, eid_of}
-use Rattle.stream_check.proofs.Words.{empty_picture, ensemble_of_item, false, false≢true, frames_ended}
+use Rattle.stream_check.proofs.Words.{ensemble_of_item, false, false≢true, frames_ended}
 use Rattle.stream_check.proofs.Words.{has_begun, has_ensemble, has_flags, inl, inr, is_cut_off, is_ensemble, is_flagged}
-use Rattle.stream_check.proofs.Words.{is_made, is_member, is_swap, key_of, known_in, last_eid, last_flags, last_heard}
+use Rattle.stream_check.proofs.Words.{is_made, is_swap, key_of, known_in, last_eid, last_flags, last_heard}
 use Rattle.stream_check.proofs.Words.{le-ltb, length, listener_after, listener_in, listening, lt-ltb, makes_swap}
 use Rattle.stream_check.proofs.Words.{not, refl, row_at_hand, rows, settles_at, subst, swapped, sym}
 use Rattle.stream_check.proofs.Words.{times_announced, true, with_ensemble, with_swap, ℕ}
@@ -222,7 +222,7 @@ case_stay true step period past i m s k =
       has_begun = sym (begun_is past i false true s.ens s.sw s.fl ∙ or_true (has_begun past));
       began_early = sym (early_is past i s.ens);
       is_cut_off = cut_kept _ true _ (λ u. (k.untuned u).1) ∙ ap (λ c. cond (not m.tuned) true c) k.is_cut_off ∙ sym
-      (cut_is past i false true s.ens s.sw s.fl ∙ ap (λ t. cond (not t) true (is_cut_off past)) s.tuned);
+          (cut_is past i false true s.ens s.sw s.fl ∙ ap (λ t. cond (not t) true (is_cut_off past)) s.tuned);
       flags = sym (flags_are past i true s.fl);
       times = ap (λ n. at_most 3 (n + 1)) k.times ∙ at_most_more (times_announced past)
           ∙ sym (ap (at_most 3) (times_are past i false true s.sw s.fl));
@@ -250,7 +250,7 @@ case_stay false step period past i m s k =
       has_begun = k.has_begun ∙ sym (begun_is past i false false s.ens s.sw s.fl ∙ or_false (has_begun past));
       began_early = sym (early_is past i s.ens);
       is_cut_off = cut_kept _ false _ (λ u. (k.untuned u).1) ∙ ap (λ c. cond (not m.tuned) false c) k.is_cut_off ∙ sym
-      (cut_is past i false false s.ens s.sw s.fl ∙ ap (λ t. cond (not t) false (is_cut_off past)) s.tuned);
+          (cut_is past i false false s.ens s.sw s.fl ∙ ap (λ t. cond (not t) false (is_cut_off past)) s.tuned);
       flags = k.flags ∙ sym (flags_are past i false s.fl);
       times = k.times ∙ ap (at_most 3) (none_more (times_announced past))
           ∙ sym (ap (at_most 3) (times_are past i false false s.sw s.fl));

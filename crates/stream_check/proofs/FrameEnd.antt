@@ -4,7 +4,7 @@ use Rattle.stream_check.proofs.Words.{Fib, FrameAt, HasNotice, Heard, Hears, Hea
 use Rattle.stream_check.proofs.Words.{Knows, List, Moment, Option, Raw, Reported, Some, What, ap, append-nil}
 use Rattle.stream_check.proofs.Words.{append_assoc, arith, cond, count_of_frame, due, false, false≢true, filter}
 use Rattle.stream_check.proofs.Words.{findings_at_sent, frame_at, frame_findings, frame_items, frame_sent, frames_ended}
-use Rattle.stream_check.proofs.Words.{has_begun, heard_since, in_frame, is_quiet, is_silent, last_findings, length}
+use Rattle.stream_check.proofs.Words.{has_begun, heard_since, in_frame, is_silent, last_findings, length}
 use Rattle.stream_check.proofs.Words.{length-append, listener_in, map, map-append, name_of, quiet_findings, raws, refl}
 use Rattle.stream_check.proofs.Words.{row_at_hand, rows, runs_full, said, silence, silent_findings, silent_in, subst}
 use Rattle.stream_check.proofs.Words.{sym, true, when, with_frame, with_more, with_row, ℕ}

@@ -1,11 +1,11 @@
 -- After an entry of FIG 0/1 to 0/3 the state still agrees with the past of the stream.
 use Rattle.stream_check.proofs.Words.{[], ◌&&◌, ◌++◌, ◌+◌, ◌<◌, ◌==◌, ◌||◌, ◌∙◌, ◌∷◌, ◌≡◌, ◌≤◌, Bool, CheckerState}
-use Rattle.stream_check.proofs.Words.{HasNotice, Heard, IsLastHeard, Item, Knows, List, Listening, Moment, Said, Some}
+use Rattle.stream_check.proofs.Words.{HasNotice, Heard, IsLastHeard, Item, Knows, List, Moment, Said, Some}
 use Rattle.stream_check.proofs.Words.{ap, append-nil, arith, at_most, began_early, cases_lt, cond, eq-eqb, false}
 use Rattle.stream_check.proofs.Words.{false≢true, finds_no_room, frames_ended, has_begun, has_ensemble, inl, inr, into}
 use Rattle.stream_check.proofs.Words.{is_absent, is_ensemble, key_of, last_heard, later, le-ltb, listener_after}
 use Rattle.stream_check.proofs.Words.{listener_in, lookup_in, lt-ltb, ne_eqb, not, picture_kept, picture_of}
-use Rattle.stream_check.proofs.Words.{picture_of_heard, pictured, refl, row_at_hand, rows, subst, sym, true}
+use Rattle.stream_check.proofs.Words.{picture_of_heard, pictured, refl, row_at_hand, rows, sym, true}
 use Rattle.stream_check.proofs.Words.{with_current, with_next, ℕ}
 use Rattle.stream_check.proofs.Tables.{pictured_kept}
 use Rattle.stream_check.proofs.Keys.{picture_each, kinds_kept, known_has}
@@ -165,7 +165,7 @@ knows_next step period past m i e few some tuned nx room k =
       kinds = (k.kinds.0, kinds_kept (record { raw = i.raw; at = m.rows + 1 }) m.next some few k.kinds.1);
       last = each_in _ _ _ (λ x is. is ∙ sym (last_is _)) k.last;
       notice =
-      rw (member_rows past i e) (rw row_is (noticed (is_absent (lookup_in i.raw (picture_of_heard m.next))) refl));
+          rw (member_rows past i e) (rw row_is (noticed (is_absent (lookup_in i.raw (picture_of_heard m.next))) refl));
     }
   where
     noticed : (a : Bool) → is_absent (lookup_in i.raw (picture_of_heard m.next)) ≡ a

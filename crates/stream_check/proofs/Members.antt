@@ -1,5 +1,5 @@
 -- How an entry of FIG 0/1 to 0/3 affects the past of a stream.
-use Rattle.stream_check.proofs.Words.{[], ◌%◌, ◌&&◌, ◌++◌, ◌+◌, ◌==◌, ◌||◌, ◌∙◌, ◌∷◌, ◌≡◌, Bool, Item, List, Listening}
+use Rattle.stream_check.proofs.Words.{[], ◌%◌, ◌&&◌, ◌++◌, ◌+◌, ◌==◌, ◌||◌, ◌∷◌, ◌≡◌, Bool, Item, List, Listening}
 use Rattle.stream_check.proofs.Words.{Moment, None, Option, Raw, Said, Some, ap, arith, at_ensemble, began_early}
 use Rattle.stream_check.proofs.Words.{begins_notice, cond, eid_of, ensemble_of_item, false, flag_count, frames_ended}
 use Rattle.stream_check.proofs.Words.{has_begun, has_ensemble, hear_entry, into, is_cut_off, is_ensemble, is_flagged}

@@ -1,7 +1,7 @@
 -- The frames of a notice, with one more entry and with one more frame.
 use Rattle.stream_check.proofs.Words.{[], ◌&&◌, ◌++◌, ◌+◌, ◌<◌, ◌↔◌, ◌∙◌, ◌∷◌, ◌≡◌, ◌≢◌, ◌≤◌, ◌⊎◌, AllByRecursion, Bool}
 use Rattle.stream_check.proofs.Words.{Contains, Contains-append_cases, Contains-append_left, Contains-append_right}
-use Rattle.stream_check.proofs.Words.{Each, HasAll, HasKinds, HasNotice, Heard, HeardPicture, IsGreedy, IsStamped, List}
+use Rattle.stream_check.proofs.Words.{Each, HasAll, HasKinds, HasNotice, Heard, HeardPicture, IsStamped, List}
 use Rattle.stream_check.proofs.Words.{ap, append-nil, append_assoc, arith, cases_lt, concat, drop, drop-append-le}
 use Rattle.stream_check.proofs.Words.{drop_all, each_weaker, empty_picture, false, false≢true, finds_no_room}
 use Rattle.stream_check.proofs.Words.{heard_since, inl, inr, is_absent, key_of, keys, keys_of, length, length-append}
@@ -71,9 +71,9 @@ notice_known frames frame count since parts next begun h some few kinds room kno
       count_is = n.count_is;
       part = n.part;
       stamps = picture_each _ _ h next some few kinds (stamp_new _ frame h now)
-      (λ x other s. stamp_other _ frame _ x other s) n.stamps;
+          (λ x other s. stamp_other _ frame _ x other s) n.stamps;
       only = λ x c. subst (λ (l : List ℕ). Contains l x) (sym same)
-      (elim (heard_or_new frames frame _ x c) [ | inl before ↦ n.only x before | inr is ↦ rw (is) has ]);
+          (elim (heard_or_new frames frame _ x c) [ inl before ↦ n.only x before | inr is ↦ rw (is) has ]);
       greedy = rw (same) n.greedy;
       idle = λ e. absurd (false≢true (sym e));
     }
@@ -93,7 +93,7 @@ notice_new frames frame count since parts next begun h some few kinds room new a
       count_is = n.count_is;
       part = omega arith;
       stamps = picture_each _ _ h next some few kinds (stamp_new _ frame h now)
-      (λ x other s. stamp_other _ frame _ x other s) n.stamps;
+          (λ x other s. stamp_other _ frame _ x other s) n.stamps;
       only = λ x c. elim (heard_or_new frames frame (key_of h.raw) x c) [
         | inl before ↦ j.keeps x (n.only x before)
         | inr is ↦ rw (is) j.has
@@ -279,7 +279,7 @@ notice_open frames frame count since parts next short n =
       stamps = each_in _ _ next (λ x s. stamp_after _ frame x s) n.stamps;
       only = only_after frames frame next n.only;
       greedy =
-      rw (drop-append-le since frames (frame ∷ []) n.part) (rw (take-append-le since frames (frame ∷ []) n.part) stays);
+          rw (drop-append-le since frames (frame ∷ []) n.part) (rw (take-append-le since frames (frame ∷ []) n.part) stays);
       idle = λ e. absurd (false≢true (sym e));
     }
 

@@ -4,7 +4,7 @@ use Rattle.stream_check.proofs.Words.{Moment, None, Open, Other, Raw, Said, Sent
 use Rattle.stream_check.proofs.Words.{cond, contradictions_at, contradicts, entries_in, entries_sent, false, false≢true}
 use Rattle.stream_check.proofs.Words.{fib_items, fib_sent, fibs_items, fibs_sent, fig_items, fig_sent, figs_items}
 use Rattle.stream_check.proofs.Words.{figs_sent, findings_at, findings_at_sent, frame_items, frame_sent, has_no_room}
-use Rattle.stream_check.proofs.Words.{is_new, is_next, items_in, items_of, known_of, map, map-append, new_among}
+use Rattle.stream_check.proofs.Words.{is_new, is_next, items_in, items_of, known_of, map-append, new_among}
 use Rattle.stream_check.proofs.Words.{new_findings, noted_after, noted_at, noted_with, refl, runs_full, said, sym, true}
 use Rattle.stream_check.proofs.Words.{ℕ}
 use Rattle.stream_check.proofs.Saying.{said_append, full_append, full_stays}

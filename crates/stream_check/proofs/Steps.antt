@@ -1,7 +1,7 @@
 -- Hearing one entry: what is reported, and what is known afterwards.
 use Rattle.stream_check.proofs.Words.{[], ◌&&◌, ◌++◌, ◌+◌, ◌<◌, ◌==◌, ◌∙◌, ◌∷◌, ◌≡◌, ◌≢◌, Bool, CheckerState, FrameAt}
 use Rattle.stream_check.proofs.Words.{Heard, HeardPicture, HearsItems, IsLater, IsSane, Item, KnownBefore, Knows, List}
-use Rattle.stream_check.proofs.Words.{Listening, Moment, Option, Raw, Reported, Said, What, all_entries, ap, append-nil}
+use Rattle.stream_check.proofs.Words.{Listening, Moment, Raw, Reported, Said, What, all_entries, ap, append-nil}
 use Rattle.stream_check.proofs.Words.{append_assoc, arith, began_early, cases_lt, cond, current_findings, drop, due}
 use Rattle.stream_check.proofs.Words.{ensemble_findings, ensemble_in, false, false≢true, findings_at, finds_no_room}
 use Rattle.stream_check.proofs.Words.{has_begun, has_ensemble, has_no_room, in_frame, inl, inr, is_cut_off, items_of}
@@ -39,23 +39,6 @@ parts_are step period past m k =
     ∙ ap (λ ks. most_parts ks (rows past))
     (sym (ap (λ (l : Listening). map key_of (all_entries l.next)) (after_is past (listener_in m) k.heard)
     ∙ entry_keys m.next))
-
-abbrev known_with : ℕ → Listening → ℕ → Option ℕ → Option ℕ → Bool → Bool → Bool → Bool → ℕ → ℕ → ℕ → ℕ → KnownBefore
-known_with step listener frames due eid has begun early cut flags times heard settles = record {
-  step = step;
-  listener = listener;
-  frames = frames;
-  due = due;
-  eid = eid;
-  has_ensemble = has;
-  has_begun = begun;
-  began_early = early;
-  is_cut_off = cut;
-  flags = flags;
-  times = times;
-  heard = heard;
-  settles_at = settles;
-}
 
 pub known_same : (step period : ℕ) (past : List Moment) (m : CheckerState) → Knows step period past m
     → known_in m ≡ known_of step period past

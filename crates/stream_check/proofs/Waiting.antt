@@ -1,6 +1,6 @@
 -- Where every entry was last heard late enough, none is silent yet.
-use Rattle.stream_check.proofs.Words.{[], ◌+◌, ◌<◌, ◌∷◌, ◌≡◌, ◌≤◌, AllByRecursion, Heard, List, arith, cases_lt, false}
-use Rattle.stream_check.proofs.Words.{heard_kept, inl, inr, is_quiet, later, length, ne_eqb, quiet_findings, refl, ℕ}
+use Rattle.stream_check.proofs.Words.{[], ◌+◌, ◌<◌, ◌∷◌, ◌≡◌, ◌≤◌, AllByRecursion, Heard, List, arith, cases_lt}
+use Rattle.stream_check.proofs.Words.{heard_kept, inl, inr, later, length, ne_eqb, quiet_findings, refl, ℕ}
 use Rattle.stream_check.specs.declared.finding.Fault.TheVariants as faults
 use Rattle.stream_check.proofs.Tables.{each_kept}
 use Rattle.stream_check.proofs.Knowing.{later_first, later_second}

@@ -26,7 +26,7 @@ pub use Rattle.std.proofs.lemmas.List.Concat.{flat_map-append}
 pub use Rattle.std.proofs.lemmas.List.Elements.{Contains-append_cases, Contains-append_left, Contains-append_right}
 pub use Rattle.std.specs.List.{AllByRecursion, concat, filter, list_all, list_any}
 pub use Rattle.std.specs.Prelude.{◌/◌, IsTrue, Result, bytes_eq, get_or, if◌then◌else◌}
-pub use Rattle.stream_check.specs.CheckerState.{HasNotice, IsLastHeard, IsSane, IsStamped, Knows, eid_after, is_quiet}
+pub use Rattle.stream_check.specs.CheckerState.{HasNotice, IsLastHeard, IsSane, IsStamped, Knows, eid_after}
 pub use Rattle.stream_check.specs.CheckerState.{known_in, later, listener_in, quiet_findings, silent_in, with_current}
 pub use Rattle.stream_check.specs.CheckerState.{with_ensemble, with_flags, with_frame, with_next, with_row, with_swap}
 pub use Rattle.stream_check.specs.Contradictions.{AgreeingHasNone, AreNew, AreReportedOnce, NoneIsLeftOut, absent}

@@ -19,10 +19,6 @@ use Rattle.stream_laws.proofs.Opening.{said_settles, IsOpened, each_opened, Ente
 
 -- ---- a known entry is not absent
 
-in_chosen : (b : Bool) (x y : Raw) (rest : List Raw) → In x rest → In x (cond b (y ∷ rest) rest)
-in_chosen true x y rest h = inr h
-in_chosen false x y rest h = h
-
 some_no_none : {X : Type 0} (x : Raw) → Some x ≡ None → X
 some_no_none x e = absurd cc
 

@@ -15,8 +15,6 @@ pub counted_all : (start : Tally) (findings rest : List Finding) (swaps faults :
     → u64_saturate (faults + faults_in rest) ≡ u64_saturate (start.faults + faults_in findings)
     → counted (record { swaps = swaps; faults = faults }) [] ≡ counted start findings
 counted_all start findings rest swaps faults none s f =
-    let one : u64_saturate (swaps + swaps_in []) ≡ u64_saturate (start.swaps + swaps_in findings) =
-    ap (λ (l : List Finding). u64_saturate (swaps + swaps_in l)) (sym (none_left rest none)) ∙ s in
-    let other : u64_saturate (faults + faults_in []) ≡ u64_saturate (start.faults + faults_in findings) =
-    ap (λ (l : List Finding). u64_saturate (faults + faults_in l)) (sym (none_left rest none)) ∙ f in
+    let one = ap (λ (l : List Finding). u64_saturate (swaps + swaps_in l)) (sym (none_left rest none)) ∙ s in
+    let other = ap (λ (l : List Finding). u64_saturate (faults + faults_in l)) (sym (none_left rest none)) ∙ f in
     cc

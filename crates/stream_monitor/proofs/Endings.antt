@@ -4,7 +4,7 @@ use Rattle.stream_monitor.proofs.Words.{Follows, HasNoEnsemble, HoldsFirst, IsAf
 use Rattle.stream_monitor.proofs.Words.{State, StopsAtEnd, Summary, Tally, Totals, Unknown, ap, append-nil, arith}
 use Rattle.stream_monitor.proofs.Words.{count_step, false, false≢true, fib_count, flat_map, frame_count, frames_lines}
 use Rattle.stream_monitor.proofs.Words.{is_begun, is_empty, is_stopped, length, map, nat_lt, not, refl, subst}
-use Rattle.stream_monitor.proofs.Words.{summary_after, sym, tally_after, totals_after, true, unbegun, ℕ}
+use Rattle.stream_monitor.proofs.Words.{sym, tally_after, totals_after, true, unbegun, ℕ}
 use Rattle.stream_monitor.specs.declared.ending.Ending.TheVariants as endings
 use Rattle.stream_monitor.specs.declared.line.Cause.TheVariants as causes
 use Rattle.stream_monitor.proofs.Steps.{goes_on, summary_is}
@@ -39,8 +39,7 @@ no_frames (f ∷ fs) e = absurd (omega (arith, e))
 pub starts : (r : Reading) (o : CheckOptions) (s : State) → Follows r o.mode o.period [] Unknown Unknown s.checker
     → s.tally ≡ record { swaps = 0; faults = 0 } → IsAfter r o [] [] s
 starts r o s f tally =
-    let empty = none_framed (fib_count o.mode) f.frames (map r.read s.checker.held) f.framed.cut
-    (none_there f.skipped (flat_map (λ g. g) f.frames ++ map r.read s.checker.held) (sym f.framed.whole)) in
+    let empty = none_framed _ _ _ f.framed.cut (none_there _ _ (sym f.framed.whole)) in
     let none : f.frames ≡ [] = empty.0 in
     record {
       sizes = tt;
@@ -68,23 +67,18 @@ pub ends_counted : (r : Reading) (o : CheckOptions) (fibs : List (List ℕ)) (lo
 ends_counted r o fibs log s sum t h begun summary is =
     let f = h.follows in
     let rest = map r.read s.checker.held in
-    let totals : t ≡ totals_after o f.skipped f.frames rest =
-    is ∙ ap (λ x. totals_with x s.tally) (summary_is f.skipped f.frames rest sum summary)
-    ∙ ap (totals_with (summary_after f.skipped f.frames rest)) h.tally in
+    let totals : t ≡ totals_after o f.skipped f.frames rest = cc (is, summary_is _ _ _ _ summary, h.tally) in
     (goes_on r o fibs log s h, refl, some, totals)
   where
     some : HasNoEnsemble (map r.read fibs) → ⊥
     some none =
         let f = h.follows in
-        let later = flat_map (λ g. g) f.frames ++ map r.read s.checker.held in
         let whole = subst HasNoEnsemble (sym h.read ∙ f.framed.whole) none in
         let empty = none_framed (fib_count o.mode) f.frames (map r.read s.checker.held) f.framed.cut
-        (none_held f.skipped later whole f.framed.begun) in
-        let count : s.checker.state.frames ≡ 0 =
-        frame_count (count_step o.mode) o.period f.frames s.checker.state f.knows ∙ ap length empty.0 in
-        let held : s.checker.held ≡ [] = none_mapped r s.checker.held empty.1 in
+        (none_held f.skipped (flat_map (λ g. g) f.frames ++ map r.read s.checker.held) whole f.framed.begun) in
+        let count = frame_count (count_step o.mode) o.period f.frames s.checker.state f.knows ∙ ap length empty.0 in
         false≢true (sym (ap (λ n. nat_lt 0 n || not (is_empty s.checker.held)) count
-        ∙ ap (λ l. nat_lt 0 0 || not (is_empty l)) held) ∙ begun)
+        ∙ ap (λ l. nat_lt 0 0 || not (is_empty l)) (none_mapped r s.checker.held empty.1)) ∙ begun)
 
 pub ends_without : (r : Reading) (o : CheckOptions) (fibs : List (List ℕ)) (log : List Line) (s : State)
     → IsAfter r o fibs log s → is_begun s.checker ≡ false
@@ -94,7 +88,5 @@ ends_without r o fibs log s h begun =
     let un = unbegun s.checker begun in
     let none : f.frames ≡ [] =
     no_frames f.frames (sym un.none ∙ frame_count (count_step o.mode) o.period f.frames s.checker.state f.knows) in
-    let all : map r.read fibs ≡ f.skipped =
-    sym h.read ∙ f.framed.whole ∙ ap (λ l. f.skipped ++ (flat_map (λ g. g) l ++ map r.read s.checker.held)) none
-    ∙ ap (λ l. f.skipped ++ map r.read l) un.empty ∙ append-nil f.skipped in
+    let all : map r.read fibs ≡ f.skipped = cc (h.read, f.framed.whole, none, un.empty, append-nil f.skipped) in
     (goes_on r o fibs log s h, refl, subst HasNoEnsemble (sym all) f.framed.before)

@@ -63,8 +63,7 @@ findings_are found (x ∷ xs) e = chosen (nat_le (length (x ∷ xs)) 1024) e
 pub text_more : (o : CheckOptions) (skipped : List Fib) (before frames : List (List Fib)) (frame : List Fib)
     → frames_lines o skipped before (frames ++ frame ∷ []) ≡ frames_lines o skipped before frames
     ++ frame_lines o skipped (before ++ frames) frame
-text_more o skipped before [] frame = append-nil (frame_lines o skipped before frame)
-    ∙ ap (λ l. frame_lines o skipped l frame) (sym (append-nil before))
+text_more o skipped before [] frame = cc (append-nil (frame_lines o skipped before frame), append-nil before)
 text_more o skipped before (f ∷ fs) frame =
     let front = frame_lines o skipped before f in
     ap (λ l. front ++ l) (text_more o skipped (before ++ f ∷ []) fs frame)
@@ -77,8 +76,5 @@ text_more o skipped before (f ∷ fs) frame =
 pub text_kept : (o : CheckOptions) (skipped later : List Fib) (frames more : List (List Fib)) → more ≡ frames
     → (later ≡ skipped) ⊎ (frames ≡ [])
     → frames_lines o skipped [] frames ≡ frames_lines o later [] more
-text_kept o skipped later frames more same (inl e) = ap (λ s. frames_lines o s [] frames) (sym e)
-    ∙ ap (frames_lines o later []) (sym same)
-text_kept o skipped later frames more same (inr none) =
-    ap (frames_lines o skipped []) none ∙ sym (ap (frames_lines o later []) none)
-    ∙ ap (frames_lines o later []) (sym same)
+text_kept o skipped later frames more same (inl e) = cc (e, same)
+text_kept o skipped later frames more same (inr none) = cc (none, same)

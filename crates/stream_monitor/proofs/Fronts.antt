@@ -1,6 +1,6 @@
 -- A check goes on as far as a front of a stream goes if it goes on behind it.
 use Rattle.stream_monitor.proofs.Words.{[], ◌&&◌, ◌++◌, ◌+◌, ◌<◌, ◌∙◌, ◌∷◌, ◌≡◌, ◌≤◌, AreFrames, Bool, CheckOptions}
-use Rattle.stream_monitor.proofs.Words.{Fib, Finding, IsFramed, IsTooLong, List, ap, arith, cases_lt, cond, count_step}
+use Rattle.stream_monitor.proofs.Words.{Fib, Finding, IsFramed, IsTooLong, List, arith, cases_lt, cond, count_step}
 use Rattle.stream_monitor.proofs.Words.{damaged_in, false, false≢true, faults_in, fib_count, flat, found_in, inl, inr}
 use Rattle.stream_monitor.proofs.Words.{is_damaged, is_full, is_stopped, le-ltb, length, length-append, lt-ltb, most}
 use Rattle.stream_monitor.proofs.Words.{nat_lt, refl, room_before, sym, true, ℕ}
@@ -20,12 +20,11 @@ faults_before size step period past noted (g ∷ gs) more =
     let front = findings_from size step period (past_after_frame step past g) (noted_in period past noted g) gs in
     let whole = findings_from size step period (past_after_frame step past g) (noted_in period past noted g)
     (gs ++ more) in
-    let a = faults_append here (cond (runs_full step period past (frame_items g)) [] front) in
     let b = faults_append here (cond (runs_full step period past (frame_items g)) [] whole) in
     let c = chosen front whole
     (faults_before size step period (past_after_frame step past g) (noted_in period past noted g) gs more)
     (runs_full step period past (frame_items g)) in
-    omega (arith, a, b, c)
+    omega (arith, faults_append here (cond (runs_full step period past (frame_items g)) [] front), b, c)
   where
     chosen : (front whole : List Finding) → faults_in front ≤ faults_in whole → (t : Bool)
         → faults_in (cond t [] front) ≤ faults_in (cond t [] whole)
@@ -45,8 +44,7 @@ stopped_before o f more e = chosen o.until_fault e
     chosen true h = elim (cases_lt 0 (faults_in (found_in o f))) [
       | inl some ↦
           let less = faults_before (fib_count o.mode) (count_step o.mode) o.period [] [] f more in
-          let later : 0 < faults_in (found_in o (f ++ more)) = omega (arith, some, less) in
-          absurd (false≢true (sym h ∙ lt-ltb 0 (faults_in (found_in o (f ++ more))) later))
+          absurd (false≢true (sym h ∙ lt-ltb 0 (faults_in (found_in o (f ++ more))) (omega (arith, some, less))))
       | inr none ↦ le-ltb 0 (faults_in (found_in o f)) none
     ]
 
@@ -72,14 +70,11 @@ pub not_long : (size : ℕ) (stream skipped : List Fib) (frames : List (List Fib
     → IsFramed size stream skipped frames rest → length stream < most → IsTooLong skipped frames → ⊥
 not_long size stream skipped frames rest framed short long =
     let len : length stream ≡ length skipped + (length (flat frames) + length rest) =
-    ap length framed.whole ∙ length-append skipped (flat frames ++ rest)
-    ∙ ap (λ n. length skipped + n) (length-append (flat frames) rest) in
-    let few = frames_few size frames rest framed.cut in
-    let damaged = damaged_few (flat frames) in
+    cc (framed.whole, length-append skipped (flat frames ++ rest), length-append (flat frames) rest) in
     elim long [
-      | inl a ↦ absurd (omega (arith, len, few, short, a))
+      | inl a ↦ absurd (omega (arith, len, frames_few size frames rest framed.cut, short, a))
       | inr b ↦ elim b [
         | inl c ↦ absurd (omega (arith, len, short, c))
-        | inr d ↦ absurd (omega (arith, len, damaged, short, d))
+        | inr d ↦ absurd (omega (arith, len, damaged_few (flat frames), short, d))
       ]
     ]

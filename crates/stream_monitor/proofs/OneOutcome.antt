@@ -44,8 +44,7 @@ compare_fibs [] [] p q a b e = Equal refl e
 compare_fibs [] (y ∷ ys) p q a b e = Longer y ys refl (e ∙ append_assoc y (concat ys) q) b.0
 compare_fibs (x ∷ xs) [] p q a b e = Shorter x xs refl (sym e ∙ append_assoc x (concat xs) p) a.0
 compare_fibs (x ∷ xs) (y ∷ ys) p q a b e =
-    let one = take_front 32 x y (concat xs ++ p) (concat ys ++ q) a.0 b.0
-    (sym (append_assoc x (concat xs) p) ∙ e ∙ append_assoc y (concat ys) q) in
+    let one = take_front _ _ _ _ _ a.0 b.0 (sym (append_assoc x (concat xs) p) ∙ e ∙ append_assoc y (concat ys) q) in
     grown (compare_fibs xs ys p q a.1 b.1 one.rest) one.same
   where
     grown : Compared xs ys p q → x ≡ y → Compared (x ∷ xs) (y ∷ ys) p q
@@ -73,11 +72,9 @@ ends_there : (r : Reading) (o : CheckOptions) (fibs : List (List ℕ)) (fib : Li
     → EndsFrame r o fibs fib log skipped frames → (is_full o frames ≡ true) ⊎ (is_stopped o frames ≡ true)
     → GoesOn r o (fibs ++ fib ∷ zs) other → ⊥
 ends_there r o fibs fib log other zs skipped frames e why g =
-    let whole : map r.read (fibs ++ fib ∷ zs) ≡ map r.read (fibs ++ fib ∷ []) ++ map r.read zs =
-    ap (map r.read) (sym (append_assoc fibs (fib ∷ []) zs)) ∙ map-append r.read (fibs ++ fib ∷ []) zs in
+    let whole = ap (map r.read) (sym (append_assoc fibs (fib ∷ []) zs)) ∙ map-append r.read (fibs ++ fib ∷ []) zs in
     let framed = subst (λ (l : List Fib). IsFramed (fib_count o.mode) l g.skipped g.frames g.rest) whole g.framed in
-    let more = front_framing (fib_count o.mode) (map r.read (fibs ++ fib ∷ [])) (map r.read zs) skipped g.skipped frames
-    g.frames e.rest g.rest e.framed framed in
+    let more = front_framing _ _ _ _ _ _ _ _ _ e.framed framed in
     elim why [
       | inl full ↦ false≢true (sym (full_before o frames more.0 (ap (is_full o) (sym more.1) ∙ g.room)) ∙ full)
       | inr stops ↦ false≢true (sym (stopped_before o frames more.0 (ap (is_stopped o) (sym more.1) ∙ g.no_fault))
@@ -87,25 +84,22 @@ ends_there r o fibs fib log other zs skipped frames e why g =
 pub stopped_not : (r : Reading) (o : CheckOptions) (fibs : List (List ℕ)) (fib : List ℕ) (log other : List Line)
     (zs : List (List ℕ)) (e : Ending) → length (concat fibs) < most
     → StopsWithFib r o fibs fib log e → GoesOn r o (fibs ++ fib ∷ zs) other → ⊥
-stopped_not r o fibs fib log other zs (endings.Counted totals) short h g =
-    ends_there r o fibs fib log other zs h.0 h.1 h.2 (inr h.4) g
+stopped_not r o fibs fib log other zs (endings.Counted totals) short h g = ends_there _ _ _ _ _ _ _ _ _ h.2 (inr h.4) g
 stopped_not r o fibs fib log other zs (endings.Refused causes.Full) short h g =
     ends_there r o fibs fib log other zs h.0 h.1 h.2 (inl h.3) g
 stopped_not r o fibs fib log other zs (endings.Refused causes.TooLong) short h g =
     short_enough r o fibs log h.0 short h.2
-stopped_not r o fibs fib log other zs (endings.Refused causes.NotWhole) short h g = h
-stopped_not r o fibs fib log other zs (endings.Refused causes.NoEnsemble) short h g = h
+stopped_not r o fibs fib log other zs _ short h g = h
 
 -- ---- the parts of an outcome
 
 pub goes_at_end : (r : Reading) (o : CheckOptions) (fibs : List (List ℕ)) (part : List ℕ) (log : List Line) (e : Ending)
     → StopsAtEnd r o fibs part log e → GoesOn r o fibs log × (length part < 32)
 goes_at_end r o fibs part log (endings.Counted totals) h = let len = ap length h.1 in (h.0, omega (arith, len))
-goes_at_end r o fibs part log (endings.Refused causes.Full) h = absurd h
-goes_at_end r o fibs part log (endings.Refused causes.TooLong) h = absurd h
 goes_at_end r o fibs part log (endings.Refused causes.NotWhole) h = (h.0, h.2)
 goes_at_end r o fibs part log (endings.Refused causes.NoEnsemble) h = let len = ap length h.1 in
     (h.0, omega (arith, len))
+goes_at_end r o fibs part log _ h = absurd h
 
 pub goes_before : (r : Reading) (o : CheckOptions) (fibs : List (List ℕ)) (fib : List ℕ) (log : List Line) (e : Ending)
     → StopsWithFib r o fibs fib log e → (so_far : List Line) × GoesOn r o fibs so_far × HasFibSize fib
@@ -119,9 +113,7 @@ goes_before r o fibs fib log (endings.Refused causes.NoEnsemble) h = absurd h
 
 alike : (r : Reading) (o : CheckOptions) (fibs : List (List ℕ)) (log other : List Line) (g : GoesOn r o fibs log)
     (h : GoesOn r o fibs other) → AreFramedAlike g.skipped h.skipped g.frames h.frames g.rest h.rest
-alike r o fibs log other g h =
-    one_framing (fib_count o.mode) (map r.read fibs) g.skipped h.skipped g.frames h.frames g.rest h.rest g.framed
-    h.framed
+alike r o fibs log other g h = one_framing _ _ _ _ _ _ _ _ g.framed h.framed
 
 same_text : (o : CheckOptions) (s t : List Fib) (f g : List (List Fib)) → s ≡ t → f ≡ g
     → frames_lines o s [] f ≡ frames_lines o t [] g
@@ -129,8 +121,7 @@ same_text o s t f g a b = ap (λ x. frames_lines o x [] f) a ∙ ap (frames_line
 
 same_totals : (o : CheckOptions) (s t : List Fib) (f g : List (List Fib)) (p q : List Fib) → s ≡ t → f ≡ g → p ≡ q
     → totals_after o s f p ≡ totals_after o t g q
-same_totals o s t f g p q a b c = ap (λ x. totals_after o x f p) a ∙ ap (λ x. totals_after o t x p) b
-    ∙ ap (totals_after o t g) c
+same_totals o s t f g p q a b c = cc (a, b, c)
 
 texts_are : (r : Reading) (o : CheckOptions) (fibs : List (List ℕ)) (log other : List Line) → GoesOn r o fibs log
     → GoesOn r o fibs other → log ≡ other
@@ -174,8 +165,7 @@ ends_alike r o fibs part log other (endings.Refused causes.NoEnsemble) (endings.
 frames_alike : (r : Reading) (o : CheckOptions) (fibs : List (List ℕ)) (fib : List ℕ) (log other : List Line)
     (s t : List Fib) (f g : List (List Fib)) (a : EndsFrame r o fibs fib log s f) (b : EndsFrame r o fibs fib other t g)
     → AreFramedAlike s t f g a.rest b.rest
-frames_alike r o fibs fib log other s t f g a b =
-    one_framing (fib_count o.mode) (map r.read (fibs ++ fib ∷ [])) s t f g a.rest b.rest a.framed b.framed
+frames_alike r o fibs fib log other s t f g a b = one_framing _ _ _ _ _ _ _ _ a.framed b.framed
 
 frame_texts : (r : Reading) (o : CheckOptions) (fibs : List (List ℕ)) (fib : List ℕ) (log other : List Line)
     (s t : List Fib) (f g : List (List Fib)) → EndsFrame r o fibs fib log s f → EndsFrame r o fibs fib other t g
@@ -226,9 +216,8 @@ end_and_fib : (r : Reading) (o : CheckOptions) (fibs others : List (List ℕ)) (
     ++ (fib ++ more)
     → StopsAtEnd r o fibs part log e → StopsWithFib r o others fib other d → ⊥
 end_and_fib r o fibs others part fib more log other e d short same a b =
-    let x = goes_at_end r o fibs part log e a in
     let y = goes_before r o others fib other d b in
-    chosen (compare_fibs fibs others part (fib ++ more) x.0.sizes y.1.sizes same)
+    chosen (compare_fibs fibs others part (fib ++ more) (goes_at_end r o fibs part log e a).0.sizes y.1.sizes same)
   where
     chosen : Compared fibs others part (fib ++ more) → ⊥
     chosen (Equal s t) =
@@ -237,9 +226,8 @@ end_and_fib r o fibs others part fib more log other e d short same a b =
         let len = ap length t ∙ length-append fib more in
         absurd (omega (arith, few, size, len))
     chosen (Longer z zs s t size) =
-        let few = (goes_at_end r o fibs part log e a).1 in
         let len = ap length t ∙ length-append z (concat zs ++ (fib ++ more)) in
-        absurd (omega (arith, few, size, len))
+        absurd (omega (arith, (goes_at_end r o fibs part log e a).1, size, len))
     chosen (Shorter z zs s t size) =
         let front = take_front 32 fib z more (concat zs ++ part) (goes_before r o others fib other d b).2 size t in
         let goes = subst (λ (l : List (List ℕ)). GoesOn r o l log) (s ∙ ap (λ f. others ++ f ∷ zs) (sym front.same))
@@ -256,20 +244,17 @@ fib_and_fib r o fibs others fib more last rest log other e d short few same a b 
   where
     chosen : Compared fibs others (fib ++ more) (last ++ rest) → AreSame log other e d
     chosen (Equal s t) =
-        let front = take_front 32 fib last more rest (goes_before r o fibs fib log e a).2
-        (goes_before r o others last other d b).2 t in
+        let front = take_front _ _ _ _ _ (goes_before _ _ _ _ _ _ a).2 (goes_before _ _ _ _ _ _ b).2 t in
         let moved = subst (λ (l : List (List ℕ)). StopsWithFib r o l last other d) (sym s) b in
         stops_alike r o fibs fib log other e d short a
         (subst (λ (l : List ℕ). StopsWithFib r o fibs l other d) (sym front.same) moved)
     chosen (Longer z zs s t size) =
-        let front = take_front 32 fib z more (concat zs ++ (last ++ rest)) (goes_before r o fibs fib log e a).2 size
-        t in
+        let front = take_front _ _ _ _ _ (goes_before _ _ _ _ _ _ a).2 size t in
         let y = goes_before r o others last other d b in
         absurd (stopped_not r o fibs fib log y.0 zs e short a
         (subst (λ (l : List (List ℕ)). GoesOn r o l y.0) (s ∙ ap (λ f. fibs ++ f ∷ zs) (sym front.same)) y.1))
     chosen (Shorter z zs s t size) =
-        let front = take_front 32 last z rest (concat zs ++ (fib ++ more)) (goes_before r o others last other d b).2
-        size t in
+        let front = take_front _ _ _ _ _ (goes_before _ _ _ _ _ _ b).2 size t in
         let y = goes_before r o fibs fib log e a in
         absurd (stopped_not r o others last other y.0 zs d few b
         (subst (λ (l : List (List ℕ)). GoesOn r o l y.0) (s ∙ ap (λ f. others ++ f ∷ zs) (sym front.same)) y.1))
@@ -290,19 +275,15 @@ end_and_end r o fibs others part last log other e d same a b =
         let len = ap length t ∙ length-append z (concat zs ++ last) in
         absurd (omega (arith, few, size, len))
     chosen (Shorter z zs s t size) =
-        let few = (goes_at_end r o others last other d b).1 in
         let len = ap length t ∙ length-append z (concat zs ++ part) in
-        absurd (omega (arith, few, size, len))
+        absurd (omega (arith, (goes_at_end r o others last other d b).1, size, len))
 
 pub one_outcome : OneOutcome
-one_outcome r o stream log other e d short (inl a) (inl b) =
-    end_and_end r o a.0 b.0 a.1 b.1 log other e d (sym a.2 ∙ b.2) a.3 b.3
+one_outcome r o stream log other e d short (inl a) (inl b) = end_and_end _ _ _ _ _ _ _ _ _ _ (sym a.2 ∙ b.2) a.3 b.3
 one_outcome r o stream log other e d short (inl a) (inr b) =
-    absurd (end_and_fib r o a.0 b.0 a.1 b.1 b.2 log other e d (front_short stream (concat b.0) (b.1 ++ b.2) b.3 short)
-    (sym a.2 ∙ b.3) a.3 b.4)
+    absurd (end_and_fib _ _ _ _ _ _ _ _ _ _ _ (front_short _ _ _ b.3 short) (sym a.2 ∙ b.3) a.3 b.4)
 one_outcome r o stream log other e d short (inr a) (inl b) =
-    absurd (end_and_fib r o b.0 a.0 b.1 a.1 a.2 other log d e (front_short stream (concat a.0) (a.1 ++ a.2) a.3 short)
-    (sym b.2 ∙ a.3) b.3 a.4)
+    absurd (end_and_fib _ _ _ _ _ _ _ _ _ _ _ (front_short _ _ _ a.3 short) (sym b.2 ∙ a.3) b.3 a.4)
 one_outcome r o stream log other e d short (inr a) (inr b) =
     fib_and_fib r o a.0 b.0 a.1 a.2 b.1 b.2 log other e d (front_short stream (concat a.0) (a.1 ++ a.2) a.3 short)
     (front_short stream (concat b.0) (b.1 ++ b.2) b.3 short) (sym a.3 ∙ b.3) a.4 b.4

@@ -1,11 +1,11 @@
 -- A check from one FIB to the next.
 use Rattle.stream_monitor.proofs.Words.{[], ◌&&◌, ◌++◌, ◌∙◌, ◌∷◌, ◌≡◌, ◌≤◌, AllByRecursion, AtMost, Bool, CheckOptions}
 use Rattle.stream_monitor.proofs.Words.{Ending, EndsAtFib, EndsFrame, EndsFrameFrom, Err, Fib, Finding, Follows}
-use Rattle.stream_monitor.proofs.Words.{FollowsFib, GoesOn, HasFibSize, IfOk, IsAfter, IsAfterFib, IsAtLimit, IsFramed}
+use Rattle.stream_monitor.proofs.Words.{FollowsFib, GoesOn, HasFibSize, IfOk, IsAfter, IsAfterFib, IsAtLimit}
 use Rattle.stream_monitor.proofs.Words.{IsSummary, IsTooLong, Line, List, Log, LogsLines, None, Ok, Option, Reading}
 use Rattle.stream_monitor.proofs.Words.{Reported, Result, Some, State, StopsWithFib, Summary, Tally, Totals, Unknown}
 use Rattle.stream_monitor.proofs.Words.{alive_lines, all_append, ap, append-nil, append_assoc, cause_of, count_step}
-use Rattle.stream_monitor.proofs.Words.{counted, due_lines, end_after, end_of, false, faults_in, fib_count}
+use Rattle.stream_monitor.proofs.Words.{counted, due_lines, end_after, end_of, false, faults_in}
 use Rattle.stream_monitor.proofs.Words.{finding_lines, found_in, found_next, frame_count, frames_lines, if◌then◌else◌}
 use Rattle.stream_monitor.proofs.Words.{inl, inr, is_due, is_stopped, length, map, map-append, most, not, refl, subst}
 use Rattle.stream_monitor.proofs.Words.{summary_after, sym, tally_after, totals_after, true, with_more, ℕ}
@@ -21,17 +21,9 @@ use Rattle.stream_monitor.proofs.Frames.{saturated_some, counted_none, tally_mor
 
 -- ---- between FIBs
 
-abbrev summary_of : (frames skipped left_over damaged : ℕ) → Summary
-summary_of frames skipped left_over damaged =
-    record { frames = frames; skipped = skipped; left_over = left_over; damaged = damaged }
-
 pub summary_is : (skipped : List Fib) (frames : List (List Fib)) (rest : List Fib) (s : Summary)
     → IsSummary skipped frames rest s → s ≡ summary_after skipped frames rest
-summary_is skipped frames rest s h =
-    ap (λ x. summary_of x s.skipped s.left_over s.damaged) h.frame_count
-    ∙ ap (λ x. summary_of (length frames) x s.left_over s.damaged) h.skips
-    ∙ ap (λ x. summary_of (length frames) (length skipped) x s.damaged) h.left
-    ∙ ap (λ x. summary_of (length frames) (length skipped) (length rest) x) h.damages
+summary_is skipped frames rest s h = rw (h.frame_count, h.skips, h.left, h.damages)
 
 abbrev pub goes_on : (r : Reading) (o : CheckOptions) (fibs : List (List ℕ)) (log : List Line) (s : State)
     → IsAfter r o fibs log s → GoesOn r o fibs log
@@ -40,8 +32,7 @@ goes_on r o fibs log s h = record {
   skipped = h.follows.skipped;
   frames = h.follows.frames;
   rest = map r.read s.checker.held;
-  framed = subst (λ (l : List Fib). IsFramed (fib_count o.mode) l h.follows.skipped h.follows.frames
-      (map r.read s.checker.held)) h.read h.follows.framed;
+  framed = rw (← h.read) h.follows.framed;
   room = h.follows.room;
   no_fault = h.no_fault;
   lines = h.lines;
@@ -78,8 +69,7 @@ step_within r o fibs fib log old new found h size before after empty given ends 
       tally = tally ∙ ap (counted old.tally) none ∙ ap (λ t. counted t []) h.tally ∙ counted_none o f.frames
           ∙ ap (tally_after o) (sym same);
       no_fault = ap (is_stopped o) same ∙ h.no_fault;
-      lines = ap (λ l. log ++ finding_lines l) none ∙ append-nil log ∙ h.lines
-          ∙ text_kept o f.skipped g.skipped f.frames g.frames same one.1.1;
+      lines = ap (λ l. log ++ finding_lines l) none ∙ append-nil log ∙ h.lines ∙ text_kept o _ _ _ _ same one.1.1;
     }
 
 -- ---- a FIB that ends a frame
@@ -92,12 +82,11 @@ pub lines_more : (o : CheckOptions) (log : List Line) (skipped later : List Fib)
     → (log ++ finding_lines found) ++ alive_lines o later more ≡ frames_lines o later [] more
 lines_more o log skipped later frames more frame found one same is lines =
     let whole = frames_lines o later [] frames in
-    let alive = alive_lines o later (frames ++ frame ∷ []) in
     ap (λ l. (l ++ finding_lines found) ++ alive_lines o later more)
     (lines ∙ ap (λ s. frames_lines o s [] frames) (sym same))
     ∙ ap (λ l. (whole ++ finding_lines l) ++ alive_lines o later more) is
     ∙ ap (λ l. (whole ++ finding_lines (found_next o frames frame)) ++ alive_lines o later l) one
-    ∙ append_assoc whole (finding_lines (found_next o frames frame)) alive
+    ∙ append_assoc whole (finding_lines (found_next o frames frame)) (alive_lines o later (frames ++ frame ∷ []))
     ∙ sym (text_more o later [] frames frame)
     ∙ ap (frames_lines o later []) (sym one)
 
@@ -126,8 +115,7 @@ step_ended r o fibs fib log old new found h size before after empty given ends i
     let g = one.0 in
     let frame = one.1.0 in
     let is : found ≡ found_next o f.frames frame =
-    findings_are found (found_next o f.frames frame)
-    (sym given ∙ one.1.3 ∙ ap (λ b. with_more b (found_next o f.frames frame)) empty) in
+    findings_are _ _ (sym given ∙ one.1.3 ∙ ap (λ b. with_more b (found_next o f.frames frame)) empty) in
     let read = read_more r fibs fib h.stream h.read in
     record {
       stream = h.stream ++ r.read fib ∷ [];
@@ -143,8 +131,7 @@ step_ended r o fibs fib log old new found h size before after empty given ends i
         size = size;
         frame = frame;
         rest = map r.read new.checker.held;
-        framed = subst (λ (l : List Fib). IsFramed (fib_count o.mode) l g.skipped g.frames
-            (map r.read new.checker.held)) read g.framed;
+        framed = rw (← read) g.framed;
         one_more = one.1.1;
         lines = lines;
       };
@@ -208,9 +195,7 @@ totals_with summary tally = record { summary = summary; swaps = tally.swaps; fau
 pub totals_are : (r : Reading) (o : CheckOptions) (s : State) (sum : Summary) (t : Totals) (stream : List Fib)
     (f : Follows r o.mode o.period stream Unknown Unknown s.checker) → t ≡ totals_with sum s.tally
     → IsSummary f.skipped f.frames [] sum → s.tally ≡ tally_after o f.frames → t ≡ totals_after o f.skipped f.frames []
-totals_are r o s sum t stream f is decided tally =
-    is ∙ ap (λ x. totals_with x s.tally) (summary_is f.skipped f.frames [] sum decided)
-    ∙ ap (totals_with (summary_after f.skipped f.frames [])) tally
+totals_are r o s sum t stream f is decided tally = cc (is, summary_is f.skipped f.frames [] sum decided, tally)
 
 -- the line of the totals, if they are due, is that of these frames
 pub due_is : (r : Reading) (o : CheckOptions) (s : State) (t : Totals) (stream : List Fib)
@@ -250,8 +235,7 @@ step_full r o fibs fib log old found h size before after empty given step =
     let g = one.0 in
     let frame = one.1.0 in
     let is : found ≡ found_next o f.frames frame =
-    findings_are found (found_next o f.frames frame)
-    (sym given ∙ one.1.3 ∙ ap (λ b. with_more b (found_next o f.frames frame)) empty) in
+    findings_are _ _ (sym given ∙ one.1.3 ∙ ap (λ b. with_more b (found_next o f.frames frame)) empty) in
     let none : alive_lines o g.skipped g.frames ≡ [] =
     ap (λ b. if not b && is_due o.every (length g.frames) then lines.Alive (totals_after o g.skipped g.frames [])
     ∷ [] else []) g.full in
@@ -264,8 +248,7 @@ step_full r o fibs fib log old found h size before after empty given step =
         size = size;
         frame = frame;
         rest = g.rest;
-        framed = subst (λ (l : List Fib). IsFramed (fib_count o.mode) l g.skipped g.frames g.rest)
-            (read_more r fibs fib h.stream h.read) g.framed;
+        framed = rw (← read_more r fibs fib h.stream h.read) g.framed;
         one_more = one.1.1;
         lines = sym (append-nil all) ∙ ap (λ l. all ++ l) (sym none)
             ∙ lines_more o log f.skipped g.skipped f.frames g.frames frame found one.1.1 one.1.2 is h.lines;
@@ -278,9 +261,8 @@ pub step_long : (r : Reading) (o : CheckOptions) (fibs : List (List ℕ)) (fib :
     → (before after : Reported) → before ≡ AtMost 1024 [] → after ≡ AtMost 1024 found → IsAtLimit old.checker
     → after ≡ before → StopsWithFib r o fibs fib (log ++ finding_lines found) (endings.Refused causes.TooLong)
 step_long r o fibs fib log old found h size before after empty given limit same =
-    let none : found ≡ [] = findings_are found [] (sym given ∙ same ∙ empty) in
     subst (λ (l : List Line). StopsWithFib r o fibs fib l (endings.Refused causes.TooLong))
-    (sym (ap (λ l. log ++ finding_lines l) none ∙ append-nil log))
+    (sym (ap (λ l. log ++ finding_lines l) (findings_are found [] (sym given ∙ same ∙ empty)) ∙ append-nil log))
     (goes_on r o fibs log old h, size, at_limit limit)
   where
     at_limit : IsAtLimit old.checker → IsTooLong h.follows.skipped h.follows.frames
@@ -298,11 +280,9 @@ pub step_refused : (r : Reading) (o : CheckOptions) (fibs : List (List ℕ)) (fi
     → (fault ≡ faults.TooLong → after ≡ before) → StopsWithFib r o fibs fib (log ++ finding_lines found)
     (endings.Refused cause)
 step_refused r o fibs fib log old new found h size before after empty given faults.Full cause is full long same =
-    subst (λ (x : Cause). StopsWithFib r o fibs fib (log ++ finding_lines found) (endings.Refused x)) (sym is)
-    (step_full r o fibs fib log old found h size before after empty given (full refl))
+    rw is (step_full r o fibs fib log old found h size before after empty given (full refl))
 step_refused r o fibs fib log old new found h size before after empty given faults.TooLong cause is full long same =
-    subst (λ (x : Cause). StopsWithFib r o fibs fib (log ++ finding_lines found) (endings.Refused x)) (sym is)
-    (step_long r o fibs fib log old found h size before after empty given (long refl) (same refl))
+    rw is (step_long r o fibs fib log old found h size before after empty given (long refl) (same refl))
 
 -- what is returned as it is
 pub of_result : {A E : Type 0} (r : Result A E) (P Q : A → Type 0) → ((x : A) → P x → Q x) → IfOk r P → IfOk r Q

@@ -57,14 +57,11 @@ further at to piece is = elim (cases_lt (at + 32) (length piece)) [
 
 -- the rest of a piece
 pub rest_is : (at : ℕ) (piece shown : List ℕ) → shown ≡ piece → take (length shown - at) (drop at shown) ≡ drop at piece
-rest_is at piece shown is = take_all (length shown - at) (drop at shown) (omega (arith, length-drop at shown))
-    ∙ ap (drop at) is
+rest_is at piece shown is = cc (take_all (length shown - at) (drop at shown) (omega (arith, length-drop at shown)), is)
 
 pub takes : (at to : ℕ) (piece rest : List ℕ) (behind : Option (List ℕ)) (next : Next)
     → (length (drop at piece) < 32 → IsAtEnd behind) → rest ≡ drop at piece
     → to ≡ min (length piece) (at + 32) → BeginsWith rest next
     → Gives (prepend_known (drop at piece) behind) (prepend_known (drop to piece) behind) next
 takes at to piece rest behind next end same is h =
-    subst (λ (l : List ℕ). Gives (prepend_known (drop at piece) behind) (prepend_known l behind) next)
-    (sym (further at to piece is))
-    (taken (drop at piece) behind next end (subst (λ (l : List ℕ). BeginsWith l next) same h))
+    rw (further at to piece is) (taken (drop at piece) behind next end (rw (← same) h))

@@ -1,4 +1,4 @@
-use Rattle.fib_codec.proofs.Words.{◌-◌, ◌∙◌, ◌≡◌, after, ap, arith, sym}
+use Rattle.fib_codec.proofs.Words.{◌-◌, ◌∙◌, ◌≡◌, arith, sym}
 use Rattle.fib_codec.proofs.Division.{after_more, after-zero}
 use Rattle.fib_codec.proofs.crc.byte_step_by_bits.Goals as goal
 

@@ -1,4 +1,4 @@
-use Rattle.fib_codec.proofs.Words.{[], ◌∙◌, ◌≡◌, after_all, ap, drop, drop_all, sym}
+use Rattle.fib_codec.proofs.Words.{◌∙◌, after_all, ap, drop_all, sym}
 use Rattle.fib_codec.proofs.Division.{word_checks}
 use Rattle.fib_codec.proofs.crc.crc16_by_bits.Goals as goal
 

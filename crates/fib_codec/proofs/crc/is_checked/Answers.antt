@@ -1,4 +1,4 @@
-use Rattle.fib_codec.proofs.Words.{◌*◌, ◌+◌, ◌∙◌, ◌≡◌, ap₂, eq-eqb, eqb-true, get_or, sym}
+use Rattle.fib_codec.proofs.Words.{◌*◌, ◌+◌, ◌∙◌, ap₂, eq-eqb, eqb-true, sym}
 use Rattle.fib_codec.proofs.U16.{checked_by_word}
 use Rattle.fib_codec.proofs.crc.is_checked.Goals as goal
 

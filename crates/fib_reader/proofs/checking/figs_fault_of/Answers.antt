@@ -1,4 +1,4 @@
-use Rattle.fib_reader.proofs.Words.{◌<◌, ◌∙◌, ◌≡◌, ◌≢◌, None, Some, arith, drop, fig_fault, get_or, length, sym}
+use Rattle.fib_reader.proofs.Words.{◌<◌, ◌∙◌, ◌≡◌, None, Some, arith, drop, fig_fault, get_or, length, sym}
 use Rattle.fib_reader.proofs.FaultSteps.{next_fig, at_marker, fault_here, no_figs, some_left, none_left}
 use Rattle.fib_reader.proofs.checking.figs_fault_of.Goals as goal
 

@@ -1,5 +1,4 @@
-use Rattle.fib_reader.proofs.Words.{◌%◌, ◌+◌, ◌<◌, ◌∙◌, ◌≡◌, ◌≢◌, ap, arith, drop, drop_min, get_or, length, min, take}
-use Rattle.fib_reader.proofs.Words.{take_min}
+use Rattle.fib_reader.proofs.Words.{◌%◌, ◌+◌, ◌<◌, ◌≡◌, arith, drop, drop_min, get_or, length, min, take, take_min}
 use Rattle.fib_reader.proofs.FigLists.{pieces_of_nothing, pieces_of_marked, first_of_pieces}
 use Rattle.fib_reader.proofs.FaultSteps.{some_left, none_left}
 use Rattle.fib_reader.proofs.figs.split_fig.Goals as goal

@@ -1,5 +1,4 @@
-use Rattle.fib_reader.proofs.Words.{◌<◌, ◌∙◌, ◌≡◌, ◌≤◌, ap, arith, length, length-map, length-take-le, raw_entry, rules}
-use Rattle.fib_reader.proofs.Words.{sym}
+use Rattle.fib_reader.proofs.Words.{◌<◌, ◌∙◌, ◌≡◌, ap, arith, length, length-map, length-take-le, raw_entry, rules, sym}
 use Rattle.fib_reader.proofs.FromEntries.{above_all, none_says}
 use Rattle.fib_reader.proofs.members.members.Goals as goal
 

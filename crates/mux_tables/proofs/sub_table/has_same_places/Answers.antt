@@ -8,8 +8,7 @@ returns-then-not-is_same_entry c = (
   λ e.
       let i = c.loop-place.place in
       let same = same_place c.args.one.now c.args.other.now i c.requires.one c.requires.other e in
-      let here = with_default c.args.one.now i c.index-one-place.result (omega arith) ∙ same
-      ∙ sym (with_default c.args.other.now i c.index-other-place.result (omega arith)) in
+      let here = with_default _ i _ (omega arith) ∙ same ∙ sym (with_default _ i _ (omega arith)) in
       sym c.if-not-is_same_entry.true ∙ c.is_same_entry.ensures.1 here,
 )
 

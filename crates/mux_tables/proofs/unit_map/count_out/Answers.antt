@@ -1,7 +1,6 @@
-use Rattle.mux_tables.proofs.Words.{◌/◌, arith, refl}
+use Rattle.mux_tables.proofs.Words.{arith, refl}
 use Rattle.mux_tables.proofs.Lanes.{lowered}
 use Rattle.mux_tables.proofs.unit_map.count_out.Goals as goal
 
 pub returns : goal.returns
-returns c = lowered c.args.blocks.now c.loop-block.blocks c.args.span (c.args.span.start / 32) c.loop-block.block refl
-    (omega arith) c.loop-block.invariant.1
+returns c = lowered _ _ _ _ _ refl (omega arith) c.loop-block.invariant.1

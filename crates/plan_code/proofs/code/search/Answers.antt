@@ -18,10 +18,8 @@ loop-low-preserved c = record {
   ordered = omega arith;
   within = omega arith;
   below = c.loop-low.invariant.below;
-  above = above_middle label_key c.args.pc c.args.labels.now _ _ c.requires (omega arith) c.if-label-pc.false
-      c.if-label-pc-2.false;
+  above = above_middle _ _ _ _ _ c.requires (omega arith) c.if-label-pc.false c.if-label-pc-2.false;
 }
 
 pub returns : goal.returns
-returns c = sym (find_between label_key c.args.pc c.args.labels.now c.loop-low.low c.loop-low.high c.loop-low-test.false
-    c.loop-low.invariant.below c.loop-low.invariant.above)
+returns c = sym (find_between _ _ _ _ _ c.loop-low-test.false c.loop-low.invariant.below c.loop-low.invariant.above)

@@ -21,5 +21,4 @@ loop-preserved g c = record {
 }
 
 pub returns-clause-read : goal.returns-clause-read
-returns-clause-read g c = items_done (g.T.Item.item_at c.args.reader.now.total) c.loop.items.items c.args.count
-    c.loop.counter c.loop.reader.rest _ c.loop-test.false c.loop.invariant.given
+returns-clause-read g c = items_done _ _ _ _ _ _ c.loop-test.false c.loop.invariant.given

@@ -1,4 +1,4 @@
-use Rattle.plan_player.proofs.Words.{◌-◌, ◌≤◌, Frame, arith, replicate}
+use Rattle.plan_player.proofs.Words.{◌-◌, Frame, arith, replicate}
 use Rattle.plan_player.proofs.Joining.{joined_frames, stopped_frames, few_frames}
 use Rattle.plan_player.proofs.frames.play_frames.Goals as goal
 

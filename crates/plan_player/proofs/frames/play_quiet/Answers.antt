@@ -1,4 +1,4 @@
-use Rattle.plan_player.proofs.Words.{◌+◌, ◌-◌, ◌≡◌, ◌≤◌, AreQuiet, Playing, arith, ℕ}
+use Rattle.plan_player.proofs.Words.{◌+◌, ◌-◌, ◌≡◌, AreQuiet, Playing, arith, ℕ}
 use Rattle.plan_player.proofs.Joining.{joined_frames, stopped_frames, few_frames}
 use Rattle.plan_player.proofs.Stretches.{quiet_rest}
 use Rattle.plan_player.proofs.frames.play_quiet.Goals as goal

@@ -1,7 +1,7 @@
-use Rattle.plan_player.proofs.Words.{◌%◌, ◌*◌, ◌+◌, ◌-◌, ◌∙◌, ◌≡◌, ◌≤◌, COUNTS, List, ap, arith, count_step}
+use Rattle.plan_player.proofs.Words.{◌%◌, ◌*◌, ◌+◌, ◌-◌, ◌∙◌, ◌≡◌, COUNTS, List, ap, arith, count_step}
 use Rattle.plan_player.proofs.Words.{frame_fibs, layout_mode, mod-add-mod, refl, ℕ}
 use borrow.Rule.Slice.PartMut.{put_mid, mid_of, same_len_mid}
-use Rattle.plan_player.proofs.Alike.{mixed_all, first_on_step, next_on_step, first_near, entered, continued}
+use Rattle.plan_player.proofs.Alike.{mixed_all, first_on_step, next_on_step, entered, continued}
 use Rattle.plan_player.proofs.recount.recount_frames.Goals as goal
 
 pub loop-at-init : goal.loop-at-init
@@ -17,7 +17,7 @@ loop-at-init c =
       near = omega arith;
       number = c.count_later-number.ensures;
       on_step = ap (λ (n : ℕ). n % count_step (layout_mode plan.layout))
-      (c.count_later-number.ensures ∙ ap (λ (a : ℕ). (count + a) % COUNTS) by_mode) ∙ first_on_step _ _;
+          (c.count_later-number.ensures ∙ ap (λ (a : ℕ). (count + a) % COUNTS) by_mode) ∙ first_on_step _ _;
       whole = refl;
       bytes = λ s t alike counts is. entered plan c.args.header c.args.frames count at step s t c.args.bytes.now alike
           counts c.requires.count is_step c.before_step-at.ensures is;
@@ -45,7 +45,7 @@ loop-at-preserved c =
       number = later ∙ ap (λ (n : ℕ). (n + step) % COUNTS) before.number ∙ mod-add-mod (count + at) COUNTS step
           ∙ ap (λ (n : ℕ). n % COUNTS) (omega arith);
       on_step = ap (λ (n : ℕ). n % count_step (layout_mode plan.layout))
-      (later ∙ ap (λ (m : ℕ). (number + m) % COUNTS) is_step) ∙ next_on_step _ _ before.on_step;
+          (later ∙ ap (λ (m : ℕ). (number + m) % COUNTS) is_step) ∙ next_on_step _ _ before.on_step;
       whole = same_len_mid offset width bytes new c.recount.ensures.size ∙ before.whole;
       bytes = λ s t alike counts is.
           continued plan c.args.header c.args.frames count at number step size offset width c.high.result (number % 250)

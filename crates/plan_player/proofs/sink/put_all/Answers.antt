@@ -1,4 +1,4 @@
-use Rattle.plan_player.proofs.Words.{◌++◌, ◌-◌, ◌∙◌, Appends, Appends-trans, ap, arith, drop, length, length-take}
+use Rattle.plan_player.proofs.Words.{◌++◌, ◌-◌, ◌∙◌, Appends, Appends-trans, ap, arith, drop, length}
 use Rattle.plan_player.proofs.Words.{subst, sym, take, take-add, take-take}
 use Rattle.plan_player.proofs.sink.put_all.Goals as goal
 

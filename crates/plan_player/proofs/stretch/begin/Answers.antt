@@ -1,5 +1,5 @@
 use Rattle.plan_player.proofs.Words.{◌%◌, ◌+◌, ◌∙◌, ◌≡◌, COUNTS, HasPage, State, ap, arith, counted_on}
-use Rattle.plan_player.proofs.Words.{page_after, sent_entries, state_of, subst, suc, sym, ℕ}
+use Rattle.plan_player.proofs.Words.{sent_entries, state_of, subst, suc, sym, ℕ}
 use Rattle.plan_player.proofs.Together.{stretch_page, headed_within, page_kept, batch_more, turn_more, count_more}
 use Rattle.plan_player.proofs.stretch.begin.Goals as goal
 

@@ -1,5 +1,5 @@
-use Rattle.plan_player.proofs.Words.{◌%◌, ◌*◌, ◌+◌, ◌/◌, ◌<◌, ◌∙◌, ◌≡◌, Appends, IsCut, State, ap, arith, concat}
-use Rattle.plan_player.proofs.Words.{length, notice_frames, state_of, suc, take, ℕ}
+use Rattle.plan_player.proofs.Words.{◌%◌, ◌*◌, ◌+◌, ◌/◌, ◌∙◌, ◌≡◌, Appends, IsCut, State, ap, arith, concat}
+use Rattle.plan_player.proofs.Words.{notice_frames, state_of, suc, take, ℕ}
 use Rattle.plan_player.proofs.Together.{Cut, stretch_cut, stretch_rounds, fewer_rounds}
 use Rattle.plan_player.proofs.stretch.put_stretch.Goals.{After-fibs-size}
 use Rattle.plan_player.proofs.stretch.put_stretch.Given as given

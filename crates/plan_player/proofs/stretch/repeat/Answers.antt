@@ -1,4 +1,4 @@
-use Rattle.plan_player.proofs.Words.{◌%◌, ◌*◌, ◌+◌, ◌<◌, ◌∙◌, ◌≡◌, ◌≤◌, COUNTS, State, ap, arith, count_step}
+use Rattle.plan_player.proofs.Words.{◌%◌, ◌*◌, ◌+◌, ◌<◌, ◌∙◌, ◌≡◌, ◌≤◌, State, ap, arith, count_step}
 use Rattle.plan_player.proofs.Words.{frame_fibs, layout_mode, length, mul-le-mul_right, state_of, ℕ}
 use Rattle.plan_player.proofs.Cycles.{bytes_long, turn_on_turn, twice_whole, room}
 use Rattle.plan_player.proofs.stretch.repeat.Goals.{After-min-more}
@@ -46,5 +46,5 @@ loop-done-preserved g c =
       steps = λ below. ap (λ (x : ℕ). x % count_step (layout_mode plan.layout)) (twice below)
           ∙ twice_whole done (count_step (layout_mode plan.layout)) (before.steps lt);
       bytes = turn_on_turn _ _ _ _ _ _ _ _ _ _ _ c.requires.stretch c.requires.header (before.pages lt)
-      (before.steps lt) some few le c.count_later.ensures before.bytes made.1 made.2;
+          (before.steps lt) some few le c.count_later.ensures before.bytes made.1 made.2;
     }

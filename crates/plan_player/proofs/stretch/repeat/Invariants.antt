@@ -1,5 +1,4 @@
-use Rattle.plan_player.proofs.Words.{◌%◌, ◌-◌, ◌<◌, ◌≡◌, ◌≤◌, State, concat, count_step, layout_mode, notice_frames}
-use Rattle.plan_player.proofs.Words.{state_of}
+use Rattle.plan_player.proofs.Words.{◌%◌, ◌-◌, ◌<◌, ◌≡◌, ◌≤◌, concat, count_step, layout_mode, notice_frames, state_of}
 use Rattle.plan_player.proofs.stretch.repeat.Given as goal
 
 abbrev pub invariant-loop-done : goal.invariant-loop-done

@@ -1,4 +1,4 @@
-use Rattle.plan_session.proofs.Words.{[], ◌++◌, ◌∙◌, ◌∷◌, ◌≡◌, Err, FindsNext, List, Ok, Option, ReadsItem, Some, Token}
+use Rattle.plan_session.proofs.Words.{◌∙◌, ◌∷◌, ◌≡◌, Err, FindsNext, List, Ok, Option, ReadsItem, Some, Token}
 use Rattle.plan_session.proofs.Words.{added, ap, arith, length, refl, slice_range, subst, sym, ℕ}
 use Rattle.plan_session.proofs.OneByOne.{Window, item_found, no_item_found, fault_found}
 use Rattle.plan_session.proofs.listing.next_item.Goals as goal

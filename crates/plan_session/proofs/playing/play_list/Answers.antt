@@ -1,7 +1,6 @@
-use Rattle.plan_session.proofs.Words.{[], ◌++◌, ◌+◌, ◌∙◌, ◌∷◌, ◌≡◌, Delivered, Event, List, None, Option, Some, Step}
-use Rattle.plan_session.proofs.Words.{Stopped, TakesStep, ap, append-nil, append_assoc, arith, events_of}
-use Rattle.plan_session.proofs.Words.{events_of_step, few_delivered, few_stopped, inr, joined, stopped_before}
-use Rattle.plan_session.proofs.Words.{stopped_later, subst, sym}
+use Rattle.plan_session.proofs.Words.{[], ◌++◌, ◌+◌, ◌∙◌, ◌∷◌, ◌≡◌, Delivered, Event, List, Option, Step, TakesStep, ap}
+use Rattle.plan_session.proofs.Words.{append-nil, append_assoc, arith, events_of, events_of_step, few_delivered}
+use Rattle.plan_session.proofs.Words.{few_stopped, inr, joined, stopped_before, stopped_later, subst, sym}
 use Rattle.plan_session.proofs.Steps.{events_more, events_cut, few_events, first_bound}
 use Rattle.plan_session.proofs.playing.play_list.Goals as goal
 

@@ -1,4 +1,3 @@
-use Rattle.plan_session.proofs.Words.{take}
 use Rattle.plan_session.proofs.NoTexts.{no_text_so}
 use Rattle.plan_session.proofs.text_file.read_bytes.Goals as goal
 

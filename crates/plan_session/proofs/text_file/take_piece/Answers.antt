@@ -1,4 +1,4 @@
-use Rattle.plan_session.proofs.Words.{[], ◌++◌, ◌≡◌, IsUtf8, List, rules, subst, sym, ℕ}
+use Rattle.plan_session.proofs.Words.{[], ◌≡◌, rules}
 use Rattle.plan_session.proofs.NoTexts.{nothing}
 use Rattle.plan_session.proofs.text_file.take_piece.Goals as goal
 

@@ -1,4 +1,3 @@
-use Rattle.script_front.proofs.Words.{string_bytes}
 use Rattle.script_front.proofs.Printed.{drop_put}
 use Rattle.script_front.proofs.lexemes.put_dropped.Goals as goal
 

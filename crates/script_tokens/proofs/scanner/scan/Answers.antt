@@ -13,7 +13,7 @@ loop-place-preserved c =
     let role = sym c.role_of.ensures ∙ c.in-Passed.is in
     record {
       left = passed_on _ _ _ _ _ _ _ _ c.loop-place-test.true c.kind_of-kind.ensures role c.inside_after-inside.ensures
-      c.position_after-place.ensures f.at c.loop-place.invariant.left;
+          c.position_after-place.ensures f.at c.loop-place.invariant.left;
       place = record {
         within = omega (arith, f.at, c.loop-place-test.true);
         line = omega (arith, f.at, f.line, c.loop-place.invariant.place.line);

@@ -1,4 +1,4 @@
-use Rattle.stream_check.proofs.Words.{◌<◌, ◌∙◌, ◌≤◌, arith, common_steps, length, sym}
+use Rattle.stream_check.proofs.Words.{◌<◌, ◌∙◌, arith, common_steps, length, sym}
 use Rattle.stream_check.proofs.Mentioned.{whole_cut, whole_more, whole_none}
 use Rattle.stream_check.proofs.mention_rules.are_whole.Goals as goal
 

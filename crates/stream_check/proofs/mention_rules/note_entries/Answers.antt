@@ -1,4 +1,4 @@
-use Rattle.stream_check.proofs.Words.{◌<◌, ◌≤◌, arith, common_steps, length, picture_of_heard}
+use Rattle.stream_check.proofs.Words.{◌<◌, arith, common_steps, length, picture_of_heard}
 use Rattle.stream_check.proofs.Mentioned.{fits_where, left_more, left_none}
 use Rattle.stream_check.proofs.mention_rules.note_entries.Goals as goal
 

@@ -52,5 +52,4 @@ loop-preserved g c =
     c.in_ok-fib.ensures.log in
     let step = subst (λ (x : Option Ending). ChecksFib c.args.options c.in-Fib.fib c.loop.state c.check_fib.new.state
     (log c.next.new.self) (log c.check_fib.new.monitor) x) c.in_default.is c.in_ok-ending-in-Fib.ensures.checked in
-    goes_further c.args.options _ _ _ _ c.loop.state c.check_fib.new.state _ _ _ c.in-Fib.fib c.loop.invariant read
-    given step c.in_ok-ending-in-Fib.ensures.left
+    goes_further _ _ _ _ _ _ _ _ _ _ _ c.loop.invariant read given step c.in_ok-ending-in-Fib.ensures.left

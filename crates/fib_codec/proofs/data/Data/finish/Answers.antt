@@ -1,4 +1,3 @@
-use Rattle.fib_codec.proofs.Words.{◌∙◌, ap, checked, filled}
 use Rattle.fib_codec.proofs.Begun.{begun_is_filled}
 use Rattle.fib_codec.proofs.data.Data.finish.Goals as goal
 

@@ -1,4 +1,4 @@
-use Rattle.fib_codec.proofs.Words.{◌≡◌, ap, arith, length, length-take-le, take}
+use Rattle.fib_codec.proofs.Words.{ap, arith, length, length-take-le}
 use Rattle.fib_codec.proofs.Begun.{begun_two}
 use Rattle.fib_codec.proofs.data.Data.push_two.Goals as goal
 

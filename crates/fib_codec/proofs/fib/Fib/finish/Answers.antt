@@ -1,4 +1,4 @@
-use Rattle.fib_codec.proofs.Words.{◌∙◌, ◌≡◌, ◌≤◌, ap, arith, checked, figs_bytes, filled, length}
+use Rattle.fib_codec.proofs.Words.{◌∙◌, ◌≡◌, ap, arith, checked, figs_bytes, filled, length}
 use Rattle.fib_codec.proofs.Finished.{fib_is, valid_is}
 use Rattle.fib_codec.proofs.fib.Fib.finish.Goals as goal
 

@@ -1,4 +1,4 @@
-use Rattle.fib_codec.proofs.Words.{◌+◌, ◌≡◌, ap, arith, entry_bytes, entry_size, length, length-append}
+use Rattle.fib_codec.proofs.Words.{◌+◌, ◌≡◌, ap, arith, entry_bytes, length, length-append}
 use Rattle.fib_codec.proofs.Lengths.{entry_length}
 use Rattle.fib_codec.proofs.fib.Fib.put_entry.Goals as goal
 

@@ -1,4 +1,4 @@
-use Rattle.fib_codec.proofs.Words.{◌<◌, arith}
+use Rattle.fib_codec.proofs.Words.{arith}
 use Rattle.fib_codec.proofs.Lengths.{ext_small}
 use Rattle.fib_codec.proofs.fib.Fib.try_fig.Goals as goal
 

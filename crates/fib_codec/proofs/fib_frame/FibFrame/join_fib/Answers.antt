@@ -1,4 +1,4 @@
-use Rattle.fib_codec.proofs.Words.{◌*◌, ◌++◌, ◌-◌, ◌≡◌, List, arith, checked, length, sym, take, ℕ}
+use Rattle.fib_codec.proofs.Words.{◌++◌, ◌-◌, ◌≡◌, List, arith, checked, length, sym, take, ℕ}
 use Rattle.fib_codec.proofs.U16.{checked_len, joined_len}
 use Rattle.fib_codec.proofs.Frames.{written_over, written_fib}
 use Rattle.fib_codec.proofs.fib_frame.FibFrame.join_fib.Goals as goal

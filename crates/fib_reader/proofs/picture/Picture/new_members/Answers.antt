@@ -1,4 +1,4 @@
-use Rattle.fib_reader.proofs.Words.{◌∙◌, ◌≡◌, ◌≢◌, ap, arith, number_of, sym}
+use Rattle.fib_reader.proofs.Words.{◌∙◌, ◌≢◌, ap, arith, number_of, sym}
 use Rattle.fib_reader.proofs.Forecast.{takes_sub, takes_if_service, takes_if_packet}
 use Rattle.fib_reader.proofs.picture.Picture.new_members.Goals as goal
 

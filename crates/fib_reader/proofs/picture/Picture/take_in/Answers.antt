@@ -1,4 +1,4 @@
-use Rattle.fib_reader.proofs.Words.{◌<◌, ◌∙◌, ◌≡◌, IsSubOf, ap, false, has_room, identifier_of, number_of, sym, true}
+use Rattle.fib_reader.proofs.Words.{◌<◌, ◌∙◌, ◌≡◌, IsSubOf, ap, identifier_of, number_of, sym}
 use Rattle.fib_reader.proofs.Keeping.{each_after, room_for_subs}
 use Rattle.fib_reader.proofs.picture.Picture.take_in.Goals as goal
 

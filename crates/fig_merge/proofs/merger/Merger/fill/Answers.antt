@@ -1,6 +1,6 @@
 use Rattle.fig_merge.proofs.Words.{◌++◌, ◌-◌, ◌∙◌, ◌≡◌, Bool, Fig, IsFib, IsPassedOver, List, Listening, Ok, Result}
-use Rattle.fig_merge.proofs.Words.{Some, after_fill, agrees_with, ap, ap₂, arith, carried_in, checked, concat, data_of}
-use Rattle.fig_merge.proofs.Words.{fig_agrees, filled, filled_fib, length, refl, room_of, sym, take, ℕ}
+use Rattle.fig_merge.proofs.Words.{Some, after_fill, agrees_with, ap₂, arith, carried_in, checked, concat, data_of}
+use Rattle.fig_merge.proofs.Words.{fig_agrees, filled, filled_fib, length, refl, sym, take, ℕ}
 use Rattle.fib_reader.specs.Listening.{hear_figs}
 use Rattle.fib_reader.specs.declared.fault.FibFault.{FibFault}
 use Rattle.stream_check.proofs.Seeing.{read_whole}

@@ -17,8 +17,7 @@ insert-requires c =
 
 pub invariant_of-self : goal.invariant_of-self
 invariant_of-self c =
-    let absent : entry_at sub_key c.args.sub.id (members c.self.inside.by_id) ≡ None =
-    subst (λ (xs : List Sub). entry_at sub_key c.args.sub.id xs ≡ None) (sym c.self.view_is) c.requires in
+    let absent = subst (λ (xs : List Sub). entry_at sub_key c.args.sub.id xs ≡ None) (sym c.self.view_is) c.requires in
     let at = c.from-place.ensures ∙ c.get.ensures.value in (
       added_in_place c.self.inside.by_id c.args.sub c.from-place.result c.self.invariant.0 at,
       c.insert.ensures ∙ ids_added c.self.inside.by_id c.self.inside.ids c.args.sub c.from-place.result (omega arith)
@@ -27,8 +26,7 @@ invariant_of-self c =
 
 pub returns : goal.returns
 returns c =
-    let absent : entry_at sub_key c.args.sub.id (members c.self.inside.by_id) ≡ None =
-    subst (λ (xs : List Sub). entry_at sub_key c.args.sub.id xs ≡ None) (sym c.self.view_is) c.requires in
+    let absent = subst (λ (xs : List Sub). entry_at sub_key c.args.sub.id xs ≡ None) (sym c.self.view_is) c.requires in
     added c.self.inside.by_id c.args.sub c.from-place.result (omega arith) (omega arith) c.self.invariant.0
     (c.from-place.ensures ∙ c.get.ensures.value) absent
     ∙ ap (with_entry sub_key c.args.sub) c.self.view_is

@@ -7,15 +7,13 @@ pub insert-requires : goal.insert-requires
 insert-requires c =
     let before = with_sub_channels c.self.inside.subs c.self.inside.others in
     let fault : add_sub_fault c.args.sub before ≡ None = rw (← c.self.view_is) at c.requires in
-    let fits = add_sub_fits c.args.sub before (omega arith) c.self.invariant.configuration fault in
-    fits.0
+    (add_sub_fits c.args.sub before (omega arith) c.self.invariant.configuration fault).0
 
 pub invariant_of-self : goal.invariant_of-self
 invariant_of-self c =
     let before = with_sub_channels c.self.inside.subs c.self.inside.others in
-    let fault : add_sub_fault c.args.sub before ≡ None = rw (← c.self.view_is) at c.requires in
     let keeps = add_sub_keeps c.args.sub before (omega arith) (omega arith) (omega arith) c.self.invariant.configuration
-    fault in
+    (rw (← c.self.view_is) at c.requires) in
     let counted = counts_with c.self.inside.units c.count_in.new.blocks c.args.sub c.self.inside.subs
     c.self.invariant.configuration.subs_few
     (subst (λ (s : Span). CountsIn c.self.inside.units c.count_in.new.blocks s) c.span_of.ensures.value

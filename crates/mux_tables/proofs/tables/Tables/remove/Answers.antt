@@ -1,4 +1,4 @@
-use Rattle.mux_tables.proofs.Words.{◌∙◌, ◌≡◌, Configuration, Counts, CountsOut, IsConfiguration, IsPlaced, List, None}
+use Rattle.mux_tables.proofs.Words.{◌∙◌, ◌≡◌, Counts, CountsOut, IsConfiguration, IsPlaced, List, None}
 use Rattle.mux_tables.proofs.Words.{Span, Sub, ap, drop_sub_keeps, entry_at, entry_holds, sub_key, subst, sym, users}
 use Rattle.mux_tables.proofs.Words.{with_sub_channels, without_absent}
 use Rattle.mux_tables.proofs.Users.{counts_without}
@@ -26,7 +26,5 @@ invariant_of-self c =
 pub returns-in_default : goal.returns-in_default
 returns-in_default c =
     let none : entry_at sub_key c.args.id c.args.self.now.subs ≡ None =
-    subst (λ (k : Configuration). entry_at sub_key c.args.id k.subs ≡ None) c.self.view_is
-    (sym c.get.ensures.value ∙ c.in_default.is) in
-    ap (λ (xs : List Sub). record c.args.self.now { subs = xs })
-    (sym (without_absent sub_key c.args.id c.args.self.now.subs none))
+    rw (← c.self.view_is) (sym c.get.ensures.value ∙ c.in_default.is) in
+    ap (λ (xs : List Sub). record c.args.self.now { subs = xs }) (sym (without_absent _ _ _ none))

@@ -1,4 +1,4 @@
-use Rattle.plan_player.proofs.Words.{◌*◌, ◌++◌, ◌+◌, ◌-◌, ◌∙◌, ◌≡◌, ◌≤◌, List, ap, ap₂, arith, drop, frame_fibs, length}
+use Rattle.plan_player.proofs.Words.{◌*◌, ◌++◌, ◌+◌, ◌-◌, ◌∙◌, ◌≡◌, ◌≤◌, List, ap, ap₂, arith, drop, length}
 use Rattle.plan_player.proofs.Words.{length-take-le, sym, take, ℕ}
 use Rattle.plan_player.proofs.Cycles.{copied, appended}
 use Rattle.plan_player.proofs.batch.Bytes+SIZE.repeat.Goals as goal

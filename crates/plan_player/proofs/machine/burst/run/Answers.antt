@@ -1,5 +1,5 @@
 -- Answers of `run` in src/burst.rt
-use Rattle.plan_player.proofs.Words.{◌∙◌, ◌≡◌, State, false, is_running, state_of, sym, true}
+use Rattle.plan_player.proofs.Words.{◌∙◌, State, false, is_running, state_of, sym, true}
 use Rattle.plan_player.proofs.Remaining.{goes, stops}
 use Rattle.plan_player.proofs.machine.burst.run.Goals as goal
 

@@ -1,4 +1,4 @@
-use Rattle.plan_player.proofs.Words.{line_at, state_of}
+use Rattle.plan_player.proofs.Words.{line_at}
 use Rattle.plan_player.proofs.Places.{has_line}
 use Rattle.plan_player.proofs.player.Player.line.Goals as goal
 

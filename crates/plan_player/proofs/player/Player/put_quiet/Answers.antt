@@ -1,5 +1,5 @@
 use Rattle.plan_player.proofs.Words.{◌-◌, ◌≡◌, ◌≤◌, AreQuiet, Playing, State}
-use Rattle.plan_player.proofs.Words.{ap, arith, refl, state_of, subst, suc, sym, true, ℕ}
+use Rattle.plan_player.proofs.Words.{ap, arith, refl, state_of, subst, sym, true, ℕ}
 use Rattle.plan_player.proofs.Joining.{stopped_among, one_delivered, one_stopped, first_quiet}
 use Rattle.plan_player.proofs.Stretches.{fewer_quiet, stretch, quiet_done, quiet_stopped, some_quiet, goes_quiet}
 use Rattle.plan_player.proofs.player.Player.put_quiet.Goals.{After-min-count}

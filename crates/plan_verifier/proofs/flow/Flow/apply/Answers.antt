@@ -1,4 +1,3 @@
-use Rattle.plan_verifier.proofs.Words.{held, known_at}
 use Rattle.plan_verifier.proofs.Finding.{answers_refused}
 use Rattle.plan_verifier.proofs.flow.Flow.apply.Goals as goal
 

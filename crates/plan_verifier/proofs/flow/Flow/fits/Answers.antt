@@ -1,4 +1,4 @@
-use Rattle.plan_verifier.proofs.Words.{Both, Flow, Never, NextTwice, held, known_at, refl}
+use Rattle.plan_verifier.proofs.Words.{Flow, held, known_at, refl}
 use Rattle.plan_verifier.proofs.Answering.{fit_as}
 use Rattle.plan_verifier.proofs.flow.Flow.fits.Goals as goal
 

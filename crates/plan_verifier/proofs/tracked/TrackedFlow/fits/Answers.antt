@@ -1,4 +1,4 @@
-use Rattle.plan_verifier.proofs.Words.{Both, Flow, Never, NextTwice, flow_at, held, known_at, refl}
+use Rattle.plan_verifier.proofs.Words.{Flow, flow_at, held, known_at, refl}
 use Rattle.plan_verifier.proofs.Answering.{fit_as}
 use Rattle.plan_verifier.proofs.tracked.TrackedFlow.fits.Goals as goal
 

@@ -1,4 +1,4 @@
-use Rattle.plan_verifier.proofs.Words.{AreAt, Indices, held, subst, sym}
+use Rattle.plan_verifier.proofs.Words.{held}
 use Rattle.plan_verifier.proofs.Moving.{tracked_fit}
 use Rattle.plan_verifier.proofs.tracked.TrackedFlow.note_fit.Goals as goal
 

@@ -1,4 +1,4 @@
-use Rattle.script_front.proofs.Words.{◌<◌, ◌≡◌, IsAlternative, length, may_follow, refl, rules, take, true}
+use Rattle.script_front.proofs.Words.{◌<◌, length, refl, rules, take}
 use Rattle.script_front.proofs.Beside.{has_one_more}
 use Rattle.script_front.proofs.alternatives.Alternatives.push.Goals as goal
 

@@ -1,4 +1,3 @@
-use Rattle.script_front.proofs.Words.{◌≢◌, Some, map, slice_get, string_bytes, ℕ}
 use Rattle.script_front.proofs.Naming.{added}
 use Rattle.script_front.proofs.names.Names.add.Goals as goal
 

@@ -1,5 +1,5 @@
 use Rattle.stream_check.proofs.Words.{[], ◌++◌, ◌∙◌, ◌∷◌, Bool, HearsFrame, IsFramed}
-use Rattle.stream_check.proofs.Words.{List, Unknown, false, fib_count, first_in, map, not, refl, subst, sym, ℕ}
+use Rattle.stream_check.proofs.Words.{List, false, fib_count, first_in, map, not, refl, subst, sym, ℕ}
 use Rattle.stream_check.proofs.Followed.{two_fibs, skipped_where, next_where, cut_where, later_where, follows_skip}
 use Rattle.stream_check.proofs.Followed.{follows_hold, follows_frame, ends_frame, adds_skip, adds_hold, adds_frame}
 use Rattle.stream_check.proofs.Followed.{ends_at, cut_before, cut_after}

@@ -1,5 +1,5 @@
-use Rattle.stream_check.proofs.Words.{◌∙◌, ◌≡◌, Bool, CheckerState, FrameAt, Hears, HearsFrame, List, ap}
-use Rattle.stream_check.proofs.Words.{count_of_frame, false, frame_sent, map, not, subst, sym, with_frame, ℕ}
+use Rattle.stream_check.proofs.Words.{◌∙◌, Bool, CheckerState, FrameAt, Hears, HearsFrame, List, ap}
+use Rattle.stream_check.proofs.Words.{false, frame_sent, map, not, subst, sym, with_frame, ℕ}
 use Rattle.stream_check.proofs.FrameEnd.{frame_done, frame_full}
 use Rattle.stream_check.proofs.checker_state.CheckerState.hear_frame.Goals as goal
 

@@ -1,4 +1,4 @@
-use Rattle.stream_check.proofs.Words.{[], ◌+◌, ◌∙◌, ◌∷◌, ◌≡◌, ◌≤◌, ap, arith, is_empty, length, length-append, sym}
+use Rattle.stream_check.proofs.Words.{[], ◌+◌, ◌∙◌, ◌∷◌, ◌≡◌, ap, arith, is_empty, length, length-append, sym}
 use Rattle.stream_check.proofs.FrameSeen.{seen_after, at_most_one}
 use Rattle.stream_check.proofs.frame.FrameFibs.push.Goals as goal
 
