@@ -279,7 +279,8 @@ notice_open frames frame count since parts next short n =
       stamps = each_in _ _ next (λ x s. stamp_after _ frame x s) n.stamps;
       only = only_after frames frame next n.only;
       greedy =
-          rw (drop-append-le since frames (frame ∷ []) n.part) (rw (take-append-le since frames (frame ∷ []) n.part) stays);
+          rw (drop-append-le since frames (frame ∷ []) n.part)
+          (rw (take-append-le since frames (frame ∷ []) n.part) stays);
       idle = λ e. absurd (false≢true (sym e));
     }
 
