@@ -3,7 +3,13 @@
 The bridge is tested, not proved. It has no rule of plans in it: what goes on air is what `dabplan live` and `dabplan merge`
 write. It needs Python 3.9 or later and its standard library.
 
-Modules, from the bytes up: `fibs`, `layout`, `frames`, `eti`, `pft`, `edi`, `reader` (what streams are made of); `addresses`,
-`waiting`, `sources`, `sinks`, `fifos` (where they come from and go to); `chain`, `plan`, `resume`, `placing`, `log`, `compact`
-(what a plan needs); `run`, `convert`, `command` (the commands).
+Modules, from the bytes up:
+
+- what streams are made of: `fibs`, `layout`, `frames`, `eti`, `reed_solomon`, `pft`, `fragmenter`, `edi`, `reader`;
+- where they come from and go to: `addresses`, `waiting`, `sources`, `sinks`, `fifos`;
+- the plan: `code_file`, `plan`, `chain`, `program`, `priority`, `player`, `holding`;
+- which of its frames belongs to which of the stream: `moments`, `utc`, `placing`, `agreeing`, `follower`;
+- its log: `past`, `lock`, `sync`, `compact`, `log`;
+- all of them together: `state`, `statefile`, `fit`, `beginning`, `air`, `bridge`;
+- the commands: `run`, `convert`, `command`.
 """

@@ -2,14 +2,17 @@
 other FIGs."""
 from __future__ import annotations
 
+import io
 import os
+import re
 import select
 import subprocess
 import threading
 import time
-from typing import Iterable, Iterator, List, Optional
+from dataclasses import dataclass
+from typing import IO, Iterable, Iterator, List, Optional
 
-from .faults import Trouble, say, why
+from .faults import Trouble, say, say_as_it_is, why
 from .fibs import EMPTY_FIB, FIB, size_of
 
 MOST_FRAMES = 3_600_000
@@ -18,6 +21,8 @@ BULK = 250
 """How many frames are made at once where none of them is sent: their FIBs fit into the buffer of a pipe."""
 END_SECONDS = 5.0
 """The seconds after which a child that does not end is killed."""
+STATUS = re.compile(rb"frame (\d+) ")
+"""How a message of `dabplan live --status` begins."""
 
 
 def frame_lines(frames: int) -> Iterator[bytes]:
@@ -52,10 +57,11 @@ class Progress:
 class Child:
     """A child with pipes."""
 
-    def __init__(self, words: List[str], stdin: int, pass_fds: Iterable[int] = ()) -> None:
+    def __init__(self, words: List[str], stdin: int, pass_fds: Iterable[int] = (), stderr: Optional[int] = None) -> None:
         self.name = f"'dabplan {words[1]}'"
         try:
-            self.process = subprocess.Popen(words, stdin=stdin, stdout=subprocess.PIPE, bufsize=0, pass_fds=tuple(pass_fds))
+            self.process = subprocess.Popen(words, stdin=stdin, stdout=subprocess.PIPE, stderr=stderr, bufsize=0,
+                                            pass_fds=tuple(pass_fds))
         except (OSError, ValueError) as fault:
             raise Trouble(f"cannot run {words[0]}: {why(fault) if isinstance(fault, OSError) else fault}") from None
 
@@ -89,12 +95,49 @@ def taken(descriptor: int, size: int) -> bytes:
     return found
 
 
-class Live:
-    """`dabplan live` alone: the frames of a plan."""
+@dataclass(frozen=True)
+class Code:
+    """A code file for `dabplan live`: one at a path, or one in memory."""
 
-    def __init__(self, program: str, code: str, options: List[str]) -> None:
-        self.child = Child([program, "live", code, *options], subprocess.PIPE)
+    path: str
+    file: Optional[int] = None
+    """The descriptor of the one in memory, which its path names."""
+
+    @property
+    def files(self) -> List[int]:
+        """The descriptors that a child needs."""
+        return [] if self.file is None else [self.file]
+
+
+class StatusLines:
+    """The messages of `dabplan live --status`, but for those about frames before one: they were written when these went out."""
+
+    def __init__(self, pipe: IO[bytes], first: int) -> None:
+        self._pipe = pipe
+        self._first = first
+        self._thread = threading.Thread(target=self._run, daemon=True)
+        self._thread.start()
+
+    def end(self) -> None:
+        """Waits until all are written."""
+        self._thread.join(END_SECONDS)
+
+    def _run(self) -> None:
+        for line in io.BufferedReader(self._pipe):  # type: ignore[arg-type]
+            found = STATUS.match(line)
+            if found is None or int(found[1]) >= self._first:
+                say_as_it_is(line)
+
+
+class Live:
+    """`dabplan live` alone: the frames of a plan. Where `told_from` is given, what happens from that frame on is reported."""
+
+    def __init__(self, program: str, code: Code, options: List[str], told_from: Optional[int] = None) -> None:
+        status, stderr = ([], None) if told_from is None else (["--status"], subprocess.PIPE)
+        self.child = Child([program, "live", code.path, *options, *status], subprocess.PIPE, code.files, stderr)
         self.process = self.child.process
+        messages = self.process.stderr
+        self._status = StatusLines(messages, told_from) if messages is not None and told_from is not None else None
         assert self.process.stdin is not None and self.process.stdout is not None
         self._input = self.process.stdin
         self.output = self.process.stdout
@@ -112,15 +155,18 @@ class Live:
     def end(self) -> int:
         """Ends its input, and waits for it; returns its exit status."""
         self._input.close()
-        return self.child.end()
+        status = self.child.end()
+        if self._status is not None:
+            self._status.end()
+        return status
 
 
 class Chain:
     """`dabplan live`, and behind it `dabplan merge`."""
 
-    def __init__(self, program: str, code: str, mode: int, options: List[str]) -> None:
+    def __init__(self, program: str, code: Code, mode: int, options: List[str], told_from: Optional[int] = None) -> None:
         self.size = size_of(mode)
-        self._live = Live(program, code, options)
+        self._live = Live(program, code, options, told_from)
         reader, writer = os.pipe()
         try:
             words = [program, "merge", "-", f"/dev/fd/{reader}", "--mode", str(mode)]
@@ -133,6 +179,7 @@ class Chain:
             os.close(reader)
         self._live.output.close()
         self._other: Optional[int] = writer
+        self._empty = EMPTY_FIB * (self.size // FIB)
 
     def feed(self, lines: Iterable[bytes]) -> None:
         """Gives lines to the plan; `Trouble` if a child has ended."""
@@ -147,20 +194,41 @@ class Chain:
         self.feed([*lines, b"frames 1"])
         return self._taken(self.size)
 
-    def pass_over(self, frames: int) -> Iterator[bytes]:
-        """The FICs of the plan's next frames, which are not sent: no other FIGs are in them."""
-        empty = EMPTY_FIB * (self.size // FIB)
+    def pass_over(self, frames: int, lines: Iterable[bytes] = ()) -> Iterator[bytes]:
+        """The FICs of the plan's next frames, after these lines, which are not sent: no other FIGs are in them."""
+        self.feed(lines)
         while frames:
             now = min(BULK, frames)
-            self._put(empty * now)
+            self._put(self._empty * now)
             self.feed([b"frames %d" % now])
             yield from self._frames(now)
             frames -= now
 
-    def taken_up(self, frames: int) -> Iterator[bytes]:
-        """The FICs of frames that the plan makes by the lines that it has got; at most `BULK`."""
-        self._put(EMPTY_FIB * (self.size // FIB) * frames)
-        yield from self._frames(frames)
+    def take_up(self, lines: Iterable[bytes], frames: int) -> Iterator[bytes]:
+        """The FICs of the last frames that the plan makes by these lines; those before are skipped by an option of `dabplan live`."""
+        ends_early: List[Trouble] = []
+        feeder = threading.Thread(target=self._fed, args=(lines, ends_early), daemon=True)
+        feeder.start()
+        while frames:
+            now = min(BULK, frames)
+            self._put(self._empty * now)
+            yield from self._frames(now)
+            frames -= now
+        feeder.join()
+        if ends_early:
+            raise ends_early[0]
+
+    @property
+    def processes(self) -> List[int]:
+        """The process ids of the children."""
+        return [self._live.process.pid, self._merge.process.pid]
+
+    def _fed(self, lines: Iterable[bytes], ends_early: List[Trouble]) -> None:
+        """Gives lines to the plan, in a thread of its own."""
+        try:
+            self.feed(lines)
+        except Trouble as fault:
+            ends_early.append(fault)
 
     def _put(self, fics: bytes) -> None:
         """Gives other FIGs to `merge`."""

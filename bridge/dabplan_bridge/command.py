@@ -11,11 +11,14 @@ import types
 from typing import Callable, List, Optional, Type
 
 from . import convert
-from .addresses import Address, address_of
+from .addresses import Address, of_sink, of_source
+from .beginning import Wish
 from .compact import compact
 from .faults import PROGRAM, BadCommand, Stopped, Trouble, hold_signals, say
 from .fibs import COUNTS
+from .reader import FORMATS
 from .run import Options, run
+from .sources import is_regular
 
 FOLDER = pathlib.Path(__file__).resolve().parents[1]
 """The folder of the bridge."""
@@ -24,19 +27,20 @@ Puts the FIBs of a plan into the ETI(NI) or EDI stream of a multiplexer, frame b
 
 Streams are files, FIFOs, '-' (standard input or output), tcp://HOST:PORT and udp://HOST:PORT. Results go to standard output,
 messages to standard error. The program is tested, not proved."""
+FORMAT_HELP = "the format; found by the first bytes where it is not given"
 STATUSES = """\
 exit status:
   0  the stream came to its end, or SIGTERM ended the program
-  1  a file, a child or the output failed; or a frame could not be filled
+  1  a file, a child or the last output failed; or a frame could not be filled; or the log does not have all
   2  the command line is invalid; nothing was touched
-  4  a count that it will not guess about
+  4  with --strict: a count that is not explained; without it: the log of another plan
   5  the plan does not fit the multiplexer"""
 
 
 def whole(low: int, high: int, what: str) -> Callable[[str], int]:
     """What reads a whole number in a range from the command line."""
     def read(text: str) -> int:
-        if not re.fullmatch(r"[0-9]{1,10}", text) or not low <= int(text) <= high:
+        if not re.fullmatch(r"[0-9]{1,19}", text) or not low <= int(text) <= high:
             raise argparse.ArgumentTypeError(f"expected {what}, {low} to {high}: {text}")
         return int(text)
     return read
@@ -52,16 +56,24 @@ def decimal(low: float, high: float, what: str) -> Callable[[str], float]:
 
 
 def time_of_day(text: str) -> str:
-    """A time of day from the command line."""
-    if not re.fullmatch(r"([01][0-9]|2[0-3]):[0-5][0-9]:[0-5][0-9]", text):
-        raise argparse.ArgumentTypeError(f"expected a time of day, 00:00:00 to 23:59:59: {text}")
+    """A time of day from the command line, or `now`."""
+    if not re.fullmatch(r"now|([01][0-9]|2[0-3]):[0-5][0-9]:[0-5][0-9]", text):
+        raise argparse.ArgumentTypeError(f"expected a time of day, 00:00:00 to 23:59:59, or now: {text}")
     return text
 
 
-def address(text: str) -> Address:
-    """An address from the command line."""
+def input_of(text: str) -> Address:
+    """The address of an input from the command line."""
     try:
-        return address_of(text)
+        return of_source(text)
+    except ValueError as fault:
+        raise argparse.ArgumentTypeError(str(fault)) from None
+
+
+def output_of(text: str) -> Address:
+    """The address of an output from the command line."""
+    try:
+        return of_sink(text)
     except ValueError as fault:
         raise argparse.ArgumentTypeError(str(fault)) from None
 
@@ -106,37 +118,52 @@ def options_of(words: argparse.Namespace) -> Options:
     for name in ("resume_at", "anew", "every"):
         if getattr(words, name) not in (None, False) and words.log is None:
             raise BadCommand(f"--{name.replace('_', '-')} is an option of --log")
-    return Options(
-        code=words.code, source=words.source, sink=words.sink, program=program_of(words.dabplan), format=words.format,
-        contacts=words.contacts, time=words.time, clock_is_fig=words.clock is not None, offset=words.offset or 0.0,
-        skip=words.skip, log=words.log, every=words.every or 250, resume_at=words.resume_at, anew=words.anew,
-        tolerance=words.tolerance, monitor=words.monitor, status=words.status)
+    if words.zone is not None and words.time != "now":
+        raise BadCommand("--zone is an option of --time now")
+    wish = Wish(program=program_of(words.dabplan), time=words.time, is_local=words.zone == "local", clock_is_fig=words.clock is not None,
+                offset=words.offset or 0.0, skip=words.skip, resume_at=words.resume_at, tolerance=words.tolerance,
+                is_strict=words.strict, is_told=words.status, has_clock=not is_regular(words.source))
+    return Options(code=words.code, source=words.source, sinks=words.sinks, wish=wish, format=words.format, contacts=words.contacts,
+                   log=words.log, every=words.every or 250, anew=words.anew, monitor=words.monitor, state=words.state)
+
+
+def add_times(one: argparse.ArgumentParser) -> None:
+    """The options of `run` that say where in the plan, and at which time of day, it begins."""
+    one.add_argument("--time", metavar="HH:MM:SS", type=time_of_day,
+                     help="the time of the plan's first frame, those skipped included; now: the clock when its first one on air comes")
+    one.add_argument("--zone", choices=("utc", "local"), help="the zone of --time now [default: utc]")
+    one.add_argument("--clock", choices=("fig",), help="take that time from FIG 0/10 of the stream, which is in UTC")
+    one.add_argument("--offset", metavar="H", type=decimal(-24, 24, "hours"), help="the hours to be added to FIG 0/10")
+    one.add_argument("--skip", metavar="N", type=whole(0, 2 ** 63 - 1, "a number of frames"), default=0,
+                     help="begin with the frame N of the plan")
+
+
+def add_log(one: argparse.ArgumentParser) -> None:
+    """The options of `run` about its log."""
+    one.add_argument("--log", metavar="FILE", help="keep what is given to the plan; a plan with a log is resumed")
+    one.add_argument("--every", metavar="N", type=whole(1, 3_600_000, "a number of frames"),
+                     help="a line in the log each N frames [default: 250]")
+    one.add_argument("--resume-at", metavar="COUNT", type=whole(0, COUNTS - 1, "a CIF count"),
+                     help="play the log to its end and the time since then, and go on in the first frame of this count")
+    one.add_argument("--anew", action="store_true", help="begin the plan anew; the log is renamed")
 
 
 def add_run(commands: "argparse._SubParsersAction[argparse.ArgumentParser]") -> None:
     """The command `run` and its options."""
     one = commands.add_parser("run", help="plays a plan into a stream")
     one.add_argument("code", metavar="CODE", help="the code file of the plan")
-    one.add_argument("--in", metavar="IN", dest="source", type=address, required=True, help="the stream of the multiplexer")
-    one.add_argument("--out", metavar="OUT", dest="sink", type=address, required=True,
-                     help="the stream for the modulator; tcp://:PORT is a server, on the loopback address if no other is named")
-    one.add_argument("--format", choices=("eti", "edi"), help="the format; found by the first bytes where it is not given")
+    one.add_argument("--in", metavar="IN", dest="source", type=input_of, required=True, help="the stream of the multiplexer")
+    one.add_argument("--out", metavar="OUT", dest="sinks", type=output_of, required=True, action="append",
+                     help="the stream for the modulator, once or more; tcp://:PORT is a server, on the loopback address unless named")
+    one.add_argument("--format", choices=FORMATS, help=FORMAT_HELP)
     one.add_argument("--contacts", metavar="FIFO", help="lines 'contact 3 closed' and 'contact 3 open'; made if absent")
-    one.add_argument("--time", metavar="HH:MM:SS", type=time_of_day,
-                     help="the time of the plan's first frame, those skipped included")
-    one.add_argument("--clock", choices=("fig",), help="take that time from FIG 0/10 of the stream, which is in UTC")
-    one.add_argument("--offset", metavar="H", type=decimal(-24, 24, "hours"), help="the hours to be added to FIG 0/10")
-    one.add_argument("--skip", metavar="N", type=whole(0, 2 ** 32 - 1, "a number of frames"), default=0,
-                     help="begin with the frame N of the plan")
-    one.add_argument("--log", metavar="FILE", help="keep what is given to the plan; a plan with a log is resumed")
-    one.add_argument("--every", metavar="N", type=whole(1, 3_600_000, "a number of frames"),
-                     help="a line in the log each N frames [default: 250]")
-    one.add_argument("--resume-at", metavar="COUNT", type=whole(0, COUNTS - 1, "a CIF count"),
-                     help="play the log to its end, and go on in the first frame of this count")
-    one.add_argument("--anew", action="store_true", help="begin the plan anew; the log is renamed")
-    one.add_argument("--tolerance", metavar="S", type=decimal(0, 59, "seconds"), default=2.0,
-                     help="the seconds by which count and clock may differ [default: 2]")
+    add_times(one)
+    add_log(one)
+    one.add_argument("--tolerance", metavar="S", type=decimal(0, 59, "seconds"), default=3.0,
+                     help="the seconds by which count and clock may differ [default: 3]")
+    one.add_argument("--strict", action="store_true", help="end with status 4 where a count is not explained; nothing is held")
     one.add_argument("--monitor", metavar="FIFO", help="the FIBs of what goes out, for a monitor; made if absent")
+    one.add_argument("--state", metavar="FILE", help="what the bridge does, as a textfile for Prometheus")
     one.add_argument("--status", action="store_true", help="report each notice and each swap")
     one.add_argument("--dabplan", metavar="PROGRAM", help="the program dabplan")
     one.set_defaults(does=lambda words: run(options_of(words)))
@@ -154,13 +181,13 @@ def parser() -> argparse.ArgumentParser:
                                   formatter_class=argparse.RawDescriptionHelpFormatter)
     commands = top.add_subparsers(required=True, metavar="COMMAND", dest="command")
     one = commands.add_parser("fic", help="writes the FIBs of each frame of a stream")
-    one.add_argument("source", metavar="IN", type=address, help="the stream")
-    one.add_argument("--format", choices=("eti", "edi"), help="the format; found by the first bytes where it is not given")
+    one.add_argument("source", metavar="IN", type=input_of, help="the stream")
+    one.add_argument("--format", choices=FORMATS, help=FORMAT_HELP)
     one.set_defaults(does=lambda words: convert.fic(words.source, words.format))
     one = commands.add_parser("insert", help="writes a stream with the FIC of a file")
-    one.add_argument("source", metavar="IN", type=address, help="the stream")
+    one.add_argument("source", metavar="IN", type=input_of, help="the stream")
     one.add_argument("fic", metavar="FIC", help="the FIBs")
-    one.add_argument("--format", choices=("eti", "edi"), help="the format; found by the first bytes where it is not given")
+    one.add_argument("--format", choices=FORMATS, help=FORMAT_HELP)
     one.set_defaults(does=lambda words: convert.insert(words.source, words.fic, words.format))
     add_run(commands)
     one = commands.add_parser("compact", help="rewrites a log with one line for what is past")
@@ -209,3 +236,5 @@ def main(arguments: Optional[List[str]] = None) -> int:
     except MemoryError:
         say("no memory")
         return 1
+    finally:
+        hold_signals()

@@ -5,10 +5,9 @@ import os
 from typing import Callable, List, Optional
 
 from .addresses import Address, place_of, refuse_same
-from .faults import Repeats, Trouble, say, why
 from .frames import Frame, Item, NoFrame
 from .reader import Reader
-from .resume import number_of
+from .faults import Repeats, Trouble, number_of, say, why
 from .sinks import FileSink
 from .sources import source_of
 from .waiting import Waiter

@@ -6,18 +6,27 @@ and the FIC; `est1` and so on have the streams.
 """
 from __future__ import annotations
 
+import heapq
 from typing import Iterator, List, Optional, Tuple
 
 from .fibs import size_of
 from .frames import MODES, Frame, Item, NoFrame, wrong_by
-from .pft import Fragments, PfHeader, header_of
+from .pft import Fragments, PfHeader, header_of, header_size
 
 AF_HEADER = 10
 """The bytes before the payload of an AF packet."""
 AF_REST = AF_HEADER + 2
 """The bytes of an AF packet besides its payload."""
+MOST_HEADER = 20
+"""The bytes of the longest header of a packet or a fragment."""
 MOST_PAYLOAD = 12_288
 """The most bytes of a payload that is taken for one: a frame of EDI has at most 8 kB."""
+SINCE_1970 = 946_684_800
+"""The seconds from 1970-01-01 to 2000-01-01."""
+TSTA_SECOND = 16_384_000
+"""The parts of a second in TSTA."""
+NO_TSTA = 0xFFFFFF
+"""TSTA without a time."""
 NO_SYNC = "no synchronisation"
 """Why bytes without an AF packet are no frame."""
 
@@ -66,7 +75,54 @@ def frame_of(data: bytes) -> Item:
         return NoFrame("no CIF count", len(data))
     at = len(data) - 2
     wrong = wrong_by(data, 0, at) if data[8] & 0x80 else int.from_bytes(data[at:], "big")
-    return Frame(data, start, size, mode, low, count, b"".join(streams), 0, at, wrong)
+    stamp = stamp_of(data[value + 6:value + 14]) if flags & 0x80 else None
+    return Frame(data, start, size, mode, low, count, b"".join(streams), 0, at, wrong, stamp)
+
+
+def stamp_of(data: bytes) -> Optional[float]:
+    """The time stamp of 8 bytes, in seconds since 1970: UTCO 1, SECONDS 4 since 2000, TSTA 3 in units of 1/16,384,000 s (TS 102 693,
+    5.1.1). None where there is none: SECONDS is 0, or all bits of TSTA are 1."""
+    seconds, parts = int.from_bytes(data[1:5], "big"), int.from_bytes(data[5:8], "big")
+    if not seconds or parts == NO_TSTA:
+        return None
+    return SINCE_1970 + seconds - data[0] + parts / TSTA_SECOND
+
+
+class Starts:
+    """Where packets begin in bytes that are in doubt. Each place is looked at once, and the CRC of each packet is computed once."""
+
+    def __init__(self) -> None:
+        self._scanned = 0
+        self._ends: List[Tuple[int, int]] = []
+        self._good: List[int] = []
+
+    def first(self, data: bytearray, base: int, after: int, own: int) -> Optional[int]:
+        """The first offset behind `after` at which a whole, undamaged packet, or a fragment with an undamaged header, begins; None if
+        there is none. Offsets are those of the stream; `data` has its bytes from `base` on. No such thing is seen at `own`."""
+        self._scanned = max(self._scanned, after + 1)
+        for name in (b"AF", b"PF"):
+            self._find(data, base, name)
+        self._scanned = max(self._scanned, base + len(data) - MOST_HEADER + 1)
+        while self._ends and self._ends[0][0] <= base + len(data):
+            end, start = heapq.heappop(self._ends)
+            if start > after and start != own and not wrong_by(bytes(data[start - base:end - base]), 0, end - start - 2):
+                heapq.heappush(self._good, start)
+        while self._good and (self._good[0] <= after or self._good[0] == own):
+            heapq.heappop(self._good)
+        return self._good[0] if self._good else None
+
+    def _find(self, data: bytearray, base: int, name: bytes) -> None:
+        """Looks at the places at which a name begins."""
+        last = len(data) - MOST_HEADER + 2
+        start = data.find(name, self._scanned - base, last)
+        while start >= 0:
+            head = bytes(data[start:start + MOST_HEADER])
+            length = packet_length(head)
+            if length is not None:
+                heapq.heappush(self._ends, (base + start + length, base + start))
+            elif header_of(head) is not None:
+                heapq.heappush(self._good, base + start)
+            start = data.find(name, start + 1, last)
 
 
 class EdiCutter:
@@ -75,12 +131,14 @@ class EdiCutter:
 
     def __init__(self) -> None:
         self._bytes = bytearray()
+        self._base = 0
+        self._starts = Starts()
         self._fragments = Fragments()
         self._lost = 0
 
     def begin(self) -> None:
         """The bytes that follow are not those behind the ones before."""
-        self._bytes.clear()
+        self._forget()
         self._fragments = Fragments()
 
     def feed(self, data: bytes) -> List[Item]:
@@ -94,6 +152,16 @@ class EdiCutter:
                 break
             at += taken
         del self._bytes[:at]
+        self._base += at
+        return found
+
+    def datagram(self, data: bytes) -> List[Item]:
+        """The frames of a datagram, which has whole packets or fragments. What is left of it is none."""
+        self._forget()
+        found = self.feed(data)
+        if self._bytes:
+            self._lose(len(self._bytes), found)
+            self._forget()
         return found
 
     def end(self) -> int:
@@ -104,19 +172,23 @@ class EdiCutter:
         """The frames of fragments that still waited at the end of the stream."""
         return [item if isinstance(item, NoFrame) else packet_of(item) for item in self._fragments.finish()]
 
+    def _forget(self) -> None:
+        self._bytes.clear()
+        self._base, self._starts = 0, Starts()
+
     def _next(self, at: int, found: List[Item]) -> int:
         """Takes what begins at an offset; returns how many bytes, 0 if it is not whole yet."""
         left = len(self._bytes) - at
         if left < AF_REST:
             return 0
-        head = bytes(self._bytes[at:at + PfHeader.MOST])
-        if head[:2] == b"PF" and left < PfHeader.MOST:
-            return 0
-        length, fragment = packet_length(head), header_of(head)
-        if fragment is not None:
-            return self._fragment(at, fragment, found) if left >= fragment.length else 0
+        head = bytes(self._bytes[at:at + MOST_HEADER])
+        length = packet_length(head)
         if length is None:
-            return self._lose(self._gap(at), found)
+            size = header_size(head) if head[:2] == b"PF" else None
+            if size is not None and left < size:
+                return 0
+            fragment = header_of(head)
+            return self._lose(self._gap(at), found) if fragment is None else self._fragment(at, left, fragment, found)
         if left < length:
             # A packet that was cut short lets the next one begin within it.
             return self._lose(self._begun(at, left), found)
@@ -130,43 +202,37 @@ class EdiCutter:
         found.append(item)
         return length
 
-    def _fragment(self, at: int, fragment: PfHeader, found: List[Item]) -> int:
-        """Takes a fragment of PFT."""
+    def _fragment(self, at: int, left: int, fragment: PfHeader, found: List[Item]) -> int:
+        """Takes a fragment of PFT; one in which another packet begins is none."""
+        is_packet = fragment.count == 1 and not fragment.rs_k
+        inner = self._begun(at, min(left, fragment.length), fragment.size if is_packet and self._fills(at, fragment) else 0)
+        if inner or left < fragment.length:
+            return self._lose(inner, found)
         self._settle(found)
         payload = bytes(self._bytes[at + fragment.size:at + fragment.length])
         for item in self._fragments.take(fragment, payload):
             found.append(item if isinstance(item, NoFrame) else packet_of(item))
         return fragment.length
 
-    def _begun(self, at: int, length: int) -> int:
+    def _fills(self, at: int, fragment: PfHeader) -> bool:
+        """Whether the payload of a fragment is one packet, by its header."""
+        first = at + fragment.size
+        return packet_length(bytes(self._bytes[first:first + AF_HEADER])) == fragment.payload
+
+    def _begun(self, at: int, length: int, own: int = 0) -> int:
         """The bytes before a whole, undamaged packet, or a fragment with an undamaged header, that begins within so many bytes
-        behind an offset; 0 if there is none."""
-        starts = [start for name in (b"AF", b"PF") for start in self._starts(name, at + 1, at + length) if self._is_undamaged(start)]
-        return min(starts, default=at) - at
-
-    def _starts(self, name: bytes, first: int, last: int) -> Iterator[int]:
-        """The offsets from `first` to `last` at which a name begins."""
-        start = self._bytes.find(name, first, last)
-        while start >= 0:
-            yield start
-            start = self._bytes.find(name, start + 1, last)
-
-    def _is_undamaged(self, start: int) -> bool:
-        """Whether a whole, undamaged packet, or a fragment with an undamaged header, begins at an offset."""
-        head = bytes(self._bytes[start:start + PfHeader.MOST])
-        size = packet_length(head)
-        if size is None:
-            return header_of(head) is not None
-        return start + size <= len(self._bytes) and not wrong_by(bytes(self._bytes[start:start + size]), 0, size - 2)
+        behind an offset; 0 if there is none. One that begins `own` bytes behind it is not meant."""
+        here = self._base + at
+        start = self._starts.first(self._bytes, self._base, here, here + own)
+        return start - here if start is not None and start < here + length else 0
 
     def _gap(self, at: int) -> int:
         """How many bytes from an offset on are no packet, as far as the bytes go."""
-        last = len(self._bytes) - PfHeader.MOST
+        last = len(self._bytes) - MOST_HEADER
         starts = []
         for name in (b"AF", b"PF"):
             start = self._bytes.find(name, at + 1)
-            while 0 <= start <= last and packet_length(bytes(self._bytes[start:start + AF_HEADER])) is None \
-                    and header_of(bytes(self._bytes[start:start + PfHeader.MOST])) is None:
+            while 0 <= start <= last and not is_start(bytes(self._bytes[start:start + MOST_HEADER])):
                 start = self._bytes.find(name, start + 1)
             if start >= 0:
                 starts.append(start)
@@ -185,6 +251,11 @@ class EdiCutter:
         if self._lost:
             found.append(NoFrame(NO_SYNC, self._lost))
             self._lost = 0
+
+
+def is_start(head: bytes) -> bool:
+    """Whether a packet or a fragment begins with these bytes, by its header."""
+    return packet_length(head) is not None or header_of(head) is not None
 
 
 def packet_of(data: bytes) -> Item:

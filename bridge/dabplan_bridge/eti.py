@@ -83,6 +83,10 @@ class EtiCutter:
         del self._bytes[:at]
         return found
 
+    def datagram(self, data: bytes) -> List[Item]:
+        """The frames that are whole with the bytes of a datagram: one may have less than a frame."""
+        return self.feed(data)
+
     def end(self) -> int:
         """How many bytes are left at the end of the stream."""
         return len(self._bytes)
@@ -133,4 +137,3 @@ def unsettled(data: bytes) -> int:
 def looks_like(data: bytes) -> bool:
     """Whether these bytes begin with a frame, as far as they go."""
     return len(data) >= 4 and data[1:4] in FSYNCS
-

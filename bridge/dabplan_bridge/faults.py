@@ -4,6 +4,7 @@ Each exception has the exit status with which the bridge ends. Messages go to st
 """
 from __future__ import annotations
 
+import os
 import signal
 import sys
 from typing import Dict, List, Tuple
@@ -51,6 +52,14 @@ def say(text: object) -> None:
         pass
 
 
+def say_as_it_is(line: bytes) -> None:
+    """Writes a line of a child; one that can't be written is lost."""
+    try:
+        os.write(2, line)
+    except OSError:
+        pass
+
+
 def hold_signals() -> None:
     """From here on no signal ends the bridge: it is ending."""
     for each in (signal.SIGTERM, signal.SIGINT):
@@ -66,6 +75,11 @@ def shown(data: bytes, most: int = 60) -> str:
 def why(fault: OSError) -> str:
     """The reason of a failed call, as `No such file or directory`."""
     return fault.strerror or type(fault).__name__
+
+
+def number_of(frames: int) -> str:
+    """A number of frames, as text."""
+    return f"{frames} frame{'' if frames == 1 else 's'}"
 
 
 def listed(texts: List[str], most: int = 8) -> str:

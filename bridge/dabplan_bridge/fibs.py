@@ -16,6 +16,8 @@ FRAME_SECONDS = 0.024
 """The seconds of a frame."""
 DAY_FRAMES = 3_600_000
 """The frames of a day."""
+DAY_SECONDS = 86_400
+"""The seconds of a day."""
 FIB = 32
 """The bytes of a FIB."""
 
@@ -83,15 +85,29 @@ def ensemble_of(fic: bytes) -> Optional[Ensemble]:
     return None
 
 
-def day_frame_of(fic: bytes) -> Optional[float]:
-    """The frames since midnight, UTC, of the first FIG 0/10 in its long form (EN 300 401, 8.1.3.1); None if there is none."""
+EPOCH_MJD = 40_587
+"""The Modified Julian Date of 1970-01-01."""
+LONG_DATE = b"\x07\x0a"
+"""How a FIG 0/10 in its long form begins: type 0, 7 bytes, extension 10."""
+
+
+def utc_of(fic: bytes) -> Optional[float]:
+    """The seconds since 1970, UTC, of the first FIG 0/10 in its long form (EN 300 401, 8.1.3.1); None if there is none."""
+    if LONG_DATE not in fic:
+        return None
     for body in figs_of(fic):
         if body[0] & 0x1F == 10 and len(body) >= 7 and body[3] & 0x08:
             bits = int.from_bytes(body[1:7], "big")
             hours, minutes, seconds, milliseconds = bits >> 22 & 0x1F, bits >> 16 & 0x3F, bits >> 10 & 0x3F, bits & 0x3FF
             if hours < 24 and minutes < 60 and seconds < 61 and milliseconds < 1000:
-                return ((hours * 60 + minutes) * 60 + seconds + milliseconds / 1000) / FRAME_SECONDS
+                days = (bits >> 30 & 0x1FFFF) - EPOCH_MJD
+                return ((days * 24 + hours) * 60 + minutes) * 60 + seconds + milliseconds / 1000
     return None
+
+
+def day_frame_of(seconds: float) -> float:
+    """The frames since midnight of a time in seconds since 1970."""
+    return seconds % DAY_SECONDS / FRAME_SECONDS
 
 
 def entries(body: bytes) -> Iterator[Tuple[int, SubChannel]]:
@@ -132,6 +148,10 @@ class Listener:
             for body in self._bodies(fic[at:at + FIB]):
                 self._take(body)
         return swapped
+
+    def swap_in(self, count: int) -> Optional[int]:
+        """The frames until the swap that is announced, from the frame of this count on; None without one."""
+        return (self._low - count) % 250 if self._change else None
 
     def coming(self, count: int) -> Dict[int, SubChannel]:
         """The sub-channels in the next frame, which has this count: a swap may fall into it."""

@@ -10,13 +10,16 @@ from collections import deque
 from typing import Deque, List, Optional, Tuple
 
 from .faults import BadCommand, Trouble, say, shown, why
+from .past import HIGHEST
 
 CONTACTS = re.compile(rb"(contact \d{1,2} (closed|open)( |$))*")
 """A line of contacts, with one blank between its words and no comment."""
-HIGHEST = 15
-"""The highest contact."""
 LONGEST = 1000
 """The most bytes of a line of contacts."""
+MOST_LINES = 16
+"""The most lines that are taken for a frame."""
+PIECE = 4096
+"""The most bytes that are read for a frame."""
 LOOK_SECONDS = 0.5
 """How often it is looked whether a FIFO is still there."""
 BACKLOG = 2500
@@ -119,7 +122,8 @@ class Fifo:
 
 
 class Contacts:
-    """The lines of a FIFO, `contact 3 closed` or `contact 3 open`, without waiting for them."""
+    """The lines of a FIFO, `contact 3 closed` or `contact 3 open`, without waiting for them; at most 16 for a frame, whatever is
+    written to it."""
 
     def __init__(self, path: Optional[str]) -> None:
         # Open for writing too: so it does not end where a writer does.
@@ -128,38 +132,52 @@ class Contacts:
         self._number = 0
 
     def lines(self) -> List[bytes]:
-        """The lines of contacts that came since the last call, without their line feeds. Others are reported."""
+        """The lines of contacts that came since the last call, without their line feeds. Others are reported, in one message."""
         if self._fifo is None:
             return []
         self._fifo.look()
         if not self._fifo.open():
             return []
-        assert self._fifo.file is not None
-        try:
-            self._rest += os.read(self._fifo.file, 65536)
-        except BlockingIOError:
-            return []
-        *lines, self._rest = self._rest.split(b"\n")
-        if len(self._rest) > LONGEST:
-            # No contact: what comes of it is not kept.
-            self._rest = self._rest[:LONGEST]
-        return [found for found in map(self._steps, lines) if found]
+        if self._rest.count(b"\n") < MOST_LINES:
+            self._read()
+        *lines, rest = self._rest.split(b"\n", MOST_LINES)
+        # Of a line that is too long to be a contact the rest is not kept.
+        self._rest = rest if b"\n" in rest else rest[:LONGEST]
+        others: List[str] = []
+        found = [self._steps(line, others) for line in lines]
+        if others:
+            more = f", and {number_of_lines(len(others) - 1)} more" if len(others) > 1 else ""
+            say(f"contacts: {others[0]}{more}")
+        return [steps for steps in found if steps]
 
     def close(self) -> None:
         """Closes the FIFO."""
         if self._fifo is not None:
             self._fifo.close()
 
-    def _steps(self, line: bytes) -> bytes:
-        """The contacts of a line; none, and a message, where it has something else."""
+    def _read(self) -> None:
+        """Reads what is there, up to some lines."""
+        assert self._fifo is not None and self._fifo.file is not None
+        try:
+            self._rest += os.read(self._fifo.file, PIECE)
+        except BlockingIOError:
+            pass
+
+    def _steps(self, line: bytes, others: List[str]) -> bytes:
+        """The contacts of a line; none where it has something else, which is added to the others."""
         self._number += 1
         words = line.split(b"#")[0].split()
         steps = b" ".join(words)
         is_contact = CONTACTS.fullmatch(steps) and all(int(word) <= HIGHEST for word in words[1::3])
         if len(line) >= LONGEST or not is_contact:
-            say(f"contacts: line {self._number} is no contact: {shown(line)}")
+            others.append(f"line {self._number} is no contact: {shown(line)}")
             return b""
         return b" ".join(b"contact %d %s" % (int(number), state) for number, state in zip(words[1::3], words[2::3]))
+
+
+def number_of_lines(lines: int) -> str:
+    """A number of lines, as text."""
+    return f"{lines} line{'' if lines == 1 else 's'}"
 
 
 class Monitor:

@@ -2,13 +2,12 @@
 from __future__ import annotations
 
 from dataclasses import dataclass
-from typing import Optional, Union
+from typing import NamedTuple, Optional, Union
 
 from .fibs import crc
 
 
-@dataclass(frozen=True)
-class Frame:
+class Frame(NamedTuple):
     """A frame of 24 ms in ETI(NI), or a packet of EDI, that has a FIC."""
 
     data: bytes
@@ -31,6 +30,8 @@ class Frame:
     """The offset of the CRC."""
     wrong: int
     """The CRC that is there, exclusive or the right one: 0 if the frame is not damaged."""
+    stamp: Optional[float] = None
+    """Its time stamp, in seconds since 1970; None without one."""
 
     def fic(self) -> bytes:
         """The FIC of the frame."""

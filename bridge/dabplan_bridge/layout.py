@@ -5,6 +5,7 @@ level of six bits and how many words of 64 bits it has a frame. FIG 0/1 says the
 """
 from __future__ import annotations
 
+import re
 from dataclasses import dataclass
 from typing import Dict, List, Optional
 
@@ -30,6 +31,12 @@ class SubChannel:
         name = f"eep {level}-{'AB'[option]}" if option < 2 else f"option {option} level {level}"
         return SubChannel(start, size, name)
 
+    @staticmethod
+    def of_rate(start: int, option: int, level: int, kbits: int) -> SubChannel:
+        """A sub-channel of equal error protection and a rate in kbit/s."""
+        size = kbits * SET_B[level - 1] // 32 if option else kbits * SET_A[level - 1] // 8
+        return SubChannel.equal(start, size, option, level)
+
     def __str__(self) -> str:
         size = f" size {self.size}" if self.size else ""
         return f"at {self.start}{size} {self.protection}"
@@ -50,6 +57,18 @@ def sub_channels(stc: bytes) -> Dict[int, SubChannel]:
     for at in range(0, len(stc), ENTRY):
         bits = int.from_bytes(stc[at:at + ENTRY], "big")
         found[bits >> 26] = from_stc(bits >> 16 & 0x3FF, bits >> 10 & 0x3F, bits & 0x3FF)
+    return found
+
+
+SCRIPT_LINE = re.compile(rb"sub (\d+) at (\d+) eep ([1-4])-([AB]) (\d+)")
+"""How a script names a sub-channel."""
+
+
+def from_script(script: bytes) -> Dict[int, SubChannel]:
+    """The sub-channels of a script that `dabplan listen` prints."""
+    found = {}
+    for sub, start, level, option, kbits in SCRIPT_LINE.findall(script):
+        found[int(sub)] = SubChannel.of_rate(int(start), int(option == b"B"), int(level), int(kbits))
     return found
 
 

@@ -1,196 +1,89 @@
-"""The log of a plan: what it was given, so that it can be resumed.
+"""Writes the log of a plan: what it was given, so that it can be resumed. `past` says what is in it.
 
-A log is an event file of `dabplan play`: contacts as they came and the frames between them. Its first line is a comment that has
-the count and the time of the plan's first frame, and the wall time of the first one that went out; behind the frames a comment has
-the count that comes next, the frames so far, and the wall time of the last one:
-
-    # dabplan-bridge: count 2080 time 21:59:53 code 0123456789abcdef at 2026-01-31T20:59:54.123Z
-    frames 250 # count 2330 frames 250 at 2026-01-31T21:00:00.123Z
-    contact 3 closed
-
-Each line is written at once, by one call. A last line without its line feed was cut short, and is passed over.
+Each line is written at once, by one call. What can't be written is kept, and tried again each ten seconds: the plan goes on. A log that
+has grown is written anew, with one line for frames between which no contact was given.
 """
 from __future__ import annotations
 
-import errno
-import fcntl
 import os
-import re
 import stat
 import time
-from dataclasses import dataclass
-from datetime import datetime, timezone
-from typing import Iterator, List, Optional
+from typing import Iterator, List, Optional, Tuple
 
 from .chain import frame_lines
-from .faults import Trouble, say, shown, why
+from .compact import compacted
+from .faults import Trouble, WillNotGuess, say, why
 from .fibs import COUNTS
+from .lock import locked
+from .past import HEAD_TEXT, Past, past_of, steps_in, text_of
+from .state import Alarm, State
+from .sync import Syncer
 
-HEAD = re.compile(rb"# dabplan-bridge: count (\d{1,4}) (time -|time \d\d:\d\d:\d\d|day \d{1,7}) code ([0-9a-f]{16})(?: at (\S+))?")
-NOTE = re.compile(rb"# count \d{1,4} frames (\d+) at (\d{4}-\d\d-\d\dT\d\d:\d\d:\d\d\.\d{3}Z)")
-STEP = re.compile(rb"contact (\d{1,2}) (closed|open)|frames (\d{1,7})")
-PLAIN = re.compile(rb"(frames \d{1,7})(?: #.*)?")
-"""Nearly every line."""
-LINE = re.compile(rb"\s*(?P<steps>[^#]*?)\s*(?P<comment>#.*)?")
-HEAD_TEXT = "# dabplan-bridge: "
-"""How a log begins."""
-FORM = "%Y-%m-%dT%H:%M:%S.%f"
-
-
-def text_of(wall: float) -> str:
-    """A wall time, in seconds since 1970, as text in UTC with milliseconds."""
-    return datetime.fromtimestamp(wall, timezone.utc).strftime(FORM)[:-3] + "Z"
+AGAIN_SECONDS = 10.0
+"""How often it is tried to write what could not be written."""
+LARGE = 1_000_000
+"""A log of so many bytes is written anew, with less for what is past."""
 
 
-def wall_of(text: bytes) -> float:
-    """The wall time that `text_of` spells; `ValueError` if it is no date."""
-    return datetime.strptime(text.decode("ascii"), FORM + "Z").replace(tzinfo=timezone.utc).timestamp()
+class Unwritten:
+    """The lines that are not in the file yet. Frames that follow frames are one line."""
 
+    def __init__(self) -> None:
+        self._lines: List[Tuple[int, str]] = []
 
-def is_wall(text: bytes) -> bool:
-    """Whether a text is a wall time."""
-    try:
-        wall_of(text)
-    except ValueError:
-        return False
-    return True
+    def add(self, frames: int, text: str) -> None:
+        """Adds a text of whole lines; `frames` is not 0 where it is so many frames with what follows them."""
+        if frames and self._lines and self._lines[-1][0]:
+            frames += self._lines.pop()[0]
+        self._lines.append((frames, text))
 
+    def text(self) -> str:
+        """All of them."""
+        return "".join(self._frames(frames, text) if frames else text for frames, text in self._lines)
 
-@dataclass
-class Past:
-    """What a log says of the run so far."""
+    def clear(self) -> None:
+        """Forgets them: they are written."""
+        self._lines.clear()
 
-    count: int
-    """The count of the plan's first frame."""
-    start: str
-    """The time of the plan's first frame: `time -`, `time HH:MM:SS` or `day N`."""
-    digest: str
-    """What `plan.Plan.digest` was."""
-    frames: int = 0
-    """The frames so far."""
-    wall_text: bytes = b""
-    """When the last of them came, as the log says it; nothing if it does not."""
-    size: int = 0
-    """The bytes of the whole lines."""
+    def __bool__(self) -> bool:
+        return bool(self._lines)
 
-    def due(self) -> int:
-        """The count of the frame behind the last one."""
-        return (self.count + self.frames) % COUNTS
-
-    @property
-    def wall(self) -> Optional[float]:
-        """When the last frame came, in seconds since 1970; None if the log does not tell."""
-        return wall_of(self.wall_text) if self.wall_text else None
-
-
-def steps_of(line: bytes) -> List[bytes]:
-    """The steps of a line: `contact 3 closed`, `frames 250`; `ValueError` if it has something else."""
-    plain = PLAIN.fullmatch(line)
-    if plain:
-        return [plain[1]]
-    found = LINE.fullmatch(line)
-    text = found["steps"] if found else b"?"
-    steps = [match[0] for match in STEP.finditer(text)]
-    if b" ".join(steps) != b" ".join(text.split()):
-        raise ValueError("no line of a log")
-    return steps
-
-
-def note_of(past: Optional[Past], line: bytes) -> Optional[Past]:
-    """What a log says with its next line; `ValueError` if the line can't be there."""
-    head = HEAD.match(line) if line[:1] == b"#" else None
-    if head:
-        fresh = Past(int(head[1]), head[2].decode("ascii"), head[3].decode("ascii"))
-        if past is not None:
-            # The plan was taken up at another count: its first frame then had this one.
-            fresh.frames, fresh.wall_text = past.frames, past.wall_text
-        fresh.wall_text = head[4] or fresh.wall_text
-        past = fresh
-    elif past is None:
-        raise ValueError("no log of this program")
-    past.frames += sum(int(step[7:]) for step in steps_of(line) if step.startswith(b"frames"))
-    note = NOTE.search(line)
-    if note:
-        past.wall_text = note[2]
-        if int(note[1]) != past.frames:
-            raise ValueError(f"{int(note[1])} frames so far, but there are {past.frames}")
-    return past
-
-
-def lines_of(path: str) -> Iterator[bytes]:
-    """The whole lines of a file; `Trouble` if it can't be read."""
-    try:
-        with open(path, "rb") as file:
-            yield from (line for line in file if line.endswith(b"\n"))
-    except OSError as fault:
-        raise Trouble(f"cannot read {path}: {why(fault)}") from None
-
-
-def past_of(path: str) -> Optional[Past]:
-    """What a log says; None if there is none, or nothing is in it. `Trouble` if it is no log."""
-    past: Optional[Past] = None
-    size = 0
-    for number, line in enumerate(lines_of(path), 1):
-        try:
-            past = note_of(past, line.rstrip(b"\n"))
-        except ValueError as fault:
-            raise Trouble(f"{path}: line {number}: {fault}") from None
-        size += len(line)
-    if past is not None:
-        past.size = size
-        if past.wall_text and not is_wall(past.wall_text):
-            raise Trouble(f"{path}: no such time: {shown(past.wall_text)}")
-    return past
-
-
-def steps_in(path: str) -> Iterator[bytes]:
-    """The steps of a log, in order; frames that follow frames are counted together."""
-    frames = 0
-    for line in lines_of(path):
-        for step in steps_of(line.rstrip(b"\n")):
-            if step.startswith(b"frames"):
-                frames += int(step[7:])
-                continue
-            yield from frame_lines(frames)
-            frames = 0
-            yield step
-    yield from frame_lines(frames)
-
-
-def locked(path: str, flags: int) -> int:
-    """Opens a log for one program alone; `Trouble` if another one has it, `OSError` if it can't be opened."""
-    file = os.open(path, flags | os.O_CLOEXEC, 0o644)
-    try:
-        fcntl.flock(file, fcntl.LOCK_EX | fcntl.LOCK_NB)
-    except OSError as fault:
-        if fault.errno in (errno.EWOULDBLOCK, errno.EACCES):
-            os.close(file)
-            raise Trouble(f"{path}: another bridge writes it") from None
-    return file
+    @staticmethod
+    def _frames(frames: int, note: str) -> str:
+        """The lines of frames, with a note behind the last of them."""
+        *most, last = frame_lines(frames)
+        return "".join(line.decode("ascii") + "\n" for line in most) + f"{last.decode('ascii')} {note}"
 
 
 class Log:
     """The log of a run, or none."""
 
-    def __init__(self, path: Optional[str], every: int, is_anew: bool) -> None:
+    def __init__(self, path: Optional[str], every: int, is_anew: bool, state: State) -> None:
         self.path = path
         self.past: Optional[Past] = None
         """What it says of the run so far; None without a log, or where the plan begins."""
         self._every = every
         self._is_anew = is_anew
+        self._state = state
         self._file: Optional[int] = None
-        self._made = False
+        self._sync = Syncer()
+        self._unwritten = Unwritten()
+        self._size = 0
+        """The bytes of the file that are whole lines of this log."""
+        self._large = LARGE
+        self._is_torn = self._is_open = False
+        self._again = 0.0
         self._frames = self._pending = self._count = 0
         self._wall = 0.0
         if path is None:
             return
         try:
             self._file = locked(path, os.O_RDWR)
-            if stat.S_ISREG(os.fstat(self._file).st_mode) and not is_anew:
+            if self._is_regular() and not is_anew:
                 self.past = past_of(path)
                 self._refuse_other(path)
         except FileNotFoundError:
-            self._file = None
+            self._refuse_folder(path)
         except OSError as fault:
             raise Trouble(f"cannot write {path}: {why(fault)}") from None
 
@@ -198,47 +91,48 @@ class Log:
         """The steps so far."""
         return steps_in(self.path) if self.path is not None and self.past is not None else iter(())
 
-    def begin(self, count: int, start: str, digest: str) -> None:
-        """Begins a log: the plan's first frame has this count and this time. If that fails no log is left."""
+    def refuse_other_plan(self, digest: str, code: str) -> None:
+        """Raises `WillNotGuess` for the log of another plan: its lines would lead this one anywhere."""
+        if self.past is not None and self.past.digest != digest:
+            raise WillNotGuess(f"{self.path} is of another plan than {code}: --anew begins this one")
+
+    def start(self, count: int, start: str, digest: str, wall: float) -> None:
+        """How the plan begins, or goes on: the count and the time of its first frame, and when its first one on air came. Nothing is
+        written before `open`."""
+        past = self.past
         if self.path is None:
             return
-        try:
-            if self._file is not None and self._is_anew and stat.S_ISREG(os.fstat(self._file).st_mode):
-                self._put_away()
-            if self._file is None:
-                self._file = locked(self.path, os.O_RDWR | os.O_CREAT)
-                self._made = True
-            if stat.S_ISREG(os.fstat(self._file).st_mode):
-                os.ftruncate(self._file, 0)
-            self._write(f"{HEAD_TEXT}count {count} {start} code {digest} at {text_of(time.time())}\n")
-        except OSError as fault:
-            self._unmake()
-            raise Trouble(f"cannot write {self.path}: {why(fault)}") from None
-        self._count = count
+        self._count, self._is_torn = count, True
+        if past is not None:
+            self._size, self._frames, self._count = past.size, past.frames, (count + past.frames) % COUNTS
+        if past is None or past.count != count:
+            self._unwritten.add(0, f"{HEAD_TEXT}count {count} {start} code {digest} at {text_of(wall)}\n")
 
-    def go_on(self, count: int, start: str, digest: str) -> None:
-        """Goes on with a log. `count` is that of the plan's first frame; where it is another one a line says so."""
-        past = self.past
-        if self._file is None or past is None:
-            return
-        try:
-            # A line that was cut short is passed over, and has to go before another one follows.
-            os.ftruncate(self._file, past.size)
-            os.lseek(self._file, 0, os.SEEK_END)
-            if count != past.count:
-                self._write(f"{HEAD_TEXT}count {count} {start} code {digest} at {text_of(time.time())}\n")
-        except OSError as fault:
-            raise Trouble(f"cannot write {self.path}: {why(fault)}") from None
-        self._frames, self._count = past.frames, (count + past.frames) % COUNTS
+    def open(self) -> None:
+        """The plan is on air: from now on all is written."""
+        self._is_open = self.path is not None
+        self._flush()
 
     def contacts(self, lines: List[bytes]) -> None:
         """Writes lines of contacts, behind the frames before them."""
-        if lines and self._file is not None:
-            self.note()
-            self._try("".join(line.decode("ascii") + "\n" for line in lines))
+        if lines and self.path is not None:
+            self._note()
+            self._unwritten.add(0, "".join(line.decode("ascii") + "\n" for line in lines))
+            self._flush()
+            self.sync()
+
+    def held(self, frame: Optional[int]) -> None:
+        """Writes that the configuration of a frame of the plan is held from here on, or none any more."""
+        if self.path is not None:
+            self._note()
+            self._unwritten.add(0, "# not held\n" if frame is None else f"# held {frame}\n")
+            self._flush()
+            self.sync()
 
     def count(self, frames: int, wall: float) -> None:
         """Counts frames, of which the last one came at this wall time."""
+        if self.path is None:
+            return
         self._pending += frames
         self._frames += frames
         self._count = (self._count + frames) % COUNTS
@@ -247,18 +141,99 @@ class Log:
             self.note()
 
     def note(self) -> None:
-        """Writes the frames since the last line."""
-        if self._pending and self._file is not None:
-            *most, last = frame_lines(self._pending)
-            lines = "".join(line.decode() + "\n" for line in most) + last.decode()
-            self._pending = 0
-            self._try(f"{lines} # count {self._count} frames {self._frames} at {text_of(self._wall)}\n")
+        """Writes the frames since the last line, and what could not be written before."""
+        if self.path is not None:
+            self._note()
+            self._flush()
 
-    def close(self) -> None:
-        """Closes it."""
+    def sync(self) -> None:
+        """Lets what is written get to the disk."""
         if self._file is not None:
-            os.close(self._file)
-            self._file = None
+            self._sync.sync(self._file)
+
+    def close(self) -> bool:
+        """Writes what is left, and closes it; returns whether all is written."""
+        self.note()
+        if self._is_open and self._unwritten:
+            self._try()
+        if self._is_open and self._unwritten:
+            say(f"{self.path} is not whole: what could not be written is lost")
+        self._close()
+        return not (self._is_open and self._unwritten)
+
+    def _note(self) -> None:
+        """Adds the frames since the last line to what is to be written."""
+        if self._pending:
+            self._unwritten.add(self._pending, f"# count {self._count} frames {self._frames} at {text_of(self._wall)}\n")
+            self._pending = 0
+
+    def _flush(self) -> None:
+        """Writes what is to be written; where that failed of late, it is not tried again yet."""
+        if self._is_open and self._unwritten and time.monotonic() >= self._again:
+            self._try()
+
+    def _try(self) -> None:
+        """Tries to write what is to be written."""
+        assert self.path is not None
+        try:
+            self._make_ready()
+            if self._state.is_on(Alarm.LOG):
+                self._compact()
+            data = self._unwritten.text().encode("ascii")
+            self._write(data)
+        except OSError as fault:
+            self._again = time.monotonic() + AGAIN_SECONDS
+            self._state.alarm(Alarm.LOG, f"cannot write {self.path}: {why(fault)}: what is to be logged is kept, and tried again "
+                                         f"each {AGAIN_SECONDS:g} s")
+            return
+        self._size += len(data)
+        self._unwritten.clear()
+        self._again = 0.0
+        self._state.clear(Alarm.LOG, f"{self.path} is written again")
+        if self._size > self._large:
+            self._compact()
+
+    def _make_ready(self) -> None:
+        """Opens the file, and takes away what is behind its whole lines."""
+        assert self.path is not None
+        if not self._is_torn:
+            return
+        if self._is_anew and self._file is not None and self._is_regular():
+            self._put_away()
+        self._is_anew = False
+        if self._file is None:
+            self._file = locked(self.path, os.O_RDWR | os.O_CREAT)
+        if self._is_regular():
+            os.ftruncate(self._file, self._size)
+            os.lseek(self._file, 0, os.SEEK_END)
+        self._is_torn = False
+
+    def _write(self, data: bytes) -> None:
+        """Writes by one call; `OSError` if not all of it can be written."""
+        assert self._file is not None
+        left = data
+        self._is_torn = True
+        while left:
+            left = left[os.write(self._file, left):]
+        self._is_torn = False
+
+    def _compact(self) -> None:
+        """Writes the file anew, with less for what is past; where that fails it stays as it is."""
+        if self._file is None or self.path is None or not self._is_regular():
+            return
+        try:
+            file, self._size = compacted(self.path, self._file, self._size)
+        except (OSError, Trouble):
+            # It is as long as it was, and whatever is wrong with the disk is told where a line can't be written.
+            self._large = 2 * max(LARGE, self._size)
+            return
+        self._close()
+        self._file, self._large = file, max(LARGE, 2 * self._size)
+        os.lseek(file, 0, os.SEEK_END)
+
+    def _is_regular(self) -> bool:
+        assert self._file is not None
+        return stat.S_ISREG(os.fstat(self._file).st_mode)
 
     def _refuse_other(self, path: str) -> None:
         """Raises `Trouble` for a file without a whole line that does not begin as a log: it would be written over."""
@@ -266,6 +241,12 @@ class Log:
         head, text = HEAD_TEXT.encode("ascii"), os.pread(self._file, len(HEAD_TEXT), 0)
         if self.past is None and text != head[:len(text)]:
             raise Trouble(f"{path}: line 1: no log of this program")
+
+    @staticmethod
+    def _refuse_folder(path: str) -> None:
+        """Raises `Trouble` where a log can't be made, for its folder is not there."""
+        if not os.path.isdir(os.path.dirname(os.path.realpath(path))):
+            raise Trouble(f"cannot write {path}: No such file or directory")
 
     def _put_away(self) -> None:
         """Renames a log, to a name that no file has."""
@@ -275,28 +256,10 @@ class Log:
             number += 1
         os.rename(self.path, f"{self.path}.{number}")
         say(f"{self.path} is now {self.path}.{number}")
-        self.close()
+        self._close()
 
-    def _unmake(self) -> None:
-        if self._made and self.path is not None:
-            self.close()
-            try:
-                os.unlink(self.path)
-            except OSError as fault:
-                say(f"cannot remove {self.path}: {why(fault)}")
-            self._made = False
-
-    def _write(self, text: str) -> None:
-        """Writes lines by one call; `OSError` if not all of them can be written."""
-        assert self._file is not None
-        data = text.encode("ascii")
-        left = data
-        while left:
-            left = left[os.write(self._file, left):]
-
-    def _try(self, text: str) -> None:
-        try:
-            self._write(text)
-        except OSError as fault:
-            self.close()
-            raise Trouble(f"cannot write {self.path}: {why(fault)}") from None
+    def _close(self) -> None:
+        if self._file is not None:
+            self._sync.finish()
+            os.close(self._file)
+            self._file = None

@@ -3,18 +3,17 @@ from __future__ import annotations
 
 from collections import deque
 from dataclasses import dataclass
+from itertools import chain, islice
 from typing import Deque, Dict, Iterable, List, Optional
 
-from .chain import Chain, Live, Progress, frame_lines
-from .faults import Stopped, Trouble, WillNotGuess
+from .chain import Chain, Code, Live, Progress, frame_lines
+from .faults import Stopped, Trouble, number_of
 from .fibs import COUNTS, Listener
+from .follower import KEPT
 from .layout import SubChannel
-from .log import Past
-from .plan import Plan, history_of, opening
-from .resume import NEAR, Clock, frames_between, number_of, step_of
-
-TAKE_UP = "--resume-at COUNT plays the log to its end and goes on in the first frame of that count, --anew begins the plan anew"
-"""What takes up a plan that the bridge will not place by itself."""
+from .past import Past
+from .plan import Plan, opening
+from .priority import ordinary
 
 
 @dataclass(frozen=True)
@@ -29,8 +28,6 @@ class Start:
     """The frames of the plan before the first one that goes out."""
     missed: int = 0
     """Those of them that no log has."""
-    behind: int = 0
-    """How many of these frames, the last ones, go out again."""
 
     def options(self) -> List[str]:
         """The options of `dabplan live` for it."""
@@ -38,95 +35,113 @@ class Start:
         return ["--count", str(self.first)] + ([] if value == "-" else [f"--{option}", value])
 
 
-def resumed(past: Past, name: str, count: int, clock: Clock) -> Start:
-    """How the plan of a log goes on in a frame of this count; `WillNotGuess` where the clock does not agree."""
-    step = step_of(count, past.due())
-    frames = frames_between(step, clock)
-    if frames is None or frames < -past.frames:
-        by_clock = "" if clock.seconds is None else f", after {clock.seconds:.1f} s by the clock"
-        raise WillNotGuess(f"{name}: the count is {count}, {past.due()} was due: a step of {step}{by_clock}: {TAKE_UP}")
-    ahead, behind = max(frames, 0), max(-frames, 0)
-    return Start(past.count, past.start, past.frames + ahead, ahead, behind)
+def past_start(past: Past) -> Start:
+    """How the plan of a log is played to the end of the log."""
+    return Start(past.count, past.start, past.frames)
 
 
-def moved(past: Past, count: int) -> Start:
-    """How the plan of a log goes on at its end in a frame of any count."""
-    return Start((count - past.frames) % COUNTS, past.start, past.frames)
-
-
-def told(start: Start) -> str:
-    """What is said of a plan that goes on."""
-    before = start.frames - start.missed
-    text = f"resumed after {number_of(before)}; {number_of(start.missed)} {'was' if start.missed == 1 else 'were'} not sent"
-    return text + (f"; {number_of(start.behind)} sent again" if start.behind else "")
+def moved(past: Past, count: int, missed: int) -> Start:
+    """How the plan of a log goes on in a frame of any count, so many frames behind its end."""
+    return Start((count - past.frames - missed) % COUNTS, past.start, past.frames + missed, missed)
 
 
 class Player:
-    """The frames of a plan, in order, and the last 250 of them."""
+    """The frames of a plan, in order, and the last 750 of them. `told_from`: the frame from which on notices and swaps are reported; None
+    for none."""
 
-    def __init__(self, program: str, code: str, plan: Plan, start: Start, steps: Iterable[bytes], is_told: bool) -> None:
-        self.due = (start.first + start.frames) % COUNTS
-        """The count of the plan's next frame."""
+    def __init__(self, program: str, plan: Plan, start: Start, steps: Iterable[bytes], told_from: Optional[int]) -> None:
+        self.start = start
+        self.made = start.frames
+        """How many frames were made: the number of the plan's next frame."""
         self.swapped = False
         """Whether a swap fell into the last frame that was made."""
+        self.swaps = 0
+        """The swaps of the frames that were made here."""
+        self._plan = plan
         self._listener = Listener()
-        self._kept: Deque[bytes] = deque(maxlen=NEAR)
-        lines = [*steps] if start.frames < history_of(plan) else steps
-        again = min(start.frames, NEAR)
-        options = [*start.options(), "--skip", str(start.frames - again), *(["--status"] if is_told else [])]
+        self._kept: Deque[bytes] = deque(maxlen=KEPT)
+        self._since_swap = 0
+        lines = [*steps] if start.frames < plan.history else steps
+        again = min(start.frames, KEPT)
+        code = Code(plan.path)
         known: Optional[Dict[int, SubChannel]] = None
         if isinstance(lines, list):
             given = [*lines, *frame_lines(start.missed)]
             known = opening(Live(program, code, start.options()), plan, start.first, given, start.frames)
-        self._chain = Chain(program, code, plan.mode, options)
+        options = [*start.options(), "--skip", str(start.frames - again)]
+        self._chain = Chain(program, code, plan.mode, options, told_from)
         try:
-            self._take_up(start, lines, again)
+            self._take_up(lines, again)
         except (Trouble, Stopped):
             self._chain.end()
             raise
-        self.first_sub_channels = self._listener.coming(self.due) if known is None else known
-        """The sub-channels of the plan in its next frame, the first one that goes out."""
+        self._known = known
         if known is not None:
             self._listener.current = known
+
+    @property
+    def due(self) -> int:
+        """The count of the plan's next frame."""
+        return (self.start.first + self.made) % COUNTS
 
     @property
     def sub_channels(self) -> Dict[int, SubChannel]:
         """The sub-channels of the plan in the last frame that was made, by SubChId."""
         return self._listener.current
 
+    @property
+    def coming(self) -> Dict[int, SubChannel]:
+        """The sub-channels of the plan in its next frame."""
+        is_start = self._known is not None and self.made == self.start.frames
+        return self._known if is_start and self._known is not None else self._listener.coming(self.due)
+
+    @property
+    def swap_in(self) -> Optional[int]:
+        """The frames until the swap that is announced, from the next frame on; None without one."""
+        return self._listener.swap_in(self.due)
+
     def make(self, fic: bytes, lines: List[bytes]) -> bytes:
         """The FIC of the plan's next frame, after these lines of contacts, with FIGs of another FIC."""
         made = self._chain.frame(fic, lines)
-        self._keep(made, self.due)
-        self.due = (self.due + 1) % COUNTS
+        self._keep(made)
         return made
 
-    def pass_over(self, frames: int) -> bool:
-        """Lets the plan make frames that are not sent; returns whether a swap fell into one of them."""
-        has_swapped = False
+    def pass_over(self, frames: int, lines: Iterable[bytes] = ()) -> bool:
+        """Lets the plan make frames that are not sent, after these lines; returns whether a swap fell into one of them."""
+        before = self.swaps
         with Progress(f"{number_of(frames)} of the plan are made, and not sent"):
-            for made in self._chain.pass_over(frames):
-                self._keep(made, self.due)
-                has_swapped = has_swapped or self.swapped
-                self.due = (self.due + 1) % COUNTS
-        return has_swapped
+            for made in self._chain.pass_over(frames, lines):
+                self._keep(made)
+        return self.swaps > before
 
-    def kept(self, back: int) -> Optional[bytes]:
-        """The FIC that was made so many frames ago, 1 being the last one; None if it is not there."""
+    def kept(self, number: int) -> Optional[bytes]:
+        """The FIC of the plan's frame of a number; None if it is not there."""
+        back = self.made - number
         return self._kept[-back] if 0 < back <= len(self._kept) else None
+
+    def since_swap(self) -> List[bytes]:
+        """The FICs of the last frames that were made, from the last swap on, as far as they are kept."""
+        frames = min(self._since_swap, len(self._kept))
+        return list(islice(self._kept, len(self._kept) - frames, None))
 
     def end(self) -> bool:
         """Ends the children; returns whether they ended well."""
         return self._chain.end()
 
-    def _take_up(self, start: Start, lines: Iterable[bytes], again: int) -> None:
+    def _take_up(self, lines: Iterable[bytes], again: int) -> None:
         """Plays what was, and keeps the last frames of it, so many."""
-        with Progress(f"{number_of(start.frames)} of the plan are made again"):
-            self._chain.feed(lines)
-            self._chain.feed(frame_lines(start.missed))
-            for number, fic in enumerate(self._chain.taken_up(again), start.frames - again):
-                self._keep(fic, (start.first + number) % COUNTS)
+        self.made -= again
+        with ordinary() as also, Progress(f"{number_of(self.start.frames)} of the plan are made again"):
+            for process in self._chain.processes:
+                also(process)
+            for fic in self._chain.take_up(chain(lines, frame_lines(self.start.missed)), again):
+                self._keep(fic)
 
-    def _keep(self, fic: bytes, count: int) -> None:
+    def _keep(self, fic: bytes) -> None:
         self._kept.append(fic)
-        self.swapped = self._listener.hear(fic, count)
+        self.swapped = self._listener.hear(fic, self.due)
+        self.made += 1
+        if self.swapped:
+            self.swaps += 1
+            self._since_swap = 0
+        self._since_swap += 1

@@ -9,6 +9,7 @@ from .frames import Item
 from .sources import Source
 
 FORMATS = ("eti", "edi")
+"""The formats of streams."""
 ENOUGH = 6 * eti.FRAME
 """The format of a stream is found within so many bytes."""
 Cutter = Union[eti.EtiCutter, edi.EdiCutter]
@@ -56,22 +57,30 @@ class Reader:
             if self._first:
                 raise Trouble(f"{self._source.name}: neither ETI nor EDI")
             return
-        if isinstance(self._cutter, edi.EdiCutter):
-            yield self._cutter.finish()
-        if self._cutter.end():
+        cutter = self._cutter
+        if isinstance(cutter, edi.EdiCutter):
+            yield cutter.finish()
+        if cutter.end():
             raise Trouble(f"{self._source.name}: not whole frames")
 
     def _cut(self, data: bytes) -> List[Item]:
         """The frames that are whole with these bytes."""
         if self._cutter is None:
-            self._first += data
-            name = format_of(self._first) if len(self._first) >= 4 else None
+            first = data if self._source.is_of_datagrams else self._first + data
+            name = format_of(first) if len(first) >= 4 else None
             if name is None:
-                if len(self._first) >= ENOUGH:
-                    raise Trouble(f"{self._source.name}: neither ETI nor EDI: --format says which")
-                return []
-            self._cutter, data, self._first = cutter_of(name), self._first, b""
+                return self._without(first)
+            self._cutter, data, self._first = cutter_of(name), first, b""
         elif self._joins != self._source.joins:
             self._cutter.begin()
         self._joins = self._source.joins
-        return self._cutter.feed(data)
+        return self._cutter.datagram(data) if self._source.is_of_datagrams else self._cutter.feed(data)
+
+    def _without(self, first: bytes) -> List[Item]:
+        """Keeps bytes that do not tell the format; `Trouble` where they are too many. A datagram tells it or not."""
+        if self._source.is_of_datagrams:
+            return []
+        if len(first) >= ENOUGH:
+            raise Trouble(f"{self._source.name}: neither ETI nor EDI: --format says which")
+        self._first = first
+        return []

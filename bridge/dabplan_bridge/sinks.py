@@ -1,18 +1,23 @@
 """Where a stream goes: a file, a FIFO, standard output, the clients of a TCP server, or UDP datagrams."""
 from __future__ import annotations
 
+import contextlib
 import os
 import select
 import socket
 import stat
 import time
 from collections import deque
-from typing import Deque, Dict, Tuple
+from typing import Deque, Dict, List, Sequence, Tuple
 
 from .addresses import LOOPBACK, Address
 from .faults import Trouble, say, why
+from .fragmenter import Fragmenter
+from .state import Alarm, State
 from .waiting import WRITABLE, Waiter
 
+ACCEPT_SECONDS = 1.0
+"""The seconds after which a client that could not be taken is tried again."""
 BEHIND = 4.0
 """The seconds after which a client that has not taken a frame is dropped."""
 MOST_LEFT = 8_000_000
@@ -25,6 +30,11 @@ class Sink:
     def __init__(self, name: str) -> None:
         self.name = name
         """As it was given."""
+
+    @property
+    def clients(self) -> int:
+        """How many clients it has."""
+        return 0
 
     def put(self, frame: bytes) -> None:
         """Writes a frame; `Trouble` if it can't be written."""
@@ -116,6 +126,8 @@ class TcpSink(Sink):
         super().__init__(address.name)
         self._waiter = waiter
         self._clients: Dict[int, Client] = {}
+        self._again = 0.0
+        self._is_told = False
         family = socket.AF_INET6 if ":" in address.host else socket.AF_INET
         self._server = socket.socket(family, socket.SOCK_STREAM)
         try:
@@ -127,9 +139,15 @@ class TcpSink(Sink):
         self._server.setblocking(False)
         waiter.serve(self._server.fileno(), select.POLLIN, self._join)
 
+    @property
+    def clients(self) -> int:
+        """How many clients it has."""
+        return len(self._clients)
+
     def put(self, frame: bytes) -> None:
-        self._join(0)
         now = time.monotonic()
+        if now >= self._again:
+            self._join(0)
         for descriptor, client in list(self._clients.items()):
             client.left.append((now, memoryview(frame)))
             client.size += len(frame)
@@ -150,15 +168,27 @@ class TcpSink(Sink):
             try:
                 connection, where = self._server.accept()
             except BlockingIOError:
-                return
+                break
             except OSError as fault:
-                say(f"{self.name}: {why(fault)}")
+                self._wait(why(fault))
                 return
             connection.setblocking(False)
             connection.setsockopt(socket.IPPROTO_TCP, socket.TCP_NODELAY, 1)
             client = Client(connection, f"{where[0]}:{where[1]}")
             self._clients[connection.fileno()] = client
             say(f"{self.name}: client {client.name}")
+            self._is_told = False
+        if self._again:
+            self._again = 0.0
+            self._waiter.serve(self._server.fileno(), select.POLLIN, self._join)
+
+    def _wait(self, reason: str) -> None:
+        """A client can't be taken, as where too many files are open: it is tried again after a second, and told once."""
+        if not self._is_told:
+            say(f"{self.name}: a client can't be taken: {reason}: tried again each {ACCEPT_SECONDS:g} s")
+        self._is_told = True
+        self._again = time.monotonic() + ACCEPT_SECONDS
+        self._waiter.forget(self._server.fileno())
 
     def _push(self, descriptor: int, now: float) -> None:
         """Sends what a client takes, and serves it while something is left."""
@@ -182,10 +212,12 @@ class TcpSink(Sink):
 
 
 class UdpSink(Sink):
-    """Datagrams, one for each frame."""
+    """Datagrams: one for each frame, or its fragments. One that can't be sent is lost: networks come and go."""
 
     def __init__(self, address: Address) -> None:
         super().__init__(address.name)
+        self._fragmenter = Fragmenter(address.pft, address.fec) if address.pft else None
+        self._is_told = False
         try:
             family, kind, protocol, _, self._where = socket.getaddrinfo(
                 address.host or LOOPBACK, address.port, type=socket.SOCK_DGRAM)[0]
@@ -194,10 +226,15 @@ class UdpSink(Sink):
             raise Trouble(f"cannot write {address.name}: {why(fault)}") from None
 
     def put(self, frame: bytes) -> None:
+        datagrams = [frame] if self._fragmenter is None else self._fragmenter.fragments(frame)
         try:
-            self._socket.sendto(frame, self._where)
+            for each in datagrams:
+                self._socket.sendto(each, self._where)
+            self._is_told = False
         except OSError as fault:
-            raise Trouble(f"cannot write {self.name}: {why(fault)}") from None
+            if not self._is_told:
+                say(f"cannot write {self.name}: {why(fault)}: frames are lost there")
+            self._is_told = True
 
     def close(self) -> None:
         self._socket.close()
@@ -208,3 +245,51 @@ def sink_of(address: Address, waiter: Waiter) -> Sink:
     if address.kind == "tcp":
         return TcpSink(address, waiter)
     return UdpSink(address) if address.kind == "udp" else FileSink(address)
+
+
+class Sinks:
+    """All outputs. One that fails is left out, with an alarm, while another one is there; where the last one fails the bridge ends."""
+
+    def __init__(self, addresses: Sequence[Address], waiter: Waiter, state: State) -> None:
+        self._state = state
+        self._sinks: List[Sink] = []
+        try:
+            for address in addresses:
+                self._sinks.append(sink_of(address, waiter))
+        except Trouble:
+            self.close()
+            raise
+
+    def put(self, frame: bytes) -> None:
+        """Writes a frame to each output; `Trouble` if no output is left."""
+        failed: List[Tuple[Sink, Trouble]] = []
+        clients = 0
+        for sink in self._sinks:
+            try:
+                sink.put(frame)
+                clients += sink.clients
+            except Trouble as fault:
+                failed.append((sink, fault))
+        self._state.clients = clients
+        for sink, reason in failed:
+            self._leave_out(sink, reason)
+
+    def close(self) -> None:
+        """Closes them, when what can be written is written; `Trouble` if that fails."""
+        faults = []
+        for sink in self._sinks:
+            try:
+                sink.close()
+            except Trouble as fault:
+                faults.append(fault)
+        self._sinks = []
+        if faults:
+            raise faults[0]
+
+    def _leave_out(self, sink: Sink, fault: Trouble) -> None:
+        if len(self._sinks) == 1:
+            raise fault
+        self._sinks.remove(sink)
+        self._state.alarm(Alarm.OUTPUT, f"{fault}: it is left out; the other outputs go on")
+        with contextlib.suppress(Trouble):
+            sink.close()

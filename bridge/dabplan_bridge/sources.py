@@ -12,6 +12,10 @@ from .waiting import Waiter
 
 PIECE = 65536
 """The most bytes of a read."""
+LEAST = 12
+"""No packet has fewer bytes."""
+BUFFER = 1 << 22
+"""The bytes of datagrams that may wait, as far as the system allows it."""
 FIRST_WAIT, LAST_WAIT = 0.25, 10.0
 """The seconds before a connection is tried again: the first time, doubled up to the last."""
 CONNECT_SECONDS = 5.0
@@ -26,8 +30,8 @@ class Source:
         """As it was given."""
         self.joins = 0
         """Grows where the bytes that follow are not those behind the ones before."""
-        self.is_regular = False
-        """Whether it is a regular file, of which the clock says nothing."""
+        self.is_of_datagrams = False
+        """Whether each piece that is read has whole packets, and nothing of another one."""
         self._waiter = waiter
 
     def read(self) -> bytes:
@@ -46,7 +50,6 @@ class FileSource(Source):
         self._own = address.kind == "path"
         try:
             self._file = os.open(address.name, os.O_RDONLY | os.O_CLOEXEC) if self._own else 0
-            self.is_regular = stat.S_ISREG(os.fstat(self._file).st_mode)
         except (OSError, ValueError) as fault:
             raise Trouble(f"cannot read {address.name}: {why(fault) if isinstance(fault, OSError) else fault}") from None
 
@@ -120,30 +123,55 @@ class TcpSource(Source):
 
 
 class UdpSource(Source):
-    """Datagrams, each with whole packets."""
+    """Datagrams, each with whole packets; of one sender alone where one is named."""
 
     def __init__(self, address: Address, waiter: Waiter) -> None:
         super().__init__(address.name, waiter)
-        family = socket.AF_INET6 if ":" in address.host else socket.AF_INET
-        self._socket = socket.socket(family, socket.SOCK_DGRAM)
+        self.is_of_datagrams = True
+        self._sender = ""
         try:
-            self._socket.setsockopt(socket.SOL_SOCKET, socket.SO_RCVBUF, 1 << 20)
-            self._socket.bind((address.host, address.port))
+            host = address.host or LOOPBACK
+            family, kind, protocol, _, where = socket.getaddrinfo(host, address.port, type=socket.SOCK_DGRAM)[0]
+            self._socket = socket.socket(family, kind, protocol)
+            self._socket.setsockopt(socket.SOL_SOCKET, socket.SO_RCVBUF, BUFFER)
+            self._socket.bind(where)
+            self._socket.setblocking(False)
+            if address.sender:
+                self._sender = str(socket.getaddrinfo(address.sender, 0, family, socket.SOCK_DGRAM)[0][4][0])
         except OSError as fault:
             raise Trouble(f"cannot read {address.name}: {why(fault)}") from None
 
     def read(self) -> bytes:
         while True:
-            self._waiter.readable(self._socket.fileno())
             try:
-                data = self._socket.recv(PIECE)
+                data, sender = self._socket.recvfrom(PIECE)
+            except BlockingIOError:
+                self._waiter.readable(self._socket.fileno())
+                continue
             except OSError as fault:
-                raise Trouble(f"cannot read {self.name}: {why(fault)}") from None
-            if data:
+                # An answer to nothing that was sent, or a network that is down: others are still to come.
+                self._tell(why(fault))
+                continue
+            if len(data) >= LEAST and (not self._sender or sender[0] == self._sender):
                 return data
+
+    def _tell(self, reason: str) -> None:
+        """Says why a datagram could not be read, and waits a little."""
+        say(f"cannot read {self.name}: {reason}")
+        self._waiter.sleep(1.0)
 
     def close(self) -> None:
         self._socket.close()
+
+
+def is_regular(address: Address) -> bool:
+    """Whether an input is a regular file, of which the clock says nothing."""
+    if address.kind not in ("path", "standard"):
+        return False
+    try:
+        return stat.S_ISREG(os.stat(address.name if address.kind == "path" else 0).st_mode)
+    except (OSError, ValueError):
+        return False
 
 
 def source_of(address: Address, waiter: Waiter) -> Source:

@@ -2,6 +2,7 @@
 
 Nothing here comes from the bridge: what it has to write is computed from the standards, and from the frames of `dabplan play`."""
 import functools
+import lzma
 import os
 import pathlib
 import random
@@ -132,26 +133,6 @@ def edi_packet(count, fic, mode=1, stc=STC, stamped=False):
     return packet + crc(packet)
 
 
-def pft(packet, sequence, fragments=3, rs_k=0, addressed=False):
-    """The fragments of a packet: with Reed-Solomon of zeros, which nobody decodes, where `rs_k` is not 0."""
-    if rs_k:
-        padding = -len(packet) % rs_k
-        data = packet + bytes(padding)
-        block = b"".join(data[at:at + rs_k] + bytes(48) for at in range(0, len(data), rs_k))
-        block += bytes(-len(block) % fragments)
-        parts = [block[index::fragments] for index in range(fragments)]
-    else:
-        padding, longest = 0, -(-len(packet) // fragments)
-        parts = [packet[at:at + longest] for at in range(0, len(packet), longest)]
-    found = []
-    for index, part in enumerate(parts):
-        flags = (0x8000 if rs_k else 0) | (0x4000 if addressed else 0) | len(part)
-        head = b"PF" + sequence.to_bytes(2, "big") + index.to_bytes(3, "big") + len(parts).to_bytes(3, "big")
-        head += flags.to_bytes(2, "big") + (bytes([rs_k, padding]) if rs_k else b"") + (bytes(4) if addressed else b"")
-        found.append(head + crc(head) + part)
-    return found
-
-
 MAKERS = {"eti": eti_frame, "edi": edi_packet}
 
 
@@ -167,9 +148,14 @@ def fics(fic, mode=1):
     return [fic[at:at + size_of(mode)] for at in range(0, len(fic), size_of(mode))]
 
 
-def free_port():
+def unpacked(path):
+    """The bytes of a file that is packed by xz."""
+    return lzma.decompress(path.read_bytes())
+
+
+def free_port(kind=socket.SOCK_STREAM):
     """A port of the loopback address that nobody has."""
-    with socket.socket() as found:
+    with socket.socket(socket.AF_INET, kind) as found:
         found.bind(("127.0.0.1", 0))
         return found.getsockname()[1]
 

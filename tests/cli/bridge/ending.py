@@ -3,6 +3,7 @@
 M failed'."""
 import fcntl
 import os
+import re
 import resource
 import shlex
 import signal
@@ -116,46 +117,40 @@ class Ends(bridges.Case):
         self.assertFalse((self.folder / "b").exists())
 
     def test_a_full_disk_under_the_log(self):
+        """The plan goes on; that the log is not whole is an alarm, and at the end the status is 1."""
         self.write("a", b"".join(self.stream("edi", 600)))
         os.symlink("/dev/full", self.folder / "full")
-        status, _, messages = self.bridge("run moves.code --in a --out b --log full")
+        status, _, messages = self.bridge("run moves.code --in a --out b --log full --state s")
         self.assertEqual(status, 1)
-        self.assertIn("dabplan-bridge: cannot write full: No space left on device\n", messages)
+        self.assertEqual(messages.count("dabplan-bridge: cannot write full: No space left on device: what is to be logged is kept, and "
+                                        "tried again each 10 s\n"), 1)
+        self.assertIn("full is not whole: what could not be written is lost\n", messages)
         self.assertTrue((self.folder / "full").is_symlink())
+        self.assertIn(b'\ndab_alarm{alarm="log"} 1\n', self.read("s"))
+        self.filled("edi", self.read("b"), self.plan(600))
         # The disk is full after so many bytes: at the beginning, within a line, at its end.
         head = len("# dabplan-bridge: count 0 time - code 0123456789abcdef at 2026-01-01T00:00:00.000Z\n")
         for limit in (0, 10, head, head + 20, head + 68):
             def limited(limit=limit):
                 resource.setrlimit(resource.RLIMIT_FSIZE, (limit, resource.RLIM_INFINITY))
             feed = self.started("run moves.code --in - --out - --log l", preexec_fn=limited)
-            feed.give(self.stream("edi", 100))
-            feed.get(1)
-            status, _, messages = self.drained(feed, self.stream("edi", 600)[100:])
+            found = b"".join(feed.through(self.stream("edi", 600)))
+            status, _, messages = feed.end()
             self.assertEqual(status, 1, messages)
-            self.assertIn("dabplan-bridge: cannot write l: File too large\n", messages)
+            self.filled("edi", found, self.plan(600))
+            self.assertIn("dabplan-bridge: cannot write l: File too large: what is to be logged is kept, and tried again each 10 s\n", messages)
             self.assertNotIn("Traceback", messages)
-            if limit < head:
-                self.assertFalse((self.folder / "l").exists(), "a first start that fails leaves no log")
-                continue
             self.assertLessEqual(len(self.read("l")), limit)
+            if limit < head:
+                (self.folder / "l").unlink()
+                continue
             status, out, messages = self.bridge("run moves.code --in - --out - --log l --resume-at 700", b"".join(self.stream("edi", 20, 700)))
             self.assertEqual(status, 0, messages)
             frames = 250 if limit == head + 68 else 0
-            self.assertIn(f"resumed after {frames} frames", messages)
-            self.filled("edi", out, self.plan(frames + 20, 700 - frames)[96 * frames:], 700)
+            missed = int(re.search(rf"resumed after {frames} frames; (\d+) frames? w", messages)[1])
+            first = frames + missed
+            self.filled("edi", out, self.plan(first + 20, (700 - first) % 5000)[96 * first:], 700)
             (self.folder / "l").unlink()
-
-    def drained(self, feed, frames):
-        """Gives frames while it reads what comes, until it ends."""
-        for frame in frames:
-            try:
-                feed.give([frame])
-            except BrokenPipeError:
-                break
-            bridges.read_within(feed.job.stdout.fileno(), 65536, 0.0)
-        feed.job.stdin.close()
-        feed.job.stdin = open(os.devnull, "wb")
-        return feed.end()
 
     def test_an_output_that_fails(self):
         self.write("a", b"".join(self.stream("edi", 40)))

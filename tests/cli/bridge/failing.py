@@ -72,16 +72,51 @@ class Fits(bridges.Case):
                 self.filled("edi", self.read("b"), wanted[96 * 50:], 50, stc=stc)
                 self.write("l", self.read("l")[:self.read("l").rindex(b"frames 60 ")])
 
-    def test_at_a_swap_it_is_told(self):
+    def test_all_configurations_of_a_plan_have_to_fit(self):
+        """The plan begins with sub-channel 1, which fits; it would go on with sub-channel 2."""
+        for form in FORMS:
+            for other, there in (((2, 28, 0x22, 12), "at 28 size 24 eep 3-A in the multiplexer"), (None, "not there in the multiplexer")):
+                stc = tuple(each for each in (STC[0], other, STC[2]) if each is not None)
+                self.write("b", "kept")
+                self.write("a", b"".join(self.stream(form, 40, stc=stc)))
+                status, _, messages = self.bridge("run moves.code --in a --out b --log l")
+                self.assertEqual(status, 5, messages)
+                self.assertIn(f"moves.code does not fit the multiplexer: sub 2: at 24 size 24 eep 3-A in the plan, {there}\n", messages)
+                self.assertEqual(self.read("b"), b"kept", "nothing went out")
+                self.assertFalse((self.folder / "l").exists())
+
+    def test_a_plan_that_moves_a_sub_channel_has_no_one_layout(self):
+        script = bridges.MOVES.split("forever")[0] + "wait 20\nmove sub 1 at 48\ncommit in 24\njoin\n"
+        self.compile(self.folder, "moved", script)
+        self.write("a", b"".join(self.stream("edi", 40)))
+        status, _, messages = self.bridge("run moved.code --in a --out b")
+        self.assertEqual(status, 5)
+        self.assertIn("sub 1: at 48 size 24 eep 3-A in the plan, at 0 size 24 eep 3-A in the multiplexer", messages)
+
+    def test_a_multiplexer_with_another_layout_is_an_alarm(self):
+        """It comes back with another place for sub-channel 2, while the plan is on 1; at the swap the plan is wrong, and at the next
+        one it is not."""
         stc = (STC[0], (2, 28, 0x22, 12), STC[2])
         for form in FORMS:
-            self.write("a", b"".join(self.stream(form, 120, stc=stc)))
-            status, _, messages = self.bridge("run moves.code --in a --out b")
+            feed = self.started("run moves.code --in - --out - --state s")
+            frames = self.stream(form, 20) + made(form, self.own(100, 20), 20, stc=stc) + made(form, self.own(20, 120), 120)
+            found = feed.through(frames[:20])
+            self.assertIn(b"\ndab_fits 1\n", self.read("s"))
+            found += feed.through(frames[20:24])
+            self.assertTrue(bridges.until(lambda: b'\ndab_fits 0\n' in self.read("s")))
+            self.assertIn(b'\ndab_alarm{alarm="unfit"} 1\n', self.read("s"))
+            found += feed.through(frames[24:])
+            status, _, messages = feed.end()
             self.assertEqual(status, 0, messages)
-            self.filled(form, self.read("b"), self.plan(120), stc=stc)
-            self.assertIn("frame 44: from the swap on the plan does not fit the multiplexer: sub 2: at 24 size 24 eep 3-A in the plan, "
-                          "at 28 size 24 eep 3-A in the multiplexer\n", messages)
-            self.assertEqual(messages.count("does not fit"), 1)
+            self.assertIn(b"\ndab_fits 1\n", self.read("s"))
+            plan = bridges.fics(self.plan(140))
+            wanted = made(form, b"".join(plan[:20])) + made(form, b"".join(plan[20:120]), 20, stc=stc) + made(form, b"".join(plan[120:]), 120)
+            self.same(b"".join(wanted), b"".join(found), form)
+            text = "sub 2: at 24 size 24 eep 3-A in the plan, at 28 size 24 eep 3-A in the multiplexer\n"
+            for said in (f"frame 20: the plan will not fit the multiplexer: {text}",
+                         f"frame 44: from the swap on the plan does not fit the multiplexer: {text}",
+                         f"frame 88: the plan will not fit the multiplexer: {text}", "frame 120: the plan fits the multiplexer again\n"):
+                self.assertIn(said, messages)
 
     def test_a_multiplexer_that_changes_is_told(self):
         for form in FORMS:

@@ -198,8 +198,7 @@ class Contacts(bridges.Case):
             self.assertEqual(re.findall(rb"(?m)^contact.*", self.read("l")), [b"contact 3 closed", b"contact 3 closed", b"contact 3 open contact 0 open"])
             (self.folder / "l").unlink()
             self.assertEqual(re.findall("contacts: .*", messages), [
-                "contacts: line 3 is no contact: frames 7", "contacts: line 4 is no contact:   contact  3 \\x1b[31mopen",
-                "contacts: line 5 is no contact: contact 16 open", "contacts: line 8 is no contact: contact 003 closed"])
+                "contacts: line 3 is no contact: frames 7, and 2 lines more", "contacts: line 8 is no contact: contact 003 closed"])
 
     def test_a_fifo_that_is_taken_away_is_made_again(self):
         feed = self.started("run contacts.code --in - --out - --contacts contacts --monitor monitor")

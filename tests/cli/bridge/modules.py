@@ -5,12 +5,13 @@ import sys
 import unittest
 
 import bridges
+import fragments
 import units
 
 sys.dont_write_bytecode = True
 sys.path.insert(0, str(bridges.FOLDER))
 
-from dabplan_bridge import addresses, edi, eti, faults, fibs, layout, log, pft, placing, reader, resume  # noqa: E402
+from dabplan_bridge import addresses, edi, eti, faults, fibs, layout, past, placing, reader  # noqa: E402
 from dabplan_bridge.frames import Frame, NoFrame  # noqa: E402
 
 # FIG 0/0 of E1C5 at count 4801 = 19 * 250 + 51, no change; and with a change of both at low 70.
@@ -38,11 +39,13 @@ class Fibs(unittest.TestCase):
         self.assertIsNone(fibs.ensemble_of(bridges.fib("05 40 E1 C5 13 33")), "of another ensemble")
         self.assertIsNone(fibs.ensemble_of(STILL[:5] + b"\x00" + STILL[6:]), "damaged")
 
-    def test_fig_0_10_has_the_frames_of_the_day(self):
-        found = fibs.day_frame_of(fig_0_10(21, 59, 53, 240))
-        self.assertAlmostEqual(found, ((21 * 60 + 59) * 60 + 53.24) / 0.024, places=3)
-        self.assertIsNone(fibs.day_frame_of(fig_0_10(21, 59, 0, 0, is_long=False)), "short form")
-        self.assertIsNone(fibs.day_frame_of(fig_0_10(25, 0, 0, 0)), "no such hour")
+    def test_fig_0_10_has_date_and_time(self):
+        # MJD 60000 is 2023-02-25.
+        found = fibs.utc_of(fig_0_10(21, 59, 53, 240))
+        self.assertAlmostEqual(found, 1677283200 + (21 * 60 + 59) * 60 + 53.24, places=3)
+        self.assertAlmostEqual(fibs.day_frame_of(found), ((21 * 60 + 59) * 60 + 53.24) / 0.024, places=1)
+        self.assertIsNone(fibs.utc_of(fig_0_10(21, 59, 0, 0, is_long=False)), "short form")
+        self.assertIsNone(fibs.utc_of(fig_0_10(25, 0, 0, 0)), "no such hour")
 
     def test_a_fib_that_ends_within_a_fig_has_none(self):
         data = bytes([0x1F]) + bytes(29)
@@ -137,7 +140,7 @@ class Cutters(unittest.TestCase):
         chance = random.Random(1)
         whole = {name: [maker(count, self.FIC) for count in range(14)] for name, maker in bridges.MAKERS.items()}
         given = {**{name: list(frames) for name, frames in whole.items()},
-                 "pft": [b"".join(bridges.pft(packet, number, rs_k=number % 2 * 150)) for number, packet in enumerate(whole["edi"])]}
+                 "pft": [b"".join(fragments.pft(packet, number, rs_k=number % 2 * 150)) for number, packet in enumerate(whole["edi"])]}
         for _ in range(800):
             name = chance.choice(sorted(given))
             data, longest = bytearray(b"".join(given[name])), len(given[name][0]) // 2
@@ -184,7 +187,7 @@ class Cutters(unittest.TestCase):
         for name, data in frames.items():
             self.assertEqual(reader.format_of(data[:4]), name)
             self.assertEqual(reader.format_of(data[1000 if name == "eti" else 100:]), name)
-        self.assertEqual(reader.format_of(bridges.pft(b"x" * 40, 7)[0]), "edi")
+        self.assertEqual(reader.format_of(fragments.pft(b"x" * 40, 7)[0]), "edi")
         self.assertIsNone(reader.format_of(bytes(20_000)))
 
     def test_headers_that_lie_are_no_frames(self):
@@ -196,91 +199,6 @@ class Cutters(unittest.TestCase):
         self.assertEqual(edi.frame_of(packet[:34] + b"\x00" + packet[35:]).reason, "no FIC")
         self.assertEqual(edi.frame_of(packet.replace(b"deti", b"deto")).reason, "no DETI")
         self.assertEqual(edi.frame_of(packet[:34] + b"\x54" + packet[35:]).reason, "no CIF count")
-
-
-class Pft(unittest.TestCase):
-    """Fragments of EDI."""
-
-    def packets(self, fragments):
-        """What comes of fragments, in this order: the packets, None for a lost one."""
-        cutter = edi.EdiCutter()
-        items = [item for fragment in fragments for item in cutter.feed(fragment)] + cutter.finish()
-        return [item.data if isinstance(item, Frame) else None for item in items]
-
-    def setUp(self):
-        self.whole = [bridges.edi_packet(count, STILL + bridges.EMPTY_FIB * 2) for count in range(6)]
-
-    def test_packets_are_joined_with_and_without_fec(self):
-        for options in ({}, {"fragments": 1}, {"fragments": 7}, {"rs_k": 207}, {"rs_k": 100, "fragments": 5, "addressed": True}):
-            found = [each for number, packet in enumerate(self.whole) for each in bridges.pft(packet, number, **options)]
-            self.assertEqual(self.packets(found), self.whole, options)
-
-    def test_fragments_come_in_any_order(self):
-        for rs_k in (0, 150):
-            found = []
-            for number, packet in enumerate(self.whole):
-                parts = bridges.pft(packet, 65534 + number & 0xFFFF, rs_k=rs_k)
-                found += [parts[2], parts[0], parts[1]]
-            self.assertEqual(self.packets(found), self.whole)
-            # One fragment of the second packet comes behind those of the third.
-            found.insert(8, found.pop(4))
-            self.assertEqual(self.packets(found), self.whole)
-
-    def test_a_lost_fragment_loses_its_packet_alone(self):
-        for rs_k in (0, 150):
-            found = [each for number, packet in enumerate(self.whole) for each in bridges.pft(packet, number, rs_k=rs_k)]
-            del found[4]
-            self.assertEqual(self.packets(found), [self.whole[0], None, *self.whole[2:]])
-
-    def test_a_fragment_twice_and_a_late_one_change_nothing(self):
-        found = [each for number, packet in enumerate(self.whole) for each in bridges.pft(packet, number)]
-        self.assertEqual(self.packets(found[:5] + found[4:12] + found[3:5] + found[12:]), self.whole)
-
-    def test_a_damaged_header_is_none(self):
-        fragment = bridges.pft(self.whole[0], 3)[0]
-        self.assertEqual(pft.header_of(fragment).index, 0)
-        self.assertIsNone(pft.header_of(fragment[:4] + b"\x01" + fragment[5:]))
-
-
-class Steps(unittest.TestCase):
-    """How many frames a step is."""
-
-    def between(self, step, seconds, resuming=False, tolerance=2.0):
-        """The frames of a step after so many seconds."""
-        return resume.frames_between(step, resume.Clock(seconds, tolerance, resuming))
-
-    def test_a_step_is_the_shorter_way(self):
-        self.assertEqual([resume.step_of(count, 10) for count in (10, 13, 7, 4999, 2509, 2510)], [0, 3, -3, -11, 2499, -2500])
-
-    def test_small_steps_need_no_clock_while_it_runs(self):
-        for step in (*range(1, 251), *range(-250, 0)):
-            for seconds in (None, 0.0, 0.024, 31.0):
-                self.assertEqual(self.between(step, seconds), step)
-
-    def test_other_steps_need_the_clock(self):
-        for step in (251, 300, 2000, -251, -2500):
-            frames = step % 5000
-            self.assertEqual(self.between(step, frames * 0.024 + 1.9), frames)
-            self.assertEqual(self.between(step, (frames + 15000) * 0.024 - 1.9), frames + 15000)
-            self.assertIsNone(self.between(step, frames * 0.024 + 2.1))
-            self.assertIsNone(self.between(step, 0.0))
-            self.assertIsNone(self.between(step, None))
-        self.assertEqual(self.between(300, 17.0, tolerance=10.0), 300)
-
-    def test_small_steps_of_a_log_have_to_agree_too(self):
-        self.assertEqual(self.between(3, 0.5, True), 3)
-        self.assertEqual(self.between(-3, 0.5, True), -3)
-        self.assertEqual(self.between(-3, 119.0, True), 4997)
-        self.assertEqual(self.between(0, 240.5, True), 10000)
-        for step, seconds in ((3, 4.0), (0, 60.0), (-3, 60.0), (-250, 0.0)):
-            self.assertIsNone(self.between(step, seconds, True), step)
-        self.assertEqual(self.between(250, None, True), 250)
-        self.assertIsNone(self.between(251, None, True))
-
-    def test_a_long_silence_in_which_counts_began_again(self):
-        self.assertEqual(self.between(40, 120.9), 5040)
-        self.assertEqual(self.between(40, 70.0), 40)
-        self.assertEqual(self.between(0, 70.0), 0)
 
 
 class Placing(unittest.TestCase):
@@ -322,15 +240,15 @@ class Logs(unittest.TestCase):
     """Lines of logs, addresses and messages."""
 
     def test_lines_have_steps_and_nothing_else(self):
-        self.assertEqual(log.steps_of(b"contact 3 closed frames 250 # x"), [b"contact 3 closed", b"frames 250"])
-        self.assertEqual(log.steps_of(b"# nothing"), [])
+        self.assertEqual(past.steps_of(b"contact 3 closed frames 250 # x"), [b"contact 3 closed", b"frames 250"])
+        self.assertEqual(past.steps_of(b"# nothing"), [])
         for line in (b"frames", b"contact 3", b"frames 1 x", b"x frames 1"):
             with self.assertRaises(ValueError):
-                log.steps_of(line)
+                past.steps_of(line)
 
     def test_wall_times_are_utc_with_milliseconds(self):
-        self.assertEqual(log.text_of(1_000_000_000.1234), "2001-09-09T01:46:40.123Z")
-        self.assertAlmostEqual(log.wall_of(b"2001-09-09T01:46:40.123Z"), 1_000_000_000.123, places=3)
+        self.assertEqual(past.text_of(1_000_000_000.1234), "2001-09-09T01:46:40.123Z")
+        self.assertAlmostEqual(past.wall_of(b"2001-09-09T01:46:40.123Z"), 1_000_000_000.123, places=3)
 
     def test_addresses(self):
         self.assertEqual(addresses.address_of("tcp://:9000"), addresses.Address("tcp", "tcp://:9000", "", 9000))

@@ -10,7 +10,8 @@ import time
 
 import bridges
 import units
-from bridges import connected, free_port, made, pft, until
+from bridges import connected, free_port, made, until
+from fragments import pft
 
 
 class Server:
@@ -169,11 +170,12 @@ class Networks(bridges.Case):
 
     def over_udp(self, datagrams, frames, plan):
         """What comes out of datagrams, given in groups."""
-        entry, exit_ = free_port(), free_port()
         with socket.socket(socket.AF_INET, socket.SOCK_DGRAM) as sender, socket.socket(socket.AF_INET, socket.SOCK_DGRAM) as receiver:
             receiver.setsockopt(socket.SOL_SOCKET, socket.SO_RCVBUF, 1 << 20)
-            receiver.bind(("127.0.0.1", exit_))
-            receiver.settimeout(10)
+            receiver.bind(("127.0.0.1", 0))
+            receiver.settimeout(30)
+            # The port is free for UDP, and not the one just taken: else what is sent would be received at once.
+            entry, exit_ = free_port(socket.SOCK_DGRAM), receiver.getsockname()[1]
             feed = self.started(f"run moves.code --in udp://:{entry} --out udp://127.0.0.1:{exit_}")
             inode = f":{entry:04X} "
             self.assertTrue(until(lambda: inode in open("/proc/net/udp", encoding="ascii").read()))
@@ -193,14 +195,20 @@ class Networks(bridges.Case):
         self.over_udp([([frame], 1) for frame in frames], 60, plan)
 
     def test_pft_over_udp(self):
-        """Fragments in any order, one lost, one twice; the output is AF."""
+        """Fragments in any order, one lost, one twice; the output is AF. With Reed-Solomon two of twelve may be lost."""
         frames, plan = self.stream("edi", 60), made("edi", self.plan(60))
-        for options in ({}, {"rs_k": 207, "fragments": 5}, {"rs_k": 90, "fragments": 4, "addressed": True}):
+        for options in ({}, {"rs_k": 207, "fragments": 12}, {"rs_k": 90, "fragments": 8, "addressed": True}):
             groups = []
             for number, frame in enumerate(frames):
                 parts = pft(frame, number, **options)
                 groups.append(([parts[-1], parts[0], *parts[:-1]], 1))
             self.over_udp(groups, 60, plan)
+            if options:
+                groups[20] = (groups[20][0][3:], 0)
+                groups[21], groups[22] = (groups[21][0], 0), (groups[22][0], 3)
+                messages = self.over_udp(groups, 60, plan)
+                self.assertNotIn("lost", messages)
+                continue
             # A fragment of frame 20 is lost: the packet goes when the one after the next begins, and the plan goes on.
             groups[20] = (groups[20][0][2:], 0)
             groups[21], groups[22] = (groups[21][0], 0), (groups[22][0], 2)

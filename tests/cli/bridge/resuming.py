@@ -94,13 +94,13 @@ class Logged(bridges.Case):
                 self.assertIn(f"resumed after 100 frames; 0 frames were not sent{again}", messages)
                 (self.folder / "l").unlink()
 
-    def test_count_and_clock_that_do_not_agree_end_it(self):
+    def test_count_and_clock_that_do_not_agree_end_it_where_that_is_asked_for(self):
         for form in FORMS:
             self.begun(form)
             for at, seconds in ((96, 60.0), (104, 6.0), (100, 60.0), (1100, 60.0), (3000, 2.0)):
                 self.log_at(seconds)
                 before = self.read("l")
-                status, out, messages = self.resumed(form, at, options="")
+                status, out, messages = self.resumed(form, at, options="--strict")
                 self.assertEqual((status, out), (4, b""), messages)
                 count, step = (4900 + at) % 5000, (at - 100 + 2500) % 5000 - 2500
                 self.assertRegex(messages, rf"l: the count is {count}, 0 was due: a step of {step}, after \d+\.\d s by the clock: {TAKE_UP}")
@@ -110,9 +110,9 @@ class Logged(bridges.Case):
     def test_the_tolerance_is_an_option(self):
         self.begun("edi")
         self.log_at(9.0)
-        self.assertEqual(self.resumed("edi", 100, options="")[0], 4)
+        self.assertEqual(self.resumed("edi", 100, options="--strict")[0], 4)
         self.log_at(9.0)
-        status, out, _ = self.resumed("edi", 100, options="--tolerance 40")
+        status, out, _ = self.resumed("edi", 100, options="--strict --tolerance 40")
         self.assertEqual(status, 0)
         self.filled("edi", out, self.plan(180, 4900)[9600:], 100, 4900)
 
@@ -125,29 +125,32 @@ class Logged(bridges.Case):
             self.assertEqual(status, 0, messages)
             self.filled(form, self.read("b"), self.plan(240, 4900)[96 * 160:], 160, 4900)
             self.write("a", b"".join(self.stream(form, 80, 1000)))
-            status, _, messages = self.bridge("run moves.code --in a --out c --log l")
+            status, _, messages = self.bridge("run moves.code --in a --out c --log l --strict")
             self.assertEqual(status, 4)
             self.assertIn("a step of 860: --resume-at COUNT", messages)
             (self.folder / "l").unlink()
 
     def test_resume_at_a_count(self):
-        """The plan goes on where its log ends, in the frame of that count; frames before it are dropped."""
+        """The plan goes on in the frame of that count; frames before it are dropped. The time since the log ends is of its day."""
         for form in FORMS:
             self.begun(form)
             self.log_at(700.0)
             stream = made(form, self.own(200, 2000), 2000)
             status, out, messages = self.bridge("run moves.code --in - --out - --log l --resume-at 2048", b"".join(stream))
             self.assertEqual(status, 0, messages)
-            # Its first frame had the count 2048 - 100, as far as the plan can tell.
-            wanted = self.plan(252, 1948)[9600:]
+            missed = int(re.search(r"resumed after 100 frames; (\d+) frames were not sent", messages)[1])
+            self.assertTrue(700 / 0.024 - 1 <= missed <= 760 / 0.024, messages)
+            # Its first frame had the count that leads to 2048, as far as the plan can tell.
+            first = (2048 - 100 - missed) % 5000
+            wanted = self.plan(252 + missed, first)[96 * (100 + missed):]
             self.filled(form, out, wanted, 48, 2000)
-            self.assertIn(b"# dabplan-bridge: count 1948 time - code ", self.read("l"))
+            self.assertIn(f"# dabplan-bridge: count {first} time - code ".encode(), self.read("l"))
             # And from there on it is resumed as any other.
             self.log_at(0.2)
             again = made(form, self.own(60, 2200), 2200)
             status, out, messages = self.bridge("run moves.code --in - --out - --log l --tolerance 30", b"".join(again))
             self.assertEqual(status, 0, messages)
-            self.filled(form, out, self.plan(312, 1948)[96 * 252:], 0, 2200)
+            self.filled(form, out, self.plan(312 + missed, first)[96 * (252 + missed):], 0, 2200)
             (self.folder / "l").unlink()
         self.begun("edi")
         status, out, messages = self.bridge("run moves.code --in - --out - --log l --resume-at 77", b"".join(stream))

@@ -1,0 +1,178 @@
+"""What goes on air: the FIC of each frame of the stream, by the plan or by what is held."""
+from __future__ import annotations
+
+from typing import Dict, Optional
+
+from .faults import Repeats, WillNotGuess, number_of
+from .fifos import Contacts
+from .follower import Follower
+from .frames import Frame
+from .holding import Holding, script_of, settled
+from .layout import SubChannel
+from .log import Log
+from .moments import Moment
+from .plan import Plan
+from .player import Player
+from .state import Alarm, Phase, State
+
+TAKE_UP = "--resume-at COUNT plays the log to its end and goes on in the first frame of that count, --anew begins the plan anew"
+"""What takes up a plan that the bridge will not place by itself."""
+SLICE = 2500
+"""The most frames that a plan which is held makes for one frame of the stream, to catch up with the clock."""
+
+
+class Air:
+    """The frames of a plan that has begun. `is_strict`: a count that is not explained ends it, and nothing is held."""
+
+    def __init__(self, program: str, plan: Plan, player: Player, follower: Follower, log: Log, contacts: Contacts, state: State,
+                 repeats: Repeats, is_strict: bool) -> None:
+        self.player = player
+        self.has_swapped = False
+        """Whether a swap fell into the last frame, or into those before it that were not sent."""
+        self._program, self._plan = program, plan
+        self._follower = follower
+        self._log, self._contacts = log, contacts
+        self._state, self._repeats = state, repeats
+        self._is_strict = is_strict
+        self._holding: Optional[Holding] = None
+        self._seen: Optional[bytes] = None
+        self._seen_swaps = -1
+        self._is_new = False
+
+    def sub_channels(self) -> Dict[int, SubChannel]:
+        """The sub-channels that receivers hold, by SubChId."""
+        return self.player.sub_channels if self._holding is None else self._holding.sub_channels
+
+    def swap_in(self) -> Optional[int]:
+        """The frames until the swap that is announced on air; None without one."""
+        return self.player.swap_in if self._holding is None else self._holding.swap_in
+
+    def fic(self, frame: Frame, count: int, moment: Moment, at: int) -> Optional[bytes]:
+        """The FIC of a frame of the stream, the one of index `at`; None where the plan has none, before its first frame.
+        `WillNotGuess` where its count is not explained, if that is to end the bridge."""
+        self.has_swapped = False
+        follower = self._follower
+        number = follower.number_of(count, moment)
+        if follower.step is not None and self._holding is None:
+            self._tell_step(at, number)
+        if follower.phase is Phase.HOLDING:
+            return self._held(frame, number, count, moment, at)
+        assert number is not None
+        return self._planned(frame, number, moment)
+
+    def hold(self, script: bytes, why: str) -> None:
+        """Holds a configuration from here on, and says why."""
+        self._holding = Holding(self._program, self._plan, script)
+        self._state.phase = Phase.HOLDING
+        self._state.alarm(Alarm.HELD, f"{why}: what is on air is held until counts and clock agree")
+
+    def record(self, moment: Moment) -> None:
+        """Logs the frame that went out."""
+        if self._is_new:
+            self._is_new = False
+            self._log.count(1, moment.wall)
+        if self.has_swapped:
+            self._log.sync()
+
+    def end(self) -> bool:
+        """Ends the children; returns whether they ended well."""
+        if self._holding is not None:
+            self._holding.end()
+        return self.player.end()
+
+    def _planned(self, frame: Frame, number: int, moment: Moment) -> Optional[bytes]:
+        """The FIC of the plan's frame of a number."""
+        player, state = self.player, self._state
+        ahead = number - player.made
+        if ahead < 0:
+            state.frame = number
+            return player.kept(number)
+        if ahead > 0:
+            self.has_swapped = player.pass_over(ahead)
+            self._log.count(ahead, moment.wall)
+        lines = self._contacts.lines()
+        self._log.contacts(lines)
+        made = player.make(frame.fic(), lines)
+        self.has_swapped = self.has_swapped or player.swapped
+        state.frame = number
+        self._is_new = True
+        return made
+
+    def _held(self, frame: Frame, number: Optional[int], count: int, moment: Moment, at: int) -> bytes:
+        """The FIC of a frame while a configuration is held. `number` is that of the plan's frame where counts and clock agree."""
+        holding = self._holding or self._begin_hold(at)
+        self._catch_up(number if number is not None else self._follower.by_clock(moment))
+        if number is not None and number == self.player.made and not holding.is_changing:
+            wanted = self._configuration()
+            if wanted == holding.script:
+                return self._go_on(frame, number, moment, at)
+            if wanted is not None:
+                holding.change_to(wanted)
+        self._state.frame = None
+        made = holding.make(frame.fic(), count)
+        self._state.frames_held += 1
+        if holding.swapped:
+            self.has_swapped = True
+            self._log.held(self.player.made - 1)
+        return made
+
+    def _begin_hold(self, at: int) -> Holding:
+        """Holds what receivers have, or have been told."""
+        step = f"frame {at}: {self._follower.step}"
+        made = self.player.made
+        found = settled(self.player, self._plan)
+        self._log.count(self.player.made - made, self._follower.wall_of(self.player.made - 1))
+        self._log.held(self.player.made - len(self.player.since_swap()))
+        self.hold(script_of(self._program, self._plan, found), step)
+        assert self._holding is not None
+        return self._holding
+
+    def _catch_up(self, number: int) -> None:
+        """Lets the plan make its frames before the one of a number, some at a time: it stays in its day, and gets its contacts."""
+        frames = min(number - self.player.made, SLICE)
+        lines = self._contacts.lines()
+        if lines:
+            self._log.contacts(lines)
+        if frames > 0 or lines:
+            self.player.pass_over(max(frames, 0), lines)
+        if frames > 0:
+            self._log.count(frames, self._follower.wall_of(self.player.made - 1))
+
+    def _configuration(self) -> Optional[bytes]:
+        """The script of what the plan has, where it has nothing else announced; None where that is not known."""
+        player = self.player
+        if player.swap_in is not None:
+            return None
+        if player.swaps != self._seen_swaps:
+            found = player.since_swap()
+            if len(found) < self._plan.history:
+                return None
+            self._seen, self._seen_swaps = script_of(self._program, self._plan, found), player.swaps
+        return self._seen
+
+    def _go_on(self, frame: Frame, number: int, moment: Moment, at: int) -> bytes:
+        """The plan goes on with this frame."""
+        assert self._holding is not None
+        self._holding.end()
+        self._holding = None
+        self._follower.go_on(number, moment)
+        self._state.phase = Phase.FOLLOWING
+        self._state.clear(Alarm.HELD, f"frame {at}: counts and clock agree again: the plan goes on with its frame {number}")
+        self._log.held(None)
+        made = self._planned(frame, number, moment)
+        assert made is not None
+        return made
+
+    def _tell_step(self, at: int, number: Optional[int]) -> None:
+        """Says what a step is taken for."""
+        step = self._follower.step
+        if number is None:
+            if self._is_strict:
+                log = f": {TAKE_UP}" if self._log.path else ": the plan has to begin anew"
+                raise WillNotGuess(f"frame {at}: {step}{log}")
+            return
+        self._state.steps += 1
+        unsent, again = number - self.player.made, self.player.made - number
+        text = f": the plan makes {number_of(unsent)} unsent" if unsent > 0 else ""
+        text += f": {number_of(again)} of the plan {'goes' if again == 1 else 'go'} out again" if again > 0 else ""
+        self._repeats.add("steps of the count", at, f"frame {at}: {step}{text}", burst=4)

@@ -1,0 +1,84 @@
+"""What the bridge does at this moment, as one object: for its messages, for a textfile, and for whoever asks it."""
+from __future__ import annotations
+
+from dataclasses import dataclass, field
+from enum import Enum
+from typing import Dict, Optional
+
+from .faults import say
+
+
+class Phase(Enum):
+    """What the frames of the stream get."""
+
+    WAITING = "waiting"
+    """Nothing: the plan has not begun."""
+    FOLLOWING = "following"
+    """The plan's frames."""
+    HOLDING = "holding"
+    """Frames of the configuration that receivers hold: a count was not explained."""
+
+
+class Alarm(Enum):
+    """What somebody should look at. The bridge goes on all the same."""
+
+    HELD = "held"
+    """A count was not explained: what is on air is held."""
+    UNFIT = "unfit"
+    """The plan does not fit the sub-channels of the multiplexer."""
+    ENSEMBLE = "ensemble"
+    """The stream is of another ensemble than the plan."""
+    CLOCK = "clock"
+    """FIG 0/10 and the host's clock do not agree."""
+    LOG = "log"
+    """The log can't be written."""
+    OUTPUT = "output"
+    """An output can't be written, while another one can."""
+
+
+@dataclass
+class State:
+    """The state of a bridge; counts of frames are of this run."""
+
+    phase: Phase = Phase.WAITING
+    frame: Optional[int] = None
+    """The number of the plan's frame that went out last, its first one 0; None before it began, and while it is held."""
+    count: Optional[int] = None
+    """The CIF count of the frame that went out last."""
+    frames_in: int = 0
+    """Frames that came, those without a FIC among them."""
+    frames_out: int = 0
+    """Frames that went out."""
+    frames_held: int = 0
+    """Those of them that were held."""
+    unfilled: int = 0
+    """Frames for which nothing went out although the plan had begun."""
+    steps: int = 0
+    """Steps of the count."""
+    swaps: int = 0
+    """Swaps that went out."""
+    swap_in: Optional[int] = None
+    """The frames until the swap that is announced; None without one."""
+    fits: Optional[bool] = None
+    """Whether the plan fits the multiplexer; None before they were compared."""
+    clients: int = 0
+    """The clients of all servers."""
+    last: Optional[float] = None
+    """When the last frame came, by `time.monotonic`."""
+    alarms: Dict[Alarm, str] = field(default_factory=dict)
+    """The alarms that are on, each with its message."""
+
+    def alarm(self, alarm: Alarm, text: str) -> None:
+        """Sets an alarm; its message is written where it was not on, or said something else."""
+        if self.alarms.get(alarm) != text:
+            say(text)
+        self.alarms[alarm] = text
+
+    def is_on(self, alarm: Alarm) -> bool:
+        """Whether an alarm is on."""
+        return alarm in self.alarms
+
+    def clear(self, alarm: Alarm, text: str) -> None:
+        """Takes an alarm back, and says so; nothing where it was not on."""
+        if self.alarms.pop(alarm, None) is not None:
+            say(text)
