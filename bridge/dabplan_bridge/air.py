@@ -4,6 +4,7 @@ from __future__ import annotations
 from typing import Dict, Optional
 
 from .faults import Repeats, WillNotGuess, number_of
+from .fibs import FRAME_SECONDS
 from .fifos import Contacts
 from .follower import Follower
 from .frames import Frame
@@ -17,6 +18,8 @@ from .state import Alarm, Phase, State
 
 TAKE_UP = "--resume-at COUNT plays the log to its end and goes on in the first frame of that count, --anew begins the plan anew"
 """What takes up a plan that the bridge will not place by itself."""
+PAUSE = 1.0
+"""The seconds of a pause, or of a step, behind which a line of the log is written at once."""
 SLICE = 2500
 """The most frames that a plan which is held makes for one frame of the stream, to catch up with the clock."""
 
@@ -38,6 +41,7 @@ class Air:
         self._seen: Optional[bytes] = None
         self._seen_swaps = -1
         self._is_new = False
+        self._wall = float("inf")
 
     def sub_channels(self) -> Dict[int, SubChannel]:
         """The sub-channels that receivers hold, by SubChId."""
@@ -71,6 +75,11 @@ class Air:
         if self._is_new:
             self._is_new = False
             self._log.count(1, moment.wall)
+        if self._holding is None:
+            step = self._follower.step
+            if moment.wall - self._wall > PAUSE or (step is not None and abs(step.frames or 0) * FRAME_SECONDS > PAUSE):
+                self._log.tell(self._follower.wall_behind(self.player.made, moment))
+            self._wall = moment.wall
         if self.has_swapped:
             self._log.sync()
 

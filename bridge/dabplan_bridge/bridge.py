@@ -113,13 +113,13 @@ class Bridge:
 
     def _agreed(self, frame: Frame, count: int, moment: Moment) -> None:
         """What comes of a frame whose count is known. Of datagrams, several have to agree where their count steps."""
-        if self._agreeing is None or self._air is None:
+        if self._agreeing is None:
             self._placed(frame, count, moment)
             return
-        lost = self._agreeing.lost
-        for each in self._agreeing.take(frame, count, moment, self._expected):
+        lost, has_begun = self._agreeing.lost, self._air is not None
+        for each in self._agreeing.take(frame, count, moment):
             self._placed(*each)
-        self._tell_lost(self._agreeing.lost - lost, True, "no other packet has a count near its own")
+        self._tell_lost(self._agreeing.lost - lost, has_begun, "no other packet has a count near its own")
 
     def _placed(self, frame: Frame, count: int, moment: Moment) -> None:
         """What comes of a frame whose count is believed."""

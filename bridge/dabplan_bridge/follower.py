@@ -110,7 +110,9 @@ class Follower:
         due = self.due
         if count == (self._first + due) % COUNTS:
             self.step = None
-            return self._follow(due, moment)
+            if self._has_clock:
+                self._anchor().take(due, moment)
+            return self._follow(due)
         step = step_of(count, self.count_of(due))
         number = due + step if abs(step) <= NEAR else self._by_clock(count, moment)
         seconds = moment.since(self._anchor().moment) if self._has_clock else None
@@ -120,7 +122,9 @@ class Follower:
             self._to_hold()
             return None
         self.step = Step(count, self.count_of(due), number - due, seconds)
-        return self._follow(number, moment)
+        if self._has_clock:
+            self._anchor().step(number, moment)
+        return self._follow(number)
 
     def go_on(self, number: int, moment: Moment) -> None:
         """The plan that was held goes on: this frame got its frame of this number."""
@@ -133,30 +137,40 @@ class Follower:
         anchor = self._anchor()
         return anchor.number + int(moment.since(anchor.moment) / FRAME_SECONDS) if self._has_clock else self.due
 
+    def wall_behind(self, made: int, moment: Moment) -> float:
+        """When the last of so many frames of the plan came, or comes, in seconds since 1970, where the frame before the one that is due
+        came at a moment."""
+        return moment.wall + (made - self.due) * FRAME_SECONDS
+
     def wall_of(self, number: int) -> float:
         """When the plan's frame of a number is due, in seconds since 1970."""
         anchor = self._anchor()
         return anchor.moment.wall + (number - anchor.number) * FRAME_SECONDS
 
-    def _follow(self, number: int, moment: Moment) -> int:
+    def _follow(self, number: int) -> int:
         """A frame of a number that was found."""
         self.due = number + 1
         if number > self._last:
             self._last = number
-        if self._has_clock:
-            self._anchor().take(number, moment)
         return number
 
     def _by_clock(self, count: int, moment: Moment) -> Optional[int]:
-        """The number with this count that agrees with the time since the last frame in real time; None if there is none."""
+        """The number with this count that agrees with the time since the last frame in real time; None if there is none.
+
+        After a pause it is not known yet whether frames come in real time again. The time since the last frame is asked then too, and
+        where the two give different numbers there is none.
+        """
         if not self._has_clock:
             return None
         anchor = self._anchor()
-        step = step_of(count, self.count_of(anchor.number))
-        frames = frames_by_clock(step, moment.since(anchor.moment), self._tolerance)
-        if frames is None or (frames > NEAR and self._utc.against(moment)):
-            return None
-        return anchor.number + frames
+        found = {self._since(number, then, count, moment) for number, then in ((anchor.number, anchor.moment), anchor.last)} - {None}
+        return found.pop() if len(found) == 1 else None
+
+    def _since(self, number: int, then: Moment, count: int, moment: Moment) -> Optional[int]:
+        """The number with this count that agrees with the time since a frame; None if there is none."""
+        step = step_of(count, self.count_of(number))
+        frames = frames_by_clock(step, moment.since(then), self._tolerance)
+        return None if frames is None or (frames > NEAR and self._utc.against(moment)) else number + frames
 
     def _in_hold(self, count: int, moment: Moment) -> Optional[int]:
         """The number of a frame with which enough frames in a row agree."""

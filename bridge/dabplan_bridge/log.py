@@ -71,6 +71,7 @@ class Log:
         self._size = 0
         """The bytes of the file that are whole lines of this log."""
         self._large = LARGE
+        """It is written anew where it has more bytes."""
         self._is_torn = self._is_open = False
         self._again = 0.0
         self._frames = self._pending = self._count = 0
@@ -144,6 +145,14 @@ class Log:
         """Writes the frames since the last line, and what could not be written before."""
         if self.path is not None:
             self._note()
+            self._flush()
+
+    def tell(self, wall: float) -> None:
+        """Writes at which wall time the last frame came, or comes, behind a pause or a step of the stream: else a log that ends here would
+        be taken up elsewhere."""
+        if self.path is not None:
+            self._note()
+            self._unwritten.add(0, f"# count {self._count} frames {self._frames} at {text_of(wall)}\n")
             self._flush()
 
     def sync(self) -> None:
@@ -261,5 +270,6 @@ class Log:
     def _close(self) -> None:
         if self._file is not None:
             self._sync.finish()
+            self._sync = Syncer()
             os.close(self._file)
             self._file = None

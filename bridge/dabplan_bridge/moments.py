@@ -13,7 +13,7 @@ from .fibs import FRAME_SECONDS
 
 LATE = 1.0
 """The seconds by which a frame in real time may be behind."""
-STEADY = 10.0
+STEADY = 3.0
 """After so many seconds in which frames stay behind, and do not catch up, they count as being in real time."""
 CATCH_UP = 0.25
 """Frames that gain so many seconds catch up."""
@@ -56,17 +56,27 @@ class Pace:
         """Its number in the plan."""
         self.moment = moment
         """When it came."""
+        self.last = number, moment
+        """The last frame, in real time or not."""
         self._offset = moment.host - number * FRAME_SECONDS
         self._late: Optional[_Late] = None
 
     def take(self, number: int, moment: Moment) -> None:
         """Takes the frame of a number."""
+        self.last = number, moment
         offset = moment.host - number * FRAME_SECONDS
         if offset <= self._offset + LATE or moment.is_stamped:
             self._offset = min(offset, self._offset + CREEP)
             self.number, self.moment, self._late = number, moment, None
         elif self._is_steady(offset, moment.host):
             self._offset, self.number, self.moment, self._late = offset, number, moment, None
+
+    def step(self, number: int, moment: Moment) -> None:
+        """Takes the frame of a number whose count stepped a little. Right behind a frame in real time it can't have waited: the counts
+        have another beginning now."""
+        if self._late is None and moment.host - self.moment.host <= LATE:
+            self._offset = moment.host - number * FRAME_SECONDS
+        self.take(number, moment)
 
     def _is_steady(self, offset: float, now: float) -> bool:
         """Whether frames have been behind for long without catching up: the stream paused, and its pace is this one."""

@@ -1,10 +1,11 @@
 """A plan that runs: how it starts, its frames in order, and the last of them."""
 from __future__ import annotations
 
+import contextlib
 from collections import deque
 from dataclasses import dataclass
 from itertools import chain, islice
-from typing import Deque, Dict, Iterable, List, Optional
+from typing import ContextManager, Deque, Dict, Iterable, List, Optional
 
 from .chain import Chain, Code, Live, Progress, frame_lines
 from .faults import Stopped, Trouble, number_of
@@ -14,6 +15,9 @@ from .layout import SubChannel
 from .past import Past
 from .plan import Plan, opening
 from .priority import ordinary
+
+MANY = 5000
+"""Where more frames are passed over, it is said that this takes its time."""
 
 
 @dataclass(frozen=True)
@@ -109,7 +113,9 @@ class Player:
     def pass_over(self, frames: int, lines: Iterable[bytes] = ()) -> bool:
         """Lets the plan make frames that are not sent, after these lines; returns whether a swap fell into one of them."""
         before = self.swaps
-        with Progress(f"{number_of(frames)} of the plan are made, and not sent"):
+        text = f"{number_of(frames)} of the plan are made, and not sent"
+        waiting: ContextManager[object] = Progress(text) if frames > MANY else contextlib.nullcontext()
+        with waiting:
             for made in self._chain.pass_over(frames, lines):
                 self._keep(made)
         return self.swaps > before

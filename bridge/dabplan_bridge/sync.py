@@ -13,6 +13,7 @@ class Syncer:
         self._condition = threading.Condition()
         self._file: Optional[int] = None
         self._thread: Optional[threading.Thread] = None
+        self._is_over = False
 
     def sync(self, file: int) -> None:
         """Lets what is written to a file get to the disk, soon."""
@@ -26,17 +27,21 @@ class Syncer:
             self._condition.notify()
 
     def finish(self) -> None:
-        """Syncs now what waits for it."""
+        """Syncs now what waits for it; nothing is synced any more."""
         with self._condition:
+            self._is_over = True
             if self._file is not None:
                 self._of(self._file)
                 self._file = None
+            self._condition.notify()
 
     def _run(self) -> None:
         while True:
             with self._condition:
-                while self._file is None:
+                while self._file is None and not self._is_over:
                     self._condition.wait()
+                if self._file is None:
+                    return
                 file, self._file = self._file, None
             self._of(file)
 

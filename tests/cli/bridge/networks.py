@@ -179,7 +179,8 @@ class Networks(bridges.Case):
             feed = self.started(f"run moves.code --in udp://:{entry} --out udp://127.0.0.1:{exit_}")
             inode = f":{entry:04X} "
             self.assertTrue(until(lambda: inode in open("/proc/net/udp", encoding="ascii").read()))
-            found = []
+            # The first packets wait until three of them agree.
+            found, datagrams = [], [*((group, 0) for group, _ in datagrams[:2]), (datagrams[2][0], 3), *datagrams[3:]]
             for group, count in datagrams:
                 for datagram in group:
                     sender.sendto(datagram, ("127.0.0.1", entry))
