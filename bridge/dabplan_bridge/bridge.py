@@ -39,14 +39,14 @@ class Bridge:
         self._agreeing: Optional[Agreeing] = None
         self._sinks: Optional[Sinks] = None
         self._expected = -1
-        self._host = self._wall = 0.0
+        self._moment = Moment(0.0, 0.0)
 
     def run(self, name: str, reader: Reader, sinks: Sinks, is_of_datagrams: bool) -> int:
         """Each frame of a stream of this name into the sinks; returns the exit status."""
         self._sinks = sinks
         self._agreeing = Agreeing() if is_of_datagrams else None
         for items in reader.items():
-            self._host, self._wall = time.monotonic(), time.time()
+            self._moment = Moment(time.monotonic(), time.time())
             for item in items:
                 self._item(item)
         if self._air is None:
@@ -89,10 +89,11 @@ class Bridge:
             self._unfill("a damaged packet")
             return
         let_go, others = self._placer.dropped, self._placer.contradicting
-        moment = Moment(self._host, self._wall) if item.stamp is None else Moment(self._host, item.stamp, True)
+        moment = self._moment if item.stamp is None else Moment(self._moment.host, item.stamp, True)
+        fic = item.fic()
         if self._has_clock:
-            self._utc.look(item.fic(), moment)
-        for frame, count in self._placer.place(item):
+            self._utc.look(fic, moment)
+        for frame, count in self._placer.place(item, fic):
             self._agreed(frame, count, moment)
         if self._placer.contradicting > others:
             self._repeats.add("FIG 0/0 that are passed over", at,

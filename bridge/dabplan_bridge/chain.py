@@ -21,6 +21,8 @@ BULK = 250
 """How many frames are made at once where none of them is sent: their FIBs fit into the buffer of a pipe."""
 END_SECONDS = 5.0
 """The seconds after which a child that does not end is killed."""
+ONE_FRAME = b"frames 1\n"
+"""The line for one frame."""
 STATUS = re.compile(rb"frame (\d+) ")
 """How a message of `dabplan live --status` begins."""
 
@@ -76,10 +78,10 @@ class Child:
 
 def put(descriptor: int, data: bytes, name: str) -> None:
     """Writes to a child; `Trouble` if it has ended."""
-    left = memoryview(data)
     try:
-        while left:
-            left = left[os.write(descriptor, left):]
+        written = os.write(descriptor, data)
+        while written < len(data):
+            written += os.write(descriptor, memoryview(data)[written:])
     except OSError:
         raise Trouble(f"{name} has ended") from None
 
@@ -152,6 +154,10 @@ class Live:
                 piece.clear()
         put(self._input.fileno(), bytes(piece), self.child.name)
 
+    def frame(self) -> None:
+        """Lets it make a frame; `Trouble` if it has ended."""
+        put(self._input.fileno(), ONE_FRAME, self.child.name)
+
     def end(self) -> int:
         """Ends its input, and waits for it; returns its exit status."""
         self._input.close()
@@ -191,7 +197,12 @@ class Chain:
     def frame(self, fic: bytes, lines: List[bytes]) -> bytes:
         """The FIC of the plan's next frame, after these lines, with FIGs of another FIC."""
         self._put(fic)
-        self.feed([*lines, b"frames 1"])
+        if lines:
+            self.feed(lines)
+        try:
+            self._live.frame()
+        except Trouble:
+            raise Trouble(self._ended()) from None
         return self._taken(self.size)
 
     def pass_over(self, frames: int, lines: Iterable[bytes] = ()) -> Iterator[bytes]:

@@ -6,7 +6,7 @@ from __future__ import annotations
 
 import binascii
 from dataclasses import dataclass
-from typing import Dict, Iterator, Optional, Tuple
+from typing import Dict, Iterator, NamedTuple, Optional, Tuple
 
 from .layout import SubChannel
 
@@ -75,8 +75,14 @@ class Ensemble:
     """The low part of the count of the swap, where the change flags are not 0."""
 
 
+ENSEMBLES = (b"\x05\x00", b"\x06\x00")
+"""How a FIG 0/0 of the ensemble itself begins (EN 300 401, 6.4): type 0, 5 bytes, with a count of the occurrence 6, extension 0."""
+
+
 def ensemble_of(fic: bytes) -> Optional[Ensemble]:
     """The first FIG 0/0 of a FIC; None if there is none."""
+    if ENSEMBLES[0] not in fic and ENSEMBLES[1] not in fic:
+        return None
     for body in figs_of(fic):
         if body[0] & 0x9F == 0 and len(body) >= 5:
             change = body[3] >> 6
@@ -126,6 +132,28 @@ def entries(body: bytes) -> Iterator[Tuple[int, SubChannel]]:
             return
 
 
+class Told(NamedTuple):
+    """What a FIG 0/0 or 0/1 says of sub-channels and swaps."""
+
+    entries: Tuple[Tuple[int, SubChannel], ...]
+    """Those of a FIG 0/1."""
+    is_next: bool
+    """Whether they are of the next configuration."""
+    change: int
+    """The change flags of a FIG 0/0; 0 without one."""
+    low: int
+    """The low part of the count of its swap."""
+
+
+def told_by(fib: bytes) -> Iterator[Told]:
+    """What the FIGs 0/0 and 0/1 of a FIB say."""
+    for body in figs(fib):
+        if body[0] & 0x1F == 1:
+            yield Told(tuple(entries(body)), bool(body[0] & 0x80), 0, 0)
+        elif body[0] & 0x1F == 0 and len(body) >= 6 and body[3] >> 6:
+            yield Told((), False, body[3] >> 6, body[5])
+
+
 class Listener:
     """The sub-channels that a receiver of the plan's FIBs knows."""
 
@@ -135,7 +163,7 @@ class Listener:
         self._next: Dict[int, SubChannel] = {}
         self._change = 0
         self._low = 0
-        self._known: Dict[bytes, Tuple[bytes, ...]] = {}
+        self._known: Dict[bytes, Tuple[Told, ...]] = {}
 
     def hear(self, fic: bytes, count: int) -> bool:
         """Takes the FIC of the frame with this count; returns whether a swap falls into it."""
@@ -145,8 +173,8 @@ class Listener:
                 self.current, self._next = self._next, {}
             self._change = 0
         for at in range(0, len(fic), FIB):
-            for body in self._bodies(fic[at:at + FIB]):
-                self._take(body)
+            for told in self._told(fic[at:at + FIB]):
+                self._take(told)
         return swapped
 
     def swap_in(self, count: int) -> Optional[int]:
@@ -157,21 +185,19 @@ class Listener:
         """The sub-channels in the next frame, which has this count: a swap may fall into it."""
         return self._next if self._change & 1 and count % 250 == self._low else self.current
 
-    def _bodies(self, fib: bytes) -> Tuple[bytes, ...]:
-        """The FIGs 0/0 and 0/1 of a FIB; those of the FIBs of late are known."""
+    def _told(self, fib: bytes) -> Tuple[Told, ...]:
+        """What a FIB says; that of the FIBs of late is known."""
         found = self._known.get(fib)
         if found is None:
             if len(self._known) > 256:
                 self._known.clear()
-            found = self._known[fib] = tuple(body for body in figs(fib) if body[0] & 0x1F <= 1)
+            found = self._known[fib] = tuple(told_by(fib))
         return found
 
-    def _take(self, body: bytes) -> None:
-        if body[0] & 0x1F == 1:
-            known = self._next if body[0] & 0x80 else self.current
-            for sub, entry in entries(body):
-                known[sub] = entry
-        elif len(body) >= 6 and body[3] >> 6:
+    def _take(self, told: Told) -> None:
+        if told.change:
             if not self._change:
                 self._next = {}
-            self._change, self._low = body[3] >> 6, body[5]
+            self._change, self._low = told.change, told.low
+        else:
+            (self._next if told.is_next else self.current).update(told.entries)

@@ -29,9 +29,9 @@ class Placer:
         self._held: List[Frame] = []
         self._next: Optional[int] = None
 
-    def place(self, frame: Frame) -> List[Placed]:
-        """The frames whose counts are known by this one, with it; in order."""
-        found = ensemble_of(frame.fic())
+    def place(self, frame: Frame, fic: bytes) -> List[Placed]:
+        """The frames whose counts are known by this one, with it; in order. `fic` is its FIC."""
+        found = ensemble_of(fic)
         if found is not None and not self._is_of(found, frame):
             self.contradicting += 1
             found = None

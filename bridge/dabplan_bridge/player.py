@@ -5,7 +5,7 @@ import contextlib
 from collections import deque
 from dataclasses import dataclass
 from itertools import chain, islice
-from typing import ContextManager, Deque, Dict, Iterable, List, Optional
+from typing import Deque, Dict, Iterable, List, Optional
 
 from .chain import Chain, Code, Live, Progress, frame_lines
 from .faults import Stopped, Trouble, number_of
@@ -114,8 +114,7 @@ class Player:
         """Lets the plan make frames that are not sent, after these lines; returns whether a swap fell into one of them."""
         before = self.swaps
         text = f"{number_of(frames)} of the plan are made, and not sent"
-        waiting: ContextManager[object] = Progress(text) if frames > MANY else contextlib.nullcontext()
-        with waiting:
+        with (Progress(text) if frames > MANY else contextlib.nullcontext()):  # type: ignore[attr-defined]
             for made in self._chain.pass_over(frames, lines):
                 self._keep(made)
         return self.swaps > before

@@ -214,7 +214,7 @@ class Placing(unittest.TestCase):
     def placed(self, counts, **options):
         """The counts that are placed, and how many frames are dropped."""
         placer = placing.Placer()
-        found = [count for frame in self.frames(counts, **options) for _, count in placer.place(frame)]
+        found = [count for frame in self.frames(counts, **options) for _, count in placer.place(frame, frame.fic())]
         return found, placer.dropped
 
     def test_frames_before_the_first_fig_0_0_are_dropped(self):
@@ -233,7 +233,7 @@ class Placing(unittest.TestCase):
     def test_a_fig_0_0_of_another_count_is_none(self):
         frame = eti.frame_of(bridges.eti_frame(12, bridges.fib("05 00 E1 C5 00 14") + bridges.EMPTY_FIB * 2))
         placer = placing.Placer()
-        self.assertEqual((placer.place(frame), placer.contradicting), ([], 1))
+        self.assertEqual((placer.place(frame, frame.fic()), placer.contradicting), ([], 1))
 
 
 class Logs(unittest.TestCase):
