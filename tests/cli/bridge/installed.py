@@ -1,15 +1,13 @@
 #!/usr/bin/env python3
-"""The bridge as `release/install` installs it; its man page and its service files; `dab-monitor`; and what every module of it has. The
-last line is 'N passed, M failed'."""
+"""The bridge as `release/install` installs it; its man page and its service files; and what every module of it has. The last line is
+'N passed, M failed'."""
 import ast
 import os
 import pathlib
 import re
-import shlex
 import shutil
 import subprocess
 import sys
-import time
 
 import bridges
 import units
@@ -36,7 +34,7 @@ class Installed(bridges.Case):
         self.assertEqual(done.returncode, 0, done.stderr)
         self.filled("edi", self.read("b"), self.plan(40))
         done = subprocess.run([self.here / "bin/dab-monitor"], capture_output=True, check=False)
-        self.assertEqual((done.returncode, done.stderr), (2, b"usage: dab-monitor FILE\n"))
+        self.assertEqual((done.returncode, done.stderr), (2, b"usage: dab-monitor FILE [STATE]\n"))
 
     def test_every_file_of_it_is_there(self):
         share = self.here / "share/dabplan"
@@ -104,68 +102,6 @@ class Pages(bridges.Case):
         done = subprocess.run(["sh", "-c", f"exec '{sys.executable}' '{bridges.BRIDGE}' {line}"], cwd=self.folder, capture_output=True, text=True,
                               check=False)
         self.assertEqual((done.returncode, done.stderr), (1, "dabplan-bridge: cannot read none.code: No such file or directory\n"))
-
-
-class Monitors(bridges.Case):
-    """`dab-monitor` behind `dabplan check`."""
-
-    def monitored(self, lines):
-        """What it writes for these lines: the textfile without its time, and its messages."""
-        done = subprocess.run([sys.executable, FOLDER / "dab-monitor", "out.prom"], cwd=self.folder, input=lines.encode(), capture_output=True,
-                              check=False)
-        self.assertEqual(done.returncode, 0, done.stderr)
-        self.assertEqual([path.name for path in self.folder.iterdir() if path.name.startswith("out")], ["out.prom"])
-        found = self.read("out.prom").decode().splitlines()
-        self.assertLess(abs(float(found[1].split()[1]) - time.time()), 60)
-        return [found[0], *found[2:]], done.stderr.decode()
-
-    def test_faults_are_alarms_and_totals_are_kept(self):
-        alive = '{"kind":"alive","frames":500,"skipped":0,"damaged":2,"swaps":1,"faults":1}\n'
-        fault = '{"kind":"fault","frame":7,"count":7,"fault":"damaged","fibs":2}\n'
-        self.assertEqual(self.monitored(fault + alive), (
-            ["dab_up 0", "dab_frames 500", "dab_damaged 2", "dab_swaps 1", "dab_faults 1"], "ALARM " + fault))
-        refused = '{"kind":"refused","cause":"no ensemble"}\n'
-        self.assertEqual(self.monitored(refused)[1], "ALARM " + refused)
-        self.assertIn("no object of JSON", self.monitored("{\n")[1])
-
-    def test_it_is_up_while_lines_come(self):
-        check = subprocess.Popen([self.program, "check", "-", "--json", "--every", "50"], stdin=subprocess.PIPE, stdout=subprocess.PIPE)
-        with subprocess.Popen([sys.executable, FOLDER / "dab-monitor", "out.prom"], cwd=self.folder, stdin=check.stdout,
-                              stderr=subprocess.DEVNULL) as job:
-            check.stdin.write(self.plan(120))
-            check.stdin.flush()
-            self.assertTrue(bridges.until(lambda: (self.folder / "out.prom").exists() and b"dab_frames 100" in self.read("out.prom")))
-            self.assertIn(b"dab_up 1\n", self.read("out.prom"))
-            check.stdin.close()
-            check.wait(10)
-            check.stdout.close()
-            self.assertEqual(job.wait(10), 0)
-        self.assertIn(b"dab_up 0\n", self.read("out.prom"))
-        self.assertIn(b"dab_frames 120\n", self.read("out.prom"))
-
-    def test_a_monitor_outlives_the_bridge(self):
-        os.mkfifo(self.folder / "monitor")
-        text = (FOLDER / "systemd/dab-monitor.service").read_text(encoding="utf-8")
-        line = re.search(r"ExecStart=/bin/sh -c '(.*)'", text)[1]
-        program, monitor = shlex.quote(str(self.program)), shlex.quote(str(FOLDER / "dab-monitor"))
-        for old, new in (("/usr/local/bin/dabplan ", f"{program} "), ("/usr/local/bin/dab-monitor", monitor), ("/run/dab/", ""), ("/var/lib/dab/", ""), ("--every 250", "--every 10")):
-            self.assertIn(old, line)
-            line = line.replace(old, new)
-        with open(self.folder / "alarms", "wb") as alarms:
-            job = subprocess.Popen(["sh", "-c", line], cwd=self.folder, stderr=alarms, start_new_session=True)
-        for first, wanted in ((0, b"dab_frames 40\n"), (60, b"dab_frames 80\n")):
-            self.write("a", b"".join(self.stream("edi", 40, first)))
-            self.assertEqual(self.bridge("run moves.code --in a --out b --log l --monitor monitor")[0], 0)
-            self.assertTrue(bridges.until(lambda wanted=wanted: (self.folder / "dab.prom").exists() and wanted in self.read("dab.prom")))
-            self.assertIn(b"dab_up 1\n", self.read("dab.prom"))
-        os.killpg(job.pid, 15)
-        job.wait(10)
-        # The gap: a swap at 44 fell into it.
-        self.assertIn(b'ALARM {"kind":"fault"', self.read("alarms"))
-
-    def test_a_file_that_cannot_be_written(self):
-        done = subprocess.run([sys.executable, FOLDER / "dab-monitor", "x/y"], cwd=self.folder, input=b"", capture_output=True, check=False)
-        self.assertEqual((done.returncode, done.stderr), (1, b"dab-monitor: cannot write x/y: No such file or directory\n"))
 
 
 class Shapes(bridges.Case):

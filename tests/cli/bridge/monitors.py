@@ -1,0 +1,127 @@
+#!/usr/bin/env python3
+"""`dab-monitor`: what comes of the lines of `dabplan check`, and of lines of others. The last line is 'N passed, M failed'."""
+import os
+import re
+import shlex
+import subprocess
+import sys
+import time
+
+import bridges
+import units
+
+FOLDER = bridges.FOLDER
+
+
+class Monitors(bridges.Case):
+    """`dab-monitor` behind `dabplan check`."""
+
+    def monitored(self, lines):
+        """What it writes for these lines: the textfile without its time, and its messages."""
+        done = subprocess.run([sys.executable, FOLDER / "dab-monitor", "out.prom"], cwd=self.folder, input=lines.encode(), capture_output=True,
+                              check=False)
+        self.assertEqual(done.returncode, 0, done.stderr)
+        self.assertEqual([path.name for path in self.folder.iterdir() if path.name.startswith("out")], ["out.prom"])
+        found = self.read("out.prom").decode().splitlines()
+        self.assertLess(abs(float(found[1].split()[1]) - time.time()), 60)
+        return [found[0], *found[2:]], done.stderr.decode()
+
+    def test_faults_are_alarms_and_totals_are_kept(self):
+        alive = '{"kind":"alive","frames":500,"skipped":0,"damaged":2,"swaps":1,"faults":1}\n'
+        fault = '{"kind":"fault","frame":7,"count":7,"fault":"damaged","fibs":2}\n'
+        self.assertEqual(self.monitored(fault + alive), (
+            ["dab_up 0", "dab_frames 500", "dab_damaged 2", "dab_swaps 1", "dab_faults 1"], "ALARM " + fault))
+        refused = '{"kind":"refused","cause":"no ensemble"}\n'
+        self.assertEqual(self.monitored(refused)[1], "ALARM " + refused)
+        self.assertIn("no object of JSON", self.monitored("{\n")[1])
+
+    def test_it_is_up_while_lines_come(self):
+        check = subprocess.Popen([self.program, "check", "-", "--json", "--every", "50"], stdin=subprocess.PIPE, stdout=subprocess.PIPE)
+        with subprocess.Popen([sys.executable, FOLDER / "dab-monitor", "out.prom"], cwd=self.folder, stdin=check.stdout,
+                              stderr=subprocess.DEVNULL) as job:
+            check.stdin.write(self.plan(120))
+            check.stdin.flush()
+            self.assertTrue(bridges.until(lambda: (self.folder / "out.prom").exists() and b"dab_frames 100" in self.read("out.prom")))
+            self.assertIn(b"dab_up 1\n", self.read("out.prom"))
+            check.stdin.close()
+            check.wait(10)
+            check.stdout.close()
+            self.assertEqual(job.wait(10), 0)
+        self.assertIn(b"dab_up 0\n", self.read("out.prom"))
+        self.assertIn(b"dab_frames 120\n", self.read("out.prom"))
+
+    def test_a_monitor_outlives_the_bridge(self):
+        os.mkfifo(self.folder / "monitor")
+        text = (FOLDER / "systemd/dab-monitor.service").read_text(encoding="utf-8")
+        line = re.search(r"ExecStart=/bin/sh -c '(.*)'", text)[1]
+        program, monitor = shlex.quote(str(self.program)), shlex.quote(str(FOLDER / "dab-monitor"))
+        for old, new in (("/usr/local/bin/dabplan ", f"{program} "), ("/usr/local/bin/dab-monitor", monitor), ("/run/dab/", ""), ("/var/lib/dab/", ""), ("--every 250", "--every 10")):
+            self.assertIn(old, line)
+            line = line.replace(old, new)
+        with open(self.folder / "alarms", "wb") as alarms:
+            job = subprocess.Popen(["sh", "-c", line], cwd=self.folder, stderr=alarms, start_new_session=True)
+        for first, wanted in ((0, b"dab_frames 40\n"), (60, b"dab_frames 80\n")):
+            self.write("a", b"".join(self.stream("edi", 40, first)))
+            self.assertEqual(self.bridge("run moves.code --in a --out b --log l --monitor monitor")[0], 0)
+            self.assertTrue(bridges.until(lambda wanted=wanted: (self.folder / "dab.prom").exists() and wanted in self.read("dab.prom")))
+            self.assertIn(b"dab_up 1\n", self.read("dab.prom"))
+        os.killpg(job.pid, 15)
+        job.wait(10)
+        # The gap: a swap at 44 fell into it.
+        self.assertIn(b'ALARM {"kind":"fault"', self.read("alarms"))
+
+    def test_a_file_that_cannot_be_written(self):
+        (self.folder / "folder").mkdir()
+        for name, why in (("x/y", "No such file or directory"), ("folder", "Is a directory")):
+            done = subprocess.run([sys.executable, FOLDER / "dab-monitor", name], cwd=self.folder, input=b"", capture_output=True, check=False)
+            self.assertEqual((done.returncode, done.stderr.decode()), (1, f"dab-monitor: cannot write {name}: {why}\n"))
+        self.assertEqual([path.name for path in self.folder.iterdir() if path.name.startswith("folder")], ["folder"])
+
+    def test_lines_that_are_no_objects_of_check_are_one_line_each(self):
+        deep = "[" * 100_000
+        for line, shown in (("[]", "[]"), ("1", "1"), ("null", "null"), ("true", "true"), ('"kind"', '"kind"'), (deep, deep[:60]), ("{", "{"),
+                            ("\u009b31m", "\\u009b31m"), ("\u202eevil", "\\u202eevil")):
+            found, messages = self.monitored(line + "\n")
+            # A line of more than 65,536 bytes is taken in parts.
+            said = [f"dab-monitor: no object of JSON: {shown}"] * (1 + len(line) // 65_536)
+            self.assertEqual(([text[:92] for text in messages.splitlines()], found[1]), ([text[:92] for text in said], "dab_frames 0"), line[:60])
+
+    def test_totals_are_whole_numbers(self):
+        for value in ("true", "-1", "1.5", '"7"', "null", "[]", "1" + "0" * 30):
+            line = f'{{"kind":"alive","frames":{value},"damaged":3}}\n'
+            self.assertEqual(self.monitored(line)[0], ["dab_up 0", "dab_frames 0", "dab_damaged 3", "dab_swaps 0", "dab_faults 0"], value)
+        self.assertEqual(self.monitored('{"frames":7}\n{"kind":[],"frames":7}\n{"kind":"fault","frames":7}\n')[0][1], "dab_frames 0")
+
+    def test_what_a_terminal_would_obey_is_shown_by_its_number(self):
+        line = '{"kind":"refused","cause":"cannot read \u009b31m\u202e\u2066x"}\n'
+        self.assertEqual(self.monitored(line)[1],
+                         'ALARM {"kind":"refused","cause":"cannot read \\u009b31m\\u202e\\u2066x"}\n')
+        done = subprocess.run([sys.executable, FOLDER / "dab-monitor", "out.prom"], cwd=self.folder, input=b'{"kind":"fault","x":"\xff"}\n\xff\n',
+                              capture_output=True, check=False)
+        self.assertEqual((done.returncode, done.stderr.count(b"\n")), (0, 2), done.stderr)
+        self.assertNotIn(b"Traceback", done.stderr)
+
+    def test_standard_streams_that_are_closed(self):
+        words = f"'{sys.executable}' '{FOLDER / 'dab-monitor'}' out.prom"
+        for line, status in ((f"exec {words} <&-", 1), (f"echo '{{' | {words} 2>&-", 0), (f"echo '{{' | {words} 2> /dev/full", 0),
+                             (f"exec {words} < .", 1)):
+            done = subprocess.run(["sh", "-c", line], cwd=self.folder, capture_output=True, check=False)
+            self.assertEqual(done.returncode, status, f"{line}: {done.stderr}")
+            self.assertNotIn(b"Traceback", done.stderr)
+
+    def test_what_the_bridge_says_of_itself_follows(self):
+        stc = (bridges.STC[0], bridges.STC[2])
+        self.write("a", b"".join(self.stream("edi", 20)) + b"".join(bridges.made("edi", self.own(20, 20), 20, stc=stc)))
+        self.assertEqual(self.bridge("run moves.code --in a --out b --state state.prom")[0], 0)
+        words = [sys.executable, FOLDER / "dab-monitor", "out.prom", "state.prom"]
+        self.assertEqual(subprocess.run(words, cwd=self.folder, stdin=subprocess.DEVNULL, check=False).returncode, 0)
+        text = self.read("out.prom").decode()
+        for line in ("dab_up 0", "dab_fits 0", 'dab_alarm{alarm="unfit"} 1', 'dab_frames_total{where="out"} 40'):
+            self.assertIn(line + "\n", text)
+        (self.folder / "state.prom").unlink()
+        self.assertEqual(subprocess.run(words, cwd=self.folder, stdin=subprocess.DEVNULL, check=False).returncode, 0)
+        self.assertNotIn("dab_fits", self.read("out.prom").decode())
+
+
+if __name__ == "__main__":
+    units.main()
