@@ -18,6 +18,8 @@ import bridges
 from bridges import common
 
 LENGTH = 5000
+RESTARTS = "Detected change in ensemble configuration"
+"""What odr-dabmod says where it restarts its modulation, and loses frames."""
 MULTIPLEXER = """\
 general {{ dabmode 1 nbframes 0 syslog false tist false managementport 0 }}
 remotecontrol {{ telnetport 0 }}
@@ -252,9 +254,21 @@ def undisturbed(stand):
     if modulator is not None:
         tally.same("odr-dabmod runs", None, modulator.poll())
         text = stand.said("mod")
-        print(f"odr-dabmod: {text.count('Restart modulator')} restarts of its modulation")
-        tally.hold("Restart modulator" not in text, "odr-dabmod restarts its modulation")
+        print(f"odr-dabmod: {text.count(RESTARTS)} restarts of its modulation")
+        tally.hold(RESTARTS not in text, "odr-dabmod restarts its modulation")
+        tally.hold(RESTARTS in restarted(stand), "odr-dabmod says nothing where its modulation is restarted")
     return modulator
+
+
+def restarted(stand):
+    """What odr-dabmod says of a file of ETI in which a sub-channel goes: it restarts its modulation."""
+    fic = bridges.EMPTY_FIB * 3 * 300
+    frames = bridges.made("eti", fic) + bridges.made("eti", fic, 300, stc=bridges.STC[:2])
+    common.write(stand.folder, "x.eti", b"".join(frames))
+    common.write(stand.folder, "file.ini", MODULATOR.replace("transport=edi", "transport=file").replace("source=tcp://127.0.0.1:{port}",
+                 "source=x.eti\nloop=0").replace("edi_max_delay=500\n", ""))
+    done = subprocess.run(["odr-dabmod", "file.ini"], cwd=stand.folder, capture_output=True, text=True, errors="replace", check=False, timeout=120)
+    return done.stdout + done.stderr
 
 
 def stopped(stand, bridge, modulator):
