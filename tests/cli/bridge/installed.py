@@ -97,8 +97,10 @@ class Pages(bridges.Case):
 
     def test_the_line_of_the_service_is_one_of_the_bridge(self):
         text = (FOLDER / "systemd/dab-bridge.service").read_text(encoding="utf-8")
-        line = re.search(r"ExecStart=/bin/sh -c 'exec /usr/local/bin/dabplan-bridge (.*)'\n", text, re.DOTALL)[1].replace("\\\n", " ")
-        line = line.replace("$$", "$").replace("%%", "%").replace("/etc/dab/plan.code", "none.code")
+        line = re.search(r"ExecStart=/usr/local/bin/dabplan-bridge ((?:.*\\\n)*.*)\n", text)[1].replace("\\\n", " ")
+        self.assertIn("--time now", line)
+        self.assertIn("time-sync.target", re.search(r"(?m)^After=.*", text)[0])
+        line = line.replace("/etc/dab/plan.code", "none.code")
         done = subprocess.run(["sh", "-c", f"exec '{sys.executable}' '{bridges.BRIDGE}' {line}"], cwd=self.folder, capture_output=True, text=True,
                               check=False)
         self.assertEqual((done.returncode, done.stderr), (1, "dabplan-bridge: cannot read none.code: No such file or directory\n"))
