@@ -76,6 +76,8 @@ class Beginning:
         self._waited = 0
         self._player: Optional[Player] = None
         log.refuse_other_plan(plan.digest, plan.path)
+        if log.past is not None and log.past.has_utc:
+            self._utc.expect()
         if log.past is not None and wish.resume_at is None:
             self._player = self._played(past_start(log.past), log.past.frames)
 
@@ -221,7 +223,7 @@ class Beginning:
                 raise WillNotGuess(f"{self._log.path} tells no wall time: {TAKE_UP}")
             seconds = here.moment.wall - past.wall
             frames = frames_by_clock(step, seconds, self._wish.tolerance)
-            against = self._utc.against(here.moment) if frames is None or frames > NEAR else ""
+            against = self._utc.against(here.moment) if frames is not None and frames > NEAR else ""
         if frames is None or against or frames < -min(NEAR, past.frames):
             return None, Step(here.count, past.due(), None, seconds, against)
         return past.frames + frames, Step(here.count, past.due(), frames, seconds)

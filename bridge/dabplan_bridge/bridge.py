@@ -142,6 +142,8 @@ class Bridge:
         if is_first:
             self._log.open()
         air.record(moment)
+        if self._utc.is_seen:
+            self._log.utc()
         self._fit.compare(frame, at, air.sub_channels, air.has_swapped)
         state.frames_out += 1
         state.count, state.last = count, moment.host

@@ -8,11 +8,11 @@ from typing import BinaryIO, Tuple
 
 from .faults import Trouble, why
 from .lock import lock, locked
-from .past import HEAD_TEXT, Past, past_of, steps_in
+from .past import HEAD_TEXT, UTC_TEXT, Past, past_of, steps_in
 
 
 def write(file: BinaryIO, path: str, past: Past) -> None:
-    """Writes what a log says to another file, in four lines at most."""
+    """Writes what a log says to another file, in five lines at most."""
     file.write(f"{HEAD_TEXT}count {past.count} {past.start} code {past.digest}\n".encode("ascii"))
     is_first = True
     for step in steps_in(path):
@@ -22,6 +22,8 @@ def write(file: BinaryIO, path: str, past: Past) -> None:
         file.write(b"\n")
     if past.wall_text:
         file.write(f"# count {past.due()} frames {past.frames} at {past.wall_text.decode('ascii')}\n".encode("ascii"))
+    if past.has_utc:
+        file.write(f"{UTC_TEXT}\n".encode("ascii"))
     if past.held is not None:
         file.write(f"# held {past.held}\n".encode("ascii"))
 

@@ -15,7 +15,7 @@ from .compact import compacted
 from .faults import Trouble, WillNotGuess, say, why
 from .fibs import COUNTS
 from .lock import locked
-from .past import HEAD_TEXT, Past, past_of, steps_in, text_of
+from .past import HEAD_TEXT, UTC_TEXT, Past, past_of, steps_in, text_of
 from .state import Alarm, State
 from .sync import Syncer
 
@@ -72,7 +72,7 @@ class Log:
         """The bytes of the file that are whole lines of this log."""
         self._large = LARGE
         """It is written anew where it has more bytes."""
-        self._is_torn = self._is_open = False
+        self._is_torn = self._is_open = self._has_utc = False
         self._again = 0.0
         self._frames = self._pending = self._count = 0
         self._wall = 0.0
@@ -106,6 +106,7 @@ class Log:
         self._count, self._is_torn = count, True
         if past is not None:
             self._size, self._frames, self._count = past.size, past.frames, (count + past.frames) % COUNTS
+            self._has_utc = past.has_utc
         if past is None or past.count != count:
             self._unwritten.add(0, f"{HEAD_TEXT}count {count} {start} code {digest} at {text_of(wall)}\n")
 
@@ -129,6 +130,14 @@ class Log:
             self._unwritten.add(0, "# not held\n" if frame is None else f"# held {frame}\n")
             self._flush()
             self.sync()
+
+    def utc(self) -> None:
+        """Writes that the multiplexer sends FIG 0/10, once."""
+        if self.path is not None and not self._has_utc:
+            self._has_utc = True
+            self._note()
+            self._unwritten.add(0, f"{UTC_TEXT}\n")
+            self._flush()
 
     def count(self, frames: int, wall: float) -> None:
         """Counts frames, of which the last one came at this wall time."""

@@ -8,10 +8,11 @@ frame of the plan has what was held, and another one that the plan went on:
     # dabplan-bridge: count 2080 time 21:59:53 code 0123456789abcdef at 2026-01-31T20:59:54.123Z
     frames 250 # count 2330 frames 250 at 2026-01-31T21:00:00.123Z
     contact 3 closed
+    # utc
     # held 250
     # not held
 
-A last line without its line feed was cut short, and is passed over.
+`# utc` says that the multiplexer sends FIG 0/10. A last line without its line feed was cut short, and is passed over.
 """
 from __future__ import annotations
 
@@ -28,6 +29,8 @@ HEAD_TEXT = "# dabplan-bridge: "
 """How a log begins."""
 HEAD = re.compile(rb"# dabplan-bridge: count (\d{1,4}) (time -|time \d\d:\d\d:\d\d|day \d{1,7}) code ([0-9a-f]{16})(?: at (\S+))?")
 NOTE = re.compile(rb"# count (\d{1,4}) frames (\d{1,15}) at (\d{4}-\d\d-\d\dT\d\d:\d\d:\d\d\.\d{3}Z)")
+UTC_TEXT = "# utc"
+"""The line that says that the multiplexer sends FIG 0/10."""
 HELD = re.compile(rb"# (?:held (\d{1,15})|not held)")
 STEP = re.compile(rb"contact (\d{1,2}) (?:closed|open)|frames (\d{1,7})")
 PLAIN = re.compile(rb"(frames \d{1,7})(?: #.*)?")
@@ -63,6 +66,8 @@ class Past:
     """When the last of them came, as the log says it; nothing if it does not."""
     held: Optional[int] = None
     """The frame of the plan whose configuration was held at the end; None if none was."""
+    has_utc: bool = False
+    """Whether the multiplexer sent FIG 0/10."""
     size: int = 0
     """The bytes of the whole lines."""
 
@@ -110,7 +115,7 @@ def head_of(head: "re.Match[bytes]", past: Optional[Past]) -> Past:
         datetime.strptime(start, "time %H:%M:%S")
     fresh = Past(int(head[1]), start, head[3].decode("ascii"))
     if past is not None:
-        fresh.frames, fresh.wall_text, fresh.held = past.frames, past.wall_text, past.held
+        fresh.frames, fresh.wall_text, fresh.held, fresh.has_utc = past.frames, past.wall_text, past.held, past.has_utc
     fresh.wall_text = head[4] or fresh.wall_text
     return fresh
 
@@ -130,6 +135,7 @@ def note_of(past: Optional[Past], line: bytes) -> Optional[Past]:
             raise ValueError(f"{int(note[2])} frames so far, but there are {past.frames}")
         if int(note[1]) != past.due():
             raise ValueError(f"count {int(note[1])}, but {past.due()} follows")
+    past.has_utc = past.has_utc or line == UTC_TEXT.encode("ascii")
     held = HELD.fullmatch(line)
     if held:
         past.held = None if held[1] is None else int(held[1])

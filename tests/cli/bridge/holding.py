@@ -52,6 +52,15 @@ class Held(bridges.Case):
         last = subprocess.run([self.program, "check", "-"], input=fic, capture_output=True, check=False).stdout.decode().splitlines()[-1]
         self.assertEqual(last, f"frames {frames - skipped} skipped {3 * skipped} left over 0 damaged 0 swaps 0 faults 0")
 
+    def paced(self, feed, frames):
+        """What comes for frames that are given in real time."""
+        found, next_one = [], time.monotonic()
+        for frame in frames:
+            next_one += 0.024
+            time.sleep(max(0.0, next_one - time.monotonic()))
+            found += feed.through([frame])
+        return found
+
     def jumped(self, form, first, step, frames=40, options="--log l", script=bridges.MOVES):
         """A bridge that was given frames up to a step of the count which nothing explains, and frames behind it: these are held."""
         feed = self.started(f"run {'moves' if script == bridges.MOVES else 'slow'}.code --in - --out - --state s {options}")
@@ -132,15 +141,6 @@ class Holds(Held):
 class Returns(Held):
     """The plan goes on."""
 
-    def paced(self, feed, frames):
-        """What comes for frames that are given in real time."""
-        found, next_one = [], time.monotonic()
-        for frame in frames:
-            next_one += 0.024
-            time.sleep(max(0.0, next_one - time.monotonic()))
-            found += feed.through([frame])
-        return found
-
     def test_it_goes_on_as_soon_as_counts_and_clock_agree(self):
         """A step of 400 comes at once, but is 9.6 s: where the stream rests for 9 s it agrees, within 3 s. At frame 308 sub-channel 1 was
         on air, and 2 was announced: so that is held."""
@@ -182,6 +182,13 @@ class Returns(Held):
         self.assertEqual(self.listened(fic), (["sub 2 at 24 size 24 eep 3-A"], False))
 
 
+def clock(seconds):
+    """A FIB with a FIG 0/10 of a time in seconds since 1970."""
+    days, rest = divmod(round(seconds * 1000), 86_400_000)
+    bits = f"0{days + 40587:017b}101{rest // 3_600_000:05b}{rest // 60_000 % 60:06b}{rest // 1000 % 60:06b}{rest % 1000:010b}"
+    return bridges.fib("070A" + int(bits, 2).to_bytes(6, "big").hex())
+
+
 class Resumes(Held):
     """A log that ends while something is held, or with which the count does not agree."""
 
@@ -219,6 +226,30 @@ class Resumes(Held):
                 self.assertEqual(status, 0, messages)
                 self.is_held(out, script, count + 440, 40, form)
                 (self.folder / "l").unlink()
+
+    def test_a_clock_that_is_an_hour_wrong_is_not_believed(self):
+        """The multiplexer sends FIG 0/10, and the log says so. After 240 s of outage, 30 turns of the counts too many by the host's clock,
+        the bridge waits for it, and holds meanwhile; then it knows."""
+        for ahead, goes_on in ((0.0, True), (-3600.0, False)):
+            feed = self.started("run slow.code --in - --out - --log l")
+            fics = bridges.fics(self.own(100))
+            feed.through(made("edi", b"".join([fics[0][:64] + clock(time.time() + ahead), *fics[1:]])))
+            self.assertEqual(feed.end()[0], 0)
+            self.assertIn(b"\n# utc\n", self.read("l"))
+            self.log_at(240.0 if goes_on else 3600.0 + 240.0)
+            feed = self.started("run slow.code --in - --out - --log l --tolerance 30 --state s")
+            # 10,000 frames later the count is what it would be.
+            fics = bridges.fics(self.own(400, 100))
+            held = b"".join(feed.through(made("edi", b"".join(fics[:20]), 100)))
+            self.is_held(held, FIRST, 100, 20)
+            fics[20] = fics[20][:64] + clock(time.time() + ahead)
+            self.paced(feed, made("edi", b"".join(fics[20:400 if goes_on else 60]), 120))
+            status, _, messages = feed.end()
+            self.assertEqual(status, 0, messages)
+            self.assertRegex(messages, r"a step of 0, after \d+\.\d s by the clock, and no FIG 0/10 has come yet: what is on air is held")
+            self.assertEqual("the plan goes on with its frame 10" in messages, goes_on, messages)
+            self.assertEqual("no step above 250 frames is believed by this clock" in messages, not goes_on)
+            (self.folder / "l").unlink()
 
     def test_compact_keeps_what_is_held(self):
         feed, _, count = self.jumped("edi", 60, 1200, 400)
