@@ -3,14 +3,15 @@
 
     bench/bridge_simulation.py [FRAMES [SEED ..]]
 
-The classes of the bridge run with a clock that is set, real children `dabplan live` and `dabplan merge`, and a multiplexer, a network and
-a disk that fail: the bridge is killed and started again with its log; the multiplexer stops, is started again with a count near that of
-the clock, or with any count; it pauses and goes on with the next count, after 118 to 122 s too; the bridge stands still, and a backlog
-comes at once; frames are lost, damaged, come twice or in another order; bytes of others come between them; contacts are given; the disk
-of the log is full for a while. Each FIB that goes out is compared with that of `dabplan live` alone; while a configuration is held, each
-is decoded, and has to be of that configuration. A receiver takes all of them, and has to find no swap that was not announced. A line for
-each seed says what was found; the exit status is 0 if nothing was wrong. Of seeds that 3 divides the stream is ETI, of the next ones EDI,
-of those behind EDI in datagrams.
+The classes of the bridge run with a clock that is set, real children `dabplan live` and `dabplan merge`, and a
+multiplexer, a network and a disk that fail: the bridge is killed and started again with its log; the multiplexer stops,
+is started again with a count near that of the clock, or with any count; it pauses and goes on with the next count,
+after 118 to 122 s too; the bridge stands still, and a backlog comes at once; frames are lost, damaged, come twice or in
+another order; bytes of others come between them; contacts are given; the disk of the log is full for a while. Each FIB
+that goes out is compared with that of `dabplan live` alone; while a configuration is held, each is decoded, and has to
+be of that configuration. A receiver takes all of them, and has to find no swap that was not announced. A line for each
+seed says what was found; the exit status is 0 if nothing was wrong. Of seeds that 3 divides the stream is ETI, of the
+next ones EDI, of those behind EDI in datagrams.
 """
 import contextlib
 import gc
@@ -86,6 +87,10 @@ class Life:
     def run(self):
         """Until it is killed."""
         world, status = self._world, state.State()
+        if world.log.exists():
+            # Another file by this name: nothing that is left of the last life here has a hold on it.
+            world.log.with_suffix(".new").write_bytes(world.log.read_bytes())
+            world.log.with_suffix(".new").replace(world.log)
         self._log = log.Log(str(world.log), 250, False, status)
         wish = beginning.Wish(program=world.program)
         self._bridge = bridge.Bridge(wish, plan.plan_of(str(world.code)), self._log, world, fifos.Monitor(None), status,

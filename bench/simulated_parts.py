@@ -1,4 +1,5 @@
-"""Parts of `bridge_simulation.py`: a clock that is set, a disk that is full, the plan's frames from `dabplan live` alone, and a receiver.
+"""Parts of `bridge_simulation.py`: a clock that is set, a disk that is full, the plan's frames from `dabplan live`
+alone, and a receiver.
 
 Nothing here comes from the bridge: what FIBs say is decoded here, by the standard."""
 import binascii
@@ -183,8 +184,8 @@ def entries_of(body):
 
 
 def decoded(fic):
-    """What a FIC says: its FIG 0/0 as (count, low of the swap or None), the entries of the current and of the next configuration. None
-    where a CRC is wrong."""
+    """What a FIC says: its FIG 0/0 as (count, low of the swap or None), the entries of the current and of the next
+    configuration. None where a CRC is wrong."""
     heads, current, following = [], set(), set()
     for at in range(0, len(fic), 32):
         bodies = figs_of(fic[at:at + 32])
@@ -316,7 +317,8 @@ class Oracle:
         return self._kept.get(number)
 
     def configuration(self, number):
-        """The entries of the configuration that receivers hold after the frame of a number, or of the one that is announced there."""
+        """The entries of the configuration that receivers hold after the frame of a number, or of the one that is
+        announced there."""
         copy = Oracle(self._words[0], self._words[2], self.first, first_steps(self._steps, number + 1))
         try:
             return copy.settled(number)
@@ -384,8 +386,8 @@ class Oracle:
 
 
 def log_of(path):
-    """What a log says, read here: the count of the first frame, the steps, the frames, the wall time of the last of them, and the frame
-    whose configuration is held, or None; None without a log."""
+    """What a log says, read here: the count of the first frame, the steps, the frames, the wall time of the last of
+    them, and the frame whose configuration is held, or None; None without a log."""
     try:
         lines = [line.decode() for line in path.read_bytes().splitlines(True) if line.endswith(b"\n")]
     except FileNotFoundError:

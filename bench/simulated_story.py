@@ -1,4 +1,5 @@
-"""The story of `bridge_simulation.py`: what happens to a multiplexer, a network and the bridge, and what has to come of it."""
+"""The story of `bridge_simulation.py`: what happens to a multiplexer, a network and the bridge, and what has to come of
+it."""
 import enum
 import random
 

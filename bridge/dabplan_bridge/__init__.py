@@ -1,7 +1,7 @@
 """The bridge of dabplan: puts the FIBs of a plan into the ETI(NI) or EDI stream of a multiplexer, frame by frame.
 
-The bridge is tested, not proved. It has no rule of plans in it: what goes on air is what `dabplan live` and `dabplan merge`
-write. It needs Python 3.9 or later and its standard library.
+The bridge is tested, not proved. It has no rule of plans in it: what goes on air is what `dabplan live` and `dabplan
+merge` write. It needs Python 3.9 or later and its standard library.
 
 Modules, from the bytes up:
 

@@ -92,8 +92,8 @@ def of_sink(text: str) -> Address:
 
 
 def identity(path_or_descriptor: "str | int") -> Optional[Place]:
-    """What is the same for all names of a file: device and inode of a regular file or a FIFO, and for a path at which nothing is yet its
-    folder and its name. None for anything else."""
+    """What is the same for all names of a file: device and inode of a regular file or a FIFO, and for a path at which
+    nothing is yet its folder and its name. None for anything else."""
     try:
         known = os.stat(path_or_descriptor)
     except (OSError, ValueError):

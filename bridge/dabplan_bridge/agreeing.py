@@ -1,7 +1,7 @@
 """Packets of datagrams whose count steps: they are believed when three in a row agree.
 
-A datagram may be late, twice, or of somebody else. Packets that are due, one early, one late or twice are believed at once; any other one,
-and the first one of all, waits for two behind it with the counts that follow its own.
+A datagram may be late, twice, or of somebody else. Packets that are due, one early, one late or twice are believed at
+once; any other one, and the first one of all, waits for two behind it with the counts that follow its own.
 """
 from __future__ import annotations
 

@@ -16,7 +16,8 @@ from .plan import Plan
 from .player import Player
 from .state import Alarm, Phase, State
 
-TAKE_UP = "--resume-at COUNT plays the log to its end and goes on in the first frame of that count, --anew begins the plan anew"
+TAKE_UP = ("--resume-at COUNT plays the log to its end and goes on in the first frame of that count, "
+           "--anew begins the plan anew")
 """What takes up a plan that the bridge will not place by itself."""
 PAUSE = 1.0
 """The seconds of a pause, or of a step, behind which a line of the log is written at once."""
@@ -27,8 +28,8 @@ SLICE = 2500
 class Air:
     """The frames of a plan that has begun. `is_strict`: a count that is not explained ends it, and nothing is held."""
 
-    def __init__(self, program: str, plan: Plan, player: Player, follower: Follower, log: Log, contacts: Contacts, state: State,
-                 repeats: Repeats, is_strict: bool) -> None:
+    def __init__(self, program: str, plan: Plan, player: Player, follower: Follower, log: Log, contacts: Contacts,
+                 state: State, repeats: Repeats, is_strict: bool) -> None:
         self.player = player
         self.has_swapped = False
         """Whether a swap fell into the last frame, or into those before it that were not sent."""
@@ -52,8 +53,8 @@ class Air:
         return self.player.swap_in if self._holding is None else self._holding.swap_in
 
     def fic(self, frame: Frame, count: int, moment: Moment, at: int) -> Optional[bytes]:
-        """The FIC of a frame of the stream, the one of index `at`; None where the plan has none, before its first frame.
-        `WillNotGuess` where its count is not explained, if that is to end the bridge."""
+        """The FIC of a frame of the stream, the one of index `at`; None where the plan has none, before its first
+        frame. `WillNotGuess` where its count is not explained, if that is to end the bridge."""
         self.has_swapped = False
         follower = self._follower
         number = follower.number_of(count, moment)
@@ -108,7 +109,8 @@ class Air:
         return made
 
     def _held(self, frame: Frame, number: Optional[int], count: int, moment: Moment, at: int) -> bytes:
-        """The FIC of a frame while a configuration is held. `number` is that of the plan's frame where counts and clock agree."""
+        """The FIC of a frame while a configuration is held. `number` is that of the plan's frame where counts and clock
+        agree."""
         holding = self._holding or self._begin_hold(at)
         self._catch_up(number if number is not None else self._follower.by_clock(moment))
         if number is not None and number == self.player.made and not holding.is_changing:
@@ -137,7 +139,8 @@ class Air:
         return self._holding
 
     def _catch_up(self, number: int) -> None:
-        """Lets the plan make its frames before the one of a number, some at a time: it stays in its day, and gets its contacts."""
+        """Lets the plan make its frames before the one of a number, some at a time: it stays in its day, and gets its
+        contacts."""
         frames = min(number - self.player.made, SLICE)
         lines = self._contacts.lines()
         if lines:
@@ -166,7 +169,8 @@ class Air:
         self._holding = None
         self._follower.go_on(number, moment)
         self._state.phase = Phase.FOLLOWING
-        self._state.clear(Alarm.HELD, f"frame {at}: counts and clock agree again: the plan goes on with its frame {number}")
+        text = f"frame {at}: counts and clock agree again: the plan goes on with its frame {number}"
+        self._state.clear(Alarm.HELD, text)
         self._log.held(None)
         made = self._planned(frame, number, moment)
         assert made is not None

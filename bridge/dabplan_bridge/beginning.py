@@ -1,4 +1,5 @@
-"""How a plan begins, or goes on by its log: in which frame of the stream, with which of its own, and at which time of day."""
+"""How a plan begins, or goes on by its log: in which frame of the stream, with which of its own, and at which time of
+day."""
 from __future__ import annotations
 
 import time
@@ -25,7 +26,8 @@ from .utc import UtcWatch
 HOUR_FRAMES = DAY_FRAMES // 24
 """The frames of an hour."""
 FAR = 100_000
-"""Where more frames were missed, the plan is played anew from its log: `dabplan live` skips them faster than they are made."""
+"""Where more frames were missed, the plan is played anew from its log: `dabplan live` skips them faster than they are
+made."""
 
 
 @dataclass(frozen=True)
@@ -105,8 +107,8 @@ class Beginning:
         return not is_waiting
 
     def begin(self, here: Arrival, fit: Fit) -> Air:
-        """The plan begins, or goes on, in this frame. `DoesNotFit` where it does not fit the stream, `WillNotGuess` where its count is
-        not explained and that is to end the bridge."""
+        """The plan begins, or goes on, in this frame. `DoesNotFit` where it does not fit the stream, `WillNotGuess`
+        where its count is not explained and that is to end the bridge."""
         fit.refuse_ensemble(here.frame)
         past = self._log.past
         if past is None:
@@ -135,7 +137,8 @@ class Beginning:
         return self._following(self._player, skip, here, f"frame {here.at}: the plan begins at count {here.count}")
 
     def _moved(self, past: Past, here: Arrival, fit: Fit) -> Air:
-        """A plan that is taken up at any count. The frames of the time since then belong to its day, and are not sent."""
+        """A plan that is taken up at any count. The frames of the time since then belong to its day, and are not
+        sent."""
         has_time = past.wall is not None and self._wish.has_clock
         seconds = here.moment.wall - (past.wall or 0.0) - FRAME_SECONDS if has_time else 0.0
         start = moved(past, here.count, max(0, round(seconds / FRAME_SECONDS)))
@@ -157,7 +160,8 @@ class Beginning:
         fit.refuse(here.frame, player.coming, False)
         missed, behind = max(0, number - past.frames), max(0, past.frames - number)
         again = f"; {number_of(behind)} sent again" if behind else ""
-        say(f"resumed after {number_of(past.frames)}; {number_of(missed)} {'was' if missed == 1 else 'were'} not sent{again}")
+        were = "was" if missed == 1 else "were"
+        say(f"resumed after {number_of(past.frames)}; {number_of(missed)} {were} not sent{again}")
         return self._following(player, number, here, f"frame {here.at}: the plan goes on at count {here.count}")
 
     def _following(self, player: Player, number: int, here: Arrival, text: str) -> Air:
@@ -208,7 +212,8 @@ class Beginning:
         before = 0 if self._log.past is None else self._log.past.frames
         if player.made > before:
             self._log.count(player.made - before, here.moment.wall)
-        return Air(wish.program, self._plan, player, follower, self._log, self._contacts, self._state, self._repeats, wish.is_strict)
+        return Air(wish.program, self._plan, player, follower, self._log, self._contacts, self._state, self._repeats,
+                   wish.is_strict)
 
     def _follower(self, start: Start) -> Follower:
         return Follower(start.first, self._wish.tolerance, self._wish.has_clock, self._utc)
@@ -240,21 +245,23 @@ class Beginning:
         if wish.clock_is_fig:
             found = day_frame_of(utc_of(here.frame.fic()) or 0.0)
             day = round(found + wish.offset * HOUR_FRAMES - wish.skip) % DAY_FRAMES
-            say(f"frame {here.at}: FIG 0/10 gives {text_of_frame(round(found))} UTC; the plan's first frame has {text_of_frame(day)}")
+            say(f"frame {here.at}: FIG 0/10 gives {text_of_frame(round(found))} UTC; the plan's first frame has "
+                f"{text_of_frame(day)}")
             return f"day {day}"
         if wish.time == "now":
             wall = here.moment.wall
             zone = time.localtime(wall).tm_gmtoff if wish.is_local else 0
             day = round(day_frame_of(wall + zone) - wish.skip) % DAY_FRAMES
-            say(f"frame {here.at}: the plan's first frame has {text_of_frame(day)} {'local time' if wish.is_local else 'UTC'}")
+            name = "local time" if wish.is_local else "UTC"
+            say(f"frame {here.at}: the plan's first frame has {text_of_frame(day)} {name}")
             return f"day {day}"
         return f"time {wish.time or '-'}"
 
 
 def text_of_frame(day: int) -> str:
     """A frame of the day as its time, with milliseconds."""
-    milliseconds = round(day * FRAME_SECONDS * 1000)
-    return f"{milliseconds // 3_600_000:02}:{milliseconds // 60_000 % 60:02}:{milliseconds // 1000 % 60:02}.{milliseconds % 1000:03}"
+    seconds, milliseconds = divmod(round(day * FRAME_SECONDS * 1000), 1000)
+    return f"{seconds // 3600:02}:{seconds // 60 % 60:02}:{seconds % 60:02}.{milliseconds:03}"
 
 
 def first_steps(steps: Iterable[bytes], frames: int) -> Iterator[bytes]:

@@ -24,7 +24,8 @@ from .statefile import StateFile
 class Bridge:
     """Puts a plan into a stream, from which `read` gets the frames."""
 
-    def __init__(self, wish: Wish, plan: Plan, log: Log, contacts: Contacts, monitor: Monitor, state: State, file: StateFile) -> None:
+    def __init__(self, wish: Wish, plan: Plan, log: Log, contacts: Contacts, monitor: Monitor, state: State,
+                 file: StateFile) -> None:
         self.state = state
         self._plan, self._log = plan, log
         self._contacts, self._monitor = contacts, monitor

@@ -1,5 +1,5 @@
-"""The two children: `dabplan live`, which makes the frames of the plan, and behind it `dabplan merge`, which adds the multiplexer's
-other FIGs."""
+"""The two children: `dabplan live`, which makes the frames of the plan, and behind it `dabplan merge`, which adds the
+multiplexer's other FIGs."""
 from __future__ import annotations
 
 import io
@@ -59,7 +59,8 @@ class Progress:
 class Child:
     """A child with pipes."""
 
-    def __init__(self, words: List[str], stdin: int, pass_fds: Iterable[int] = (), stderr: Optional[int] = None) -> None:
+    def __init__(self, words: List[str], stdin: int, pass_fds: Iterable[int] = (),
+                 stderr: Optional[int] = None) -> None:
         self.name = f"'dabplan {words[1]}'"
         try:
             self.process = subprocess.Popen(words, stdin=stdin, stdout=subprocess.PIPE, stderr=stderr, bufsize=0,
@@ -112,7 +113,8 @@ class Code:
 
 
 class StatusLines:
-    """The messages of `dabplan live --status`, but for those about frames before one: they were written when these went out."""
+    """The messages of `dabplan live --status`, but for those about frames before one: they were written when these went
+    out."""
 
     def __init__(self, pipe: IO[bytes], first: int) -> None:
         self._pipe = pipe
@@ -132,7 +134,8 @@ class StatusLines:
 
 
 class Live:
-    """`dabplan live` alone: the frames of a plan. Where `told_from` is given, what happens from that frame on is reported."""
+    """`dabplan live` alone: the frames of a plan. Where `told_from` is given, what happens from that frame on is
+    reported."""
 
     def __init__(self, program: str, code: Code, options: List[str], told_from: Optional[int] = None) -> None:
         status, stderr = ([], None) if told_from is None else (["--status"], subprocess.PIPE)
@@ -170,7 +173,8 @@ class Live:
 class Chain:
     """`dabplan live`, and behind it `dabplan merge`."""
 
-    def __init__(self, program: str, code: Code, mode: int, options: List[str], told_from: Optional[int] = None) -> None:
+    def __init__(self, program: str, code: Code, mode: int, options: List[str],
+                 told_from: Optional[int] = None) -> None:
         self.size = size_of(mode)
         self._live = Live(program, code, options, told_from)
         reader, writer = os.pipe()
@@ -216,7 +220,8 @@ class Chain:
             frames -= now
 
     def take_up(self, lines: Iterable[bytes], frames: int) -> Iterator[bytes]:
-        """The FICs of the last frames that the plan makes by these lines; those before are skipped by an option of `dabplan live`."""
+        """The FICs of the last frames that the plan makes by these lines; those before are skipped by an option of
+        `dabplan live`."""
         ends_early: List[Trouble] = []
         feeder = threading.Thread(target=self._fed, args=(lines, ends_early), daemon=True)
         feeder.start()

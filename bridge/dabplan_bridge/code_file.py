@@ -1,8 +1,9 @@
-"""What a code file says that the bridge has to know: its header, and the sub-channels of each configuration of the plan.
+"""What a code file says that the bridge has to know: its header, and the sub-channels of each configuration of the
+plan.
 
-`dabplan live` verifies the file, and plays it; here the sub-channels of all configurations are wanted before the first of them goes out.
-The table of labels has the current and the next configuration wherever ways meet; from each label on instructions follow in order, each
-edits the next configuration, and a commit makes it one that goes on air.
+`dabplan live` verifies the file, and plays it; here the sub-channels of all configurations are wanted before the first
+of them goes out. The table of labels has the current and the next configuration wherever ways meet; from each label on
+instructions follow in order, each edits the next configuration, and a commit makes it one that goes on air.
 """
 from __future__ import annotations
 
@@ -14,8 +15,8 @@ from .layout import SubChannel
 MAGIC = b"DABP"
 SERVICE_SIZES = (2, 4)
 """The bytes of an SId, by its kind."""
-SIMPLE = {0x01: 2, 0x02: 4, 0x03: 2, 0x04: 2, 0x05: 2, 0x06: 0, 0x07: 0, 0x08: 0, 0x09: 10, 0x18: 8, 0x19: 2, 0x20: 3, 0x21: 2, 0x22: 3,
-          0x23: 3, 0x24: 10}
+SIMPLE = {0x01: 2, 0x02: 4, 0x03: 2, 0x04: 2, 0x05: 2, 0x06: 0, 0x07: 0, 0x08: 0, 0x09: 10, 0x18: 8, 0x19: 2,
+          0x20: 3, 0x21: 2, 0x22: 3, 0x23: 3, 0x24: 10}
 """The bytes of operands, by the opcode, of instructions that change no sub-channel and name no service."""
 NAMES_SERVICE = {0x14: 0, 0x15: 0, 0x16: 3, 0x17: 3}
 """The bytes behind the SId, of instructions that name a service."""
@@ -140,8 +141,8 @@ class Walk:
 
 
 def configurations_of(data: bytes) -> List[Dict[int, SubChannel]]:
-    """The sub-channels of each configuration that a plan may bring on air, those of its first one first; `NoCode` if these bytes are no
-    code file."""
+    """The sub-channels of each configuration that a plan may bring on air, those of its first one first; `NoCode` if
+    these bytes are no code file."""
     fields = Fields(data)
     header_of(fields)
     configs, labels, instructions = fields.number(2), fields.number(2), fields.number(2)

@@ -25,8 +25,8 @@ FOLDER = pathlib.Path(__file__).resolve().parents[1]
 DESCRIPTION = """\
 Puts the FIBs of a plan into the ETI(NI) or EDI stream of a multiplexer, frame by frame.
 
-Streams are files, FIFOs, '-' (standard input or output), tcp://HOST:PORT and udp://HOST:PORT. Results go to standard output,
-messages to standard error. The program is tested, not proved."""
+Streams are files, FIFOs, '-' (standard input or output), tcp://HOST:PORT and udp://HOST:PORT. Results go to standard
+output, messages to standard error. The program is tested, not proved."""
 FORMAT_HELP = "the format; found by the first bytes where it is not given"
 STATUSES = """\
 exit status:
@@ -85,11 +85,13 @@ def is_program(path: str) -> bool:
 
 def on_path(name: str) -> Optional[str]:
     """The program of this name on the path; None if there is none."""
-    return next((found for found in (os.path.join(folder, name) for folder in os.get_exec_path()) if is_program(found)), None)
+    paths = (os.path.join(folder, name) for folder in os.get_exec_path())
+    return next((found for found in paths if is_program(found)), None)
 
 
 def own_program() -> Optional[str]:
-    """The program `dabplan` beside the bridge, in a clone or as installed; else that on the path; None if there is none."""
+    """The program `dabplan` beside the bridge, in a clone or as installed; else that on the path; None if there is
+    none."""
     beside = [FOLDER.parent / "dabplan", FOLDER.parents[2] / "bin" / "dabplan" if len(FOLDER.parents) > 2 else FOLDER]
     return next((str(path) for path in beside if is_program(str(path))), on_path("dabplan"))
 
@@ -120,17 +122,20 @@ def options_of(words: argparse.Namespace) -> Options:
             raise BadCommand(f"--{name.replace('_', '-')} is an option of --log")
     if words.zone is not None and words.time != "now":
         raise BadCommand("--zone is an option of --time now")
-    wish = Wish(program=program_of(words.dabplan), time=words.time, is_local=words.zone == "local", clock_is_fig=words.clock is not None,
-                offset=words.offset or 0.0, skip=words.skip, resume_at=words.resume_at, tolerance=words.tolerance,
-                is_strict=words.strict, is_told=words.status, has_clock=not is_regular(words.source))
-    return Options(code=words.code, source=words.source, sinks=words.sinks, wish=wish, format=words.format, contacts=words.contacts,
-                   log=words.log, every=words.every or 250, anew=words.anew, monitor=words.monitor, state=words.state)
+    wish = Wish(program=program_of(words.dabplan), time=words.time, is_local=words.zone == "local",
+                clock_is_fig=words.clock is not None, offset=words.offset or 0.0, skip=words.skip,
+                resume_at=words.resume_at, tolerance=words.tolerance, is_strict=words.strict, is_told=words.status,
+                has_clock=not is_regular(words.source))
+    return Options(code=words.code, source=words.source, sinks=words.sinks, wish=wish, format=words.format,
+                   contacts=words.contacts, log=words.log, every=words.every or 250, anew=words.anew,
+                   monitor=words.monitor, state=words.state)
 
 
 def add_times(one: argparse.ArgumentParser) -> None:
     """The options of `run` that say where in the plan, and at which time of day, it begins."""
     one.add_argument("--time", metavar="HH:MM:SS", type=time_of_day,
-                     help="the time of the plan's first frame, those skipped included; now: the clock when its first one on air comes")
+                     help="the time of the plan's first frame, those skipped included; now: the clock when its first "
+                          "one on air comes")
     one.add_argument("--zone", choices=("utc", "local"), help="the zone of --time now [default: utc]")
     one.add_argument("--clock", choices=("fig",), help="take that time from FIG 0/10 of the stream, which is in UTC")
     one.add_argument("--offset", metavar="H", type=decimal(-24, 24, "hours"), help="the hours to be added to FIG 0/10")
@@ -152,16 +157,19 @@ def add_run(commands: "argparse._SubParsersAction[argparse.ArgumentParser]") -> 
     """The command `run` and its options."""
     one = commands.add_parser("run", help="plays a plan into a stream")
     one.add_argument("code", metavar="CODE", help="the code file of the plan")
-    one.add_argument("--in", metavar="IN", dest="source", type=input_of, required=True, help="the stream of the multiplexer")
+    one.add_argument("--in", metavar="IN", dest="source", type=input_of, required=True,
+                     help="the stream of the multiplexer")
     one.add_argument("--out", metavar="OUT", dest="sinks", type=output_of, required=True, action="append",
-                     help="the stream for the modulator, once or more; tcp://:PORT is a server, on the loopback address unless named")
+                     help="the stream for the modulator, once or more; tcp://:PORT is a server, on the loopback "
+                          "address unless another is named")
     one.add_argument("--format", choices=FORMATS, help=FORMAT_HELP)
     one.add_argument("--contacts", metavar="FIFO", help="lines 'contact 3 closed' and 'contact 3 open'; made if absent")
     add_times(one)
     add_log(one)
     one.add_argument("--tolerance", metavar="S", type=decimal(0, 59, "seconds"), default=3.0,
                      help="the seconds by which count and clock may differ [default: 3]")
-    one.add_argument("--strict", action="store_true", help="end with status 4 where a count is not explained; nothing is held")
+    one.add_argument("--strict", action="store_true",
+                     help="end with status 4 where a count is not explained; nothing is held")
     one.add_argument("--monitor", metavar="FIFO", help="the FIBs of what goes out, for a monitor; made if absent")
     one.add_argument("--state", metavar="FILE", help="what the bridge does, as a textfile for Prometheus")
     one.add_argument("--status", action="store_true", help="report each notice and each swap")
@@ -206,12 +214,15 @@ def unexpected(kind: Type[BaseException], fault: BaseException, trace: Optional[
     """Says in one line what no other line says."""
     while trace is not None and trace.tb_next is not None:
         trace = trace.tb_next
-    place = f" ({os.path.basename(trace.tb_frame.f_code.co_filename)}, line {trace.tb_lineno})" if trace is not None else ""
+    place = ""
+    if trace is not None:
+        place = f" ({os.path.basename(trace.tb_frame.f_code.co_filename)}, line {trace.tb_lineno})"
     say(f"{kind.__name__}: {fault}{place}".replace("\n", " "))
 
 
 def fill_standard() -> None:
-    """Puts something that fails in the place of a standard stream that is closed: else the next file would be opened as it."""
+    """Puts something that fails in the place of a standard stream that is closed: else the next file would be opened as
+    it."""
     for descriptor, flags in enumerate((os.O_WRONLY, os.O_RDONLY, os.O_WRONLY)):
         try:
             os.fstat(descriptor)

@@ -37,8 +37,9 @@ def keep_rights(file: int, known: os.stat_result) -> None:
 
 
 def compacted(path: str, file: int, size: int) -> Tuple[int, int]:
-    """Writes a log that is open and locked anew, beside it, and puts the new one in its place, open and locked; returns it, and its
-    bytes. `size` is that of the old one's whole lines. `Trouble` or `OSError` if that fails, and the log stays as it is."""
+    """Writes a log that is open and locked anew, beside it, and puts the new one in its place, open and locked; returns
+    it, and its bytes. `size` is that of the old one's whole lines. `Trouble` or `OSError` if that fails, and the log
+    stays as it is."""
     past = past_of(path) if stat.S_ISREG(os.fstat(file).st_mode) else None
     if past is None or past.size != size:
         raise Trouble(f"{path}: no log of this program")

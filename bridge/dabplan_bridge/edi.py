@@ -1,8 +1,8 @@
 """EDI: packets of the layer AF (TS 102 821, clause 6) with TAG items of ETI (TS 102 693, clause 5).
 
-An AF packet: `AF`, the length of its payload in 4 bytes, a sequence number of 2, a byte of flags, `T`, the TAG items, and a CRC of
-2 bytes over all before it. A TAG item: its name of 4 bytes, its length in bits in 4, its value. `deti` has the header of the frame
-and the FIC; `est1` and so on have the streams.
+An AF packet: `AF`, the length of its payload in 4 bytes, a sequence number of 2, a byte of flags, `T`, the TAG items,
+and a CRC of 2 bytes over all before it. A TAG item: its name of 4 bytes, its length in bits in 4, its value. `deti` has
+the header of the frame and the FIC; `est1` and so on have the streams.
 """
 from __future__ import annotations
 
@@ -32,7 +32,8 @@ NO_SYNC = "no synchronisation"
 
 
 def packet_length(data: bytes, at: int = 0) -> Optional[int]:
-    """The bytes of the AF packet that begins at an offset, by its header; None if no AF packet of TAG items begins there."""
+    """The bytes of the AF packet that begins at an offset, by its header; None if no AF packet of TAG items begins
+    there."""
     if data[at:at + 2] != b"AF" or data[at + 9:at + 10] != b"T" or data[at + 8] & 0x70 != 0x10:
         return None
     payload = int.from_bytes(data[at + 2:at + 6], "big")
@@ -40,8 +41,8 @@ def packet_length(data: bytes, at: int = 0) -> Optional[int]:
 
 
 def tag_items(data: bytes) -> Iterator[Tuple[bytes, int, int]]:
-    """The TAG items of an AF packet: the name, and the offsets of the value and of its end. The items end where one is longer than
-    the packet."""
+    """The TAG items of an AF packet: the name, and the offsets of the value and of its end. The items end where one is
+    longer than the packet."""
     at, end = AF_HEADER, len(data) - 2
     while at + 8 <= end:
         bits = int.from_bytes(data[at + 4:at + 8], "big")
@@ -80,8 +81,8 @@ def frame_of(data: bytes) -> Item:
 
 
 def stamp_of(data: bytes) -> Optional[float]:
-    """The time stamp of 8 bytes, in seconds since 1970: UTCO 1, SECONDS 4 since 2000, TSTA 3 in units of 1/16,384,000 s (TS 102 693,
-    5.1.1). None where there is none: SECONDS is 0, or all bits of TSTA are 1."""
+    """The time stamp of 8 bytes, in seconds since 1970: UTCO 1, SECONDS 4 since 2000, TSTA 3 in units of 1/16,384,000 s
+    (TS 102 693, 5.1.1). None where there is none: SECONDS is 0, or all bits of TSTA are 1."""
     seconds, parts = int.from_bytes(data[1:5], "big"), int.from_bytes(data[5:8], "big")
     if not seconds or parts == NO_TSTA:
         return None
@@ -89,7 +90,8 @@ def stamp_of(data: bytes) -> Optional[float]:
 
 
 class Starts:
-    """Where packets begin in bytes that are in doubt. Each place is looked at once, and the CRC of each packet is computed once."""
+    """Where packets begin in bytes that are in doubt. Each place is looked at once, and the CRC of each packet is
+    computed once."""
 
     def __init__(self) -> None:
         self._scanned = 0
@@ -97,15 +99,17 @@ class Starts:
         self._good: List[int] = []
 
     def first(self, data: bytearray, base: int, after: int, own: int) -> Optional[int]:
-        """The first offset behind `after` at which a whole, undamaged packet, or a fragment with an undamaged header, begins; None if
-        there is none. Offsets are those of the stream; `data` has its bytes from `base` on. No such thing is seen at `own`."""
+        """The first offset behind `after` at which a whole, undamaged packet, or a fragment with an undamaged header,
+        begins; None if there is none. Offsets are those of the stream; `data` has its bytes from `base` on. No such
+        thing is seen at `own`."""
         self._scanned = max(self._scanned, after + 1)
         for name in (b"AF", b"PF"):
             self._find(data, base, name)
         self._scanned = max(self._scanned, base + len(data) - MOST_HEADER + 1)
         while self._ends and self._ends[0][0] <= base + len(data):
             end, start = heapq.heappop(self._ends)
-            if start > after and start != own and not wrong_by(bytes(data[start - base:end - base]), 0, end - start - 2):
+            packet = bytes(data[start - base:end - base]) if start > after and start != own else b""
+            if packet and not wrong_by(packet, 0, len(packet) - 2):
                 heapq.heappush(self._good, start)
         while self._good and (self._good[0] <= after or self._good[0] == own):
             heapq.heappop(self._good)
@@ -126,8 +130,8 @@ class Starts:
 
 
 class EdiCutter:
-    """Cuts the bytes of a stream into AF packets, also those in fragments of PFT, and finds the next packet where bytes are lost or
-    too many."""
+    """Cuts the bytes of a stream into AF packets, also those in fragments of PFT, and finds the next packet where bytes
+    are lost or too many."""
 
     def __init__(self) -> None:
         self._bytes = bytearray()
@@ -205,7 +209,8 @@ class EdiCutter:
     def _fragment(self, at: int, left: int, fragment: PfHeader, found: List[Item]) -> int:
         """Takes a fragment of PFT; one in which another packet begins is none."""
         is_packet = fragment.count == 1 and not fragment.rs_k
-        inner = self._begun(at, min(left, fragment.length), fragment.size if is_packet and self._fills(at, fragment) else 0)
+        own = fragment.size if is_packet and self._fills(at, fragment) else 0
+        inner = self._begun(at, min(left, fragment.length), own)
         if inner or left < fragment.length:
             return self._lose(inner, found)
         self._settle(found)
@@ -220,8 +225,8 @@ class EdiCutter:
         return packet_length(bytes(self._bytes[first:first + AF_HEADER])) == fragment.payload
 
     def _begun(self, at: int, length: int, own: int = 0) -> int:
-        """The bytes before a whole, undamaged packet, or a fragment with an undamaged header, that begins within so many bytes
-        behind an offset; 0 if there is none. One that begins `own` bytes behind it is not meant."""
+        """The bytes before a whole, undamaged packet, or a fragment with an undamaged header, that begins within so
+        many bytes behind an offset; 0 if there is none. One that begins `own` bytes behind it is not meant."""
         here = self._base + at
         start = self._starts.first(self._bytes, self._base, here, here + own)
         return start - here if start is not None and start < here + length else 0

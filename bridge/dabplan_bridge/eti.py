@@ -1,7 +1,7 @@
 """Raw ETI(NI): frames of 6,144 bytes (ETS 300 799, clause 5).
 
-ERR 1 byte, FSYNC 3; FCT 1, FICF 1 bit and NST 7 bits, FP 3, MID 2 and FL 11 bits; STC 4 bytes for each of NST; MNSC 2; a CRC over
-these from FCT on; the FIC, the streams, and a CRC over both; RFU 2, TIST 4; padding of 55 hexadecimal.
+ERR 1 byte, FSYNC 3; FCT 1, FICF 1 bit and NST 7 bits, FP 3, MID 2 and FL 11 bits; STC 4 bytes for each of NST; MNSC 2;
+a CRC over these from FCT on; the FIC, the streams, and a CRC over both; RFU 2, TIST 4; padding of 55 hexadecimal.
 """
 from __future__ import annotations
 
@@ -62,8 +62,8 @@ class EtiCutter:
         self._bytes.clear()
 
     def feed(self, data: bytes) -> List[Item]:
-        """The frames that are whole with these bytes. Bytes that are none are told when a frame follows, or a frame's worth is
-        lost."""
+        """The frames that are whole with these bytes. Bytes that are none are told when a frame follows, or a frame's
+        worth is lost."""
         self._bytes += data
         found: List[Item] = []
         at = 0
@@ -107,7 +107,8 @@ class EtiCutter:
 
 
 def next_start(data: bytes, first: int) -> Optional[int]:
-    """The first offset from `first` on at which a frame with an undamaged header begins; None if there is none in these bytes."""
+    """The first offset from `first` on at which a frame with an undamaged header begins; None if there is none in these
+    bytes."""
     starts = []
     for sync in FSYNCS:
         at = data.find(sync, first + 1)
@@ -126,8 +127,8 @@ def is_padded(frame: Frame) -> bool:
 
 
 def unsettled(data: bytes) -> int:
-    """How many bytes of a piece without synchronisation can be passed over: not those at its end in which a frame may begin
-    whose header is not whole yet."""
+    """How many bytes of a piece without synchronisation can be passed over: not those at its end in which a frame may
+    begin whose header is not whole yet."""
     last = len(data) - (8 + ENTRY * MOST_STREAMS + 4)
     starts = [at - 1 for at in (data.find(sync, last) for sync in FSYNCS) if at > 0]
     cut = min(starts, default=len(data) - 3)

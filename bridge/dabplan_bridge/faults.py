@@ -77,6 +77,11 @@ def why(fault: OSError) -> str:
     return fault.strerror or type(fault).__name__
 
 
+def reason_of(fault: Exception) -> str:
+    """The reason of a failed call, or of a path that can be none."""
+    return why(fault) if isinstance(fault, OSError) else str(fault)
+
+
 def number_of(frames: int) -> str:
     """A number of frames, as text."""
     return f"{frames} frame{'' if frames == 1 else 's'}"
@@ -91,8 +96,8 @@ def listed(texts: List[str], most: int = 8) -> str:
 class Repeats:
     """Messages that may come frame by frame: a few of each kind are written, the others are counted.
 
-    Of each kind at most `burst` messages are written within 250 frames (six seconds); the number of the others follows in a line
-    when the 250 frames are over, and at the end.
+    Of each kind at most `burst` messages are written within 250 frames (six seconds); the number of the others follows
+    in a line when the 250 frames are over, and at the end.
     """
 
     WINDOW = 250

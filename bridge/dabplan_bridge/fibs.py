@@ -1,6 +1,7 @@
 """FIBs and the FIGs that the bridge has to know: FIG 0/0, 0/1 and 0/10 of the ensemble itself (EN 300 401).
 
-A FIB has 30 data bytes and a CRC (clause 5.2.1). A FIC of a frame of 24 ms has three of them, in transmission mode III four.
+A FIB has 30 data bytes and a CRC (clause 5.2.1). A FIC of a frame of 24 ms has three of them, in transmission mode III
+four.
 """
 from __future__ import annotations
 
@@ -43,8 +44,8 @@ def size_of(mode: int) -> int:
 
 
 def figs(fib: bytes) -> Iterator[bytes]:
-    """The bodies of the FIGs of type 0 of this ensemble (OE 0) in a FIB: the byte of flags and extension, then the entries. A
-    damaged FIB has none."""
+    """The bodies of the FIGs of type 0 of this ensemble (OE 0) in a FIB: the byte of flags and extension, then the
+    entries. A damaged FIB has none."""
     if len(fib) != FIB or crc(fib[:30]) != int.from_bytes(fib[30:], "big"):
         return
     at = 0
@@ -76,7 +77,8 @@ class Ensemble:
 
 
 ENSEMBLES = (b"\x05\x00", b"\x06\x00")
-"""How a FIG 0/0 of the ensemble itself begins (EN 300 401, 6.4): type 0, 5 bytes, with a count of the occurrence 6, extension 0."""
+"""How a FIG 0/0 of the ensemble itself begins (EN 300 401, 6.4): type 0, 5 bytes, with a count of the occurrence 6,
+extension 0."""
 
 
 def ensemble_of(fic: bytes) -> Optional[Ensemble]:
@@ -98,13 +100,15 @@ LONG_DATE = b"\x07\x0a"
 
 
 def utc_of(fic: bytes) -> Optional[float]:
-    """The seconds since 1970, UTC, of the first FIG 0/10 in its long form (EN 300 401, 8.1.3.1); None if there is none."""
+    """The seconds since 1970, UTC, of the first FIG 0/10 in its long form (EN 300 401, 8.1.3.1); None if there is
+    none."""
     if LONG_DATE not in fic:
         return None
     for body in figs_of(fic):
         if body[0] & 0x1F == 10 and len(body) >= 7 and body[3] & 0x08:
             bits = int.from_bytes(body[1:7], "big")
-            hours, minutes, seconds, milliseconds = bits >> 22 & 0x1F, bits >> 16 & 0x3F, bits >> 10 & 0x3F, bits & 0x3FF
+            hours, minutes = bits >> 22 & 0x1F, bits >> 16 & 0x3F
+            seconds, milliseconds = bits >> 10 & 0x3F, bits & 0x3FF
             if hours < 24 and minutes < 60 and seconds < 61 and milliseconds < 1000:
                 days = (bits >> 30 & 0x1FFFF) - EPOCH_MJD
                 return ((days * 24 + hours) * 60 + minutes) * 60 + seconds + milliseconds / 1000

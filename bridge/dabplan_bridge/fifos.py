@@ -122,8 +122,8 @@ class Fifo:
 
 
 class Contacts:
-    """The lines of a FIFO, `contact 3 closed` or `contact 3 open`, without waiting for them; at most 16 for a frame, whatever is
-    written to it."""
+    """The lines of a FIFO, `contact 3 closed` or `contact 3 open`, without waiting for them; at most 16 for a frame,
+    whatever is written to it."""
 
     def __init__(self, path: Optional[str]) -> None:
         # Open for writing too: so it does not end where a writer does.
@@ -132,7 +132,8 @@ class Contacts:
         self._number = 0
 
     def lines(self) -> List[bytes]:
-        """The lines of contacts that came since the last call, without their line feeds. Others are reported, in one message."""
+        """The lines of contacts that came since the last call, without their line feeds. Others are reported, in one
+        message."""
         if self._fifo is None:
             return []
         self._fifo.look()
@@ -183,8 +184,8 @@ def number_of_lines(lines: int) -> str:
 class Monitor:
     """The FIBs of what goes out, in a FIFO, for whoever reads it.
 
-    Nothing waits for the reader: frames wait for it, a minute of them; what it does not take then is left out, frame by whole
-    frame, and reported.
+    Nothing waits for the reader: frames wait for it, a minute of them; what it does not take then is left out, frame by
+    whole frame, and reported.
     """
 
     def __init__(self, path: Optional[str]) -> None:

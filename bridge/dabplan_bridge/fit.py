@@ -1,4 +1,5 @@
-"""Whether the plan fits the multiplexer: its sub-channels against the header of each frame, and its ensemble against FIG 0/0."""
+"""Whether the plan fits the multiplexer: its sub-channels against the header of each frame, and its ensemble against
+FIG 0/0."""
 from __future__ import annotations
 
 from typing import Callable, Dict, List
@@ -22,8 +23,8 @@ class Fit:
         self._others: List[str] = []
 
     def refuse(self, frame: Frame, current: Dict[int, SubChannel], is_first: bool) -> None:
-        """Raises `DoesNotFit` where the plan's configuration is not that of the multiplexer. Where the plan begins, all its
-        configurations have to be; later the others are an alarm."""
+        """Raises `DoesNotFit` where the plan's configuration is not that of the multiplexer. Where the plan begins, all
+        its configurations have to be; later the others are an alarm."""
         there = sub_channels(frame.stc)
         wrong = differences(current, there)
         self._others = self._differences(there)

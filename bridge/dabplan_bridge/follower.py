@@ -1,8 +1,8 @@
 """Which frame of the plan belongs to a frame of the stream: by its count, and for large steps by the clock, or none.
 
-A step is the count of a frame less the one that was due, between -2500 and 2499; 0 is none. Counts begin again after 5000 frames,
-which are two minutes: so a large step does not tell how many of these went by. The time since the last frame that came in real time
-does. The plan's frames have numbers, its first one 0.
+A step is the count of a frame less the one that was due, between -2500 and 2499; 0 is none. Counts begin again after
+5000 frames, which are two minutes: so a large step does not tell how many of these went by. The time since the last
+frame that came in real time does. The plan's frames have numbers, its first one 0.
 
 | Phase | A frame comes | What it gets |
 |---|---|---|
@@ -10,12 +10,13 @@ does. The plan's frames have numbers, its first one 0.
 | following | its count is the one that is due | the plan's next frame |
 | following | a step of 1 to 250 | that frame of the plan; those before it are not sent |
 | following | a step of -1 to -250 | the frame of the plan that has this count, again |
-| following | another step, with which the time agrees | the frame of the plan that the time gives; those before it are not sent |
+| following | another step, and the time agrees | the frame of the plan that the time gives; those before are not sent |
 | following | any other | none: what is on air is held from here on |
-| holding | 25 frames in a row, in real time, and the time agrees with their counts | that frame of the plan, once it can go on |
+| holding | 25 frames in a row, in real time, and the time agrees | that frame of the plan, once it can go on |
 | holding | any other | none |
 
-Where there is no clock, as for a regular file, no time agrees with a step; it is held until the count is near the one that was due.
+Where there is no clock, as for a regular file, no time agrees with a step; it is held until the count is near the one
+that was due.
 """
 from __future__ import annotations
 
@@ -90,7 +91,8 @@ class Follower:
         self._row_since: Optional[Moment] = None
 
     def begin(self, number: int, moment: Moment) -> None:
-        """Follows from here on: the next frame gets the plan's frame of this number. `moment` is that of the frame before it."""
+        """Follows from here on: the next frame gets the plan's frame of this number. `moment` is that of the frame
+        before it."""
         self.phase, self.due, self._last = Phase.FOLLOWING, number, number - 1
         self._pace = Pace(number - 1, moment)
 
@@ -133,13 +135,14 @@ class Follower:
         self.due, self._last = number + 1, max(self._last, number)
 
     def by_clock(self, moment: Moment) -> int:
-        """The number of the plan's frame that is due at a moment, by the clock alone; without one, the frame that was due."""
+        """The number of the plan's frame that is due at a moment, by the clock alone; without one, the frame that was
+        due."""
         anchor = self._anchor()
         return anchor.number + int(moment.since(anchor.moment) / FRAME_SECONDS) if self._has_clock else self.due
 
     def wall_behind(self, made: int, moment: Moment) -> float:
-        """When the last of so many frames of the plan came, or comes, in seconds since 1970, where the frame before the one that is due
-        came at a moment."""
+        """When the last of so many frames of the plan came, or comes, in seconds since 1970, where the frame before the
+        one that is due came at a moment."""
         return moment.wall + (made - self.due) * FRAME_SECONDS
 
     def wall_of(self, number: int) -> float:
@@ -155,15 +158,17 @@ class Follower:
         return number
 
     def _by_clock(self, count: int, moment: Moment) -> Optional[int]:
-        """The number with this count that agrees with the time since the last frame in real time; None if there is none.
+        """The number with this count that agrees with the time since the last frame in real time; None if there is
+        none.
 
-        After a pause it is not known yet whether frames come in real time again. The time since the last frame is asked then too, and
-        where the two give different numbers there is none.
+        After a pause it is not known yet whether frames come in real time again. The time since the last frame is asked
+        then too, and where the two give different numbers there is none.
         """
         if not self._has_clock:
             return None
         anchor = self._anchor()
-        found = {self._since(number, then, count, moment) for number, then in ((anchor.number, anchor.moment), anchor.last)} - {None}
+        known = ((anchor.number, anchor.moment), anchor.last)
+        found = {self._since(number, then, count, moment) for number, then in known} - {None}
         return found.pop() if len(found) == 1 else None
 
     def _since(self, number: int, then: Moment, count: int, moment: Moment) -> Optional[int]:

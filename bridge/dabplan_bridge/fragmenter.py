@@ -9,8 +9,8 @@ from .reed_solomon import MOST_DATA, PARITY, parity_of
 
 
 class Fragmenter:
-    """Divides packets into fragments of at most so many bytes of payload. With Reed-Solomon a receiver that lacks `fec` fragments of a
-    packet has it all the same."""
+    """Divides packets into fragments of at most so many bytes of payload. With Reed-Solomon a receiver that lacks `fec`
+    fragments of a packet has it all the same."""
 
     def __init__(self, most: int, fec: int) -> None:
         self._most = most
@@ -31,7 +31,8 @@ class Fragmenter:
         return [packet[at:at + longest] for at in range(0, len(packet), longest)]
 
     def _protected(self, packet: bytes) -> "tuple[List[bytes], int, int]":
-        """A packet in chunks with parity, byte by byte over all fragments; the bytes of a chunk, and the zeros behind the last one."""
+        """A packet in chunks with parity, byte by byte over all fragments; the bytes of a chunk, and the zeros behind
+        the last one."""
         chunks = -(-len(packet) // MOST_DATA)
         k = -(-len(packet) // chunks)
         z = chunks * k - len(packet)
@@ -45,6 +46,6 @@ class Fragmenter:
 
     def _head(self, index: int, count: int, size: int, k: int, z: int) -> bytes:
         flags = (0x8000 if k else 0) | size
-        head = b"PF" + self._sequence.to_bytes(2, "big") + index.to_bytes(3, "big") + count.to_bytes(3, "big") + flags.to_bytes(2, "big")
-        head += bytes([k, z]) if k else b""
+        head = b"PF" + self._sequence.to_bytes(2, "big") + index.to_bytes(3, "big") + count.to_bytes(3, "big")
+        head += flags.to_bytes(2, "big") + (bytes([k, z]) if k else b"")
         return head + crc(head).to_bytes(2, "big")

@@ -38,7 +38,8 @@ class Frame(NamedTuple):
         return self.data[self.start:self.start + self.size]
 
     def with_fic(self, fic: bytes) -> bytes:
-        """The bytes of the frame with another FIC of this size. A right CRC becomes the right one, a wrong one stays wrong."""
+        """The bytes of the frame with another FIC of this size. A right CRC becomes the right one, a wrong one stays
+        wrong."""
         before = self.data[self.crc_from:self.start]
         covered = b"".join((before, fic, self.data[self.start + self.size:self.crc_at]))
         check = (crc(covered) ^ self.wrong).to_bytes(2, "big")

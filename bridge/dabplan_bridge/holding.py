@@ -1,7 +1,8 @@
-"""What goes out while a count is not explained: frames of the configuration that receivers hold, at the counts that come.
+"""What goes out while a count is not explained: frames of the configuration that receivers hold, at the counts that
+come.
 
-The configuration is decoded from the plan's own frames by `dabplan listen --script`, compiled, and played by `dabplan live`. Where a
-change was announced it is the one that was announced: receivers take it over when the change flags go.
+The configuration is decoded from the plan's own frames by `dabplan listen --script`, compiled, and played by `dabplan
+live`. Where a change was announced it is the one that was announced: receivers take it over when the change flags go.
 """
 from __future__ import annotations
 
@@ -21,14 +22,15 @@ from .program import changed, compiled, run
 def script_of(program: str, plan: Plan, fics: List[bytes]) -> bytes:
     """The script of the configuration that a receiver of these FICs holds; `Trouble` if it can't be had."""
     header = plan.header
-    words = ["listen", "-", "--script", "--mode", str(header.mode), "--period", str(header.period), "--notice", str(header.notice),
-             "--budget", str(header.budget)]
+    words = ["listen", "-", "--script", "--mode", str(header.mode), "--period", str(header.period),
+             "--notice", str(header.notice), "--budget", str(header.budget)]
     return run(program, words + (["--reserve", str(header.reserve)] if header.reserve else []), b"".join(fics))
 
 
 def settled(player: Player, plan: Plan) -> List[bytes]:
-    """The FICs that say the configuration of a plan: that of its last frame, or, where a change is announced there, the next one. The
-    plan makes frames for it that are not sent: to the swap, and from there as many as a receiver needs, up to the next swap."""
+    """The FICs that say the configuration of a plan: that of its last frame, or, where a change is announced there, the
+    next one. The plan makes frames for it that are not sent: to the swap, and from there as many as a receiver needs,
+    up to the next swap."""
     swap = player.swap_in
     if swap is not None:
         player.pass_over(swap + 1)
@@ -93,7 +95,8 @@ class Holding:
         return made
 
     def change_to(self, script: bytes) -> None:
-        """Announces a change to another configuration, and makes it. Where there is no such change the configuration stays."""
+        """Announces a change to another configuration, and makes it. Where there is no such change the configuration
+        stays."""
         if script == self._refused:
             return
         try:

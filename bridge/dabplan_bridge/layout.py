@@ -1,7 +1,8 @@
 """Sub-channels: those of a plan, and those of a multiplexer's stream characterization (STC).
 
-ETI(NI) (ETS 300 799, 5.4.1) and EDI (TS 102 693, 5.1.3) say of each sub-channel its number, its first capacity unit, a protection
-level of six bits and how many words of 64 bits it has a frame. FIG 0/1 says the size in capacity units instead.
+ETI(NI) (ETS 300 799, 5.4.1) and EDI (TS 102 693, 5.1.3) say of each sub-channel its number, its first capacity unit, a
+protection level of six bits and how many words of 64 bits it has a frame. FIG 0/1 says the size in capacity units
+instead.
 """
 from __future__ import annotations
 
@@ -73,7 +74,8 @@ def from_script(script: bytes) -> Dict[int, SubChannel]:
 
 
 def differences(plan: Dict[int, SubChannel], multiplexer: Dict[int, SubChannel]) -> List[str]:
-    """Of each sub-channel of a plan that the multiplexer has otherwise, or not at all, a text that says so, by SubChId."""
+    """Of each sub-channel of a plan that the multiplexer has otherwise, or not at all, a text that says so, by
+    SubChId."""
     found = []
     for sub, wanted in sorted(plan.items()):
         there: Optional[SubChannel] = multiplexer.get(sub)

@@ -1,7 +1,7 @@
 """Writes the log of a plan: what it was given, so that it can be resumed. `past` says what is in it.
 
-Each line is written at once, by one call. What can't be written is kept, and tried again each ten seconds: the plan goes on. A log that
-has grown is written anew, with one line for frames between which no contact was given.
+Each line is written at once, by one call. What can't be written is kept, and tried again each ten seconds: the plan
+goes on. A log that has grown is written anew, with one line for frames between which no contact was given.
 """
 from __future__ import annotations
 
@@ -98,8 +98,8 @@ class Log:
             raise WillNotGuess(f"{self.path} is of another plan than {code}: --anew begins this one")
 
     def start(self, count: int, start: str, digest: str, wall: float) -> None:
-        """How the plan begins, or goes on: the count and the time of its first frame, and when its first one on air came. Nothing is
-        written before `open`."""
+        """How the plan begins, or goes on: the count and the time of its first frame, and when its first one on air
+        came. Nothing is written before `open`."""
         past = self.past
         if self.path is None:
             return
@@ -157,8 +157,8 @@ class Log:
             self._flush()
 
     def tell(self, wall: float) -> None:
-        """Writes at which wall time the last frame came, or comes, behind a pause or a step of the stream: else a log that ends here would
-        be taken up elsewhere."""
+        """Writes at which wall time the last frame came, or comes, behind a pause or a step of the stream: else a log
+        that ends here would be taken up elsewhere."""
         if self.path is not None:
             self._note()
             self._unwritten.add(0, f"# count {self._count} frames {self._frames} at {text_of(wall)}\n")
@@ -182,7 +182,8 @@ class Log:
     def _note(self) -> None:
         """Adds the frames since the last line to what is to be written."""
         if self._pending:
-            self._unwritten.add(self._pending, f"# count {self._count} frames {self._frames} at {text_of(self._wall)}\n")
+            note = f"# count {self._count} frames {self._frames} at {text_of(self._wall)}\n"
+            self._unwritten.add(self._pending, note)
             self._pending = 0
 
     def _flush(self) -> None:
@@ -201,8 +202,8 @@ class Log:
             self._write(data)
         except OSError as fault:
             self._again = time.monotonic() + AGAIN_SECONDS
-            self._state.alarm(Alarm.LOG, f"cannot write {self.path}: {why(fault)}: what is to be logged is kept, and tried again "
-                                         f"each {AGAIN_SECONDS:g} s")
+            self._state.alarm(Alarm.LOG, f"cannot write {self.path}: {why(fault)}: what is to be logged is kept, and "
+                                         f"tried again each {AGAIN_SECONDS:g} s")
             return
         self._size += len(data)
         self._unwritten.clear()

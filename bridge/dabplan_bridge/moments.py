@@ -1,8 +1,8 @@
 """When frames come: by the host's clock, or by the time stamps of the stream; and which frames come in real time.
 
-A frame that waited in a buffer is processed long after it came: the clock says little about it, and much about the frames before it and
-behind it. Such frames show by their lag: they are behind the last frame that came in real time by more than the frames between them
-last.
+A frame that waited in a buffer is processed long after it came: the clock says little about it, and much about the
+frames before it and behind it. Such frames show by their lag: they are behind the last frame that came in real time by
+more than the frames between them last.
 """
 from __future__ import annotations
 
@@ -47,8 +47,8 @@ class _Late:
 class Pace:
     """The last frame that came in real time.
 
-    The offset of a frame is the moment at which it came less the length of all frames before it. It is least for frames that did not
-    wait; so the least one of late is that of real time.
+    The offset of a frame is the moment at which it came less the length of all frames before it. It is least for frames
+    that did not wait; so the least one of late is that of real time.
     """
 
     def __init__(self, number: int, moment: Moment) -> None:
@@ -72,8 +72,8 @@ class Pace:
             self._offset, self.number, self.moment, self._late = offset, number, moment, None
 
     def step(self, number: int, moment: Moment) -> None:
-        """Takes the frame of a number whose count stepped a little. Right behind a frame in real time it can't have waited: the counts
-        have another beginning now."""
+        """Takes the frame of a number whose count stepped a little. Right behind a frame in real time it can't have
+        waited: the counts have another beginning now."""
         if self._late is None and moment.host - self.moment.host <= LATE:
             self._offset = moment.host - number * FRAME_SECONDS
         self.take(number, moment)

@@ -1,9 +1,9 @@
 """What a log says: the lines of it, and the run so far.
 
-A log is an event file of `dabplan play`: contacts as they came and the frames between them. Its first line is a comment that has
-the count and the time of the plan's first frame, and the wall time of the first one that went out; behind the frames a comment has
-the count that comes next, the frames so far, and the wall time of the last one. Where a count was not explained a comment says which
-frame of the plan has what was held, and another one that the plan went on:
+A log is an event file of `dabplan play`: contacts as they came and the frames between them. Its first line is a comment
+that has the count and the time of the plan's first frame, and the wall time of the first one that went out; behind the
+frames a comment has the count that comes next, the frames so far, and the wall time of the last one. Where a count was
+not explained a comment says which frame of the plan has what was held, and another one that the plan went on:
 
     # dabplan-bridge: count 2080 time 21:59:53 code 0123456789abcdef at 2026-01-31T20:59:54.123Z
     frames 250 # count 2330 frames 250 at 2026-01-31T21:00:00.123Z
@@ -27,7 +27,8 @@ from .fibs import COUNTS, DAY_FRAMES
 
 HEAD_TEXT = "# dabplan-bridge: "
 """How a log begins."""
-HEAD = re.compile(rb"# dabplan-bridge: count (\d{1,4}) (time -|time \d\d:\d\d:\d\d|day \d{1,7}) code ([0-9a-f]{16})(?: at (\S+))?")
+HEAD = re.compile(rb"# dabplan-bridge: count (\d{1,4}) (time -|time \d\d:\d\d:\d\d|day \d{1,7}) "
+                  rb"code ([0-9a-f]{16})(?: at (\S+))?")
 NOTE = re.compile(rb"# count (\d{1,4}) frames (\d{1,15}) at (\d{4}-\d\d-\d\dT\d\d:\d\d:\d\d\.\d{3}Z)")
 UTC_TEXT = "# utc"
 """The line that says that the multiplexer sends FIG 0/10."""
@@ -90,7 +91,8 @@ def has_range(step: bytes) -> bool:
 
 
 def steps_of(line: bytes) -> List[bytes]:
-    """The steps of a line: `contact 3 closed`, `frames 250`; `ValueError` if it has something else, or a number out of range."""
+    """The steps of a line: `contact 3 closed`, `frames 250`; `ValueError` if it has something else, or a number out of
+    range."""
     plain = PLAIN.fullmatch(line)
     if plain:
         steps = [plain[1]]
@@ -105,8 +107,8 @@ def steps_of(line: bytes) -> List[bytes]:
 
 
 def head_of(head: "re.Match[bytes]", past: Optional[Past]) -> Past:
-    """What the first line of a log says, or a later one like it: then the plan was taken up at another count, and its first frame then
-    had this one. `ValueError` if a number is out of range."""
+    """What the first line of a log says, or a later one like it: then the plan was taken up at another count, and its
+    first frame then had this one. `ValueError` if a number is out of range."""
     start = head[2].decode("ascii")
     is_day = start.startswith("day ")
     if int(head[1]) >= COUNTS or (is_day and int(start[4:]) >= DAY_FRAMES):

@@ -1,8 +1,8 @@
 """Fragments of PFT (TS 102 821, clause 7), joined into AF packets.
 
-A fragment: `PF`, Pseq 2 bytes, Findex 3, Fcount 3, FEC 1 bit, Addr 1 bit, Plen 14 bits; with FEC RSk and RSz, 1 byte each; with
-addresses 4 bytes; a CRC of 2 bytes over this header; then Plen bytes. Packets of which all fragments come are joined; with FEC those too
-of which enough come: Reed-Solomon makes up for the others.
+A fragment: `PF`, Pseq 2 bytes, Findex 3, Fcount 3, FEC 1 bit, Addr 1 bit, Plen 14 bits; with FEC RSk and RSz, 1 byte
+each; with addresses 4 bytes; a CRC of 2 bytes over this header; then Plen bytes. Packets of which all fragments come
+are joined; with FEC those too of which enough come: Reed-Solomon makes up for the others.
 """
 from __future__ import annotations
 
@@ -18,7 +18,8 @@ SEQUENCES = 65536
 MOST_FRAGMENTS = 1024
 """The most fragments of a packet that is taken for one."""
 MOST_BYTES = 65_536
-"""The most bytes that all payloads of a packet may have: a frame of EDI has at most 8 kB, and Reed-Solomon adds to it."""
+"""The most bytes that all payloads of a packet may have: a frame of EDI has at most 8 kB, and Reed-Solomon adds to
+it."""
 AF_FLAGS = 8
 """The offset of the byte in an AF packet that says whether it has a CRC."""
 LEAST_HEADER = 12
@@ -53,7 +54,8 @@ def header_size(data: bytes) -> Optional[int]:
 
 
 def header_of(data: bytes) -> Optional[PfHeader]:
-    """The header of the fragment that begins with these bytes; None if there is none, its CRC is wrong, or no packet has such a one."""
+    """The header of the fragment that begins with these bytes; None if there is none, its CRC is wrong, or no packet
+    has such a one."""
     size = header_size(data) if data[:2] == b"PF" else None
     if size is None or len(data) < size or crc(data[:size - 2]) != int.from_bytes(data[size - 2:size], "big"):
         return None
@@ -81,9 +83,10 @@ def block_of(header: PfHeader, parts: Dict[int, bytes]) -> bytearray:
 def repaired(header: PfHeader, parts: Dict[int, bytes]) -> Optional[bytes]:
     """The packet of fragments with FEC, of which some may be lost; None if they are too many."""
     block, chunk = block_of(header, parts), header.rs_k + PARITY
+    absent = set(range(header.count)).difference(parts)
     found = []
     for first in range(0, len(block) - chunk + 1, chunk):
-        lost = [at - first for at in range(first, first + chunk) if at % header.count not in parts] if len(parts) < header.count else []
+        lost = [offset for offset in range(chunk) if (first + offset) % header.count in absent] if absent else []
         word = restored(bytes(block[first:first + chunk]), lost)
         if word is None:
             return None
@@ -132,8 +135,8 @@ class Packet:
 class Fragments:
     """The packets of which fragments are there, by Pseq, in the order in which they have to go on.
 
-    A packet waits for one that began before it until a fragment of a packet behind both comes: then the one that is not whole is
-    repaired, or lost.
+    A packet waits for one that began before it until a fragment of a packet behind both comes: then the one that is not
+    whole is repaired, or lost.
     """
 
     def __init__(self) -> None:

@@ -1,7 +1,7 @@
 """The whole count of each frame.
 
-EDI has it in each packet. ETI has it modulo 250; the FIG 0/0 of its FIC has the rest, in transmission mode I in every fourth frame.
-Frames whose count is not known yet are held until a FIG 0/0 comes.
+EDI has it in each packet. ETI has it modulo 250; the FIG 0/0 of its FIC has the rest, in transmission mode I in every
+fourth frame. Frames whose count is not known yet are held until a FIG 0/0 comes.
 """
 from __future__ import annotations
 
@@ -71,7 +71,8 @@ class Placer:
             self._let_go(1)
 
     def _released(self, are_first: bool, count: int) -> List[Placed]:
-        """The held frames, with their counts, where the frame of this count follows them. At the start of ETI they are let go."""
+        """The held frames, with their counts, where the frame of this count follows them. At the start of ETI they are
+        let go."""
         held = self._held
         if held and (are_first or (held[-1].low + 1) % 250 != count % 250):
             self._let_go(len(held))

@@ -21,7 +21,8 @@ class Plan:
     digest: str
     """The first 16 digits of the SHA-256 of the code file."""
     configurations: Tuple[Dict[int, SubChannel], ...]
-    """The sub-channels of each configuration that it may bring on air; none where `dabplan` has to say what is wrong with the file."""
+    """The sub-channels of each configuration that it may bring on air; none where `dabplan` has to say what is wrong
+    with the file."""
 
     @property
     def mode(self) -> int:
@@ -35,8 +36,8 @@ class Plan:
 
     @property
     def history(self) -> int:
-        """After so many frames a listener knows all of a configuration, whatever swap falls into them: an entry is sent once in a
-        period, and a FIG 0/0 in each fourth frame."""
+        """After so many frames a listener knows all of a configuration, whatever swap falls into them: an entry is sent
+        once in a period, and a FIG 0/0 in each fourth frame."""
         return max(2 * self.header.period, 8)
 
 
@@ -49,7 +50,8 @@ def configurations_in(data: bytes) -> List[Dict[int, SubChannel]]:
 
 
 def plan_of(path: str) -> Plan:
-    """The plan of a code file, by its header; `dabplan` verifies the rest. `Trouble` if it is none, or can't be read."""
+    """The plan of a code file, by its header; `dabplan` verifies the rest. `Trouble` if it is none, or can't be
+    read."""
     try:
         with open(path, "rb") as file:
             data = file.read()
@@ -62,8 +64,8 @@ def plan_of(path: str) -> Plan:
 
 
 def opening(live: Live, plan: Plan, count: int, steps: Iterable[bytes], at: int) -> Dict[int, SubChannel]:
-    """The sub-channels that a plan has in its frame `at`, one of the first, to which these steps lead; its first frame has this
-    count.
+    """The sub-channels that a plan has in its frame `at`, one of the first, to which these steps lead; its first frame
+    has this count.
 
     The frames from the first one on are decoded, and those behind `at` up to the next swap.
     """

@@ -50,10 +50,11 @@ def moved(past: Past, count: int, missed: int) -> Start:
 
 
 class Player:
-    """The frames of a plan, in order, and the last 750 of them. `told_from`: the frame from which on notices and swaps are reported; None
-    for none."""
+    """The frames of a plan, in order, and the last 750 of them. `told_from`: the frame from which on notices and swaps
+    are reported; None for none."""
 
-    def __init__(self, program: str, plan: Plan, start: Start, steps: Iterable[bytes], told_from: Optional[int]) -> None:
+    def __init__(self, program: str, plan: Plan, start: Start, steps: Iterable[bytes],
+                 told_from: Optional[int]) -> None:
         self.start = start
         self.made = start.frames
         """How many frames were made: the number of the plan's next frame."""
@@ -111,7 +112,8 @@ class Player:
         return made
 
     def pass_over(self, frames: int, lines: Iterable[bytes] = ()) -> bool:
-        """Lets the plan make frames that are not sent, after these lines; returns whether a swap fell into one of them."""
+        """Lets the plan make frames that are not sent, after these lines; returns whether a swap fell into one of
+        them."""
         before = self.swaps
         text = f"{number_of(frames)} of the plan are made, and not sent"
         with (Progress(text) if frames > MANY else contextlib.nullcontext()):  # type: ignore[attr-defined]

@@ -1,4 +1,5 @@
-"""The real-time priority of a service: what is played again does without it, so that the rest of the machine goes on."""
+"""The real-time priority of a service: what is played again does without it, so that the rest of the machine goes
+on."""
 from __future__ import annotations
 
 import contextlib
@@ -22,8 +23,8 @@ def set_policy(process: int, policy: int, priority: int) -> None:
 
 @contextlib.contextmanager
 def ordinary() -> Iterator[Callable[[int], None]]:
-    """Without a real-time priority, and with it again at the end. What it gives takes children by their process ids, which get that
-    priority at the end too."""
+    """Without a real-time priority, and with it again at the end. What it gives takes children by their process ids,
+    which get that priority at the end too."""
     policy, given = os.sched_getscheduler(0), os.sched_getparam(0).sched_priority
     children = [0]
     if policy not in REAL_TIME or not can_regain(given):

@@ -46,8 +46,8 @@ class Reader:
         self._joins = source.joins
 
     def items(self) -> Iterator[List[Item]]:
-        """The frames as they come: those that are whole with each piece of bytes. `Trouble` if the stream is of neither format, or
-        ends within a frame."""
+        """The frames as they come: those that are whole with each piece of bytes. `Trouble` if the stream is of neither
+        format, or ends within a frame."""
         while True:
             data = self._source.read()
             if not data:

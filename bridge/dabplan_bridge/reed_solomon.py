@@ -1,7 +1,8 @@
 """Reed-Solomon over bytes as PFT has it (TS 102 821, 7.2.2): RS(255,207), shortened, over x^8 + x^4 + x^3 + x^2 + 1.
 
-A codeword is RSk bytes of data and 48 of parity. The bytes that a shortened one lacks are zeros between the two. Lost bytes whose
-places are known are made up for, up to 48 of them; bytes that are wrong are not looked for: the CRC of the packet tells of them.
+A codeword is RSk bytes of data and 48 of parity. The bytes that a shortened one lacks are zeros between the two. Lost
+bytes whose places are known are made up for, up to 48 of them; bytes that are wrong are not looked for: the CRC of the
+packet tells of them.
 """
 from __future__ import annotations
 
@@ -99,7 +100,8 @@ def evaluator_of(syndromes: Sequence[int], locator: Sequence[int]) -> List[int]:
 
 
 def restored(word: bytes, lost: Sequence[int]) -> Optional[bytes]:
-    """A codeword whose bytes at these offsets are lost, and 0 in it, with these bytes; None if they are more than 48."""
+    """A codeword whose bytes at these offsets are lost, and 0 in it, with these bytes; None if they are more than
+    48."""
     if not lost:
         return word
     if len(lost) > PARITY:

@@ -39,9 +39,11 @@ class Options:
 
 def refuse(options: Options) -> None:
     """Raises `BadCommand` where two files of a command line are one, or where a FIFO is none."""
-    named = (options.log, options.contacts, options.monitor, options.state)
-    refuse_same([(options.code, options.code), (options.source.name, place_of(options.source, 0)),
-                 *((sink.name, place_of(sink, 1)) for sink in options.sinks), *((path, path) for path in named if path is not None)])
+    named = (options.code, options.log, options.contacts, options.monitor, options.state)
+    streams = [(options.source.name, place_of(options.source, 0)),
+               *((sink.name, place_of(sink, 1)) for sink in options.sinks)]
+    refuse_same([*((path, path) for path in named[:1] if path is not None), *streams,
+                 *((path, path) for path in named[1:] if path is not None)])
     refuse_other("--contacts", options.contacts)
     refuse_other("--monitor", options.monitor)
 

@@ -11,7 +11,7 @@ from collections import deque
 from typing import Deque, Dict, List, Sequence, Tuple
 
 from .addresses import LOOPBACK, Address
-from .faults import Trouble, say, why
+from .faults import Trouble, reason_of, say, why
 from .fragmenter import Fragmenter
 from .state import Alarm, State
 from .waiting import WRITABLE, Waiter
@@ -64,7 +64,7 @@ class FileSink(Sink):
             self._file = os.open(address.name, os.O_WRONLY | os.O_CREAT | os.O_CLOEXEC, 0o644) if self._own else 1
             self._empties = self._own and stat.S_ISREG(os.fstat(self._file).st_mode)
         except (OSError, ValueError) as fault:
-            raise Trouble(f"cannot write {address.name}: {why(fault) if isinstance(fault, OSError) else fault}") from None
+            raise Trouble(f"cannot write {address.name}: {reason_of(fault)}") from None
 
     def put(self, frame: bytes) -> None:
         try:
@@ -183,7 +183,8 @@ class TcpSink(Sink):
             self._waiter.serve(self._server.fileno(), select.POLLIN, self._join)
 
     def _wait(self, reason: str) -> None:
-        """A client can't be taken, as where too many files are open: it is tried again after a second, and told once."""
+        """A client can't be taken, as where too many files are open: it is tried again after a second, and told
+        once."""
         if not self._is_told:
             say(f"{self.name}: a client can't be taken: {reason}: tried again each {ACCEPT_SECONDS:g} s")
         self._is_told = True
@@ -248,7 +249,8 @@ def sink_of(address: Address, waiter: Waiter) -> Sink:
 
 
 class Sinks:
-    """All outputs. One that fails is left out, with an alarm, while another one is there; where the last one fails the bridge ends."""
+    """All outputs. One that fails is left out, with an alarm, while another one is there; where the last one fails the
+    bridge ends."""
 
     def __init__(self, addresses: Sequence[Address], waiter: Waiter, state: State) -> None:
         self._state = state

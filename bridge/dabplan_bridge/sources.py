@@ -7,7 +7,7 @@ import stat
 from typing import Optional
 
 from .addresses import LOOPBACK, Address
-from .faults import Trouble, say, why
+from .faults import Trouble, reason_of, say, why
 from .waiting import Waiter
 
 PIECE = 65536
@@ -51,7 +51,7 @@ class FileSource(Source):
         try:
             self._file = os.open(address.name, os.O_RDONLY | os.O_CLOEXEC) if self._own else 0
         except (OSError, ValueError) as fault:
-            raise Trouble(f"cannot read {address.name}: {why(fault) if isinstance(fault, OSError) else fault}") from None
+            raise Trouble(f"cannot read {address.name}: {reason_of(fault)}") from None
 
     def read(self) -> bytes:
         while True:

@@ -42,7 +42,8 @@ class State:
 
     phase: Phase = Phase.WAITING
     frame: Optional[int] = None
-    """The number of the plan's frame that went out last, its first one 0; None before it began, and while it is held."""
+    """The number of the plan's frame that went out last, its first one 0; None before it began, and while it is
+    held."""
     count: Optional[int] = None
     """The CIF count of the frame that went out last."""
     frames_in: int = 0

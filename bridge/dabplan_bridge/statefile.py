@@ -1,7 +1,7 @@
 """The state of the bridge in a textfile, for the node exporter of Prometheus.
 
-It is written beside its place and renamed, each six seconds, and where the phase or an alarm changes. Its age shows whether the bridge is
-there; `dab_input_age_seconds` whether the multiplexer is.
+It is written beside its place and renamed, each six seconds, and where the phase or an alarm changes. Its age shows
+whether the bridge is there; `dab_input_age_seconds` whether the multiplexer is.
 """
 from __future__ import annotations
 
@@ -18,8 +18,8 @@ EVERY_SECONDS = 6.0
 
 def lines_of(state: State, now: float) -> List[str]:
     """The lines of a state at a moment, by `time.monotonic`."""
-    lines = [f'dab_frames_total{{where="{where}"}} {count}' for where, count in
-             (("in", state.frames_in), ("out", state.frames_out), ("held", state.frames_held), ("unfilled", state.unfilled))]
+    counts = {"in": state.frames_in, "out": state.frames_out, "held": state.frames_held, "unfilled": state.unfilled}
+    lines = [f'dab_frames_total{{where="{where}"}} {count}' for where, count in counts.items()]
     lines += [f'dab_state{{state="{phase.value}"}} {phase is state.phase:d}' for phase in Phase]
     lines += [f'dab_alarm{{alarm="{alarm.value}"}} {alarm in state.alarms:d}' for alarm in Alarm]
     lines += [f"dab_steps_total {state.steps}", f"dab_swaps_on_air_total {state.swaps}", f"dab_clients {state.clients}"]

@@ -9,7 +9,8 @@ from .moments import Moment
 from .state import Alarm, State
 
 AGREES = 60.0
-"""The seconds by which FIG 0/10 and the host's clock may differ: a clock that is more than this wrong may be wrong by turns of counts."""
+"""The seconds by which FIG 0/10 and the host's clock may differ: a clock that is more than this wrong may be wrong by
+turns of counts."""
 
 
 SOON = 500
@@ -35,7 +36,8 @@ class UtcWatch:
         return self._ahead is not None
 
     def expect(self) -> None:
-        """One is to come soon: the multiplexer sent them before. Until it has come, or is overdue, the clock is not believed."""
+        """One is to come soon: the multiplexer sent them before. Until it has come, or is overdue, the clock is not
+        believed."""
         self._expected = SOON
 
     def look(self, fic: bytes, moment: Moment) -> None:

@@ -1,6 +1,8 @@
-"""Shared by the scripts of tests/cli/bridge/: streams of ETI and EDI that are made byte by byte, and the bridge over them.
+"""Shared by the scripts of tests/cli/bridge/: streams of ETI and EDI that are made byte by byte, and the bridge over
+them.
 
-Nothing here comes from the bridge: what it has to write is computed from the standards, and from the frames of `dabplan play`."""
+Nothing here comes from the bridge: what it has to write is computed from the standards, and from the frames of `dabplan
+play`."""
 import functools
 import lzma
 import os
@@ -20,7 +22,8 @@ import common
 FOLDER = common.TOP / "bridge"
 BRIDGE = FOLDER / "dabplan-bridge"
 ETI = 6144
-# Sub-channels of the multiplexer: SubChId, first capacity unit, TPL (3-A), and words of 64 bits a frame (12: 32 kbit/s).
+# Sub-channels of the multiplexer: SubChId, first capacity unit, TPL (3-A), and words of 64 bits a frame (12: 32
+# kbit/s).
 STC = ((1, 0, 0x22, 12), (2, 24, 0x22, 12), (63, 850, 0x23, 3))
 # A service that moves to another sub-channel and back, every 44 frames or some more.
 MOVES = """\
@@ -326,5 +329,6 @@ class Case(unittest.TestCase):
             self.fail(f"{what}: {len(wanted)} bytes wanted, {len(found)} found, different at {at}")
 
     def filled(self, form, stream, fic, first=0, count=0, mode=1, **others):
-        """Asserts that a stream of frames from this count on has this FIC, frame by frame, and is otherwise as it was made."""
+        """Asserts that a stream of frames from this count on has this FIC, frame by frame, and is otherwise as it was
+        made."""
         self.same(b"".join(made(form, fic, (count + first) % 5000, mode, **others)), stream, f"{form}, mode {mode}")

@@ -1,7 +1,7 @@
 """Fragments of PFT (TS 102 821, clause 7), made byte by byte, with the parity of Reed-Solomon.
 
-Nothing here comes from the bridge. The parity is that of RS(255,207) over x^8 + x^4 + x^3 + x^2 + 1 with the roots alpha^1 to alpha^48,
-by long division, byte by byte."""
+Nothing here comes from the bridge. The parity is that of RS(255,207) over x^8 + x^4 + x^3 + x^2 + 1 with the roots
+alpha^1 to alpha^48, by long division, byte by byte."""
 import functools
 
 from bridges import crc

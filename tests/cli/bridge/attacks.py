@@ -1,6 +1,6 @@
 #!/usr/bin/env python3
-"""What others do to `dabplan-bridge run`: more clients than it may have files, a FIFO that is flooded, strangers' datagrams, outputs that
-fail beside others, and names that are one file. The last line is 'N passed, M failed'."""
+"""What others do to `dabplan-bridge run`: more clients than it may have files, a FIFO that is flooded, strangers'
+datagrams, outputs that fail beside others, and names that are one file. The last line is 'N passed, M failed'."""
 import os
 import re
 import resource

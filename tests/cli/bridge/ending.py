@@ -1,6 +1,6 @@
 #!/usr/bin/env python3
-"""What ends `dabplan-bridge`: signals, children, the output, the disk under the log, and command lines. The last line is 'N passed,
-M failed'."""
+"""What ends `dabplan-bridge`: signals, children, the output, the disk under the log, and command lines. The last line
+is 'N passed, M failed'."""
 import fcntl
 import os
 import re

@@ -1,5 +1,6 @@
 #!/usr/bin/env python3
-"""`dabplan-bridge run` where the plan does not fit the stream, and where frames are damaged. The last line is 'N passed, M failed'."""
+"""`dabplan-bridge run` where the plan does not fit the stream, and where frames are damaged. The last line is 'N
+passed, M failed'."""
 import bridges
 import units
 from bridges import OWN, STC, made
@@ -41,7 +42,8 @@ class Fits(bridges.Case):
             (self.folder / "l").unlink()
 
     def test_on_resuming_in_the_frame_of_a_swap(self):
-        # A swap falls into each 44th frame; a listener that begins late hears of those of 308 and 352 in the frames before.
+        # A swap falls into each 44th frame; a listener that begins late hears of those of 308 and 352 in the frames
+        # before.
         for frames in (44, 88, 308, 352):
             self.write("a", b"".join(self.stream("edi", frames)))
             self.assertEqual(self.bridge("run moves.code --in a --out b --log l")[0], 0)
@@ -94,8 +96,8 @@ class Fits(bridges.Case):
         self.assertIn("sub 1: at 48 size 24 eep 3-A in the plan, at 0 size 24 eep 3-A in the multiplexer", messages)
 
     def test_a_multiplexer_with_another_layout_is_an_alarm(self):
-        """It comes back with another place for sub-channel 2, while the plan is on 1; at the swap the plan is wrong, and at the next
-        one it is not."""
+        """It comes back with another place for sub-channel 2, while the plan is on 1; at the swap the plan is wrong,
+        and at the next one it is not."""
         stc = (STC[0], (2, 28, 0x22, 12), STC[2])
         for form in FORMS:
             feed = self.started("run moves.code --in - --out - --state s")

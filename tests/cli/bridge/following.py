@@ -1,6 +1,6 @@
 #!/usr/bin/env python3
-"""Which frame of the plan belongs to a frame of the stream: the modules that follow counts, case by case. The last line is 'N passed, M
-failed'."""
+"""Which frame of the plan belongs to a frame of the stream: the modules that follow counts, case by case. The last line
+is 'N passed, M failed'."""
 import sys
 import unittest
 
@@ -44,7 +44,8 @@ class Case(unittest.TestCase):
         return self.follower
 
     def place(self, number, seconds, when=at):
-        """What a frame with the count of this number gets after so many seconds; with the frames that were followed before."""
+        """What a frame with the count of this number gets after so many seconds; with the frames that were followed
+        before."""
         return self.follower.number_of((FIRST + number) % 5000, when(seconds))
 
 

@@ -1,5 +1,6 @@
 #!/usr/bin/env python3
-"""`dabplan-bridge run` where a count is not explained: what is on air is held. The last line is 'N passed, M failed'."""
+"""`dabplan-bridge run` where a count is not explained: what is on air is held. The last line is 'N passed, M
+failed'."""
 import re
 import subprocess
 import time
@@ -41,7 +42,8 @@ class Held(bridges.Case):
         return [line for line in done.stdout.decode().splitlines() if " fault: " in line]
 
     def is_held(self, stream, script, first, frames, form="edi"):
-        """Asserts that a stream has frames of a configuration that stays, from this count on, and is otherwise as it was made."""
+        """Asserts that a stream has frames of a configuration that stays, from this count on, and is otherwise as it
+        was made."""
         fic = self.fic_of(stream)
         self.assertEqual(len(fic), 96 * frames)
         own = bridges.fics(fic)
@@ -62,7 +64,8 @@ class Held(bridges.Case):
         return found
 
     def jumped(self, form, first, step, frames=40, options="--log l", script=bridges.MOVES):
-        """A bridge that was given frames up to a step of the count which nothing explains, and frames behind it: these are held."""
+        """A bridge that was given frames up to a step of the count which nothing explains, and frames behind it: these
+        are held."""
         feed = self.started(f"run {'moves' if script == bridges.MOVES else 'slow'}.code --in - --out - --state s {options}")
         found = b"".join(feed.through(self.stream(form, first)))
         self.filled(form, found, self.plan(first, 0, script))
@@ -142,8 +145,8 @@ class Returns(Held):
     """The plan goes on."""
 
     def test_it_goes_on_as_soon_as_counts_and_clock_agree(self):
-        """A step of 400 comes at once, but is 9.6 s: where the stream rests for 9 s it agrees, within 3 s. At frame 308 sub-channel 1 was
-        on air, and 2 was announced: so that is held."""
+        """A step of 400 comes at once, but is 9.6 s: where the stream rests for 9 s it agrees, within 3 s. At frame 308
+        sub-channel 1 was on air, and 2 was announced: so that is held."""
         for form in FORMS:
             feed, held, count = self.jumped(form, 308, 400, 4, f"--log l{form}", SLOW)
             time.sleep(9.0)
@@ -228,8 +231,8 @@ class Resumes(Held):
                 (self.folder / "l").unlink()
 
     def test_a_clock_that_is_an_hour_wrong_is_not_believed(self):
-        """The multiplexer sends FIG 0/10, and the log says so. After 240 s of outage, 30 turns of the counts too many by the host's clock,
-        the bridge waits for it, and holds meanwhile; then it knows."""
+        """The multiplexer sends FIG 0/10, and the log says so. After 240 s of outage, 30 turns of the counts too many
+        by the host's clock, the bridge waits for it, and holds meanwhile; then it knows."""
         for ahead, goes_on in ((0.0, True), (-3600.0, False)):
             feed = self.started("run slow.code --in - --out - --log l")
             fics = bridges.fics(self.own(100))

@@ -1,6 +1,6 @@
 #!/usr/bin/env python3
-"""The bridge as `release/install` installs it; its man page and its service files; and what every module of it has. The last line is
-'N passed, M failed'."""
+"""The bridge as `release/install` installs it; its man page and its service files; and what every module of it has. The
+last line is 'N passed, M failed'."""
 import ast
 import os
 import pathlib
@@ -107,7 +107,8 @@ class Pages(bridges.Case):
 
 
 class Shapes(bridges.Case):
-    """What every module has: few lines, short functions that are not nested deeply, types, and words on each public item."""
+    """What every module has: few lines, short functions that are not nested deeply, types, and words on each public
+    item."""
 
     def functions(self):
         """The functions of all modules, with the names of their files."""
@@ -126,7 +127,7 @@ class Shapes(bridges.Case):
         for path in MODULES:
             count = len(path.read_text(encoding="utf-8").splitlines())
             self.assertLessEqual(count, 400, path.name)
-            self.assertLessEqual(max(map(len, path.read_text(encoding="utf-8").splitlines())), 140, path.name)
+            self.assertLessEqual(max(map(len, path.read_text(encoding="utf-8").splitlines())), 120, path.name)
 
     def test_functions_are_short_and_typed(self):
         for name, node in self.functions():

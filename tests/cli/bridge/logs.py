@@ -1,6 +1,6 @@
 #!/usr/bin/env python3
-"""The log of `dabplan-bridge run`: disks that are full, logs that grow, two that want one log, and lines that nobody wrote. The last line
-is 'N passed, M failed'."""
+"""The log of `dabplan-bridge run`: disks that are full, logs that grow, two that want one log, and lines that nobody
+wrote. The last line is 'N passed, M failed'."""
 import hashlib
 import os
 import re
@@ -26,7 +26,8 @@ class Disks(bridges.Case):
     """A log that can't be written for a while."""
 
     def test_what_could_not_be_written_is_written_later(self):
-        """The disk is full within the second line; after some seconds it has room again. Nothing is off the air, and nothing is lost."""
+        """The disk is full within the second line; after some seconds it has room again. Nothing is off the air, and
+        nothing is lost."""
         limit = len(HEAD) + 60
 
         def limited():

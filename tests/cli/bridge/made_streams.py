@@ -1,6 +1,6 @@
 #!/usr/bin/env python3
-"""`dabplan-bridge` over streams of ETI and EDI that are made: what goes in, what comes out, byte by byte. The last line is
-'N passed, M failed'."""
+"""`dabplan-bridge` over streams of ETI and EDI that are made: what goes in, what comes out, byte by byte. The last line
+is 'N passed, M failed'."""
 import os
 import re
 import subprocess

@@ -136,7 +136,8 @@ class Cutters(unittest.TestCase):
                 self.assertEqual(whole, [frame for frame in frames if frame in whole], "in order")
 
     def test_it_comes_back_after_any_damage_in_one_place(self):
-        """800 streams of ETI, EDI and PFT, each with bytes lost, added, repeated or written over in two frames, in random pieces."""
+        """800 streams of ETI, EDI and PFT, each with bytes lost, added, repeated or written over in two frames, in
+        random pieces."""
         chance = random.Random(1)
         whole = {name: [maker(count, self.FIC) for count in range(14)] for name, maker in bridges.MAKERS.items()}
         given = {**{name: list(frames) for name, frames in whole.items()},

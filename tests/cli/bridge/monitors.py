@@ -1,5 +1,6 @@
 #!/usr/bin/env python3
-"""`dab-monitor`: what comes of the lines of `dabplan check`, and of lines of others. The last line is 'N passed, M failed'."""
+"""`dab-monitor`: what comes of the lines of `dabplan check`, and of lines of others. The last line is 'N passed, M
+failed'."""
 import os
 import re
 import shlex

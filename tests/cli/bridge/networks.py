@@ -1,5 +1,6 @@
 #!/usr/bin/env python3
-"""`dabplan-bridge` over TCP and UDP on the loopback address, and over fragments of PFT. The last line is 'N passed, M failed'."""
+"""`dabplan-bridge` over TCP and UDP on the loopback address, and over fragments of PFT. The last line is 'N passed, M
+failed'."""
 import re
 import signal
 import socket
@@ -45,7 +46,8 @@ class Networks(bridges.Case):
         return bridges.read_within(connection.fileno(), size, seconds)
 
     def test_edi_over_tcp(self):
-        """A multiplexer that is refused, comes, is lost and comes again; two receivers, of which one goes and another comes."""
+        """A multiplexer that is refused, comes, is lost and comes again; two receivers, of which one goes and another
+        comes."""
         entry, exit_ = free_port(), free_port()
         feed = self.started(f"run moves.code --in tcp://127.0.0.1:{entry} --out tcp://:{exit_} --log l")
         first = connected(exit_)
@@ -196,7 +198,8 @@ class Networks(bridges.Case):
         self.over_udp([([frame], 1) for frame in frames], 60, plan)
 
     def test_pft_over_udp(self):
-        """Fragments in any order, one lost, one twice; the output is AF. With Reed-Solomon two of twelve may be lost."""
+        """Fragments in any order, one lost, one twice; the output is AF. With Reed-Solomon two of twelve may be
+        lost."""
         frames, plan = self.stream("edi", 60), made("edi", self.plan(60))
         for options in ({}, {"rs_k": 207, "fragments": 12}, {"rs_k": 90, "fragments": 8, "addressed": True}):
             groups = []

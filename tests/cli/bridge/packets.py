@@ -1,5 +1,6 @@
 #!/usr/bin/env python3
-"""Packets of EDI and fragments of PFT in bytes that are damaged, lost, or made to do harm. The last line is 'N passed, M failed'."""
+"""Packets of EDI and fragments of PFT in bytes that are damaged, lost, or made to do harm. The last line is 'N passed,
+M failed'."""
 import itertools
 import random
 import sys
@@ -71,7 +72,8 @@ class Fragments(unittest.TestCase):
         self.assertIsNone(reading.header_of(one[:4] + b"\x01" + one[5:]))
 
     def test_a_last_fragment_of_one_byte_comes_out(self):
-        """The header of a fragment has 14 bytes: with a payload of 1 to 5 bytes it is shorter than the longest header."""
+        """The header of a fragment has 14 bytes: with a payload of 1 to 5 bytes it is shorter than the longest
+        header."""
         packet = WHOLE[0]
         for rest in range(1, 7):
             first, last = packet[:-rest], packet[-rest:]
@@ -119,7 +121,8 @@ class ReedSolomon(unittest.TestCase):
         self.assertEqual(packets(parts[4:] + behind), [None, WHOLE[8], WHOLE[9]])
 
     def test_the_packets_of_odr_dabmux_are_made_up_for(self):
-        """The sample is EDI over PFT that ODR-DabMux made, two lost fragments of a packet allowed; 1 of 50 fragments is lost here."""
+        """The sample is EDI over PFT that ODR-DabMux made, two lost fragments of a packet allowed; 1 of 50 fragments is
+        lost here."""
         data = common.TOP / "bench/samples/real_pft.bin.xz"
         stream = bridges.unpacked(data)
         parts, at = [], 0

@@ -1,7 +1,8 @@
 #!/usr/bin/env python3
-"""`dabplan-bridge` between ODR-DabMux and receivers, over EDI by TCP on the loopback address: the bridge is killed and resumed,
-ODR-DabMux is killed and started again, and dablin plays a service over the swaps. The tools are skipped, and it is said so, where
-they are not installed. An argument is the seconds without disturbance, 18 by default. The last line is 'N passed, M failed'."""
+"""`dabplan-bridge` between ODR-DabMux and receivers, over EDI by TCP on the loopback address: the bridge is killed and
+resumed, ODR-DabMux is killed and started again, and dablin plays a service over the swaps. The tools are skipped, and
+it is said so, where they are not installed. An argument is the seconds without disturbance, 18 by default. The last
+line is 'N passed, M failed'."""
 import os
 import pathlib
 import re
@@ -272,8 +273,8 @@ def restarted(stand):
 
 
 def stopped(stand, bridge, modulator):
-    """The bridge is ended by SIGTERM, and started again: odr-dabmod connects again. After a kill it may find its connection reset,
-    and end."""
+    """The bridge is ended by SIGTERM, and started again: odr-dabmod connects again. After a kill it may find its
+    connection reset, and end."""
     tally = stand.tally
     bridge.send_signal(signal.SIGTERM)
     tally.same("the bridge ends", 0, bridge.wait(10))

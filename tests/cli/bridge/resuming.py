@@ -1,5 +1,6 @@
 #!/usr/bin/env python3
-"""`dabplan-bridge run` with a log: what is in it, how a plan is resumed, and `compact`. The last line is 'N passed, M failed'."""
+"""`dabplan-bridge run` with a log: what is in it, how a plan is resumed, and `compact`. The last line is 'N passed, M
+failed'."""
 import hashlib
 import re
 import subprocess
@@ -32,8 +33,8 @@ class Logged(bridges.Case):
         self.assertEqual(status, 0, messages)
 
     def resumed(self, form, at, frames=80, count=4900, options="--tolerance 30"):
-        """Frames from `at` on, through standard input, for a plan that began at a count: status, what came, and messages. On a
-        machine with much else to do the bridge may need seconds to begin."""
+        """Frames from `at` on, through standard input, for a plan that began at a count: status, what came, and
+        messages. On a machine with much else to do the bridge may need seconds to begin."""
         stream = made(form, self.own(frames, (count + at) % 5000), (count + at) % 5000)
         return self.bridge(f"run moves.code --in - --out - --log l {options}", b"".join(stream))
 
@@ -131,7 +132,8 @@ class Logged(bridges.Case):
             (self.folder / "l").unlink()
 
     def test_resume_at_a_count(self):
-        """The plan goes on in the frame of that count; frames before it are dropped. The time since the log ends is of its day."""
+        """The plan goes on in the frame of that count; frames before it are dropped. The time since the log ends is of
+        its day."""
         for form in FORMS:
             self.begun(form)
             self.log_at(700.0)

@@ -15,7 +15,8 @@ class Steps(bridges.Case):
     """Steps of a stream that goes on."""
 
     def stepped(self, form, first, step, frames=40):
-        """A stream of `first` frames from count 0 on, and then a step and more frames; and the FIC that has to go out."""
+        """A stream of `first` frames from count 0 on, and then a step and more frames; and the FIC that has to go
+        out."""
         counts = [*range(first), *range(first + step, first + step + frames)]
         own, plan = bridges.fics(self.own(first + max(step, 0) + frames)), bridges.fics(self.plan(first + max(step, 0) + frames))
         return counts, [bridges.MAKERS[form](count, own[count]) for count in counts], [plan[count] for count in counts]
@@ -25,7 +26,8 @@ class Steps(bridges.Case):
         self.same(b"".join(bridges.MAKERS[form](count, fic) for count, fic in zip(counts, plan)), stream, f"{form}")
 
     def test_small_steps(self):
-        """The plan makes missed frames unsent, and repeats those that come again; a step falls where a FIG 0/0 is, or not."""
+        """The plan makes missed frames unsent, and repeats those that come again; a step falls where a FIG 0/0 is, or
+        not."""
         steps = (1, -1, 2, -2, 3, -3, 4, 7, -7, 24, 25, -25, 100, -100, 137, -137, 248, -248, 249, -249)
         for form in FORMS:
             for first in (300, 301, 302):
@@ -114,7 +116,8 @@ class Steps(bridges.Case):
                 self.goes_out(form, range(first), plan, out[:len(b"".join(frames[:first]))])
 
     def heard_40(self, form, log, options=""):
-        """A bridge that has heard 40 frames before a step of 300, with all its frames, their counts and the plan's FIBs."""
+        """A bridge that has heard 40 frames before a step of 300, with all its frames, their counts and the plan's
+        FIBs."""
         counts, frames, plan = self.stepped(form, 40, 300, 40)
         feed = self.started(f"run moves.code --in - --out - --log {log}{form} {options}")
         self.assertEqual(len(b"".join(feed.through(frames[:40]))), len(b"".join(frames[:40])))
