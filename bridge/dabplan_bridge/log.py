@@ -159,10 +159,14 @@ class Log:
     def tell(self, wall: float) -> None:
         """Writes at which wall time the last frame came, or comes, behind a pause or a step of the stream: else a log
         that ends here would be taken up elsewhere."""
-        if self.path is not None:
+        if self.path is None:
+            return
+        self._wall = wall
+        if self._pending:
             self._note()
+        else:
             self._unwritten.add(0, f"# count {self._count} frames {self._frames} at {text_of(wall)}\n")
-            self._flush()
+        self._flush()
 
     def sync(self) -> None:
         """Lets what is written get to the disk."""

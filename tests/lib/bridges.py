@@ -65,6 +65,8 @@ audio 63 sub 2 in C2FF
 audio 63 sub 63 in C2FF
 begin
 """
+# The seconds after which something does not come any more, on a machine with much else to do.
+PATIENCE = 120.0
 EMPTY_FIB = bytes.fromhex("FF" + "00" * 29 + "A8A8")
 
 
@@ -163,7 +165,7 @@ def free_port(kind=socket.SOCK_STREAM):
         return found.getsockname()[1]
 
 
-def until(holds, seconds=10.0):
+def until(holds, seconds=PATIENCE):
     """Waits until something holds; returns whether it does."""
     end = time.monotonic() + seconds
     while not holds() and time.monotonic() < end:
@@ -171,7 +173,7 @@ def until(holds, seconds=10.0):
     return bool(holds())
 
 
-def connected(port, seconds=10.0):
+def connected(port, seconds=PATIENCE):
     """A connection to a port of the loopback address, as soon as there is one."""
     end = time.monotonic() + seconds
     while True:
@@ -183,7 +185,7 @@ def connected(port, seconds=10.0):
             time.sleep(0.02)
 
 
-def read_within(descriptor, size, seconds=10.0):
+def read_within(descriptor, size, seconds=PATIENCE):
     """So many bytes of a descriptor, fewer if they do not come in time or it ends."""
     found, end = b"", time.monotonic() + seconds
     while len(found) < size and select.select([descriptor], [], [], max(0, end - time.monotonic()))[0]:
@@ -205,7 +207,7 @@ class Running:
         """Gives it frames."""
         self.job.stdin.write(b"".join(frames))
 
-    def get(self, size, seconds=10.0):
+    def get(self, size, seconds=PATIENCE):
         """So many bytes of its output."""
         return read_within(self.job.stdout.fileno(), size, seconds)
 
@@ -230,7 +232,7 @@ class Running:
             self.job.send_signal(number)
         try:
             rest, messages = self.job.stdout.read(), self.job.stderr.read().decode()
-            return self.job.wait(20), rest, messages
+            return self.job.wait(PATIENCE), rest, messages
         finally:
             self.job.kill()
             for pipe in (self.job.stdin, self.job.stdout, self.job.stderr):
@@ -310,7 +312,7 @@ class Case(unittest.TestCase):
     def bridge(self, line, stdin=b"", **options):
         """Runs the bridge: its status, its output and its messages."""
         done = subprocess.run([sys.executable, str(BRIDGE), *self.words(line)], cwd=self.folder, input=stdin, capture_output=True,
-                              check=False, timeout=120, **options)
+                              check=False, timeout=600, **options)
         return done.returncode, done.stdout, done.stderr.decode()
 
     def started(self, line, **options):

@@ -145,37 +145,35 @@ class Returns(Held):
     """The plan goes on."""
 
     def test_it_goes_on_as_soon_as_counts_and_clock_agree(self):
-        """A step of 400 comes at once, but is 9.6 s: where the stream rests for 9 s it agrees, within 3 s. At frame 308
+        """A step of 1,700 comes at once, but is 40.8 s: after 14 s it agrees, within 30 s. At frame 308
         sub-channel 1 was on air, and 2 was announced: so that is held."""
         for form in FORMS:
-            feed, held, count = self.jumped(form, 308, 400, 4, f"--log l{form}", SLOW)
-            time.sleep(9.0)
-            frames = made(form, self.own(120, count + 4), count + 4)
+            feed, held, count = self.jumped(form, 308, 1700, 4, f"--log l{form} --tolerance 30", SLOW)
+            time.sleep(14.0)
+            frames = made(form, self.own(1100, count + 4), count + 4)
             found = b"".join([held, *self.paced(feed, frames)])
             status, _, messages = feed.end()
             self.assertEqual(status, 0, messages)
             goes_on = re.search(r"frame \d+: counts and clock agree again: the plan goes on with its frame (\d+)\n", messages)
             self.assertIsNotNone(goes_on, messages)
             number = int(goes_on[1])
-            # At 648 the plan swapped, unsent, to sub-channel 1: that was announced first.
-            fic = self.fic_of(found)
-            self.assertEqual(self.checked_faults(fic), [], form)
-            self.assertEqual(self.listened(fic)[0], ["sub 1 at 0 size 24 eep 3-A"])
+            # What the plan has by then is announced, where it is another configuration.
+            self.assertEqual(self.checked_faults(self.fic_of(found)), [], form)
             # From there on it is the plan, with the numbers that belong to these counts.
             size = len(frames[0])
-            self.filled(form, found[(number - count) * size:], self.plan(count + 124, 0, SLOW)[96 * number:], number)
+            self.filled(form, found[(number - count) * size:], self.plan(count + 1104, 0, SLOW)[96 * number:], number)
             self.assertRegex(self.read("l" + form).decode(), r"(?m)^# not held$")
             self.assertIn(b'\ndab_alarm{alarm="held"} 0\n', self.read("s"))
 
     def test_contacts_act_on_the_plan_meanwhile(self):
         """The contact brings sub-channel 2, while 1 is held: it is announced when counts and clock agree."""
-        feed = self.started("run contacts.code --in - --out - --log l --contacts c")
+        feed = self.started("run contacts.code --in - --out - --log l --contacts c --tolerance 30")
         feed.through(self.stream("edi", 60))
-        found = feed.through(made("edi", self.own(4, 460), 460))
+        found = feed.through(made("edi", self.own(4, 1760), 1760))
         self.write("c", "contact 3 closed\n")
-        found += feed.through(made("edi", self.own(4, 464), 464))
-        time.sleep(9.0)
-        found += self.paced(feed, made("edi", self.own(150, 468), 468))
+        found += feed.through(made("edi", self.own(4, 1764), 1764))
+        time.sleep(14.0)
+        found += self.paced(feed, made("edi", self.own(1100, 1768), 1768))
         status, _, messages = feed.end()
         self.assertEqual(status, 0, messages)
         self.assertIn("the plan goes on", messages)

@@ -41,7 +41,7 @@ class Server:
 class Networks(bridges.Case):
     """The way in and the way out."""
 
-    def received(self, connection, size, seconds=10.0):
+    def received(self, connection, size, seconds=bridges.PATIENCE):
         """So many bytes of a connection."""
         return bridges.read_within(connection.fileno(), size, seconds)
 

@@ -116,32 +116,32 @@ class Steps(bridges.Case):
                 self.goes_out(form, range(first), plan, out[:len(b"".join(frames[:first]))])
 
     def heard_40(self, form, log, options=""):
-        """A bridge that has heard 40 frames before a step of 300, with all its frames, their counts and the plan's
+        """A bridge that has heard 40 frames before a step of 1,000, with all its frames, their counts and the plan's
         FIBs."""
-        counts, frames, plan = self.stepped(form, 40, 300, 40)
+        counts, frames, plan = self.stepped(form, 40, 1000, 40)
         feed = self.started(f"run moves.code --in - --out - --log {log}{form} {options}")
         self.assertEqual(len(b"".join(feed.through(frames[:40]))), len(b"".join(frames[:40])))
         return feed, frames, counts, plan
 
     def test_a_step_before_its_time(self):
-        """300 frames are 7.2 s: at once the clock does not agree."""
+        """1,000 frames are 24 s: at once the clock does not agree."""
         for form in FORMS:
             feed, frames, _, _ = self.heard_40(form, "at_once", "--strict")
             feed.give(frames[40:44])
             status, rest, messages = feed.end()
             self.assertEqual((status, rest), (4, b""), messages)
-            self.assertRegex(messages, r"the count is 340, 40 was due: a step of 300, after \d+\.\d s by the clock: " + TAKE_UP)
+            self.assertRegex(messages, r"the count is 1040, 40 was due: a step of 1000, after \d+\.\d s by the clock: " + TAKE_UP)
 
     def test_a_step_with_the_clock(self):
-        """300 frames are 7.2 s: after 5.4 s the clock agrees within 3 s."""
-        heard = [(form, self.heard_40(form, "later")) for form in FORMS]
-        time.sleep(5.4)
+        """1,000 frames are 24 s: after 8 s the clock agrees within 20 s."""
+        heard = [(form, self.heard_40(form, "later", "--tolerance 20")) for form in FORMS]
+        time.sleep(8.0)
         for form, (feed, frames, counts, plan) in heard:
             found = b"".join(feed.through(frames[40:]))
             status, _, messages = feed.end()
             self.assertEqual(status, 0, messages)
             self.goes_out(form, counts[40:], plan[40:], found)
-            self.assertIn("300 frames missed: the plan makes 300 frames unsent", messages)
+            self.assertIn("1000 frames missed: the plan makes 1000 frames unsent", messages)
 
 
 if __name__ == "__main__":
