@@ -99,7 +99,8 @@ class Life:
         self._bridge.run("world", reader.Reader(Input(world), world.form), Output(world), world.is_of_datagrams)
 
     def end(self):
-        """Ends all its processes at once, and closes its files."""
+        """Ends all its processes at once, and closes its files; returns whether the log had all that was given to it."""
+        is_whole = self._log is not None and not self._log._unwritten     # pylint: disable=protected-access
         for job in children(self._world.oracle):
             os.kill(job, 9)
         for thread in threading.enumerate():
@@ -115,6 +116,7 @@ class Life:
             os.close(file)
         for job in children(self._world.oracle):
             os.waitpid(job, 0)
+        return is_whole
 
 
 def open_files():
@@ -146,8 +148,7 @@ def simulate(seed, frames, folder, program):
         life = Life(world)
         with contextlib.suppress(Killed):
             life.run()
-        life.end()
-        world.ended()
+        world.ended(life.end())
     print(f"seed {seed}, {world.form}{' in datagrams' if world.is_of_datagrams else ''}: {world.told()}", flush=True)
     for text in world.wrong[:5]:
         print("  wrong:", text, flush=True)

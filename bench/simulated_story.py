@@ -113,13 +113,12 @@ class World:
             first, steps, _, _, _ = self._past
             self.oracle = Oracle(self.program, str(self.code), first, steps)
 
-    def ended(self):
-        """The bridge is gone: the multiplexer goes on meanwhile."""
+    def ended(self, is_whole):
+        """The bridge is gone: the multiplexer goes on meanwhile. `is_whole` says whether its log had all."""
         for due in list(self._due.values()):
             if due.serial < self.frames_in - 10:
                 self._miss(due)
-        is_whole = not self.disk.is_full and self._is_explained
-        self._true = self._base if is_whole else None
+        self._true = self._base if is_whole and self._is_explained else None
         self.disk.is_full = False
         if self.chance.random() < 0.1:
             self._true = None
