@@ -139,7 +139,7 @@ def add_times(one: argparse.ArgumentParser) -> None:
     one.add_argument("--zone", choices=("utc", "local"), help="the zone of --time now [default: utc]")
     one.add_argument("--clock", choices=("fig",), help="take that time from FIG 0/10 of the stream, which is in UTC")
     one.add_argument("--offset", metavar="H", type=decimal(-24, 24, "hours"), help="the hours to be added to FIG 0/10")
-    one.add_argument("--skip", metavar="N", type=whole(0, 2 ** 63 - 1, "a number of frames"), default=0,
+    one.add_argument("--skip", metavar="N", type=whole(0, 2 ** 32 - 1, "a number of frames"), default=0,
                      help="begin with the frame N of the plan")
 
 
