@@ -240,11 +240,16 @@ class Resumes(Held):
             self.log_at(240.0 if goes_on else 3600.0 + 240.0)
             feed = self.started("run slow.code --in - --out - --log l --tolerance 30 --state s")
             # 10,000 frames later the count is what it would be.
-            fics = bridges.fics(self.own(400, 100))
+            fics = bridges.fics(self.own(2000, 100))
             held = b"".join(feed.through(made("edi", b"".join(fics[:20]), 100)))
             self.is_held(held, FIRST, 100, 20)
             fics[20] = fics[20][:64] + clock(time.time() + ahead)
-            self.paced(feed, made("edi", b"".join(fics[20:400 if goes_on else 60]), 120))
+            self.paced(feed, made("edi", b"".join(fics[20:60]), 120))
+            # By the clock of a busy machine the counts are late: the plan waits for them.
+            for at in range(60, len(fics) if goes_on else 60, 50):
+                if b'\ndab_state{state="following"} 1\n' in self.read("s"):
+                    break
+                self.paced(feed, made("edi", b"".join(fics[at:at + 50]), 100 + at))
             status, _, messages = feed.end()
             self.assertEqual(status, 0, messages)
             self.assertRegex(messages, r"a step of 0, after \d+\.\d s by the clock, and no FIG 0/10 has come yet: what is on air is held")
