@@ -65,9 +65,10 @@ class Air:
         assert number is not None
         return self._planned(frame, number, moment)
 
-    def hold(self, script: bytes, why: str) -> None:
-        """Holds a configuration from here on, and says why."""
-        self._holding = Holding(self._program, self._plan, script)
+    def hold(self, script: bytes, frame: int, why: str) -> None:
+        """Holds a configuration from here on, which the plan has from a frame on, and says why."""
+        self._holding = Holding(self._program, self._plan, script, frame)
+        self._log.held(frame)
         self._state.phase = Phase.HOLDING
         self._state.alarm(Alarm.HELD, f"{why}: what is on air is held until counts and clock agree")
 
@@ -118,23 +119,23 @@ class Air:
             if wanted == holding.script:
                 return self._go_on(frame, number, moment, at)
             if wanted is not None:
-                holding.change_to(wanted)
+                holding.change_to(wanted, self.player.made - len(self.player.since_swap()))
         self._state.frame = None
+        before = holding.frame
         made = holding.make(frame.fic(), count)
         self._state.frames_held += 1
-        if holding.swapped:
+        if holding.frame != before:
             self.has_swapped = True
-            self._log.held(self.player.made - 1)
+            self._log.held(holding.frame)
         return made
 
     def _begin_hold(self, at: int) -> Holding:
         """Holds what receivers have, or have been told."""
         step = f"frame {at}: {self._follower.step}"
         made = self.player.made
-        found = settled(self.player, self._plan)
+        found, first = settled(self.player, self._plan)
         self._log.count(self.player.made - made, self._follower.wall_of(self.player.made - 1))
-        self._log.held(self.player.made - len(self.player.since_swap()))
-        self.hold(script_of(self._program, self._plan, found), step)
+        self.hold(script_of(self._program, self._plan, found), first, step)
         assert self._holding is not None
         return self._holding
 

@@ -180,14 +180,14 @@ class Beginning:
         assert player is not None
         program, plan = self._wish.program, self._plan
         if past.held is None:
-            script, held = script_of(program, plan, settled(player, plan)), player.made - len(player.since_swap())
+            found, held = settled(player, plan)
         else:
-            script, held = script_of(program, plan, self._frames_from(past, past.held)), past.held
+            found, held = self._frames_from(past, past.held), past.held
+        script = script_of(program, plan, found)
         follower = self._follower(player.start)
         follower.hold(past.frames, self._end_of(past, here.moment))
         air = self._air(player, follower, here)
-        self._log.held(held)
-        air.hold(script, f"{self._log.path}: {step}")
+        air.hold(script, held, f"{self._log.path}: {step}")
         return air
 
     def _frames_from(self, past: Past, frame: int) -> List[bytes]:

@@ -7,7 +7,7 @@ live`. Where a change was announced it is the one that was announced: receivers 
 from __future__ import annotations
 
 import os
-from typing import Dict, List, Optional
+from typing import Dict, List, Optional, Tuple
 
 from .chain import Chain, Code
 from .faults import Trouble, say
@@ -27,34 +27,35 @@ def script_of(program: str, plan: Plan, fics: List[bytes]) -> bytes:
     return run(program, words + (["--reserve", str(header.reserve)] if header.reserve else []), b"".join(fics))
 
 
-def settled(player: Player, plan: Plan) -> List[bytes]:
-    """The FICs that say the configuration of a plan: that of its last frame, or, where a change is announced there, the
-    next one. The plan makes frames for it that are not sent: to the swap, and from there as many as a receiver needs,
-    up to the next swap."""
+def settled(player: Player, plan: Plan) -> Tuple[List[bytes], int]:
+    """The FICs that say the configuration of a plan, and the number of the first of these frames: that of its last
+    frame, or, where a change is announced there, the next one. The plan makes frames for it that are not sent: to the
+    swap, and from there as many as a receiver needs, up to the next swap."""
     swap = player.swap_in
     if swap is not None:
         player.pass_over(swap + 1)
-    found = player.since_swap()
+    swaps, found = player.swaps, player.since_swap()
+    first = player.made - len(found)
     while len(found) < plan.history:
-        swaps = player.swaps
         player.pass_over(1)
         if player.swaps > swaps:
             break
         found = player.since_swap()
-    return found
+    return found, first
 
 
 class Holding:
-    """A configuration that is on air, and the way from it to another one."""
+    """A configuration that is on air, and the way from it to another one. `frame` is that of the plan from which on it
+    has this configuration."""
 
-    def __init__(self, program: str, plan: Plan, script: bytes) -> None:
+    def __init__(self, program: str, plan: Plan, script: bytes, frame: int) -> None:
         self.script = script
         """The script of the configuration that receivers hold."""
-        self.swapped = False
-        """Whether a swap fell into the last frame."""
+        self.frame = frame
+        """The plan's frame from which on it has that configuration, up to a swap."""
         self._program = program
         self._plan = plan
-        self._next: Optional[bytes] = None
+        self._next: Optional[Tuple[bytes, int]] = None
         self._refused: Optional[bytes] = None
         self._listener = Listener()
         self._code: Optional[Code] = None
@@ -90,18 +91,18 @@ class Holding:
             self._listener = Listener()
             self._chain = Chain(self._program, self._code, self._plan.mode, ["--count", str(count)])
         made = self._chain.frame(fic, [])
-        self.swapped = self._hear(made, count)
+        self._hear(made, count)
         self._count = (count + 1) % COUNTS
         return made
 
-    def change_to(self, script: bytes) -> None:
-        """Announces a change to another configuration, and makes it. Where there is no such change the configuration
-        stays."""
+    def change_to(self, script: bytes, frame: int) -> None:
+        """Announces a change to another configuration, which the plan has from a frame on, and makes it. Where there is
+        no such change the configuration stays."""
         if script == self._refused:
             return
         try:
             self._compile(changed(self._program, self.script, script))
-            self._next = script
+            self._next = script, frame
         except Trouble as fault:
             self._refused = script
             say(f"what is held can't become what the plan has: {fault}")
@@ -113,18 +114,22 @@ class Holding:
             os.close(self._code.file)
         self._code = None
 
-    def _hear(self, made: bytes, count: int) -> bool:
-        """Takes note of a frame that was made; returns whether a swap falls into it."""
-        swapped = self._listener.hear(made, count)
-        if swapped and self._next is not None:
-            self.script, self._next = self._next, None
-        return swapped
+    def _hear(self, made: bytes, count: int) -> None:
+        """Takes note of a frame that was made."""
+        if self._listener.hear(made, count):
+            self._take_over()
+
+    def _take_over(self) -> bool:
+        """Receivers hold what was announced to them; returns whether something was."""
+        if self._next is None:
+            return False
+        (self.script, self.frame), self._next = self._next, None
+        return True
 
     def _break_off(self) -> None:
         """The counts step: what was announced is what receivers hold."""
         self._end_chain()
-        if self._next is not None:
-            self.script, self._next = self._next, None
+        if self._take_over():
             self._compile(self.script)
 
     def _compile(self, script: bytes) -> None:

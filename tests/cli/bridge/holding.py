@@ -15,6 +15,12 @@ FIRST = bridges.MOVES.split("forever")[0]
 # Swaps at 324, 648 and so on.
 SLOW = bridges.MOVES.replace("wait 20", "wait 300")
 SECOND = FIRST.replace("sub 1 at 0", "sub 2 at 24").replace("audio 63 sub 1", "audio 63 sub 2")
+# Swaps at 36, 72, 108, each announced for the last 24 frames before it. The entries of twelve services more take four
+# FIBs: one frame does not say the configuration.
+SERVICES = "".join(f"service C2{number}\naudio 63 sub 63 in C2{number}\n" for number in range(30, 42))
+WIDE = (bridges.MOVES.replace("wait 20", "wait 11")
+        .replace("service C221", f"sub 63 at 850 eep 4-A 8\n{SERVICES}service C221"))
+WIDE_FIRST = WIDE.split("forever")[0]
 
 
 class Held(bridges.Case):
@@ -226,6 +232,28 @@ class Resumes(Held):
                 status, out, messages = self.bridge("run moves.code --in - --out - --log l", stream)
                 self.assertEqual(status, 0, messages)
                 self.is_held(out, script, count + 440, 40, form)
+                (self.folder / "l").unlink()
+
+    def test_what_a_change_led_to_is_held_after_a_restart(self):
+        """Sub-channel 2 is held. After a row of frames, at 82, it is known that the plan has 1, which is announced for
+        108. That is the frame of the plan's own next swap; or before it the counts step once more, so that receivers
+        take over what was announced."""
+        self.compile(self.folder, "wide", WIDE)
+        own = bridges.fics(self.own(5000))
+        first = subprocess.run([self.program, "listen", "-"], input=self.plan(40, 2000, WIDE_FIRST),
+                               capture_output=True, check=True)
+        for form in FORMS:
+            for name, counts in (("a swap", [*range(58, 114)]), ("a step", [*range(58, 100), *range(4000, 4040)])):
+                taken = [*range(48), *range(3000, 3004), *counts]
+                self.write("a", b"".join(bridges.MAKERS[form](count, own[count]) for count in taken))
+                status, _, messages = self.bridge("run wide.code --in a --out b --log l")
+                self.assertEqual((status, "goes on" in messages), (0, False), messages)
+                stream = b"".join(made(form, self.own(40, 2000), 2000))
+                status, out, messages = self.bridge("run wide.code --in - --out - --log l", stream)
+                self.assertEqual(status, 0, messages)
+                done = subprocess.run([self.program, "listen", "-"], input=self.fic_of(out),
+                                      capture_output=True, check=True)
+                self.assertEqual(done.stdout, first.stdout, f"{form}, {name}")
                 (self.folder / "l").unlink()
 
     def test_a_clock_that_is_an_hour_wrong_is_not_believed(self):
