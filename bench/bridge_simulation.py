@@ -99,8 +99,10 @@ class Life:
         self._bridge.run("world", reader.Reader(Input(world), world.form), Output(world), world.is_of_datagrams)
 
     def end(self):
-        """Ends all its processes at once, and closes its files; returns whether the log had all that was given to it."""
+        """Ends all its processes at once, and closes its files; returns whether the log had all that was given to it,
+        and whether a configuration was held."""
         is_whole = self._log is not None and not self._log._unwritten     # pylint: disable=protected-access
+        is_holding = self._bridge is not None and self.is_holding
         for job in children(self._world.oracle):
             os.kill(job, 9)
         for thread in threading.enumerate():
@@ -116,7 +118,7 @@ class Life:
             os.close(file)
         for job in children(self._world.oracle):
             os.waitpid(job, 0)
-        return is_whole
+        return is_whole, is_holding
 
 
 def open_files():
@@ -148,7 +150,7 @@ def simulate(seed, frames, folder, program):
         life = Life(world)
         with contextlib.suppress(Killed):
             life.run()
-        world.ended(life.end())
+        world.ended(*life.end())
     print(f"seed {seed}, {world.form}{' in datagrams' if world.is_of_datagrams else ''}: {world.told()}", flush=True)
     for text in world.wrong[:5]:
         print("  wrong:", text, flush=True)

@@ -316,27 +316,29 @@ class Oracle:
             self._make(number + 1 - self.made)
         return self._kept.get(number)
 
-    def configuration(self, number):
+    def configuration(self, number, is_current=False):
         """The entries of the configuration that receivers hold after the frame of a number, or of the one that is
-        announced there."""
+        announced there; `is_current` for the one that holds in that frame, whatever is announced."""
         copy = Oracle(self._words[0], self._words[2], self.first, first_steps(self._steps, number + 1))
         try:
-            return copy.settled(number)
+            return copy.settled(number, is_current)
         finally:
             copy.close()
 
-    def settled(self, number):
+    def settled(self, number, is_current):
         """The same, of an oracle that nobody needs any more."""
         first, low = max(0, number - 300), None
-        start, at = first, first
-        while at <= number or low is not None:
+        start, at, before = first, first, None
+        while at <= number or (low is not None and not is_current):
             if low is not None and (self.first + at) % 250 == low:
                 start, low = at, None
+            before = low
             heads = decoded(self.fic(at))[0]
             if at <= number or low is not None:
                 low = heads[-1][1] if heads else low
             at += 1
-        found, low = set(), None
+        start, low = (number, before) if is_current else (start, None)
+        found = set()
         for at in range(start, max(number, start + 12) + 1):
             if at > start and low is not None and (self.first + at) % 250 == low:
                 break

@@ -85,6 +85,8 @@ class World:
         self._waiting = []
         self._entries, self._next, self._low = None, set(), None
         """What is held, and what is announced while it is."""
+        self._kept = None
+        """What was held when a life ended; None if nothing was, or not all of it is in the log."""
         self._pieces = []
         self._clean = 0
         self._returning = 0
@@ -113,15 +115,17 @@ class World:
             first, steps, _, _, _ = self._past
             self.oracle = Oracle(self.program, str(self.code), first, steps)
 
-    def ended(self, is_whole):
-        """The bridge is gone: the multiplexer goes on meanwhile. `is_whole` says whether its log had all."""
+    def ended(self, is_whole, is_holding):
+        """The bridge is gone: the multiplexer goes on meanwhile. `is_whole` says whether its log had all, `is_holding`
+        whether a configuration was held."""
         for due in list(self._due.values()):
             if due.serial < self.frames_in - 10:
                 self._miss(due)
         self._true = self._base if is_whole and self._is_explained else None
+        self._kept = self._entries if is_whole and is_holding else None
         self.disk.is_full = False
         if self.chance.random() < 0.1:
-            self._true = None
+            self._true = self._kept = None
             self._tear()
         seconds = self.chance.choice([0.5, 1.0, 2.0, 5.0, 60.0, 120.0, 300.0, 4000.0])
         frames = round(seconds / FRAME)
@@ -386,7 +390,9 @@ class World:
                 self.wrong.append(f"frame {due.serial}: after a start the plan is {self._base - self._true} frames ahead")
             return
         self._anchor = (frames - 1, wall - self.clock.offset, (first + frames - 1) % COUNTS)
-        self._entries = self.oracle.configuration(frames - 1 if is_held is None else is_held)
+        self._entries = self.oracle.configuration(frames - 1 if is_held is None else is_held, is_held is not None)
+        if is_held is not None and self._kept is not None and self._entries != self._kept:
+            self.wrong.append(f"frame {due.serial}: after a start another configuration is held than before it")
         self._next, self._low = set(), None
         self.holds += 1
         self._is_explained, self._returning = False, PATIENCE if agrees else 0
