@@ -75,9 +75,10 @@ def frame_of(data: bytes) -> Item:
     if low >= 250 or count >= 5000:
         return NoFrame("no CIF count", len(data))
     at = len(data) - 2
-    wrong = wrong_by(data, 0, at) if data[8] & 0x80 else int.from_bytes(data[at:], "big")
+    has_crc = bool(data[8] & 0x80)
+    wrong = wrong_by(data, 0, at) if has_crc else int.from_bytes(data[at:], "big")
     stamp = stamp_of(data[value + 6:value + 14]) if flags & 0x80 else None
-    return Frame(data, start, size, mode, low, count, b"".join(streams), 0, at, wrong, stamp)
+    return Frame(data, start, size, mode, low, count, b"".join(streams), 0, at, wrong, stamp, has_crc)
 
 
 def stamp_of(data: bytes) -> Optional[float]:

@@ -17,7 +17,7 @@ FSYNCS = (b"\x07\x3a\xb6", b"\xf8\xc5\x49")
 """The words of synchronisation, in turn (ETS 300 799, 5.2)."""
 MOST_STREAMS = 64
 """The most sub-channels of a frame."""
-PADDING = b"\x55"
+PADDING = b"\x55" * FRAME
 """What fills a frame up."""
 NO_SYNC = "no synchronisation"
 """Why bytes without FSYNC are no frame."""
@@ -123,7 +123,7 @@ def next_start(data: bytes, first: int) -> Optional[int]:
 def is_padded(frame: Frame) -> bool:
     """Whether nothing but padding is behind the frame's last field, TIST."""
     end = frame.crc_at + 8
-    return frame.data.count(PADDING, end) == FRAME - end
+    return frame.data[end:] == PADDING[end:]
 
 
 def unsettled(data: bytes) -> int:

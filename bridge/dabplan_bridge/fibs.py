@@ -6,6 +6,7 @@ four.
 from __future__ import annotations
 
 import binascii
+import functools
 from dataclasses import dataclass
 from typing import Dict, Iterator, NamedTuple, Optional, Tuple
 
@@ -26,6 +27,26 @@ FIB = 32
 def crc(data: bytes) -> int:
     """The CRC of FIBs, ETI and EDI: x^16 + x^12 + x^5 + 1, started with ones, inverted (EN 300 401, 5.2.1)."""
     return binascii.crc_hqx(data, 0xFFFF) ^ 0xFFFF
+
+
+@functools.lru_cache(maxsize=16)
+def _with_zeros(size: int) -> Tuple[Tuple[int, ...], Tuple[int, ...]]:
+    """What the register of the CRC becomes by so many bytes of zeros, for each of its high bytes and its low ones."""
+    low, high = [0], [0]
+    for table, first in ((low, 0), (high, 8)):
+        for bit in range(first, first + 8):
+            one = binascii.crc_hqx(bytes(size), 1 << bit)
+            table += [one ^ other for other in table]
+    return tuple(high), tuple(low)
+
+
+def crc_change(old: bytes, new: bytes, behind: int) -> int:
+    """The CRC of bytes exclusive or what it was, where some of them become others, and so many follow these. The CRC is
+    linear: only what differs counts."""
+    differs = int.from_bytes(old, "big") ^ int.from_bytes(new, "big")
+    register = binascii.crc_hqx(differs.to_bytes(len(new), "big"), 0)
+    high, low = _with_zeros(behind)
+    return high[register >> 8] ^ low[register & 0xFF]
 
 
 def finished(data: bytes) -> bytes:
@@ -79,6 +100,10 @@ class Ensemble:
 ENSEMBLES = (b"\x05\x00", b"\x06\x00")
 """How a FIG 0/0 of the ensemble itself begins (EN 300 401, 6.4): type 0, 5 bytes, with a count of the occurrence 6,
 extension 0."""
+
+
+CHANGES = tuple(bytes([bits]) for bits in range(8))
+"""The change flags and the alarm flag of a FIG 0/0, as a byte each."""
 
 
 def ensemble_of(fic: bytes) -> Optional[Ensemble]:
@@ -158,6 +183,14 @@ def told_by(fib: bytes) -> Iterator[Told]:
             yield Told((), False, body[3] >> 6, body[5])
 
 
+def without_count(fib: bytes) -> bytes:
+    """A FIB that begins with a FIG 0/0 without the count of it, of which `told_by` says nothing, and without its CRC;
+    nothing where that is wrong."""
+    if crc(fib[:30]) != int.from_bytes(fib[30:], "big"):
+        return b""
+    return b"".join((fib[:4], CHANGES[fib[4] >> 5], fib[6:30]))
+
+
 class Listener:
     """The sub-channels that a receiver of the plan's FIBs knows."""
 
@@ -191,11 +224,12 @@ class Listener:
 
     def _told(self, fib: bytes) -> Tuple[Told, ...]:
         """What a FIB says; that of the FIBs of late is known."""
-        found = self._known.get(fib)
+        key = fib if fib[:2] not in ENSEMBLES else without_count(fib)
+        found = self._known.get(key)
         if found is None:
             if len(self._known) > 256:
                 self._known.clear()
-            found = self._known[fib] = tuple(told_by(fib))
+            found = self._known[key] = tuple(told_by(fib))
         return found
 
     def _take(self, told: Told) -> None:

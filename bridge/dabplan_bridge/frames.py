@@ -4,7 +4,7 @@ from __future__ import annotations
 from dataclasses import dataclass
 from typing import NamedTuple, Optional, Union
 
-from .fibs import crc
+from .fibs import crc, crc_change
 
 
 class Frame(NamedTuple):
@@ -32,6 +32,8 @@ class Frame(NamedTuple):
     """The CRC that is there, exclusive or the right one: 0 if the frame is not damaged."""
     stamp: Optional[float] = None
     """Its time stamp, in seconds since 1970; None without one."""
+    has_crc: bool = True
+    """Whether it says that the CRC is there."""
 
     def fic(self) -> bytes:
         """The FIC of the frame."""
@@ -40,10 +42,14 @@ class Frame(NamedTuple):
     def with_fic(self, fic: bytes) -> bytes:
         """The bytes of the frame with another FIC of this size. A right CRC becomes the right one, a wrong one stays
         wrong."""
-        before = self.data[self.crc_from:self.start]
-        covered = b"".join((before, fic, self.data[self.start + self.size:self.crc_at]))
-        check = (crc(covered) ^ self.wrong).to_bytes(2, "big")
-        return b"".join((self.data[:self.crc_from], covered, check, self.data[self.crc_at + 2:]))
+        data, end = self.data, self.start + self.size
+        if self.has_crc:
+            check = int.from_bytes(data[self.crc_at:self.crc_at + 2], "big")
+            check ^= crc_change(data[self.start:end], fic, self.crc_at - end)
+        else:
+            check = crc(b"".join((data[self.crc_from:self.start], fic, data[end:self.crc_at]))) ^ self.wrong
+        return b"".join((data[:self.start], fic, data[end:self.crc_at], check.to_bytes(2, "big"),
+                         data[self.crc_at + 2:]))
 
 
 @dataclass(frozen=True)

@@ -70,6 +70,18 @@ class Fibs(unittest.TestCase):
         self.assertEqual(listener.current, {1: layout.SubChannel(0, 24, "eep 3-A")})
 
 
+    def test_a_fig_0_0_that_was_received_before_with_another_count_acts_and_a_damaged_one_does_not(self):
+        listener = fibs.Listener()
+        for count in (2 * 250 + 100, 7 * 250 + 40):
+            ensemble = bridges.fib(f"0600E1C5{0x80 | count // 250:02X}{count % 250:02X}96")
+            damaged = ensemble[:-1] + bytes([ensemble[-1] ^ 1])
+            listener.hear(damaged + bridges.EMPTY_FIB * 2, count)
+            self.assertIsNone(listener.swap_in(count))
+            listener.hear(ensemble + bridges.EMPTY_FIB * 2, count)
+            self.assertEqual(listener.swap_in(count), (150 - count) % 250)
+            self.assertTrue(listener.hear(bridges.EMPTY_FIB * 3, 150))
+
+
 class Layouts(unittest.TestCase):
     """Sub-channels of a stream's header, and those of a plan."""
 
@@ -182,6 +194,17 @@ class Cutters(unittest.TestCase):
             wanted = bytearray(maker(8, other))
             wanted[-1 if name == "edi" else 8 + 12 + 4 + 96 + 216 + 1] ^= 5
             self.assertEqual(item.with_fic(other), bytes(wanted), name)
+
+    def test_a_packet_without_a_crc_gets_the_one_of_its_bytes(self):
+        """TS 102 821, clause 6.1: where CF is 0 the field of the CRC is 0."""
+        frame = bytearray(bridges.edi_packet(8, self.FIC))
+        frame[8] &= 0x7F
+        frame[-2:] = b"\0\0"
+        item = self.cut("edi", bytes(frame), 10_000)[0]
+        self.assertEqual(item.wrong, 0)
+        wanted = bytearray(bridges.edi_packet(8, bridges.EMPTY_FIB * 3))
+        wanted[8] &= 0x7F
+        self.assertEqual(item.with_fic(bridges.EMPTY_FIB * 3), bytes(wanted[:-2]) + bridges.crc(bytes(wanted[:-2])))
 
     def test_formats_are_found_by_the_first_bytes(self):
         frames = {name: b"".join(maker(count, self.FIC) for count in range(4)) for name, maker in bridges.MAKERS.items()}
