@@ -5,7 +5,7 @@ from __future__ import annotations
 import contextlib
 import os
 import resource
-from typing import Callable, Iterator
+from typing import Callable, Iterator, List
 
 REAL_TIME = (os.SCHED_FIFO, os.SCHED_RR)
 
@@ -23,16 +23,21 @@ def set_policy(process: int, policy: int, priority: int) -> None:
 
 @contextlib.contextmanager
 def ordinary() -> Iterator[Callable[[int], None]]:
-    """Without a real-time priority, and with it again at the end. What it gives takes children by their process ids,
-    which get that priority at the end too."""
+    """Without a real-time priority, and with it again at the end. What it gives takes children by their process ids:
+    they go without it from then on, and get it at the end too."""
     policy, given = os.sched_getscheduler(0), os.sched_getparam(0).sched_priority
-    children = [0]
+    processes: List[int] = []
     if policy not in REAL_TIME or not can_regain(given):
-        yield children.append
+        yield processes.append
         return
-    set_policy(0, os.SCHED_OTHER, 0)
+
+    def also(process: int) -> None:
+        processes.append(process)
+        set_policy(process, os.SCHED_OTHER, 0)
+
+    also(0)
     try:
-        yield children.append
+        yield also
     finally:
-        for each in children:
+        for each in processes:
             set_policy(each, policy, given)

@@ -68,6 +68,8 @@ begin
 # The seconds after which something does not come any more, on a machine with much else to do.
 PATIENCE = 120.0
 EMPTY_FIB = bytes.fromhex("FF" + "00" * 29 + "A8A8")
+# A time stamp of EDI that has no time: SECONDS is 0 (TS 102 693).
+NO_TIME = b"\x05" + bytes(7)
 
 
 def table():
@@ -122,12 +124,12 @@ def eti_frame(count, fic, mode=1, stc=STC, rest=b"\x00\x01\x02\x03"):
 
 
 @functools.lru_cache(maxsize=4096)
-def edi_packet(count, fic, mode=1, stc=STC, stamped=False):
-    """A packet of EDI with this CIF count; its sequence number is the count too."""
+def edi_packet(count, fic, mode=1, stc=STC, stamp=b""):
+    """A packet of EDI with this CIF count; its sequence number is the count too. `stamp` is a time stamp, if any."""
     def tag(name, value):
         return name + (8 * len(value)).to_bytes(4, "big") + value
-    deti = bytes([(0x80 if stamped else 0) | 0x40 | count // 250, count % 250, 0xFF, mode % 4 << 6 | count % 8 << 3, 0x12, 0x34])
-    deti += (b"\x05" + bytes(7) if stamped else b"") + fic
+    flags = (0x80 if stamp else 0) | 0x40
+    deti = bytes([flags | count // 250, count % 250, 0xFF, mode % 4 << 6 | count % 8 << 3, 0x12, 0x34]) + stamp + fic
     items, streams, at = tag(b"*ptr", b"DETI" + bytes(4)) + tag(b"deti", deti), streams_of(count, stc), 0
     for number, (sub, start, level, words) in enumerate(stc, 1):
         head = (sub << 18 | start << 8 | level << 2).to_bytes(3, "big")

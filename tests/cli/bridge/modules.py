@@ -129,7 +129,7 @@ class Cutters(unittest.TestCase):
         self.assertEqual((one.low, one.whole, one.mode, one.stc), (51, None, 1, stc))
         self.assertEqual((other.low, other.whole, other.mode, other.stc), (51, 4801, 1, stc))
         self.assertEqual(other.start, 40)
-        self.assertEqual(edi.frame_of(bridges.edi_packet(4801, self.FIC, stamped=True)).start, 48)
+        self.assertEqual(edi.frame_of(bridges.edi_packet(4801, self.FIC, stamp=bridges.NO_TIME)).start, 48)
 
     def test_synchronisation_comes_back_within_five_frames(self):
         for name, maker in bridges.MAKERS.items():
@@ -196,7 +196,7 @@ class Cutters(unittest.TestCase):
             self.assertEqual(item.with_fic(other), bytes(wanted), name)
 
     def test_a_packet_without_a_crc_gets_the_one_of_its_bytes(self):
-        """TS 102 821, clause 6.1: where CF is 0 the field of the CRC is 0."""
+        """TS 102 821: where CF is 0 the field of the CRC is 0."""
         frame = bytearray(bridges.edi_packet(8, self.FIC))
         frame[8] &= 0x7F
         frame[-2:] = b"\0\0"
