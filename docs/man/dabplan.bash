@@ -1,12 +1,15 @@
-# The completion of dabplan for bash, made by release/manual.
+# The completion of dabplan for bash, made by release/manual. A file is one word, whatever is in its name.
+_dabplan_words() {
+  mapfile -t COMPREPLY < <(compgen -W "$1" -- "${COMP_WORDS[COMP_CWORD]}")
+}
 _dabplan() {
   local word=${COMP_WORDS[COMP_CWORD]} before=${COMP_WORDS[COMP_CWORD-1]} options=
   if [ "$COMP_CWORD" -eq 1 ]; then
-    COMPREPLY=($(compgen -W "frame listen check merge diff compile verify map play debug live help --help --version" -- "$word"))
+    _dabplan_words "frame listen check merge diff compile verify map play debug live help --help --version"
     return
   fi
   case $before in
-    --mode) COMPREPLY=($(compgen -W "1 2 3 4" -- "$word")); return ;;
+    --mode) _dabplan_words "1 2 3 4"; return ;;
     --budget|--contacts|--count|--day|--ensemble|--every|--notice|--page|--period|--reserve|--skip|--time) return ;;
   esac
   case ${COMP_WORDS[1]} in
@@ -21,12 +24,13 @@ _dabplan() {
     play) options="--count --day --time --contacts --help" ;;
     debug) options="--count --day --time --contacts --help" ;;
     live) options="--count --day --time --contacts --skip --status --every --json --help" ;;
-    help) COMPREPLY=($(compgen -W "frame listen check merge diff compile verify map play debug live" -- "$word")); return ;;
+    help) _dabplan_words "frame listen check merge diff compile verify map play debug live"; return ;;
   esac
   if [[ $word == -* ]]; then
-    COMPREPLY=($(compgen -W "$options" -- "$word"))
+    _dabplan_words "$options"
   else
-    COMPREPLY=($(compgen -f -- "$word"))
+    compopt -o filenames 2>/dev/null
+    mapfile -t COMPREPLY < <(compgen -f -- "$word")
   fi
 }
-complete -o filenames -F _dabplan dabplan
+complete -F _dabplan dabplan

@@ -1,0 +1,2 @@
+" Scripts of dabplan.
+autocmd BufRead,BufNewFile *.plan setfiletype dabplan

@@ -1,0 +1,232 @@
+#!/usr/bin/env python3
+"""What the plans of examples/ have on air is what their comments say, whenever they are started and whenever a contact
+changes.
+
+    shipped_plans.py                   in some of the frames in which a plan decides
+    shipped_plans.py --whole [NAME ..] in each of 600 frames around each change, and in more of those; of these plans
+
+Each plan of steps is started at seconds around its hours, as far as its comment allows it, and its contact is closed,
+opened, and closed for a while, in frames around each hour; or, where it has no hours, around the swap that its contact
+brings. What is on air at noon and at three in the night, and in the whole table at one more time of the plan's own, has
+to be the configuration that the comment of the plan gives for that time and that level of its contact, with no change
+announced. The last line is 'N passed, M failed'.
+"""
+import os
+import pathlib
+import re
+import subprocess
+import sys
+import tempfile
+import typing
+from concurrent.futures import ThreadPoolExecutor
+
+import common
+
+DAY = 3_600_000
+NOON, THREE = "12:00:00", "03:00:00"
+FRAMES = 24
+"""So many frames are decoded: more than the period of each plan."""
+AROUND = range(-450, 150)
+"""The frames around an hour: the changes are committed in the 250th before it, and are announced until it."""
+CRITICAL = (-543, -542, -541, -506, -505, -504, -503, -502, -501, -500, *AROUND)
+"""And those in which two notices still fit in before it, or not any more."""
+SOME = (-504, -400, -251, -250, -249, -1, 0, 1)
+"""Those of the default run."""
+SOME_BEHIND = (1, 25, 26, 250, 252, 255)
+"""The frames behind a change of a contact in which it changes back, in the default run."""
+BEFORE = 1000
+"""The frames for which a plan runs before the first frame around an hour."""
+PULSE = 100
+"""The frames for which a contact is closed that does not stay so."""
+SECONDS = range(-15, 16)
+"""The seconds around an hour at which a plan is started."""
+SOME_SECONDS = (-12, -6, -5, 0)
+"""Those of the default run."""
+
+
+def audio(sub, start, size, sid, protection="3-A"):
+    """The lines of `dabplan listen` for a sub-channel and a service on it."""
+    return {f"sub {sub} at {start} size {size} eep {protection}", f"service {sid}"}
+
+
+# 8 kbit/s at 3-A have 6 capacity units (EN 300 401, clause 6.2.1): 128 kbit/s have 96, 96 have 72.
+FULL, LOWER = audio(1, 0, 96, "C221"), audio(1, 0, 72, "C221")
+REGION, ALARM, SECOND = (audio(2, 96, 96, "C222"), audio(2, 96, 96, "C2FF"), audio(2, 96, 72, "C223"))
+MANY = {"sub 2 at 96 size 96 eep 2-A", "sub 5 at 192 size 30 eep 4-B", "sub 63 at 222 size 24 eep 1-A", "service C222",
+        "service C224", "service E1C20001"}
+
+
+class Row(typing.NamedTuple):
+    """A plan, and what its comment says."""
+
+    name: str
+    contact: typing.Optional[int]
+    hours: typing.Tuple[str, ...]
+    """When it changes by itself."""
+    starts: typing.Tuple[str, str]
+    """From when and until when it may be started; the same twice for any time."""
+    own: str
+    """A time of its own at which it is looked at."""
+    wanted: typing.Callable[[int, bool], typing.Set[str]]
+    """The configuration at a second of the day, where the contact is closed or not."""
+
+
+def second_of(text):
+    """The second of the day of a time."""
+    hours, minutes, seconds = map(int, text.split(":"))
+    return 3600 * hours + 60 * minutes + seconds
+
+
+def frame_of(text):
+    """The first frame of the day at or after a time."""
+    return -(-second_of(text) * 125 // 3)
+
+
+def is_between(second, first, last):
+    """Whether a second of the day is in a window that may run over midnight."""
+    return (second - second_of(first)) % 86_400 < (second_of(last) - second_of(first)) % 86_400
+
+
+def by_night(second, _):
+    """A lower rate from ten in the evening to six in the morning."""
+    return LOWER if is_between(second, "22:00:00", "06:00:00") else FULL
+
+
+def by_night_or_alarm(second, is_closed):
+    """The same, and an emergency programme while the contact is closed, at the higher rate."""
+    return FULL | ALARM if is_closed else by_night(second, is_closed)
+
+
+def from_six_to_nine(second, is_closed):
+    """A programme of a region while the contact is closed, from six to nine."""
+    return FULL | REGION if is_closed and is_between(second, "06:00:00", "09:00:00") else FULL
+
+
+def by_contact(closed):
+    """A configuration while the contact is closed."""
+    return lambda _, is_closed: closed if is_closed else FULL
+
+
+ROWS = (
+    Row("night_rate", None, ("22:00:00", "06:00:00"), ("05:59:54", "21:59:54"), "23:00:00", by_night),
+    Row("room_for_labels", None, ("22:00:00", "06:00:00"), ("05:59:54", "21:59:54"), "23:00:00",
+        lambda second, closed: by_night(second, closed) | MANY),
+    Row("any_hour", None, ("22:00:00", "06:00:00"), (NOON, NOON), "23:00:00", by_night),
+    Row("part_time_service", None, ("06:00:00", "20:00:00"), ("19:59:54", "05:59:54"), "19:00:00",
+        lambda second, _: FULL | SECOND if is_between(second, "06:00:00", "20:00:00") else FULL),
+    Row("emergency", 9, ("22:00:00", "06:00:00"), (NOON, NOON), "23:00:00", by_night_or_alarm),
+    Row("opt_out_hours", 5, ("06:00:00", "09:00:00"), (NOON, NOON), "07:30:00", from_six_to_nine),
+    Row("weekdays", 5, ("18:00:00", "22:00:00"), ("21:59:54", "17:59:54"), "03:30:00", lambda *_: FULL),
+    Row("contact_rate", 3, (), (NOON, NOON), "18:00:00", by_contact(LOWER)),
+    Row("regional_opt_out", 3, (), (NOON, NOON), "18:00:00", by_contact(FULL | REGION)),
+    Row("bouncing_contact", 3, (), (NOON, NOON), "18:00:00", by_contact(LOWER)),
+    Row("settled_change", 3, (), (NOON, NOON), "18:00:00", by_contact(LOWER)),
+    Row("short_notice", None, (), (NOON, NOON), "18:00:00", lambda *_: LOWER),
+)
+
+
+class Run(typing.NamedTuple):
+    """A run of a plan to a time at which it is looked at."""
+
+    row: Row
+    start: int
+    """The frame of the day at which it is started."""
+    is_closed: bool
+    """Whether the contact is closed then."""
+    events: typing.Tuple[typing.Tuple[int, bool], ...]
+    """In which frames of the run the contact changes, and to what."""
+    at: str
+    """The time at which it is looked at."""
+
+    def __str__(self):
+        seconds = self.start * 3 // 125
+        changes = "".join(f", {'closed' if level else 'open'} in frame {frame}" for frame, level in self.events)
+        return (f"{self.row.name} from {seconds // 3600:02}:{seconds // 60 % 60:02}:{seconds % 60:02} (frame "
+                f"{self.start}), contact {'closed' if self.is_closed else 'open'}{changes}: at {self.at}")
+
+    def level(self):
+        """The level of the contact at the end."""
+        return self.events[-1][1] if self.events else self.is_closed
+
+    def on_air(self, program, folder):
+        """What `dabplan listen` prints of the frames from that time on: the lines of sub-channels and services, and
+        whether a swap is announced."""
+        ahead = (frame_of(self.at) - self.start) % DAY
+        while ahead < (self.events[-1][0] if self.events else 0) + BEFORE:
+            ahead += DAY
+        lines, made = [], 0
+        for frame, level in self.events:
+            lines += [f"frames {frame - made}", f"contact {self.row.contact} {'closed' if level else 'open'}"]
+            made = frame
+        lines += [f"frames {min(DAY, ahead - at)}" for at in range(made, ahead, DAY)] + [f"frames {FRAMES}"]
+        contacts = f"{1 << self.row.contact:04X}" if self.is_closed else "0000"
+        words = [program, "live", f"{self.row.name}.code", "--day", str(self.start), "--count", str(self.start % 4999),
+                 "--contacts", contacts, "--skip", str(ahead)]
+        made = subprocess.run(words, cwd=folder, input="\n".join(lines).encode(), check=True, capture_output=True)
+        done = subprocess.run([program, "listen", "-"], input=made.stdout, check=True, capture_output=True)
+        current, following = done.stdout.decode().split("\nnext\n")
+        return set(re.findall(r"(?m)^(?:sub|service) .*", current)), "no swap" not in following
+
+    def wanted(self):
+        """What has to be on air."""
+        return self.row.wanted(second_of(self.at), self.level()), False
+
+
+def starts(row, is_whole):
+    """The runs of a plan that is started around its hours, its contact open or closed."""
+    for hour in row.hours or (NOON,):
+        for second in SECONDS if is_whole else SOME_SECONDS:
+            at = (second_of(hour) + second) % 86_400
+            if row.starts[0] == row.starts[1] or is_between(at, *row.starts):
+                for is_closed in (False, True) if row.contact is not None else (False,):
+                    yield Run(row, -(-at * 125 // 3), is_closed, (), NOON)
+
+
+def changes(row, is_whole):
+    """The runs of a plan whose contact changes around its hours; or, where it has none, around the swap that another
+    change brings."""
+    for hour in row.hours:
+        start = (frame_of(hour) + CRITICAL[0] - BEFORE) % DAY
+        for frame in CRITICAL if is_whole else SOME:
+            at = BEFORE + frame - CRITICAL[0]
+            yield Run(row, start, False, ((at, True),), NOON)
+            yield Run(row, start, True, ((at, False),), NOON)
+            yield Run(row, start, False, ((at, True), (at + PULSE, False)), NOON)
+    if not row.hours:
+        start = frame_of("11:40:00")
+        for frame in range(1, 601) if is_whole else SOME_BEHIND:
+            yield Run(row, start, False, ((10, True), (10 + frame, False)), NOON)
+            yield Run(row, start, True, ((1000, False), (1000 + frame, True)), NOON)
+
+
+def runs(row, is_whole):
+    """All runs of a plan, to each time at which it is looked at."""
+    found = list(starts(row, is_whole))
+    if row.contact is not None:
+        found += changes(row, is_whole)
+    times = (NOON, THREE, row.own) if is_whole else (NOON, THREE)
+    return [run._replace(at=at) for run in found for at in times]
+
+
+def main():
+    """The main program."""
+    tally = common.Tally()
+    program = common.dabplan()
+    is_whole = sys.argv[1:2] == ["--whole"]
+    names = sys.argv[2:] or [row.name for row in ROWS]
+    shipped = {path.stem for path in common.EXAMPLES.glob("*.plan") if not path.read_text().rstrip().endswith("begin")}
+    tally.same("the plans of steps", shipped, {row.name for row in ROWS})
+    with tempfile.TemporaryDirectory() as name:
+        folder = pathlib.Path(name)
+        for row in ROWS:
+            words = [program, "compile", common.EXAMPLES / f"{row.name}.plan", folder / f"{row.name}.code"]
+            subprocess.run(words, check=True, capture_output=True)
+        wanted = [run for row in ROWS if row.name in names for run in runs(row, is_whole)]
+        with ThreadPoolExecutor(os.cpu_count() if is_whole else 1) as pool:
+            for run, found in zip(wanted, pool.map(lambda run: run.on_air(program, folder), wanted)):
+                tally.same(str(run), run.wanted(), found)
+    tally.end()
+
+
+if __name__ == "__main__":
+    main()
