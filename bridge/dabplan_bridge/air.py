@@ -5,9 +5,9 @@ from typing import Dict, Optional
 
 from .faults import Repeats, WillNotGuess, number_of
 from .fibs import FRAME_SECONDS
-from .fifos import Contacts
 from .follower import Follower
 from .frames import Frame
+from .given import Given
 from .holding import Holding, script_of, settled
 from .layout import SubChannel
 from .log import Log
@@ -28,14 +28,14 @@ SLICE = 2500
 class Air:
     """The frames of a plan that has begun. `is_strict`: a count that is not explained ends it, and nothing is held."""
 
-    def __init__(self, program: str, plan: Plan, player: Player, follower: Follower, log: Log, contacts: Contacts,
+    def __init__(self, program: str, plan: Plan, player: Player, follower: Follower, log: Log, given: Given,
                  state: State, repeats: Repeats, is_strict: bool) -> None:
         self.player = player
         self.has_swapped = False
         """Whether a swap fell into the last frame, or into those before it that were not sent."""
         self._program, self._plan = program, plan
         self._follower = follower
-        self._log, self._contacts = log, contacts
+        self._log, self._given = log, given
         self._state, self._repeats = state, repeats
         self._is_strict = is_strict
         self._holding: Optional[Holding] = None
@@ -83,6 +83,7 @@ class Air:
             self._wall = moment.wall
         if self.has_swapped:
             self._log.sync()
+        self._given.acted(self._log.is_written)
 
     def end(self) -> bool:
         """Ends the children; returns whether they ended well."""
@@ -100,7 +101,7 @@ class Air:
         if ahead > 0:
             self.has_swapped = player.pass_over(ahead)
             self._log.count(ahead, moment.wall)
-        lines = self._contacts.lines()
+        lines = self._given.lines(number, player.due)
         self._log.contacts(lines)
         made = player.make(frame.fic(), lines)
         self.has_swapped = self.has_swapped or player.swapped
@@ -142,7 +143,7 @@ class Air:
         """Lets the plan make its frames before the one of a number, some at a time: it stays in its day, and gets its
         contacts."""
         frames = min(number - self.player.made, SLICE)
-        lines = self._contacts.lines()
+        lines = self._given.lines(self.player.made, self.player.due)
         if lines:
             self._log.contacts(lines)
         if frames > 0 or lines:

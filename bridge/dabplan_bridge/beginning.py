@@ -10,10 +10,10 @@ from .air import TAKE_UP, Air
 from .chain import Code, Live, frame_lines, taken
 from .faults import Repeats, WillNotGuess, number_of, say
 from .fibs import COUNTS, DAY_FRAMES, FRAME_SECONDS, Listener, day_frame_of, size_of, utc_of
-from .fifos import Contacts
 from .fit import Fit
 from .follower import NEAR, Follower, Step, frames_by_clock, step_of
 from .frames import Frame
+from .given import Given
 from .holding import script_of, settled
 from .log import Log
 from .moments import Moment
@@ -69,10 +69,10 @@ class Arrival:
 class Beginning:
     """A plan that has not begun. Where there is a log, its past is played at once, before any frame comes."""
 
-    def __init__(self, wish: Wish, plan: Plan, log: Log, contacts: Contacts, state: State, repeats: Repeats) -> None:
+    def __init__(self, wish: Wish, plan: Plan, log: Log, given: Given, state: State, repeats: Repeats) -> None:
         self._wish = wish
         self._plan = plan
-        self._log, self._contacts = log, contacts
+        self._log, self._given = log, given
         self._state, self._repeats = state, repeats
         self._utc = UtcWatch(state)
         self._waited = 0
@@ -212,7 +212,7 @@ class Beginning:
         before = 0 if self._log.past is None else self._log.past.frames
         if player.made > before:
             self._log.count(player.made - before, here.moment.wall)
-        return Air(wish.program, self._plan, player, follower, self._log, self._contacts, self._state, self._repeats,
+        return Air(wish.program, self._plan, player, follower, self._log, self._given, self._state, self._repeats,
                    wish.is_strict)
 
     def _follower(self, start: Start) -> Follower:

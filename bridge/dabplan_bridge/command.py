@@ -11,6 +11,7 @@ import types
 from typing import Callable, List, Optional, Type
 
 from . import convert
+from .access import Access, access_of, where_of
 from .addresses import Address, of_sink, of_source
 from .beginning import Wish
 from .compact import compact
@@ -78,6 +79,14 @@ def output_of(text: str) -> Address:
         raise argparse.ArgumentTypeError(str(fault)) from None
 
 
+def control_of(text: str) -> Access:
+    """The address of a control port from the command line."""
+    try:
+        return where_of(text)
+    except ValueError as fault:
+        raise argparse.ArgumentTypeError(str(fault)) from None
+
+
 def is_program(path: str) -> bool:
     """Whether a path is that of a program; a folder is none."""
     return os.path.isfile(path) and os.access(path, os.X_OK)
@@ -128,7 +137,7 @@ def options_of(words: argparse.Namespace) -> Options:
                 has_clock=not is_regular(words.source))
     return Options(code=words.code, source=words.source, sinks=words.sinks, wish=wish, format=words.format,
                    contacts=words.contacts, log=words.log, every=words.every or 250, anew=words.anew,
-                   monitor=words.monitor, state=words.state)
+                   monitor=words.monitor, state=words.state, control=access_of(words.control, words.token_file))
 
 
 def add_times(one: argparse.ArgumentParser) -> None:
@@ -153,6 +162,16 @@ def add_log(one: argparse.ArgumentParser) -> None:
     one.add_argument("--anew", action="store_true", help="begin the plan anew; the log is renamed")
 
 
+def add_control(one: argparse.ArgumentParser) -> None:
+    """The options of `run` about its control port."""
+    one.add_argument("--control", metavar="[HOST:]PORT", type=control_of,
+                     help="a port for status, metrics and contacts, by HTTP; on the loopback address unless another is "
+                          "named")
+    one.add_argument("--token-file", metavar="FILE",
+                     help="the token that every change by --control needs; without it the port is on the loopback "
+                          "address alone")
+
+
 def add_run(commands: "argparse._SubParsersAction[argparse.ArgumentParser]") -> None:
     """The command `run` and its options."""
     one = commands.add_parser("run", help="plays a plan into a stream")
@@ -172,6 +191,7 @@ def add_run(commands: "argparse._SubParsersAction[argparse.ArgumentParser]") -> 
                      help="end with status 4 where a count is not explained; nothing is held")
     one.add_argument("--monitor", metavar="FIFO", help="the FIBs of what goes out, for a monitor; made if absent")
     one.add_argument("--state", metavar="FILE", help="what the bridge does, as a textfile for Prometheus")
+    add_control(one)
     one.add_argument("--status", action="store_true", help="report each notice and each swap")
     one.add_argument("--dabplan", metavar="PROGRAM", help="the program dabplan")
     one.set_defaults(does=lambda words: run(options_of(words)))

@@ -88,6 +88,11 @@ class Log:
         except OSError as fault:
             raise Trouble(f"cannot write {path}: {why(fault)}") from None
 
+    @property
+    def is_written(self) -> bool:
+        """Whether all is in the file; not where there is no log."""
+        return self._is_open and not self._unwritten
+
     def steps(self) -> Iterator[bytes]:
         """The steps so far."""
         return steps_in(self.path) if self.path is not None and self.past is not None else iter(())

@@ -4,12 +4,16 @@ from __future__ import annotations
 from dataclasses import dataclass
 from typing import List, Optional
 
+from .access import Access
 from .addresses import Address, place_of, refuse_same
 from .beginning import Wish
 from .bridge import Bridge
+from .control import Control
 from .faults import hold_signals
 from .fifos import Contacts, Monitor, refuse_other
+from .given import Given
 from .log import Log
+from .orders import Orders
 from .plan import Plan, plan_of
 from .reader import Reader
 from .sinks import Sinks
@@ -35,6 +39,7 @@ class Options:
     anew: bool = False
     monitor: Optional[str] = None
     state: Optional[str] = None
+    control: Optional[Access] = None
 
 
 def refuse(options: Options) -> None:
@@ -53,7 +58,10 @@ def begun(options: Options, plan: Plan) -> Bridge:
     state = State()
     log = Log(options.log, options.every, options.anew, state)
     contacts, monitor = Contacts(options.contacts), Monitor(options.monitor)
-    return Bridge(options.wish, plan, log, contacts, monitor, state, StateFile(options.state, state))
+    orders = Orders()
+    given = Given(contacts, orders, log.steps())
+    control = Control(options.control, options.wish.program, plan, options.source.name, given, orders, state)
+    return Bridge(options.wish, plan, log, given, monitor, state, StateFile(options.state, state), control)
 
 
 def played(options: Options, bridge: Bridge, waiter: Waiter) -> int:
