@@ -10,7 +10,7 @@ Modules, from the bytes up:
 - the plan: `code_file`, `plan`, `chain`, `program`, `priority`, `player`, `holding`;
 - which of its frames belongs to which of the stream: `moments`, `utc`, `placing`, `agreeing`, `follower`;
 - its log: `past`, `lock`, `sync`, `compact`, `log`;
-- all of them together: `state`, `statefile`, `fit`, `beginning`, `air`, `bridge`;
+- all of them together: `state`, `statefile`, `fit`, `beginning`, `retaking`, `air`, `bridge`;
 - who watches it and gives contacts: `orders`, `given`, `labels`, `decoded`, `board`, `status`, `metrics`, `watch`,
   `access`, `receiving`, `handler`, `control`;
 - the commands: `run`, `convert`, `command`.

@@ -14,6 +14,7 @@ from .log import Log
 from .moments import Moment
 from .plan import Plan
 from .player import Player
+from .retaking import Retaking
 from .state import Alarm, Phase, State
 
 TAKE_UP = ("--resume-at COUNT plays the log to its end and goes on in the first frame of that count, "
@@ -29,7 +30,7 @@ class Air:
     """The frames of a plan that has begun. `is_strict`: a count that is not explained ends it, and nothing is held."""
 
     def __init__(self, program: str, plan: Plan, player: Player, follower: Follower, log: Log, given: Given,
-                 state: State, repeats: Repeats, is_strict: bool) -> None:
+                 state: State, repeats: Repeats, retaking: Retaking, is_strict: bool) -> None:
         self.player = player
         self.has_swapped = False
         """Whether a swap fell into the last frame, or into those before it that were not sent."""
@@ -37,6 +38,8 @@ class Air:
         self._follower = follower
         self._log, self._given = log, given
         self._state, self._repeats = state, repeats
+        self._retaking = retaking
+        self._not_before = 0
         self._is_strict = is_strict
         self._holding: Optional[Holding] = None
         self._seen: Optional[bytes] = None
@@ -94,6 +97,7 @@ class Air:
     def _planned(self, frame: Frame, number: int, moment: Moment) -> Optional[bytes]:
         """The FIC of the plan's frame of a number."""
         player, state = self.player, self._state
+        self._retaking.refuse()
         ahead = number - player.made
         if ahead < 0:
             state.frame = number
@@ -113,8 +117,14 @@ class Air:
         """The FIC of a frame while a configuration is held. `number` is that of the plan's frame where counts and clock
         agree."""
         holding = self._holding or self._begin_hold(at)
-        self._catch_up(number if number is not None else self._follower.by_clock(moment))
-        if number is not None and number == self.player.made and not holding.is_changing:
+        if self._is_retaken(frame, count, moment, at):
+            number = self._follower.number_of(count, moment)
+        if self._retaking.is_busy:
+            number = None
+        else:
+            self._catch_up(number if number is not None else self._follower.by_clock(moment))
+        is_due = number is not None and number == self.player.made and number >= self._not_before
+        if number is not None and is_due and not holding.is_changing:
             wanted = self._configuration()
             if wanted == holding.script:
                 return self._go_on(frame, number, moment, at)
@@ -127,6 +137,17 @@ class Air:
             self.has_swapped = True
             self._log.held(self.player.made - 1)
         return made
+
+    def _is_retaken(self, frame: Frame, count: int, moment: Moment, at: int) -> bool:
+        """Whether an order has taken up the plan with this frame."""
+        self._retaking.look(self._follower.by_clock(moment), frame, count, moment, at)
+        taken = self._retaking.done()
+        if taken is None or taken.player is None:
+            return False
+        self.player.end()
+        self.player, self._follower, self._seen_swaps = taken.player, taken.follower, -1
+        self._not_before = taken.number + taken.later
+        return True
 
     def _begin_hold(self, at: int) -> Holding:
         """Holds what receivers have, or have been told."""

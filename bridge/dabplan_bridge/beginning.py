@@ -17,9 +17,10 @@ from .given import Given
 from .holding import script_of, settled
 from .log import Log
 from .moments import Moment
-from .past import Past
+from .past import Past, steps_in
 from .plan import Plan
 from .player import Player, Start, moved, past_start
+from .retaking import Retaking
 from .state import Phase, State
 from .utc import UtcWatch
 
@@ -212,8 +213,23 @@ class Beginning:
         before = 0 if self._log.past is None else self._log.past.frames
         if player.made > before:
             self._log.count(player.made - before, here.moment.wall)
+        retaking = Retaking(self._given.orders, self._log, self._plan, self._given, self._anew, self._retaken,
+                            self._follower)
         return Air(wish.program, self._plan, player, follower, self._log, self._given, self._state, self._repeats,
-                   wish.is_strict)
+                   retaking, wish.is_strict)
+
+    def _anew(self, frame: Frame, count: int, moment: Moment, at: int) -> Optional[Start]:
+        """How the plan begins anew with a frame; None where it needs one with a FIG 0/10."""
+        if self._wish.clock_is_fig and utc_of(frame.fic()) is None:
+            return None
+        skip = self._wish.skip
+        return Start((count - skip) % COUNTS, self._time_of(Arrival(frame, count, moment, at)), skip, skip)
+
+    def _retaken(self, start: Start, steps: List[bytes], is_anew: bool) -> Player:
+        """A plan that is taken up: anew, with these steps, or from its log."""
+        told_from = start.frames if self._wish.is_told else None
+        given = steps if is_anew or self._log.path is None else steps_in(self._log.path)
+        return Player(self._wish.program, self._plan, start, given, told_from)
 
     def _follower(self, start: Start) -> Follower:
         return Follower(start.first, self._wish.tolerance, self._wish.has_clock, self._utc)

@@ -29,8 +29,9 @@ class Given:
     def __init__(self, fifo: Contacts, orders: Orders, steps: Iterable[bytes] = ()) -> None:
         self.closed = [False] * (HIGHEST + 1)
         """Which contacts are closed for the plan."""
+        self.orders = orders
+        """What others ask for."""
         self._fifo = fifo
-        self._orders = orders
         self._acting: List[Tuple[Order, int, int]] = []
         for step in steps:
             if step.startswith(b"contact"):
@@ -41,7 +42,7 @@ class Given:
         lines = self._fifo.lines()
         for line in lines:
             self._note(line)
-        for order in self._orders.contacts(MOST_LINES - len(lines)):
+        for order in self.orders.contacts(MOST_LINES - len(lines)):
             # Of one that is as it was nothing is logged: whoever asks all the time fills no disk.
             if self.closed[order.contact] != order.is_closed:
                 line = contact_line(order.contact, order.is_closed)

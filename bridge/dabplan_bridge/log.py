@@ -113,7 +113,24 @@ class Log:
             self._size, self._frames, self._count = past.size, past.frames, (count + past.frames) % COUNTS
             self._has_utc = past.has_utc
         if past is None or past.count != count:
-            self._unwritten.add(0, f"{HEAD_TEXT}count {count} {start} code {digest} at {text_of(wall)}\n")
+            self._add_head(count, start, digest, wall)
+
+    def move(self, count: int, start: str, digest: str, wall: float) -> None:
+        """The plan that is on its way is taken up at other counts: its first frame has this one now. `wall` is when its
+        last frame came."""
+        if self.path is not None:
+            self._note()
+            self._count = (count + self._frames) % COUNTS
+            self._add_head(count, start, digest, wall)
+            self._flush()
+
+    def begin_anew(self, count: int, start: str, digest: str, wall: float) -> None:
+        """The plan begins anew while it is on its way: the log so far, which is written, is renamed."""
+        if self.path is not None:
+            self.past, self._is_anew, self._has_utc = None, True, False
+            self._size = self._frames = self._pending = 0
+            self.start(count, start, digest, wall)
+            self._flush()
 
     def open(self) -> None:
         """The plan is on air: from now on all is written."""
@@ -187,6 +204,10 @@ class Log:
             say(f"{self.path} is not whole: what could not be written is lost")
         self._close()
         return not (self._is_open and self._unwritten)
+
+    def _add_head(self, count: int, start: str, digest: str, wall: float) -> None:
+        """Adds how a plan begins to what is to be written."""
+        self._unwritten.add(0, f"{HEAD_TEXT}count {count} {start} code {digest} at {text_of(wall)}\n")
 
     def _note(self) -> None:
         """Adds the frames since the last line to what is to be written."""
