@@ -11,7 +11,8 @@ Modules, from the bytes up:
 - which of its frames belongs to which of the stream: `moments`, `utc`, `placing`, `agreeing`, `follower`;
 - its log: `past`, `lock`, `sync`, `compact`, `log`;
 - all of them together: `state`, `statefile`, `fit`, `beginning`, `retaking`, `air`, `bridge`;
-- who watches it and gives contacts: `orders`, `given`, `labels`, `decoded`, `board`, `status`, `metrics`, `watch`,
+- contacts: `orders`, `conditions`, `weekdays`, `given`;
+- who watches it: `labels`, `decoded`, `board`, `status`, `metrics`, `watch`,
   `access`, `receiving`, `handler`, `control`;
-- the commands: `run`, `convert`, `command`.
+- the commands: `run`, `convert`, `conditioning`, `command`.
 """

@@ -1,7 +1,7 @@
 """What goes on air: the FIC of each frame of the stream, by the plan or by what is held."""
 from __future__ import annotations
 
-from typing import Dict, Optional
+from typing import Callable, Dict, Optional
 
 from .faults import Repeats, WillNotGuess, number_of
 from .fibs import FRAME_SECONDS
@@ -102,11 +102,9 @@ class Air:
         if ahead < 0:
             state.frame = number
             return player.kept(number)
-        if ahead > 0:
-            self.has_swapped = player.pass_over(ahead)
-            self._log.count(ahead, moment.wall)
+        self.has_swapped = self._pass_over(ahead, lambda: moment.wall)
         lines = self._given.lines(number, player.due)
-        self._log.contacts(lines)
+        self._log.contacts(lines, self._given.remarks())
         made = player.make(frame.fic(), lines)
         self.has_swapped = self.has_swapped or player.swapped
         state.frame = number
@@ -165,12 +163,20 @@ class Air:
         contacts."""
         frames = min(number - self.player.made, SLICE)
         lines = self._given.lines(self.player.made, self.player.due)
+        self._log.contacts(lines, self._given.remarks())
         if lines:
-            self._log.contacts(lines)
-        if frames > 0 or lines:
-            self.player.pass_over(max(frames, 0), lines)
-        if frames > 0:
-            self._log.count(frames, self._follower.wall_of(self.player.made - 1))
+            self.player.pass_over(0, lines)
+        self._pass_over(frames, lambda: self._follower.wall_of(self.player.made - 1))
+
+    def _pass_over(self, frames: int, wall: Callable[[], float]) -> bool:
+        """Lets the plan make frames that are not sent, with what calendar and conditions give between them; returns
+        whether a swap fell into one of them. `wall` tells when the last frame came."""
+        has_swapped = False
+        for part, lines in self._given.parts(self.player.made, frames):
+            self._log.contacts(lines, self._given.remarks())
+            has_swapped = self.player.pass_over(part, lines) or has_swapped
+            self._log.count(part, wall())
+        return has_swapped
 
     def _configuration(self) -> Optional[bytes]:
         """The script of what the plan has, where it has nothing else announced; None where that is not known."""

@@ -210,7 +210,10 @@ class Beginning:
     def _air(self, player: Player, follower: Follower, here: Arrival) -> Air:
         start, wish = player.start, self._wish
         self._log.start(start.first, start.time, self._plan.digest, here.moment.wall)
-        before = 0 if self._log.past is None else self._log.past.frames
+        past = self._log.past
+        before = 0 if past is None else past.frames
+        known = None if past is None else past.first_date
+        self._log.dated(self._given.begin(start.time, follower.due, here.moment.wall, known))
         if player.made > before:
             self._log.count(player.made - before, here.moment.wall)
         retaking = Retaking(self._given.orders, self._log, self._plan, self._given, self._anew, self._retaken,

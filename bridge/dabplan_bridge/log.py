@@ -5,10 +5,11 @@ goes on. A log that has grown is written anew, with one line for frames between 
 """
 from __future__ import annotations
 
+import datetime
 import os
 import stat
 import time
-from typing import Iterator, List, Optional, Tuple
+from typing import Iterable, Iterator, List, Optional, Tuple
 
 from .chain import frame_lines
 from .compact import compacted
@@ -137,13 +138,19 @@ class Log:
         self._is_open = self.path is not None
         self._flush()
 
-    def contacts(self, lines: List[bytes]) -> None:
-        """Writes lines of contacts, behind the frames before them."""
-        if lines and self.path is not None:
+    def contacts(self, lines: List[bytes], remarks: Iterable[str] = ()) -> None:
+        """Writes lines of contacts, and comments, behind the frames before them."""
+        text = "".join(f"{line}\n" for line in (*(line.decode("ascii") for line in lines), *remarks))
+        if text and self.path is not None:
             self._note()
-            self._unwritten.add(0, "".join(line.decode("ascii") + "\n" for line in lines))
+            self._unwritten.add(0, text)
             self._flush()
             self.sync()
+
+    def dated(self, first: Optional[datetime.date]) -> None:
+        """Writes which date the plan's first frame has, where there is one and the log does not say it yet."""
+        if first is not None and (self.past is None or self.past.first_date != first):
+            self.contacts([], [f"# date {first}"])
 
     def held(self, frame: Optional[int]) -> None:
         """Writes that the configuration of a frame of the plan is held from here on, or none any more."""

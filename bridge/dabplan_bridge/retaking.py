@@ -14,11 +14,11 @@ from .faults import Trouble, say
 from .fibs import COUNTS, FRAME_SECONDS
 from .follower import Follower
 from .frames import Frame
-from .given import Given, contact_line
+from .given import Given
 from .log import Log
 from .moments import Moment
 from .orders import Kind, Order, Orders
-from .past import past_of
+from .past import contact_line, past_of
 from .plan import Plan
 from .player import Player, Start
 
@@ -51,18 +51,19 @@ class Taken:
 
     def play(self, made: Made) -> None:
         """Plays it so far, in a thread."""
-        def run() -> None:
-            try:
-                self.player = made(self.start, self.steps, self.order.kind is Kind.ANEW)
-            except Trouble as fault:
-                self.fault = fault
-        self.thread = threading.Thread(target=run, name="retaking", daemon=True)
+        self.thread = threading.Thread(target=self._run, args=(made,), name="retaking", daemon=True)
         self.thread.start()
 
     @property
     def is_done(self) -> bool:
         """Whether it was played so far."""
         return self.thread is not None and not self.thread.is_alive()
+
+    def _run(self, made: Made) -> None:
+        try:
+            self.player = made(self.start, self.steps, self.order.kind is Kind.ANEW)
+        except Trouble as fault:
+            self.fault = fault
 
 
 class Retaking:
@@ -130,6 +131,7 @@ class Retaking:
             return
         wall = taken.follower.wall_of(taken.number)
         self._log.begin_anew(start.first, start.time, digest, wall)
+        self._log.dated(self._given.begin(start.time, taken.number, wall, None))
         self._log.contacts(taken.steps)
         self._log.count(start.frames, wall)
         say(f"the plan begins anew: {place}")

@@ -7,26 +7,14 @@ from typing import Dict, List, Optional
 
 from .board import Board, Shown
 from .decoded import Decoder
-from .fibs import COUNTS, DAY_FRAMES, FRAME_SECONDS
+from .fibs import COUNTS, DAY_FRAMES
 from .given import Given
 from .labels import Labels
-from .past import text_of
+from .past import day_frame_of_start, text_of
 from .plan import Plan
 from .state import Phase, State
 
 Fields = Dict[str, object]
-
-
-def day_frame_of_start(start: str) -> Optional[int]:
-    """The frame of the day of a plan's first frame, of how its time is spelled: `time HH:MM:SS` or `day N`; None where
-    it has none."""
-    kind, _, value = start.partition(" ")
-    if kind == "day":
-        return int(value)
-    if kind != "time" or value == "-":
-        return None
-    hours, minutes, seconds = map(int, value.split(":"))
-    return round(((hours * 60 + minutes) * 60 + seconds) / FRAME_SECONDS)
 
 
 def time_of_frame(start: str, frame: Optional[int]) -> Optional[str]:
@@ -34,7 +22,7 @@ def time_of_frame(start: str, frame: Optional[int]) -> Optional[str]:
     first = day_frame_of_start(start)
     if first is None or frame is None:
         return None
-    seconds = int((first + frame) % DAY_FRAMES * FRAME_SECONDS + 1e-6)
+    seconds = (first + frame) % DAY_FRAMES * 24 // 1000
     return f"{seconds // 3600:02}:{seconds // 60 % 60:02}:{seconds % 60:02}"
 
 

@@ -64,7 +64,7 @@ class Pages(bridges.Case):
     def test_the_man_page_has_the_usage_and_each_option(self):
         page = (TOP / "docs/man/dabplan-bridge.1").read_text(encoding="utf-8").replace("\\-", "-")
         guide = (TOP / "docs/guide/ON_AIR.md").read_text(encoding="utf-8")
-        for command in ("run", "fic", "insert", "compact"):
+        for command in ("run", "fic", "insert", "compact", "condition"):
             self.assertIn(f"dabplan-bridge {command} ", page)
             help_text = self.bridge(f"{command} --help")[1].decode() if command != "run" else \
                 subprocess.run([sys.executable, str(bridges.BRIDGE), "run", "--help"], capture_output=True, text=True, check=True).stdout
@@ -112,7 +112,7 @@ class Shapes(bridges.Case):
 
     def functions(self):
         """The functions of all modules, with the names of their files."""
-        for path in [*MODULES, FOLDER / "dab-monitor", FOLDER / "dabplan-bridge"]:
+        for path in [*MODULES, FOLDER / "dab-monitor", FOLDER / "dab-contact", FOLDER / "dabplan-bridge"]:
             tree = ast.parse(path.read_text(encoding="utf-8"))
             for node in ast.walk(tree):
                 if isinstance(node, (ast.FunctionDef, ast.ClassDef)):
@@ -143,14 +143,14 @@ class Shapes(bridges.Case):
                     self.assertTrue(argument.annotation is not None or argument.arg == "self", place)
 
     def test_every_except_names_its_case(self):
-        for path in [*MODULES, FOLDER / "dab-monitor"]:
+        for path in [*MODULES, FOLDER / "dab-monitor", FOLDER / "dab-contact"]:
             for node in ast.walk(ast.parse(path.read_text(encoding="utf-8"))):
                 if isinstance(node, ast.ExceptHandler):
                     self.assertIsNotNone(node.type, path.name)
                     self.assertNotIn(getattr(node.type, "id", ""), ("Exception", "BaseException"), path.name)
 
     def test_nothing_but_the_standard_library_is_needed(self):
-        for path in [*MODULES, FOLDER / "dab-monitor"]:
+        for path in [*MODULES, FOLDER / "dab-monitor", FOLDER / "dab-contact"]:
             for node in ast.walk(ast.parse(path.read_text(encoding="utf-8"))):
                 names = [alias.name for alias in node.names] if isinstance(node, ast.Import) else \
                     [node.module] if isinstance(node, ast.ImportFrom) and not node.level else []
