@@ -2,6 +2,7 @@
 
 | Request | What it gets |
 |---|---|
+| `GET /` | a page for people, that follows the events |
 | `GET /status.json`, `/metrics` | what the bridge does, as an object of JSON, and for Prometheus |
 | `GET /events` | that object twice a second, as server-sent events |
 | `PUT /contacts/N`, body `closed` or `open` | the frame of the plan from which it acts |
@@ -13,6 +14,7 @@ for what it takes; there are 64 at most.
 from __future__ import annotations
 
 import contextlib
+import pathlib
 import socket
 import socketserver
 import sys
@@ -39,7 +41,16 @@ MOST_EVENTS = 60
 """The most of them that follow events: some are left for those who give a contact."""
 ACCEPT_SECONDS = 1.0
 """The seconds after which a connection that can't be taken is tried again."""
+PAGE = pathlib.Path(__file__).with_name("page.html")
 FULL = b"HTTP/1.1 503 Service Unavailable\r\nContent-Length: 0\r\nConnection: close\r\n\r\n"
+
+
+def page() -> bytes:
+    """The page: a file beside this one; `Trouble` if it can't be read."""
+    try:
+        return PAGE.read_bytes()
+    except OSError as fault:
+        raise Trouble(f"cannot read {PAGE}: {why(fault)}") from None
 
 
 class Server(socketserver.ThreadingMixIn, socketserver.TCPServer):
@@ -57,6 +68,8 @@ class Server(socketserver.ThreadingMixIn, socketserver.TCPServer):
         """Where orders go."""
         self.watch = watch
         """What is shown."""
+        self.page = page()
+        """The page for people."""
         self._room = threading.BoundedSemaphore(MOST)
         self._event_room = threading.BoundedSemaphore(MOST_EVENTS)
         self._is_told = False
@@ -128,7 +141,8 @@ class Control:
         self._orders = orders
         self._server: Optional[Server] = None
         if access is not None:
-            watch = Watch(plan, Status(plan, program, source, self.board, given, state), self.board, given, state)
+            status = Status(plan, program, source, self.board, given, state, access.token is not None)
+            watch = Watch(plan, status, self.board, given, state)
             self._server = Server(access, orders, watch)
             threading.Thread(target=self._server.serve_forever, args=(0.1,), name="control", daemon=True).start()
 

@@ -24,11 +24,20 @@ def sub_of(entry: Dict[str, object]) -> Dict[str, object]:
             "kbits": None}
 
 
+def components_of(service: Dict[str, object], packets: Dict[object, object]) -> List[Dict[str, object]]:
+    """The components of a service, each with its sub-channel where that is known; `packets` has those of packet
+    components."""
+    found = service["components"]
+    assert isinstance(found, list)
+    return [{**each, "sub": packets[each["packet"]]} if each.get("packet") in packets else each for each in found]
+
+
 def parts_of(entries: List[Dict[str, object]], labels: Labels) -> Optional[Parts]:
     """The configuration that a list of `dabplan listen --json` describes; None where it has no sub-channel."""
     subs = [sub_of(entry) for entry in entries if "sub" in entry and "start" in entry]
+    packets = {entry["packet"]: entry["sub"] for entry in entries if "packet" in entry and "sub" in entry}
     services = [{"sid": entry["service"], "label": labels.services.get(str(entry["service"]), ""),
-                 "components": entry["components"]} for entry in entries if "service" in entry]
+                 "components": components_of(entry, packets)} for entry in entries if "service" in entry]
     return {"subs": subs, "services": services} if subs else None
 
 

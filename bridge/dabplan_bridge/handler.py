@@ -98,7 +98,8 @@ class Handler(http.server.BaseHTTPRequestHandler):
         """Requests are not logged."""
 
     def _readable(self) -> Dict[str, Callable[[], None]]:
-        return {"/status.json": lambda: self._send(200, JSON, self.server.watch.status()),
+        return {"/": lambda: self._send(200, "text/html", self.server.page),
+                "/status.json": lambda: self._send(200, JSON, self.server.watch.status()),
                 "/metrics": lambda: self._send(200, "text/plain; version=0.0.4", self.server.watch.metrics()),
                 "/events": self._events}
 

@@ -29,8 +29,10 @@ def time_of_frame(start: str, frame: Optional[int]) -> Optional[str]:
 class Status:
     """Makes the object. Not for several threads at once."""
 
-    def __init__(self, plan: Plan, program: str, source: str, board: Board, given: Given, state: State) -> None:
+    def __init__(self, plan: Plan, program: str, source: str, board: Board, given: Given, state: State,
+                 needs_token: bool) -> None:
         self._plan = plan
+        self._needs_token = needs_token
         self._source = source
         self._board, self._given, self._state = board, given, state
         self._labels = Labels()
@@ -56,7 +58,7 @@ class Status:
             "alarms": [{"alarm": alarm.value, "text": text} for alarm, text in list(state.alarms.items())],
             "frames": {"in": state.frames_in, "out": state.frames_out, "held": state.frames_held,
                        "unfilled": state.unfilled},
-            "steps": state.steps, "swaps": state.swaps}
+            "steps": state.steps, "swaps": state.swaps, "needs_token": self._needs_token}
 
     def _look(self, frames: List[Shown]) -> None:
         """Takes labels and configurations of new frames."""

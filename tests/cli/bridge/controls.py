@@ -172,6 +172,16 @@ class Shown(Controlled):
             self.assertRegex(line, r'^(# TYPE dab_\w+ (gauge|counter)|dab_\w+\{\w+="[^"]*"(,\w+="[^"]*")*\} \d+(\.\d+)?)$')
         feed.end()
 
+    def test_the_page(self):
+        """It may run what is in it, and talk to the port that it came from; no page of others may have it in a frame."""
+        self.begun()
+        status, head, body = asked(self.port, "GET", "/")
+        self.assertEqual((status, head["Content-Type"], body), (200, "text/html; charset=utf-8",
+                                                                (bridges.FOLDER / "dabplan_bridge/page.html").read_bytes()))
+        for rule in ("default-src 'none'", "connect-src 'self'", "frame-ancestors 'none'", "form-action 'none'"):
+            self.assertIn(rule, head["Content-Security-Policy"])
+        self.assertEqual((head["X-Frame-Options"], head["X-Content-Type-Options"], head["Cache-Control"]), ("DENY", "nosniff", "no-store"))
+
     def test_events_come_each_second(self):
         feed = self.begun("moves")
         feed.through(self.stream("edi", 8))
