@@ -1,0 +1,2 @@
+" Scripts of dabplan: files whose names end with .plan.
+autocmd BufNewFile,BufRead *.plan setfiletype dabplan
