@@ -10,6 +10,9 @@ Modules, from the bytes up:
 - the plan: `code_file`, `plan`, `chain`, `program`, `priority`, `player`, `holding`;
 - which of its frames belongs to which of the stream: `moments`, `utc`, `placing`, `agreeing`, `follower`;
 - its log: `past`, `lock`, `sync`, `compact`, `log`;
-- all of them together: `state`, `statefile`, `fit`, `beginning`, `air`, `bridge`;
-- the commands: `run`, `convert`, `command`.
+- all of them together: `state`, `statefile`, `fit`, `beginning`, `retaking`, `air`, `bridge`;
+- contacts: `orders`, `conditions`, `weekdays`, `given`;
+- who watches it: `labels`, `decoded`, `board`, `status`, `metrics`, `watch`,
+  `access`, `receiving`, `handler`, `control`;
+- the commands: `run`, `convert`, `conditioning`, `command`.
 """

@@ -1,19 +1,20 @@
 """What goes on air: the FIC of each frame of the stream, by the plan or by what is held."""
 from __future__ import annotations
 
-from typing import Dict, Optional
+from typing import Callable, Dict, Optional
 
 from .faults import Repeats, WillNotGuess, number_of
 from .fibs import FRAME_SECONDS
-from .fifos import Contacts
 from .follower import Follower
 from .frames import Frame
+from .given import Given
 from .holding import Holding, script_of, settled
 from .layout import SubChannel
 from .log import Log
 from .moments import Moment
 from .plan import Plan
 from .player import Player
+from .retaking import Retaking
 from .state import Alarm, Phase, State
 
 TAKE_UP = ("--resume-at COUNT plays the log to its end and goes on in the first frame of that count, "
@@ -28,15 +29,17 @@ SLICE = 2500
 class Air:
     """The frames of a plan that has begun. `is_strict`: a count that is not explained ends it, and nothing is held."""
 
-    def __init__(self, program: str, plan: Plan, player: Player, follower: Follower, log: Log, contacts: Contacts,
-                 state: State, repeats: Repeats, is_strict: bool) -> None:
+    def __init__(self, program: str, plan: Plan, player: Player, follower: Follower, log: Log, given: Given,
+                 state: State, repeats: Repeats, retaking: Retaking, is_strict: bool) -> None:
         self.player = player
         self.has_swapped = False
         """Whether a swap fell into the last frame, or into those before it that were not sent."""
         self._program, self._plan = program, plan
         self._follower = follower
-        self._log, self._contacts = log, contacts
+        self._log, self._given = log, given
         self._state, self._repeats = state, repeats
+        self._retaking = retaking
+        self._not_before = 0
         self._is_strict = is_strict
         self._holding: Optional[Holding] = None
         self._seen: Optional[bytes] = None
@@ -84,6 +87,7 @@ class Air:
             self._wall = moment.wall
         if self.has_swapped:
             self._log.sync()
+        self._given.acted(self._log.is_written)
 
     def end(self) -> bool:
         """Ends the children; returns whether they ended well."""
@@ -94,15 +98,14 @@ class Air:
     def _planned(self, frame: Frame, number: int, moment: Moment) -> Optional[bytes]:
         """The FIC of the plan's frame of a number."""
         player, state = self.player, self._state
+        self._retaking.refuse()
         ahead = number - player.made
         if ahead < 0:
             state.frame = number
             return player.kept(number)
-        if ahead > 0:
-            self.has_swapped = player.pass_over(ahead)
-            self._log.count(ahead, moment.wall)
-        lines = self._contacts.lines()
-        self._log.contacts(lines)
+        self.has_swapped = self._pass_over(ahead, lambda: moment.wall)
+        lines = self._given.lines(number, player.due)
+        self._log.contacts(lines, self._given.remarks())
         made = player.make(frame.fic(), lines)
         self.has_swapped = self.has_swapped or player.swapped
         state.frame = number
@@ -113,8 +116,14 @@ class Air:
         """The FIC of a frame while a configuration is held. `number` is that of the plan's frame where counts and clock
         agree."""
         holding = self._holding or self._begin_hold(at)
-        self._catch_up(number if number is not None else self._follower.by_clock(moment))
-        if number is not None and number == self.player.made and not holding.is_changing:
+        if self._is_retaken(frame, count, moment, at):
+            number = self._follower.number_of(count, moment)
+        if self._retaking.is_busy:
+            number = None
+        else:
+            self._catch_up(number if number is not None else self._follower.by_clock(moment))
+        is_due = number is not None and number == self.player.made and number >= self._not_before
+        if number is not None and is_due and not holding.is_changing:
             wanted = self._configuration()
             if wanted == holding.script:
                 return self._go_on(frame, number, moment, at)
@@ -128,6 +137,17 @@ class Air:
             self.has_swapped = True
             self._log.held(holding.frame)
         return made
+
+    def _is_retaken(self, frame: Frame, count: int, moment: Moment, at: int) -> bool:
+        """Whether an order has taken up the plan with this frame."""
+        self._retaking.look(self._follower.by_clock(moment), frame, count, moment, at)
+        taken = self._retaking.done()
+        if taken is None or taken.player is None:
+            return False
+        self.player.end()
+        self.player, self._follower, self._seen_swaps = taken.player, taken.follower, -1
+        self._not_before = taken.number + taken.later
+        return True
 
     def _begin_hold(self, at: int) -> Holding:
         """Holds what receivers have, or have been told."""
@@ -143,13 +163,21 @@ class Air:
         """Lets the plan make its frames before the one of a number, some at a time: it stays in its day, and gets its
         contacts."""
         frames = min(number - self.player.made, SLICE)
-        lines = self._contacts.lines()
+        lines = self._given.lines(self.player.made, self.player.due)
+        self._log.contacts(lines, self._given.remarks())
         if lines:
-            self._log.contacts(lines)
-        if frames > 0 or lines:
-            self.player.pass_over(max(frames, 0), lines)
-        if frames > 0:
-            self._log.count(frames, self._follower.wall_of(self.player.made - 1))
+            self.player.pass_over(0, lines)
+        self._pass_over(frames, lambda: self._follower.wall_of(self.player.made - 1))
+
+    def _pass_over(self, frames: int, wall: Callable[[], float]) -> bool:
+        """Lets the plan make frames that are not sent, with what calendar and conditions give between them; returns
+        whether a swap fell into one of them. `wall` tells when the last frame came."""
+        has_swapped = False
+        for part, lines in self._given.parts(self.player.made, frames):
+            self._log.contacts(lines, self._given.remarks())
+            has_swapped = self.player.pass_over(part, lines) or has_swapped
+            self._log.count(part, wall())
+        return has_swapped
 
     def _configuration(self) -> Optional[bytes]:
         """The script of what the plan has, where it has nothing else announced; None where that is not known."""

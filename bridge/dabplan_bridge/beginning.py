@@ -10,16 +10,17 @@ from .air import TAKE_UP, Air
 from .chain import Code, Live, frame_lines, taken
 from .faults import Repeats, WillNotGuess, number_of, say
 from .fibs import COUNTS, DAY_FRAMES, FRAME_SECONDS, Listener, day_frame_of, size_of, utc_of
-from .fifos import Contacts
 from .fit import Fit
 from .follower import NEAR, Follower, Step, frames_by_clock, step_of
 from .frames import Frame
+from .given import Given
 from .holding import script_of, settled
 from .log import Log
 from .moments import Moment
-from .past import Past
+from .past import Past, steps_in
 from .plan import Plan
 from .player import Player, Start, moved, past_start
+from .retaking import Retaking
 from .state import Phase, State
 from .utc import UtcWatch
 
@@ -69,10 +70,10 @@ class Arrival:
 class Beginning:
     """A plan that has not begun. Where there is a log, its past is played at once, before any frame comes."""
 
-    def __init__(self, wish: Wish, plan: Plan, log: Log, contacts: Contacts, state: State, repeats: Repeats) -> None:
+    def __init__(self, wish: Wish, plan: Plan, log: Log, given: Given, state: State, repeats: Repeats) -> None:
         self._wish = wish
         self._plan = plan
-        self._log, self._contacts = log, contacts
+        self._log, self._given = log, given
         self._state, self._repeats = state, repeats
         self._utc = UtcWatch(state)
         self._waited = 0
@@ -209,11 +210,29 @@ class Beginning:
     def _air(self, player: Player, follower: Follower, here: Arrival) -> Air:
         start, wish = player.start, self._wish
         self._log.start(start.first, start.time, self._plan.digest, here.moment.wall)
-        before = 0 if self._log.past is None else self._log.past.frames
+        past = self._log.past
+        before = 0 if past is None else past.frames
+        known = None if past is None else past.first_date
+        self._log.dated(self._given.begin(start.time, follower.due, here.moment.wall, known))
         if player.made > before:
             self._log.count(player.made - before, here.moment.wall)
-        return Air(wish.program, self._plan, player, follower, self._log, self._contacts, self._state, self._repeats,
-                   wish.is_strict)
+        retaking = Retaking(self._given.orders, self._log, self._plan, self._given, self._anew, self._retaken,
+                            self._follower)
+        return Air(wish.program, self._plan, player, follower, self._log, self._given, self._state, self._repeats,
+                   retaking, wish.is_strict)
+
+    def _anew(self, frame: Frame, count: int, moment: Moment, at: int) -> Optional[Start]:
+        """How the plan begins anew with a frame; None where it needs one with a FIG 0/10."""
+        if self._wish.clock_is_fig and utc_of(frame.fic()) is None:
+            return None
+        skip = self._wish.skip
+        return Start((count - skip) % COUNTS, self._time_of(Arrival(frame, count, moment, at)), skip, skip)
+
+    def _retaken(self, start: Start, steps: List[bytes], is_anew: bool) -> Player:
+        """A plan that is taken up: anew, with these steps, or from its log."""
+        told_from = start.frames if self._wish.is_told else None
+        given = steps if is_anew or self._log.path is None else steps_in(self._log.path)
+        return Player(self._wish.program, self._plan, start, given, told_from)
 
     def _follower(self, start: Start) -> Follower:
         return Follower(start.first, self._wish.tolerance, self._wish.has_clock, self._utc)

@@ -7,10 +7,12 @@ from typing import Optional
 from .agreeing import Agreeing
 from .air import Air
 from .beginning import Arrival, Beginning, Wish
+from .control import Control
 from .faults import Repeats, Trouble, number_of, say
-from .fifos import Contacts, Monitor
+from .fifos import Monitor
 from .fit import Fit
 from .frames import Frame, Item, NoFrame
+from .given import Given
 from .log import Log
 from .moments import Moment
 from .placing import Placer
@@ -24,16 +26,16 @@ from .statefile import StateFile
 class Bridge:
     """Puts a plan into a stream, from which `read` gets the frames."""
 
-    def __init__(self, wish: Wish, plan: Plan, log: Log, contacts: Contacts, monitor: Monitor, state: State,
-                 file: StateFile) -> None:
+    def __init__(self, wish: Wish, plan: Plan, log: Log, given: Given, monitor: Monitor, state: State,
+                 file: StateFile, control: Control) -> None:
         self.state = state
         self._plan, self._log = plan, log
-        self._contacts, self._monitor = contacts, monitor
-        self._file = file
+        self._given, self._monitor = given, monitor
+        self._file, self._control = file, control
         self._repeats = Repeats()
         self._placer = Placer()
         self._fit = Fit(plan, self._placer, state)
-        self._beginning = Beginning(wish, plan, log, contacts, state, self._repeats)
+        self._beginning = Beginning(wish, plan, log, given, state, self._repeats)
         self._utc = self._beginning.utc
         self._has_clock = wish.has_clock
         self._air: Optional[Air] = None
@@ -44,7 +46,7 @@ class Bridge:
 
     def run(self, name: str, reader: Reader, sinks: Sinks, is_of_datagrams: bool) -> int:
         """Each frame of a stream of this name into the sinks; returns the exit status."""
-        self._sinks = sinks
+        self._sinks = self._control.board.sinks = sinks
         self._agreeing = Agreeing() if is_of_datagrams else None
         for items in reader.items():
             self._moment = Moment(time.monotonic(), time.time())
@@ -62,7 +64,8 @@ class Bridge:
             say(f"{number_of(unfilled)} could not be filled: nothing went out for {'it' if unfilled == 1 else 'them'}")
         is_well = self._beginning.end() if self._air is None else self._air.end()
         self._monitor.close()
-        self._contacts.close()
+        self._given.close()
+        self._control.close()
         is_well = self._log.close() and is_well
         self._file.close()
         return is_well
@@ -150,3 +153,4 @@ class Bridge:
         state.count, state.last = count, moment.host
         state.swaps += air.has_swapped
         self._file.look(moment.host, air.swap_in)
+        self._control.frame(fic, count, state.swaps, air)

@@ -11,14 +11,18 @@ import types
 from typing import Callable, List, Optional, Type
 
 from . import convert
+from .access import Access, access_of, where_of
 from .addresses import Address, of_sink, of_source
 from .beginning import Wish
 from .compact import compact
+from .conditioning import written
+from .conditions import Condition, condition_of
 from .faults import PROGRAM, BadCommand, Stopped, Trouble, hold_signals, say
 from .fibs import COUNTS
 from .reader import FORMATS
 from .run import Options, run
 from .sources import is_regular
+from .weekdays import HOLIDAY, WEEK, Calendar, holidays_of
 
 FOLDER = pathlib.Path(__file__).resolve().parents[1]
 """The folder of the bridge."""
@@ -78,6 +82,22 @@ def output_of(text: str) -> Address:
         raise argparse.ArgumentTypeError(str(fault)) from None
 
 
+def asked_of(text: str) -> Condition:
+    """A condition from the command line."""
+    try:
+        return condition_of(text)
+    except ValueError as fault:
+        raise argparse.ArgumentTypeError(str(fault)) from None
+
+
+def control_of(text: str) -> Access:
+    """The address of a control port from the command line."""
+    try:
+        return where_of(text)
+    except ValueError as fault:
+        raise argparse.ArgumentTypeError(str(fault)) from None
+
+
 def is_program(path: str) -> bool:
     """Whether a path is that of a program; a folder is none."""
     return os.path.isfile(path) and os.access(path, os.X_OK)
@@ -109,6 +129,20 @@ def program_of(given: Optional[str]) -> str:
     return found
 
 
+def calendar_of(words: argparse.Namespace) -> Calendar:
+    """The calendar that the words of `run` ask for; `BadCommand` where two things have one contact."""
+    if words.holidays is not None and words.weekdays is not None and words.weekdays + WEEK > HOLIDAY:
+        raise BadCommand(f"--weekdays {words.weekdays} has contact {HOLIDAY}, which is that of --holidays")
+    found = Calendar(words.weekdays, None if words.holidays is None else holidays_of(words.holidays))
+    seen = set()
+    for each in words.conditions:
+        if each.contact in seen or each.contact in found:
+            raise BadCommand(f"--condition: contact {each.contact} "
+                             f"{'has two' if each.contact in seen else 'is one of the calendar'}")
+        seen.add(each.contact)
+    return found
+
+
 def options_of(words: argparse.Namespace) -> Options:
     """What the words of `run` ask for; `BadCommand` where options exclude each other."""
     if words.clock and words.time:
@@ -120,15 +154,16 @@ def options_of(words: argparse.Namespace) -> Options:
     for name in ("resume_at", "anew", "every"):
         if getattr(words, name) not in (None, False) and words.log is None:
             raise BadCommand(f"--{name.replace('_', '-')} is an option of --log")
-    if words.zone is not None and words.time != "now":
-        raise BadCommand("--zone is an option of --time now")
+    if words.zone is not None and words.time != "now" and words.weekdays is None and words.holidays is None:
+        raise BadCommand("--zone is an option of --time now, --weekdays and --holidays")
     wish = Wish(program=program_of(words.dabplan), time=words.time, is_local=words.zone == "local",
                 clock_is_fig=words.clock is not None, offset=words.offset or 0.0, skip=words.skip,
                 resume_at=words.resume_at, tolerance=words.tolerance, is_strict=words.strict, is_told=words.status,
                 has_clock=not is_regular(words.source))
     return Options(code=words.code, source=words.source, sinks=words.sinks, wish=wish, format=words.format,
                    contacts=words.contacts, log=words.log, every=words.every or 250, anew=words.anew,
-                   monitor=words.monitor, state=words.state)
+                   monitor=words.monitor, state=words.state, control=access_of(words.control, words.token_file),
+                   conditions=tuple(words.conditions), calendar=calendar_of(words))
 
 
 def add_times(one: argparse.ArgumentParser) -> None:
@@ -136,7 +171,8 @@ def add_times(one: argparse.ArgumentParser) -> None:
     one.add_argument("--time", metavar="HH:MM:SS", type=time_of_day,
                      help="the time of the plan's first frame, those skipped included; now: the clock when its first "
                           "one on air comes")
-    one.add_argument("--zone", choices=("utc", "local"), help="the zone of --time now [default: utc]")
+    one.add_argument("--zone", choices=("utc", "local"),
+                     help="the zone of --time now, and of the calendar [default: utc]")
     one.add_argument("--clock", choices=("fig",), help="take that time from FIG 0/10 of the stream, which is in UTC")
     one.add_argument("--offset", metavar="H", type=decimal(-24, 24, "hours"), help="the hours to be added to FIG 0/10")
     one.add_argument("--skip", metavar="N", type=whole(0, 2 ** 32 - 1, "a number of frames"), default=0,
@@ -153,6 +189,29 @@ def add_log(one: argparse.ArgumentParser) -> None:
     one.add_argument("--anew", action="store_true", help="begin the plan anew; the log is renamed")
 
 
+def add_contacts(one: argparse.ArgumentParser) -> None:
+    """The options of `run` about contacts."""
+    one.add_argument("--contacts", metavar="FIFO",
+                     help="lines 'contact 3 closed' and 'contact 3 open'; made if absent")
+    one.add_argument("--condition", metavar="N:close=F,open=F,most=F", dest="conditions", type=asked_of, default=[],
+                     action="append", help="the plan gets contact N closed once it has been closed for so many frames, "
+                                           "open once it has been open for so many, and closed for so many at most; "
+                                           "once or more")
+    one.add_argument("--weekdays", metavar="N", type=whole(0, HOLIDAY + 1 - WEEK, "a contact"),
+                     help="contact N is closed on Mondays, the next one on Tuesdays, and so on")
+    one.add_argument("--holidays", metavar="FILE", help="contact 15 is closed on the dates in FILE, one a line")
+
+
+def add_control(one: argparse.ArgumentParser) -> None:
+    """The options of `run` about its control port."""
+    one.add_argument("--control", metavar="[HOST:]PORT", type=control_of,
+                     help="a port for status, metrics and contacts, by HTTP; on the loopback address unless another is "
+                          "named")
+    one.add_argument("--token-file", metavar="FILE",
+                     help="the token that every change by --control needs; without it the port is on the loopback "
+                          "address alone")
+
+
 def add_run(commands: "argparse._SubParsersAction[argparse.ArgumentParser]") -> None:
     """The command `run` and its options."""
     one = commands.add_parser("run", help="plays a plan into a stream")
@@ -163,7 +222,7 @@ def add_run(commands: "argparse._SubParsersAction[argparse.ArgumentParser]") -> 
                      help="the stream for the modulator, once or more; tcp://:PORT is a server, on the loopback "
                           "address unless another is named")
     one.add_argument("--format", choices=FORMATS, help=FORMAT_HELP)
-    one.add_argument("--contacts", metavar="FIFO", help="lines 'contact 3 closed' and 'contact 3 open'; made if absent")
+    add_contacts(one)
     add_times(one)
     add_log(one)
     one.add_argument("--tolerance", metavar="S", type=decimal(0, 59, "seconds"), default=3.0,
@@ -172,6 +231,7 @@ def add_run(commands: "argparse._SubParsersAction[argparse.ArgumentParser]") -> 
                      help="end with status 4 where a count is not explained; nothing is held")
     one.add_argument("--monitor", metavar="FIFO", help="the FIBs of what goes out, for a monitor; made if absent")
     one.add_argument("--state", metavar="FILE", help="what the bridge does, as a textfile for Prometheus")
+    add_control(one)
     one.add_argument("--status", action="store_true", help="report each notice and each swap")
     one.add_argument("--dabplan", metavar="PROGRAM", help="the program dabplan")
     one.set_defaults(does=lambda words: run(options_of(words)))
@@ -181,6 +241,15 @@ def compacted(words: argparse.Namespace) -> int:
     """The command `compact`; returns the exit status."""
     compact(words.log)
     return 0
+
+
+def events_written(words: argparse.Namespace) -> int:
+    """The command `condition`; returns the exit status."""
+    if len({each.contact for each in words.conditions}) < len(words.conditions):
+        raise BadCommand("a contact has two conditions")
+    if sys.stdin is None:
+        raise Trouble("cannot read standard input: it is closed")
+    return written(sys.stdin.buffer, words.conditions)
 
 
 def parser() -> argparse.ArgumentParser:
@@ -201,6 +270,10 @@ def parser() -> argparse.ArgumentParser:
     one = commands.add_parser("compact", help="rewrites a log with one line for what is past")
     one.add_argument("log", metavar="LOG", help="the log, of a bridge that does not run")
     one.set_defaults(does=compacted)
+    one = commands.add_parser("condition", help="writes events as a plan gets them whose contacts are conditioned")
+    one.add_argument("conditions", metavar="N:close=F,open=F,most=F", type=asked_of, nargs="+",
+                     help="as --condition of run; events come from standard input, and go to standard output")
+    one.set_defaults(does=events_written)
     return top
 
 

@@ -12,7 +12,7 @@ from .past import HEAD_TEXT, UTC_TEXT, Past, past_of, steps_in
 
 
 def write(file: BinaryIO, path: str, past: Past) -> None:
-    """Writes what a log says to another file, in five lines at most."""
+    """Writes what a log says to another file, in a few lines."""
     file.write(f"{HEAD_TEXT}count {past.count} {past.start} code {past.digest}\n".encode("ascii"))
     is_first = True
     for step in steps_in(path):
@@ -24,6 +24,10 @@ def write(file: BinaryIO, path: str, past: Past) -> None:
         file.write(f"# count {past.due()} frames {past.frames} at {past.wall_text.decode('ascii')}\n".encode("ascii"))
     if past.has_utc:
         file.write(f"{UTC_TEXT}\n".encode("ascii"))
+    if past.first_date is not None:
+        file.write(f"# date {past.first_date}\n".encode("ascii"))
+    for contact, word in sorted(past.given.items()):
+        file.write(f"# given {contact} {word}\n".encode("ascii"))
     if past.held is not None:
         file.write(f"# held {past.held}\n".encode("ascii"))
 

@@ -5,10 +5,11 @@ goes on. A log that has grown is written anew, with one line for frames between 
 """
 from __future__ import annotations
 
+import datetime
 import os
 import stat
 import time
-from typing import Iterator, List, Optional, Tuple
+from typing import Iterable, Iterator, List, Optional, Tuple
 
 from .chain import frame_lines
 from .compact import compacted
@@ -88,6 +89,11 @@ class Log:
         except OSError as fault:
             raise Trouble(f"cannot write {path}: {why(fault)}") from None
 
+    @property
+    def is_written(self) -> bool:
+        """Whether all is in the file; not where there is no log."""
+        return self._is_open and not self._unwritten
+
     def steps(self) -> Iterator[bytes]:
         """The steps so far."""
         return steps_in(self.path) if self.path is not None and self.past is not None else iter(())
@@ -108,20 +114,43 @@ class Log:
             self._size, self._frames, self._count = past.size, past.frames, (count + past.frames) % COUNTS
             self._has_utc = past.has_utc
         if past is None or past.count != count:
-            self._unwritten.add(0, f"{HEAD_TEXT}count {count} {start} code {digest} at {text_of(wall)}\n")
+            self._add_head(count, start, digest, wall)
+
+    def move(self, count: int, start: str, digest: str, wall: float) -> None:
+        """The plan that is on its way is taken up at other counts: its first frame has this one now. `wall` is when its
+        last frame came."""
+        if self.path is not None:
+            self._note()
+            self._count = (count + self._frames) % COUNTS
+            self._add_head(count, start, digest, wall)
+            self._flush()
+
+    def begin_anew(self, count: int, start: str, digest: str, wall: float) -> None:
+        """The plan begins anew while it is on its way: the log so far, which is written, is renamed."""
+        if self.path is not None:
+            self.past, self._is_anew, self._has_utc = None, True, False
+            self._size = self._frames = self._pending = 0
+            self.start(count, start, digest, wall)
+            self._flush()
 
     def open(self) -> None:
         """The plan is on air: from now on all is written."""
         self._is_open = self.path is not None
         self._flush()
 
-    def contacts(self, lines: List[bytes]) -> None:
-        """Writes lines of contacts, behind the frames before them."""
-        if lines and self.path is not None:
+    def contacts(self, lines: List[bytes], remarks: Iterable[str] = ()) -> None:
+        """Writes lines of contacts, and comments, behind the frames before them."""
+        text = "".join(f"{line}\n" for line in (*(line.decode("ascii") for line in lines), *remarks))
+        if text and self.path is not None:
             self._note()
-            self._unwritten.add(0, "".join(line.decode("ascii") + "\n" for line in lines))
+            self._unwritten.add(0, text)
             self._flush()
             self.sync()
+
+    def dated(self, first: Optional[datetime.date]) -> None:
+        """Writes which date the plan's first frame has, where there is one and the log does not say it yet."""
+        if first is not None and (self.past is None or self.past.first_date != first):
+            self.contacts([], [f"# date {first}"])
 
     def held(self, frame: Optional[int]) -> None:
         """Writes that the configuration of a frame of the plan is held from here on, or none any more."""
@@ -182,6 +211,10 @@ class Log:
             say(f"{self.path} is not whole: what could not be written is lost")
         self._close()
         return not (self._is_open and self._unwritten)
+
+    def _add_head(self, count: int, start: str, digest: str, wall: float) -> None:
+        """Adds how a plan begins to what is to be written."""
+        self._unwritten.add(0, f"{HEAD_TEXT}count {count} {start} code {digest} at {text_of(wall)}\n")
 
     def _note(self) -> None:
         """Adds the frames since the last line to what is to be written."""

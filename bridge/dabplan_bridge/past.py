@@ -9,17 +9,21 @@ not explained a comment says which frame of the plan has what was held, and anot
     frames 250 # count 2330 frames 250 at 2026-01-31T21:00:00.123Z
     contact 3 closed
     # utc
+    # date 2026-01-31
+    # given 1 closed
     # held 250
     # not held
 
-`# utc` says that the multiplexer sends FIG 0/10. A last line without its line feed was cut short, and is passed over.
+`# utc` says that the multiplexer sends FIG 0/10, `# date` which date the day of the plan's first frame has, where there
+is a calendar, and `# given` how a contact under conditions was given last, `over` if it was closed too long. A last
+line without its line feed was cut short, and is passed over.
 """
 from __future__ import annotations
 
 import re
-from dataclasses import dataclass
-from datetime import datetime, timezone
-from typing import Iterator, List, Optional
+from dataclasses import dataclass, field
+from datetime import date, datetime, timezone
+from typing import Dict, Iterator, List, Optional, Tuple
 
 from .chain import MOST_FRAMES, frame_lines
 from .faults import Trouble, shown, why
@@ -33,6 +37,8 @@ NOTE = re.compile(rb"# count (\d{1,4}) frames (\d{1,15}) at (\d{4}-\d\d-\d\dT\d\
 UTC_TEXT = "# utc"
 """The line that says that the multiplexer sends FIG 0/10."""
 HELD = re.compile(rb"# (?:held (\d{1,15})|not held)")
+DATE = re.compile(rb"# date (\d{4}-\d\d-\d\d)")
+GIVEN = re.compile(rb"# given (\d{1,2}) (closed|open|over)")
 STEP = re.compile(rb"contact (\d{1,2}) (?:closed|open)|frames (\d{1,7})")
 PLAIN = re.compile(rb"(frames \d{1,7})(?: #.*)?")
 """Nearly every line."""
@@ -44,6 +50,29 @@ FORM = "%Y-%m-%dT%H:%M:%S.%f"
 def text_of(wall: float) -> str:
     """A wall time, in seconds since 1970, as text in UTC with milliseconds."""
     return datetime.fromtimestamp(wall, timezone.utc).strftime(FORM)[:-3] + "Z"
+
+
+def day_frame_of_start(start: str) -> Optional[int]:
+    """The frame of the day of a plan's first frame, of how a log spells its time; None where it was given none."""
+    kind, _, value = start.partition(" ")
+    if kind == "day":
+        return int(value)
+    if kind != "time" or value == "-":
+        return None
+    hours, minutes, seconds = map(int, value.split(":"))
+    # The first frame of that time: 125 thirds of its seconds, rounded up.
+    return -(-((hours * 60 + minutes) * 60 + seconds) * 125 // 3)
+
+
+def contact_line(contact: int, is_closed: bool) -> bytes:
+    """The step that gives a contact."""
+    return b"contact %d %s" % (contact, b"closed" if is_closed else b"open")
+
+
+def contacts_in(step: bytes) -> List[Tuple[int, bool]]:
+    """The contacts of a line of them, or of a step, each with whether it is closed."""
+    words = step.split()
+    return [(int(number), state == b"closed") for number, state in zip(words[1::3], words[2::3])]
 
 
 def wall_of(text: bytes) -> float:
@@ -69,6 +98,10 @@ class Past:
     """The frame of the plan whose configuration was held at the end; None if none was."""
     has_utc: bool = False
     """Whether the multiplexer sent FIG 0/10."""
+    first_date: Optional[date] = None
+    """The date of the day of the plan's first frame; None if it does not say it."""
+    given: Dict[int, str] = field(default_factory=dict)
+    """How contacts under conditions were given last."""
     size: int = 0
     """The bytes of the whole lines."""
 
@@ -118,6 +151,7 @@ def head_of(head: "re.Match[bytes]", past: Optional[Past]) -> Past:
     fresh = Past(int(head[1]), start, head[3].decode("ascii"))
     if past is not None:
         fresh.frames, fresh.wall_text, fresh.held, fresh.has_utc = past.frames, past.wall_text, past.held, past.has_utc
+        fresh.first_date, fresh.given = past.first_date, past.given
     fresh.wall_text = head[4] or fresh.wall_text
     return fresh
 
@@ -141,7 +175,18 @@ def note_of(past: Optional[Past], line: bytes) -> Optional[Past]:
     held = HELD.fullmatch(line)
     if held:
         past.held = None if held[1] is None else int(held[1])
+    if line[:1] == b"#":
+        take_remark(past, line)
     return past
+
+
+def take_remark(past: Past, line: bytes) -> None:
+    """Takes the comments about calendar and conditions; `ValueError` if a date is none."""
+    day, given = DATE.fullmatch(line), GIVEN.fullmatch(line)
+    if day:
+        past.first_date = date.fromisoformat(day[1].decode("ascii"))
+    elif given and int(given[1]) <= HIGHEST:
+        past.given[int(given[1])] = given[2].decode("ascii")
 
 
 def lines_of(path: str) -> Iterator[bytes]:

@@ -1,15 +1,20 @@
 """The command `run`: a plan on its way into a stream."""
 from __future__ import annotations
 
-from dataclasses import dataclass
-from typing import List, Optional
+from dataclasses import dataclass, field
+from typing import List, Optional, Tuple
 
+from .access import Access
 from .addresses import Address, place_of, refuse_same
 from .beginning import Wish
 from .bridge import Bridge
+from .conditions import Condition
+from .control import Control
 from .faults import hold_signals
 from .fifos import Contacts, Monitor, refuse_other
+from .given import Given
 from .log import Log
+from .orders import Orders
 from .plan import Plan, plan_of
 from .reader import Reader
 from .sinks import Sinks
@@ -17,6 +22,7 @@ from .sources import Source, source_of
 from .state import State
 from .statefile import StateFile
 from .waiting import Waiter
+from .weekdays import Calendar
 
 
 @dataclass
@@ -35,6 +41,9 @@ class Options:
     anew: bool = False
     monitor: Optional[str] = None
     state: Optional[str] = None
+    control: Optional[Access] = None
+    conditions: Tuple[Condition, ...] = ()
+    calendar: Calendar = field(default_factory=Calendar)
 
 
 def refuse(options: Options) -> None:
@@ -53,7 +62,11 @@ def begun(options: Options, plan: Plan) -> Bridge:
     state = State()
     log = Log(options.log, options.every, options.anew, state)
     contacts, monitor = Contacts(options.contacts), Monitor(options.monitor)
-    return Bridge(options.wish, plan, log, contacts, monitor, state, StateFile(options.state, state))
+    orders = Orders()
+    given = Given(contacts, orders, options.conditions, options.calendar, options.wish.is_local)
+    given.take_up(log.past, log.steps())
+    control = Control(options.control, options.wish.program, plan, options.source.name, given, orders, state)
+    return Bridge(options.wish, plan, log, given, monitor, state, StateFile(options.state, state), control)
 
 
 def played(options: Options, bridge: Bridge, waiter: Waiter) -> int:

@@ -276,6 +276,10 @@ class Sinks:
         for sink, reason in failed:
             self._leave_out(sink, reason)
 
+    def outputs(self) -> List[Tuple[str, int]]:
+        """The names of those that are left, each with how many clients it has."""
+        return [(sink.name, sink.clients) for sink in list(self._sinks)]
+
     def close(self) -> None:
         """Closes them, when what can be written is written; `Trouble` if that fails."""
         faults = []

@@ -16,6 +16,7 @@ from bridges import common
 TOP, FOLDER = common.TOP, bridges.FOLDER
 MODULES = sorted((FOLDER / "dabplan_bridge").glob("*.py"))
 STARTS = ("dab-folder", "dab-mux", "dab-bridge", "dab-monitor", "dab-mod")
+UNITS = (*STARTS, "dab-alarm@")
 
 
 class Installed(bridges.Case):
@@ -64,7 +65,7 @@ class Pages(bridges.Case):
     def test_the_man_page_has_the_usage_and_each_option(self):
         page = (TOP / "docs/man/dabplan-bridge.1").read_text(encoding="utf-8").replace("\\-", "-")
         guide = (TOP / "docs/guide/ON_AIR.md").read_text(encoding="utf-8")
-        for command in ("run", "fic", "insert", "compact"):
+        for command in ("run", "fic", "insert", "compact", "condition"):
             self.assertIn(f"dabplan-bridge {command} ", page)
             help_text = self.bridge(f"{command} --help")[1].decode() if command != "run" else \
                 subprocess.run([sys.executable, str(bridges.BRIDGE), "run", "--help"], capture_output=True, text=True, check=True).stdout
@@ -78,8 +79,8 @@ class Pages(bridges.Case):
             self.assertIn(option, guide)
 
     def test_services_start_in_order(self):
-        texts = {name: (FOLDER / f"systemd/{name}.service").read_text(encoding="utf-8") for name in STARTS}
-        self.assertEqual(sorted(texts), sorted(path.stem for path in (FOLDER / "systemd").iterdir()))
+        texts = self.units()
+        self.assertEqual(sorted(texts), sorted(path.stem for path in (FOLDER / "systemd").glob("*.service")))
         for name in STARTS[1:4]:
             self.assertIn("Requires=dab-folder.service\n", texts[name])
             self.assertRegex(texts[name], r"(?m)^After=dab-folder\.service")
@@ -87,13 +88,39 @@ class Pages(bridges.Case):
         self.assertIn("RestartPreventExitStatus=2 4 5\n", texts["dab-bridge"])
         if shutil.which("systemd-analyze") is None:
             self.skipTest("no systemd-analyze: service files are not verified")
+        done = subprocess.run(["systemd-analyze", "verify", *map(str, self.copied())], capture_output=True, text=True, check=False)
+        self.assertEqual((done.returncode, done.stderr), (0, ""))
+
+    @staticmethod
+    def units():
+        """The texts of the units, by their names."""
+        return {name: (FOLDER / f"systemd/{name}.service").read_text(encoding="utf-8") for name in UNITS}
+
+    def copied(self):
+        """Copies of the units whose programs need not be installed here."""
         copies = self.folder / "services"
         copies.mkdir()
-        for name, text in texts.items():
-            # The programs need not be installed here.
+        for name, text in self.units().items():
             (copies / f"{name}.service").write_text(re.sub(r"(?m)^ExecStart=/(?!bin/sh)\S+", "ExecStart=/bin/sh", text))
-        done = subprocess.run(["systemd-analyze", "verify", *map(str, sorted(copies.iterdir()))], capture_output=True, text=True, check=False)
-        self.assertEqual((done.returncode, done.stderr), (0, ""))
+        return sorted(copies.iterdir())
+
+    def test_services_have_no_more_rights_than_they_need(self):
+        for name, text in self.units().items():
+            for line in ("User=dab", "Group=dab", "NoNewPrivileges=yes", "CapabilityBoundingSet=", "ProtectSystem=strict", "PrivateTmp=yes",
+                         "MemoryDenyWriteExecute=yes", "SystemCallErrorNumber=EPERM"):
+                self.assertIn(f"\n{line}\n", text, name)
+            self.assertIn("\nRestrictAddressFamilies=", text, name)
+            if name in STARTS:
+                self.assertIn("\nOnFailure=dab-alarm@%n.service\n", text, name)
+        self.assertEqual(self.units()["dab-folder"].count("mkfifo -m 0660 "), 2)
+        if shutil.which("systemd-analyze") is None:
+            self.skipTest("no systemd-analyze: the exposure of services is not known")
+        for path in self.copied():
+            words = ["systemd-analyze", "security", "--offline=yes", "--no-pager", "--threshold=30", str(path)]
+            done = subprocess.run(words, capture_output=True, text=True, check=False)
+            if "unrecognized option" in done.stderr:
+                self.skipTest("a systemd-analyze that knows no units of files")
+            self.assertEqual(done.returncode, 0, done.stdout[-200:] + done.stderr)
 
     def test_the_line_of_the_service_is_one_of_the_bridge(self):
         text = (FOLDER / "systemd/dab-bridge.service").read_text(encoding="utf-8")
@@ -112,7 +139,7 @@ class Shapes(bridges.Case):
 
     def functions(self):
         """The functions of all modules, with the names of their files."""
-        for path in [*MODULES, FOLDER / "dab-monitor", FOLDER / "dabplan-bridge"]:
+        for path in [*MODULES, FOLDER / "dab-monitor", FOLDER / "dab-contact", FOLDER / "dabplan-bridge"]:
             tree = ast.parse(path.read_text(encoding="utf-8"))
             for node in ast.walk(tree):
                 if isinstance(node, (ast.FunctionDef, ast.ClassDef)):
@@ -143,14 +170,14 @@ class Shapes(bridges.Case):
                     self.assertTrue(argument.annotation is not None or argument.arg == "self", place)
 
     def test_every_except_names_its_case(self):
-        for path in [*MODULES, FOLDER / "dab-monitor"]:
+        for path in [*MODULES, FOLDER / "dab-monitor", FOLDER / "dab-contact"]:
             for node in ast.walk(ast.parse(path.read_text(encoding="utf-8"))):
                 if isinstance(node, ast.ExceptHandler):
                     self.assertIsNotNone(node.type, path.name)
                     self.assertNotIn(getattr(node.type, "id", ""), ("Exception", "BaseException"), path.name)
 
     def test_nothing_but_the_standard_library_is_needed(self):
-        for path in [*MODULES, FOLDER / "dab-monitor"]:
+        for path in [*MODULES, FOLDER / "dab-monitor", FOLDER / "dab-contact"]:
             for node in ast.walk(ast.parse(path.read_text(encoding="utf-8"))):
                 names = [alias.name for alias in node.names] if isinstance(node, ast.Import) else \
                     [node.module] if isinstance(node, ast.ImportFrom) and not node.level else []

@@ -1,0 +1,88 @@
+"""What the bridge does, as one object of JSON: for a page, and for programs."""
+from __future__ import annotations
+
+import os
+import time
+from typing import Dict, List, Optional
+
+from .board import Board, Shown
+from .decoded import Decoder
+from .fibs import COUNTS, DAY_FRAMES
+from .given import Given
+from .labels import Labels
+from .past import day_frame_of_start, text_of
+from .plan import Plan
+from .state import Phase, State
+
+Fields = Dict[str, object]
+
+
+def time_of_frame(start: str, frame: Optional[int]) -> Optional[str]:
+    """The time of day of a plan's frame, `HH:MM:SS`; None where the plan has none."""
+    first = day_frame_of_start(start)
+    if first is None or frame is None:
+        return None
+    seconds = (first + frame) % DAY_FRAMES * 24 // 1000
+    return f"{seconds // 3600:02}:{seconds // 60 % 60:02}:{seconds % 60:02}"
+
+
+class Status:
+    """Makes the object. Not for several threads at once."""
+
+    def __init__(self, plan: Plan, program: str, source: str, board: Board, given: Given, state: State,
+                 needs_token: bool) -> None:
+        self._plan = plan
+        self._needs_token = needs_token
+        self._source = source
+        self._board, self._given, self._state = board, given, state
+        self._labels = Labels()
+        self._decoder = Decoder(program, plan.history)
+        self._seen = -1
+
+    def fields(self) -> Fields:
+        """What is so at this moment."""
+        state, plan = self._state, self._plan
+        frames = self._board.frames()
+        self._look(frames)
+        current, following = self._decoder.configurations(self._labels)
+        last = frames[-1] if frames else None
+        return {
+            "ensemble": {"eid": f"{plan.eid:04X}", "label": self._labels.ensemble}, "mode": plan.mode,
+            "time": text_of(time.time()), "frame": state.frame, "count": state.count,
+            "day_time": time_of_frame(self._board.start[0], state.frame), "state": state.phase.value,
+            "configuration": current, "next": following if last is not None and last.swap_in is not None else None,
+            "swap": self._swap(last), "plan": {"path": plan.path, "name": os.path.basename(plan.path),
+                                               "digest": plan.digest},
+            "contacts": ["closed" if each else "open" for each in self._given.closed],
+            "inputs": [self._input()], "outputs": self._outputs(), "fits": state.fits,
+            "alarms": [{"alarm": alarm.value, "text": text} for alarm, text in list(state.alarms.items())],
+            "frames": {"in": state.frames_in, "out": state.frames_out, "held": state.frames_held,
+                       "unfilled": state.unfilled},
+            "steps": state.steps, "swaps": state.swaps, "needs_token": self._needs_token}
+
+    def _look(self, frames: List[Shown]) -> None:
+        """Takes labels and configurations of new frames."""
+        for each in frames:
+            if each.number > self._seen:
+                self._seen = each.number
+                self._labels.take(each.fic)
+        if frames:
+            last = frames[-1]
+            key = (last.swaps, last.swap_in is None, self._state.phase is Phase.HOLDING)
+            same = [each.fic for each in frames
+                    if each.swaps == last.swaps and (each.swap_in is None) == (last.swap_in is None)]
+            self._decoder.look(key, same)
+
+    @staticmethod
+    def _swap(last: Optional[Shown]) -> Optional[Fields]:
+        if last is None or last.swap_in is None:
+            return None
+        return {"in_frames": last.swap_in, "count": (last.cif + 1 + last.swap_in) % COUNTS}
+
+    def _input(self) -> Fields:
+        last = self._state.last
+        return {"name": self._source, "age": None if last is None else round(max(0.0, time.monotonic() - last), 1)}
+
+    def _outputs(self) -> List[Fields]:
+        sinks = self._board.sinks
+        return [] if sinks is None else [{"name": name, "clients": clients} for name, clients in sinks.outputs()]
