@@ -1,0 +1,65 @@
+"""Frames of ETI and EDI whose sub-channels are named one by one: those of several multiplexers, and those that a bridge has
+to make of them. Nothing here comes from the bridge."""
+import functools
+import random
+
+import bridges
+
+# Words of 64 bits a frame, by kbit/s: a frame of 24 ms of R kbit/s has 24 R bits (ETS 300 799, 5.4.1).
+WORDS_OF_KBITS = 24 / 64
+# Capacity units of 8 kbit/s at 1-A to 4-A, and of 32 kbit/s at 1-B to 4-B (EN 300 401, 6.2.1).
+UNITS = {"A": (12, 8, 6, 4), "B": (27, 21, 18, 15)}
+
+
+def entry(sub, start, protection, kbits):
+    """A sub-channel of a profile like `3-A`: SubChId, first capacity unit, TPL and words."""
+    level, profile = int(protection[0]), protection[2]
+    return sub, start, 0x20 | (profile == "B") << 2 | level - 1, int(kbits * WORDS_OF_KBITS)
+
+
+def size(protection, kbits):
+    """The capacity units of a sub-channel."""
+    return kbits * UNITS[protection[2]][int(protection[0]) - 1] // (8 if protection[2] == "A" else 32)
+
+
+@functools.lru_cache(maxsize=65536)
+def data(name, sub, count, words):
+    """The bytes of a sub-channel of a multiplexer of this name in the frame of a count."""
+    return random.Random(f"{name} {sub} {count}").randbytes(8 * words)
+
+
+def parts(name, count, layout):
+    """The sub-channels of a multiplexer in a frame."""
+    return [(each, data(name, each[0], count, each[3])) for each in layout]
+
+
+def eti(count, fic, given, mode=1, rest=b"\x00\x01\x02\x03", mnsc=b"\x12\x34", sync=None):
+    """A frame of ETI(NI) with these sub-channels: each an entry and its bytes. `sync`: which of the words of
+    synchronisation, by default by the count."""
+    stc = b"".join((sub << 26 | start << 16 | level << 10 | words).to_bytes(4, "big") for (sub, start, level, words), _ in given)
+    main = fic + b"".join(part for _, part in given)
+    length = len(given) + 1 + len(main) // 4
+    head = bytes([count % 250, 0x80 | len(given)]) + (count % 8 << 13 | mode % 4 << 11 | length).to_bytes(2, "big") + stc + mnsc
+    word = (b"\x07\x3a\xb6", b"\xf8\xc5\x49")[(count if sync is None else sync) % 2]
+    frame = b"\xff" + word + head + bridges.crc(head) + main + bridges.crc(main) + b"\xff\xff" + rest
+    return frame + b"\x55" * (bridges.ETI - len(frame))
+
+
+def tag(name, value):
+    """A TAG item."""
+    return name + (8 * len(value)).to_bytes(4, "big") + value
+
+
+def edi(count, fic, given, mode=1, stamp=None, mnsc=b"\x12\x34", sequence=None, extra=b"", aligned=True):
+    """A packet of EDI with these sub-channels; `stamp` are the 8 bytes of a time stamp, `extra` are further TAG
+    items; `aligned`: filled up to a multiple of 8 bytes."""
+    deti = bytes([(0x80 if stamp else 0) | 0x40 | count // 250, count % 250, 0xFF, mode % 4 << 6 | count % 8 << 3]) + mnsc
+    items = tag(b"*ptr", b"DETI" + bytes(4)) + tag(b"deti", deti + (stamp or b"") + fic)
+    items += b"".join(tag(b"est" + bytes([number]), (sub << 18 | start << 8 | level << 2).to_bytes(3, "big") + part)
+                      for number, ((sub, start, level, _), part) in enumerate(given, 1)) + extra
+    items += bytes(-len(items) % 8) if aligned else b""
+    packet = b"AF" + len(items).to_bytes(4, "big") + (count if sequence is None else sequence).to_bytes(2, "big") + b"\x90T" + items
+    return packet + bridges.crc(packet)
+
+
+MAKERS = {"eti": eti, "edi": edi}
