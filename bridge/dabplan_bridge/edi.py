@@ -292,6 +292,11 @@ def head_of(frame: Frame) -> Head:
     return Head(data[value + 2], data[value + 3] >> 3 & 7, frame.mode, data[value + 4:value + 6], b"\xff\xff", tist)
 
 
+def sequence_of(frame: Frame) -> int:
+    """The sequence number of a packet."""
+    return int.from_bytes(frame.data[6:8], "big")
+
+
 def tag(name: bytes, value: bytes) -> bytes:
     """A TAG item."""
     return b"".join((name, (8 * len(value)).to_bytes(4, "big"), value))

@@ -65,6 +65,17 @@ class Entry(NamedTuple):
         return (self.sub << 18 | self.start << 8 | self.level << 2).to_bytes(3, "big")
 
 
+class OnAir(NamedTuple):
+    """The sub-channels that receivers have in a frame, and those that are announced to them."""
+
+    current: Dict[int, SubChannel]
+    """By SubChId, in this frame."""
+    following: Dict[int, SubChannel]
+    """Those behind the swap that is announced; the same where none is, or where it changes none."""
+    swap_in: Optional[int]
+    """The frames from this one to the swap, 1 or more; None without one."""
+
+
 PROTECTION = re.compile(r"eep ([1-4])-([AB])")
 """How a sub-channel of equal error protection names it."""
 
