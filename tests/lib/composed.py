@@ -2,6 +2,7 @@
 to make of them. Nothing here comes from the bridge."""
 import functools
 import random
+import subprocess
 
 import bridges
 
@@ -63,3 +64,63 @@ def edi(count, fic, given, mode=1, stamp=None, mnsc=b"\x12\x34", sequence=None, 
 
 
 MAKERS = {"eti": eti, "edi": edi}
+
+# Two multiplexers: by night the first service has half its rate, the second one moves, and a third one is in the freed units.
+DAY = (entry(1, 0, "3-A", 128), entry(2, 96, "3-A", 64))
+NIGHT = (entry(1, 0, "3-A", 64), entry(2, 48, "3-A", 64), entry(5, 96, "3-A", 64))
+HEAD = "ensemble E1C5\nperiod 4 notice 24 budget 20\n"
+DAY_SUBS = "sub 1 at 0 eep 3-A 128\nsub 2 at 96 eep 3-A 64\n"
+SERVICES = "service C221\naudio 63 sub 1 in C221\nservice C222\naudio 63 sub 2 in C222\n"
+TO_NIGHT = "rate sub 1 64\nmove sub 2 at 48\nsub 5 at 96 eep 3-A 64\nservice C225\naudio 63 sub 5 in C225\ncommit in 24\njoin\n"
+TO_DAY = "drop service C225\ndrop sub 5\nmove sub 2 at 96\nrate sub 1 128\ncommit in 24\njoin\n"
+# By day and by night in turn, a swap each 44 frames.
+TURNS = HEAD + DAY_SUBS + SERVICES + "begin\nforever {\nwait 20\n" + TO_NIGHT + "wait 20\n" + TO_DAY + "}\n"
+
+
+class Case(bridges.Case):
+    """A bridge over the streams of several multiplexers."""
+
+    def fic(self, frames, count=0, mode=1):
+        """The FIC of a multiplexer: FIG 0/0 to 0/3 of the ensemble."""
+        mode_words = "E1C5" if mode == 1 else f"E1C5 mode {mode}"
+        script = (HEAD + DAY_SUBS + SERVICES).replace("E1C5", mode_words) + "begin\n"
+        return bridges.fics(self.played(script, f"frames {frames}", f"--count {count}"), mode)
+
+    def give(self, name, layout, frames, first=0, form="edi", mode=1, **others):
+        """The frames of a multiplexer, from a count on, and a file NAME of them. `layout` is one for all frames."""
+        fics = self.fic(frames, first, mode)
+        found = [MAKERS[form]((first + at) % 5000, fics[at], parts(name, (first + at) % 5000, layout), mode, **others)
+                 for at in range(frames)]
+        self.write(name, b"".join(found))
+        return found
+
+    def swaps(self, fic, first=0):
+        """The frames in which a swap falls, of frames from a count on, by `dabplan check`."""
+        done = subprocess.run([self.program, "check", "-"], input=fic, capture_output=True, check=False)
+        found = [line.split() for line in done.stdout.decode().splitlines() if line.endswith(" swap")]
+        return [(int(count) - first) % 5000 for _, count, _ in found]
+
+    def turns(self, fic, *sides, first=0):
+        """For each frame of a FIC, from a count on, the side that is on air: the sides follow each other at swaps."""
+        swaps, found = self.swaps(fic, first), []
+        for at in range(len(fic) // 96):
+            found.append(sides[sum(swap <= at for swap in swaps) % len(sides)])
+        return found
+
+    def made(self, fic, sides, first=0, form="edi", silent=(), **others):
+        """The frames that have to go out from a count on: of each the FIC, and of its side each entry with the name of the
+        multiplexer from which it is, and the SubChId there. `silent`: the SubChIds without a stream, by frame. Sequence
+        numbers grow by one."""
+        found = []
+        for at, side in enumerate(sides):
+            count = (first + at) % 5000
+            given = [(each, bytes(8 * each[3]) if at in silent and each[0] in silent[at] else data(name, sub, count, each[3]))
+                     for each, name, sub in sorted(side, key=lambda row: row[0][1])]
+            numbers = {"sequence": first + at} if form == "edi" else {}
+            found.append(MAKERS[form](count, fic[96 * at:96 * at + 96], given, **numbers, **others))
+        return found
+
+
+def side(layout, name, *others):
+    """A side: a layout all of one multiplexer, and others."""
+    return tuple((each, name, each[0]) for each in layout) + others
