@@ -23,7 +23,7 @@ class Carried(Fit):
     def __init__(self, plan: Plan, placer: Placer, state: State, composer: Composer) -> None:
         super().__init__(plan, placer, state)
         self._composer = composer
-        self._stcs: List[bytes] = [b""] * len(composer.naming.names)
+        self._stcs: List[bytes] = []
 
     def refuse(self, frame: Frame, current: Dict[int, SubChannel], is_first: bool) -> None:
         """Raises `DoesNotFit` where no input carries a sub-channel of the plan. Where the plan begins, all its
@@ -36,8 +36,7 @@ class Carried(Fit):
         self._others = self._missing_ever(headers)
         if is_first and not wrong:
             wrong = self._others
-        is_whole = None not in (frame.beside or (frame,))
-        if wrong and (is_first or is_whole):
+        if wrong and (is_first or b"" not in self._stcs):
             raise DoesNotFit(f"{self._plan.path} does not fit the inputs: {listed(wrong)}")
         self._state.fits = not self._others
         if self._others:
@@ -62,10 +61,11 @@ class Carried(Fit):
             self._state.clear(Alarm.UNFIT, f"frame {at}: the plan fits the inputs again")
 
     def _headers(self, frame: Frame) -> Headers:
-        """What each input has; of one that has no frame here, or a damaged one, what it had last."""
-        for source, each in enumerate(frame.beside or (frame,)):
-            if each is not None and not (each.wrong and each.whole is not None):
-                self._stcs[source] = each.stc
+        """What each input has, by its last frame; nothing where there was none."""
+        if self._state.inputs:
+            self._stcs = [each.stc for each in self._state.inputs]
+        elif not (frame.wrong and frame.whole is not None):
+            self._stcs = [frame.stc]
         return tuple(sub_channels(stc) for stc in self._stcs)
 
     def _missing(self, subs: Mapping[int, SubChannel], headers: Headers) -> List[str]:

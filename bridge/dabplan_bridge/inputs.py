@@ -44,7 +44,9 @@ class Input:
         self.seen = -1
         """The position of the last frame, whether it can go out or not."""
         self.off: Deque[Counted] = deque(maxlen=delay)
-        """The last frames at positions that can't go out, with their counts, since one went out."""
+        """The last frames at positions that can't go out, with their counts, since one of this input could."""
+        self.idle = 0
+        """How many of them came since a frame of any input went out."""
         self.is_apart = False
         """Whether the last frame was more than 250 from what was due."""
         self.is_present = False
@@ -104,6 +106,8 @@ class Input:
             damaged.append(item if isinstance(item, NoFrame) else NoFrame("a damaged packet", len(item.data)))
             return []
         self.mode = item.mode
+        if not (item.wrong and item.whole is not None):
+            self.state.stc = item.stc
         found = []
         for frame, count in self.placer.place(item, item.fic()):
             found += self._agreed(frame, count)
@@ -127,7 +131,15 @@ class Input:
     def put_off(self, count: int, frame: Frame, is_apart: bool) -> None:
         """Takes a frame at a position that can't go out."""
         self.off.append((count, frame))
+        self.idle += 1
         self.is_apart = is_apart
+
+    def taken_off(self) -> List[Counted]:
+        """The frames at positions that can't go out, which are given up; of a stream in real time those since a frame
+        of any input went out, at least the last one."""
+        found = list(self.off)
+        self.off.clear()
+        return found if self.feed.is_regular else found[-max(1, self.idle):]
 
     def wants(self, limit: Optional[int]) -> bool:
         """Whether it is to be read: not where its frames are at a position already, so that those of others are read
@@ -139,5 +151,6 @@ class Input:
         return self.newest < limit if not self.feed.is_regular else max(self.newest, self.seen) < limit
 
     def has(self, position: int) -> bool:
-        """Whether a position need not be waited for: its frame is there, or a later one."""
-        return self.newest >= position or not self.is_present
+        """Whether a position need not be waited for: its frame is there, or a later one, or none will come."""
+        may_come = not self.feed.has_ended if self.feed.is_regular else self.is_present
+        return self.newest >= position or not may_come or self.is_apart

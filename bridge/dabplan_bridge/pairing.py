@@ -50,7 +50,7 @@ class Pairing:
 
     def items(self) -> Iterator[List[Item]]:
         """The frames in order, each with those of the other inputs beside it, and what was no frame in the only input
-        that is present; to the end of all inputs."""
+        that is connected; to the end of all inputs."""
         while True:
             damaged: List[Item] = []
             has_read = self._read(damaged)
@@ -83,7 +83,7 @@ class Pairing:
             if not has_now:
                 break
             has_read = True
-            if bad and not any(each.is_present for each in self._inputs if each is not one):
+            if self._next is not None and self._is_alone(one):
                 damaged += bad
             for count, frame in found:
                 self._put(one, count, frame)
@@ -91,6 +91,10 @@ class Pairing:
                 break
         one.state.depth = len(one.frames)
         return has_read
+
+    def _is_alone(self, one: Input) -> bool:
+        """Whether no other input is connected, or has frames that wait."""
+        return not any(each.feed.is_connected or each.frames for each in self._inputs if each is not one)
 
     def _wait(self) -> None:
         """Waits until something arrives, or something is to be done by the clock."""
@@ -157,6 +161,7 @@ class Pairing:
         for each in ready:
             early = list(each.early)
             each.early.clear()
+            each.is_present = each in near and each.feed.is_connected
             self._put_all(each, [counted for counted in early if each not in near or self._is_due(counted[0])])
         return True
 
@@ -213,7 +218,7 @@ class Pairing:
         if base is None:
             return []
         for each in self._inputs:
-            each.off.clear()
+            each.idle = 0
             each.state.depth = len(each.frames)
         self._count_absent(frames)
         return [base._replace(beside=frames)]
@@ -240,16 +245,16 @@ class Pairing:
             return False
         are_apart = all(each.is_apart or not each.is_present for each in self._inputs)
         one = next((each for each in self._inputs if each.off and
-                    (len(each.off) >= self._delay or (each.is_apart and are_apart))), None)
+                    (each.idle >= self._delay or (each.is_apart and are_apart))), None)
         if one is None:
             return False
         assert self._next is not None
-        self._next += step_of(one.off[0][0], self._next % COUNTS)
-        for each in self._inputs:
-            off = list(each.off)
-            each.off.clear()
+        off = [each.taken_off() for each in self._inputs]
+        self._next += step_of(off[self._inputs.index(one)][0][0], self._next % COUNTS)
+        for each, frames in zip(self._inputs, off):
             each.newest = each.seen = -1
-            self._put_all(each, off)
+            each.idle = 0
+            self._put_all(each, frames)
         return True
 
 

@@ -53,6 +53,8 @@ class InputState:
     """Frames that went out without one of this input."""
     damaged: int = 0
     """Pieces of bytes that were no frame."""
+    stc: bytes = b""
+    """What its last frame says of its sub-channels, in the form of ETI; nothing before the first one."""
 
 
 @dataclass

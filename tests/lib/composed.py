@@ -2,6 +2,7 @@
 to make of them. Nothing here comes from the bridge."""
 import functools
 import random
+import socket
 import subprocess
 
 import bridges
@@ -124,3 +125,32 @@ class Case(bridges.Case):
 def side(layout, name, *others):
     """A side: a layout all of one multiplexer, and others."""
     return tuple((each, name, each[0]) for each in layout) + others
+
+
+class Server:
+    """A multiplexer as a TCP server on the loopback address, for one client at a time."""
+
+    def __init__(self):
+        self.server = socket.create_server(("127.0.0.1", 0))
+        self.server.settimeout(bridges.PATIENCE)
+        self.address = f"tcp://127.0.0.1:{self.server.getsockname()[1]}"
+        self.client = None
+
+    def accept(self):
+        """Takes the client that connects."""
+        self.client = self.server.accept()[0]
+
+    def give(self, frames):
+        """Sends frames."""
+        self.client.sendall(b"".join(frames))
+
+    def drop(self):
+        """Closes the connection."""
+        if self.client is not None:
+            self.client.close()
+            self.client = None
+
+    def close(self):
+        """Closes all."""
+        self.drop()
+        self.server.close()

@@ -3,7 +3,6 @@
 made of the streams that it has to have. The last line is 'N passed, M failed'."""
 import re
 import subprocess
-import unittest
 
 import bridges
 import composed
