@@ -31,7 +31,8 @@ class Carried(Fit):
         there."""
         if isinstance(self._composer.arrangement, ForOdrDabmod):
             self._refuse_modulator(self._composer.form_of(frame))
-        headers = self._headers(frame)
+        self._look(frame)
+        headers = self._headers()
         wrong = self._missing(current, headers)
         self._others = self._missing_ever(headers)
         if is_first and not wrong:
@@ -45,10 +46,11 @@ class Carried(Fit):
     def compare(self, frame: Frame, at: int, current: Callable[[], Dict[int, SubChannel]], has_swapped: bool) -> None:
         """Compares a frame, the one of index `at`, with the sub-channels that receivers hold."""
         self._compare_ensemble(at)
-        before = list(self._stcs)
-        headers = self._headers(frame)
+        before = self._stcs
+        self._look(frame)
         if not has_swapped and before == self._stcs:
             return
+        headers = self._headers()
         wrong = self._missing(current(), headers)
         others = wrong or self._missing_ever(headers)
         self._state.fits = not others
@@ -60,12 +62,15 @@ class Carried(Fit):
         else:
             self._state.clear(Alarm.UNFIT, f"frame {at}: the plan fits the inputs again")
 
-    def _headers(self, frame: Frame) -> Headers:
-        """What each input has, by its last frame; nothing where there was none."""
+    def _look(self, frame: Frame) -> None:
+        """Takes note of what each input has, by its last frame; nothing where there was none."""
         if self._state.inputs:
             self._stcs = [each.stc for each in self._state.inputs]
         elif not (frame.wrong and frame.whole is not None):
             self._stcs = [frame.stc]
+
+    def _headers(self) -> Headers:
+        """What each input has."""
         return tuple(sub_channels(stc) for stc in self._stcs)
 
     def _missing(self, subs: Mapping[int, SubChannel], headers: Headers) -> List[str]:

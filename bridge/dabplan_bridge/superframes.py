@@ -15,6 +15,8 @@ CODED = 9
 """The bytes under the Fire code, behind the two of it."""
 SEARCHED = 3 * DEPTH
 """After so many frames without a superframe a stream has none."""
+AGAIN = 100
+"""In each so many frames after that the first ones are searched again."""
 LOST = 3
 """After so many superframes that do not begin where they should, they are searched anew."""
 
@@ -58,6 +60,8 @@ class Phase:
             self._follow(count, data)
             return
         self.searched += 1
+        if self.searched > SEARCHED and self.searched % AGAIN >= SEARCHED:
+            return
         phase = count % DEPTH
         if not begins(data):
             return

@@ -3,7 +3,7 @@ from __future__ import annotations
 
 from collections import deque
 from dataclasses import dataclass, field
-from typing import Callable, Deque, Dict, List, Mapping, Optional, Sequence, Tuple
+from typing import Callable, Deque, Dict, Iterator, List, Mapping, Optional, Sequence, Tuple
 
 from . import edi, eti
 from .fibs import COUNTS
@@ -63,6 +63,8 @@ class Recent:
 
     def of(self, source: int, back: int) -> Optional[Taken]:
         """What an input had so many frames ago, 0 to 4; None if it had nothing."""
+        if not back:
+            return self.bundle[source]
         wanted = (self.count - back) % COUNTS
         return next((bundle[source] for count, bundle in reversed(self._bundles) if count == wanted), None)
 
@@ -116,6 +118,7 @@ class Supply:
         self._delay_of = delay_of
         self._sources: Dict[int, Tuple[Entry, int]] = {}
         self._last: Dict[int, bytes] = {}
+        self._subs: Dict[Tuple[int, int], Optional[int]] = {}
 
     def data(self, entry: Entry, recent: Recent) -> Tuple[bytes, Optional[Taken]]:
         """The bytes of a sub-channel in the last frame, and the frame of an input from which they are."""
@@ -123,7 +126,7 @@ class Supply:
         if stream is None:
             stream = self._state.streams[entry.sub] = StreamState()
         before = self._sources.get(entry.sub)
-        for source in self._order(entry, before):
+        for source in self._order(before):
             found = self._from(source, entry, recent)
             if found is not None:
                 self._take(entry, source, before, stream)
@@ -142,17 +145,23 @@ class Supply:
             self._last.pop(sub, None)
             self._state.streams[sub].source = ""
 
-    def _order(self, entry: Entry, before: Optional[Tuple[Entry, int]]) -> List[int]:
+    def _order(self, before: Optional[Tuple[Entry, int]]) -> Iterator[int]:
         """The inputs in the order in which they are asked: the one that had the sub-channel, then from the first."""
-        sources = list(range(len(self._naming.names)))
-        if before is not None:
-            sources.remove(before[1])
-            sources.insert(0, before[1])
-        return sources
+        last = None if before is None else before[1]
+        if last is not None:
+            yield last
+        yield from (source for source in range(len(self._naming.names)) if source != last)
+
+    def _sub_of(self, source: int, sub: int) -> Optional[int]:
+        """The SubChId in an input of a sub-channel of the plan; None if it is not there."""
+        key = source, sub
+        if key not in self._subs:
+            self._subs[key] = self._naming.sub_of(source, sub)
+        return self._subs[key]
 
     def _from(self, source: int, entry: Entry, recent: Recent) -> Optional[Tuple[bytes, Optional[Taken]]]:
         """The bytes of a sub-channel from an input; None if it has none."""
-        sub = self._naming.sub_of(source, entry.sub)
+        sub = self._sub_of(source, entry.sub)
         if sub is None:
             return None
         delay = self._delay_of(source, sub)
