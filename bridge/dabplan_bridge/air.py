@@ -1,7 +1,7 @@
 """What goes on air: the FIC of each frame of the stream, by the plan or by what is held."""
 from __future__ import annotations
 
-from typing import Callable, Dict, Optional
+from typing import Callable, Dict, Optional, Union
 
 from .faults import Repeats, WillNotGuess, number_of
 from .fibs import FRAME_SECONDS
@@ -9,7 +9,7 @@ from .follower import Follower
 from .frames import Frame
 from .given import Given
 from .holding import Holding, script_of, settled
-from .layout import SubChannel
+from .layout import OnAir, SubChannel
 from .log import Log
 from .moments import Moment
 from .plan import Plan
@@ -42,6 +42,7 @@ class Air:
         self._not_before = 0
         self._is_strict = is_strict
         self._holding: Optional[Holding] = None
+        self._again: Optional[int] = None
         self._seen: Optional[bytes] = None
         self._seen_swaps = -1
         self._is_new = False
@@ -51,6 +52,15 @@ class Air:
         """The sub-channels that receivers hold, by SubChId."""
         return self.player.sub_channels if self._holding is None else self._holding.sub_channels
 
+    def on_air(self) -> OnAir:
+        """What receivers have in the frame that was made last, and what is announced to them."""
+        if self._again is not None:
+            layout = self.player.layout_of(self._again)
+            return OnAir(layout, layout, None)
+        there: Union[Player, Holding] = self.player if self._holding is None else self._holding
+        current, swap_in = there.sub_channels, there.swap_in
+        return OnAir(current, current if swap_in is None else there.following, None if swap_in is None else swap_in + 1)
+
     def swap_in(self) -> Optional[int]:
         """The frames until the swap that is announced on air; None without one."""
         return self.player.swap_in if self._holding is None else self._holding.swap_in
@@ -58,7 +68,7 @@ class Air:
     def fic(self, frame: Frame, count: int, moment: Moment, at: int) -> Optional[bytes]:
         """The FIC of a frame of the stream, the one of index `at`; None where the plan has none, before its first
         frame. `WillNotGuess` where its count is not explained, if that is to end the bridge."""
-        self.has_swapped = False
+        self.has_swapped, self._again = False, None
         follower = self._follower
         number = follower.number_of(count, moment)
         if follower.step is not None and self._holding is None:
@@ -101,7 +111,7 @@ class Air:
         self._retaking.refuse()
         ahead = number - player.made
         if ahead < 0:
-            state.frame = number
+            state.frame = self._again = number
             return player.kept(number)
         self.has_swapped = self._pass_over(ahead, lambda: moment.wall)
         lines = self._given.lines(number, player.due)

@@ -7,6 +7,8 @@ from typing import Optional
 from .agreeing import Agreeing
 from .air import Air
 from .beginning import Arrival, Beginning, Wish
+from .carried import Carried
+from .composer import Composer
 from .control import Control
 from .faults import Repeats, Trouble, number_of, say
 from .fifos import Monitor
@@ -17,7 +19,7 @@ from .log import Log
 from .moments import Moment
 from .placing import Placer
 from .plan import Plan
-from .reader import Reader
+from .reader import Items
 from .sinks import Sinks
 from .state import State
 from .statefile import StateFile
@@ -27,14 +29,15 @@ class Bridge:
     """Puts a plan into a stream, from which `read` gets the frames."""
 
     def __init__(self, wish: Wish, plan: Plan, log: Log, given: Given, monitor: Monitor, state: State,
-                 file: StateFile, control: Control) -> None:
+                 file: StateFile, control: Control, composer: Optional[Composer] = None) -> None:
         self.state = state
         self._plan, self._log = plan, log
         self._given, self._monitor = given, monitor
         self._file, self._control = file, control
         self._repeats = Repeats()
         self._placer = Placer()
-        self._fit = Fit(plan, self._placer, state)
+        self._composer = composer
+        self._fit = Fit(plan, self._placer, state) if composer is None else Carried(plan, self._placer, state, composer)
         self._beginning = Beginning(wish, plan, log, given, state, self._repeats)
         self._utc = self._beginning.utc
         self._has_clock = wish.has_clock
@@ -44,7 +47,12 @@ class Bridge:
         self._expected = -1
         self._moment = Moment(0.0, 0.0)
 
-    def run(self, name: str, reader: Reader, sinks: Sinks, is_of_datagrams: bool) -> int:
+    @property
+    def is_resumed(self) -> bool:
+        """Whether the plan has a past: it goes on by its log."""
+        return self._log.past is not None
+
+    def run(self, name: str, reader: Items, sinks: Sinks, is_of_datagrams: bool) -> int:
         """Each frame of a stream of this name into the sinks; returns the exit status."""
         self._sinks = self._control.board.sinks = sinks
         self._agreeing = Agreeing() if is_of_datagrams else None
@@ -141,7 +149,9 @@ class Bridge:
         if fic is None:
             self._unfill(f"its count {count} is before the plan's first frame")
             return
-        self._sinks.put(frame.with_fic(fic))
+        composer = self._composer
+        made = frame.with_fic(fic) if composer is None else composer.made(frame, count, fic, air.on_air())
+        self._sinks.put(made)
         self._monitor.put(fic)
         if is_first:
             self._log.open()

@@ -15,6 +15,7 @@ from .access import Access, access_of, where_of
 from .addresses import Address, of_sink, of_source
 from .beginning import Wish
 from .compact import compact
+from .compose import add_compose, compose_of, only_source, source_words
 from .conditioning import written
 from .conditions import Condition, condition_of
 from .faults import PROGRAM, BadCommand, Stopped, Trouble, hold_signals, say
@@ -70,6 +71,14 @@ def input_of(text: str) -> Address:
     """The address of an input from the command line."""
     try:
         return of_source(text)
+    except ValueError as fault:
+        raise argparse.ArgumentTypeError(str(fault)) from None
+
+
+def words_of_input(text: str) -> str:
+    """The words of an input of `run` from the command line, with a name or without one."""
+    try:
+        return source_words(text)
     except ValueError as fault:
         raise argparse.ArgumentTypeError(str(fault)) from None
 
@@ -156,14 +165,16 @@ def options_of(words: argparse.Namespace) -> Options:
             raise BadCommand(f"--{name.replace('_', '-')} is an option of --log")
     if words.zone is not None and words.time != "now" and words.weekdays is None and words.holidays is None:
         raise BadCommand("--zone is an option of --time now, --weekdays and --holidays")
+    compose = compose_of(words)
+    source = only_source(words) if compose is None else compose.inputs[0][1]
     wish = Wish(program=program_of(words.dabplan), time=words.time, is_local=words.zone == "local",
                 clock_is_fig=words.clock is not None, offset=words.offset or 0.0, skip=words.skip,
                 resume_at=words.resume_at, tolerance=words.tolerance, is_strict=words.strict, is_told=words.status,
-                has_clock=not is_regular(words.source))
-    return Options(code=words.code, source=words.source, sinks=words.sinks, wish=wish, format=words.format,
+                has_clock=not is_regular(source))
+    return Options(code=words.code, source=source, sinks=words.sinks, wish=wish, format=words.format,
                    contacts=words.contacts, log=words.log, every=words.every or 250, anew=words.anew,
                    monitor=words.monitor, state=words.state, control=access_of(words.control, words.token_file),
-                   conditions=tuple(words.conditions), calendar=calendar_of(words))
+                   conditions=tuple(words.conditions), calendar=calendar_of(words), compose=compose)
 
 
 def add_times(one: argparse.ArgumentParser) -> None:
@@ -216,8 +227,8 @@ def add_run(commands: "argparse._SubParsersAction[argparse.ArgumentParser]") -> 
     """The command `run` and its options."""
     one = commands.add_parser("run", help="plays a plan into a stream")
     one.add_argument("code", metavar="CODE", help="the code file of the plan")
-    one.add_argument("--in", metavar="IN", dest="source", type=input_of, required=True,
-                     help="the stream of the multiplexer")
+    one.add_argument("--in", metavar="IN", dest="source", type=words_of_input, required=True, action="append",
+                     help="the stream of the multiplexer; with --compose NAME=IN, once or more")
     one.add_argument("--out", metavar="OUT", dest="sinks", type=output_of, required=True, action="append",
                      help="the stream for the modulator, once or more; tcp://:PORT is a server, on the loopback "
                           "address unless another is named")
@@ -234,6 +245,7 @@ def add_run(commands: "argparse._SubParsersAction[argparse.ArgumentParser]") -> 
     add_control(one)
     one.add_argument("--status", action="store_true", help="report each notice and each swap")
     one.add_argument("--dabplan", metavar="PROGRAM", help="the program dabplan")
+    add_compose(one, whole)
     one.set_defaults(does=lambda words: run(options_of(words)))
 
 

@@ -7,10 +7,10 @@ the header of the frame and the FIC; `est1` and so on have the streams.
 from __future__ import annotations
 
 import heapq
-from typing import Iterator, List, Optional, Tuple
+from typing import Dict, Iterator, List, Optional, Sequence, Tuple
 
-from .fibs import size_of
-from .frames import MODES, Frame, Item, NoFrame, wrong_by
+from .fibs import crc, size_of
+from .frames import MODES, Frame, Head, Item, NoFrame, Part, Place, wrong_by
 from .pft import Fragments, PfHeader, header_of, header_size
 
 AF_HEADER = 10
@@ -273,3 +273,73 @@ def packet_of(data: bytes) -> Item:
 def looks_like(data: bytes) -> bool:
     """Whether these bytes begin with a packet of EDI, as far as they go."""
     return data[:2] in (b"AF", b"PF")
+
+
+def places_of(frame: Frame) -> Dict[int, Place]:
+    """Where the sub-channels of a packet are, by SubChId."""
+    data, found = frame.data, {}
+    for name, value, end in tag_items(data):
+        if name[:3] == b"est" and end - value >= 3:
+            found[data[value] >> 2] = Place(data[value + 2] >> 2, (end - value - 3) // 8, value + 3)
+    return found
+
+
+def head_of(frame: Frame) -> Head:
+    """What a packet has beside its FIC and its sub-channels."""
+    data = frame.data
+    value = next(value for name, value, _ in tag_items(data) if name == b"deti")
+    is_stamped = bool(data[value] & 0x80)
+    tist = b"\xff" + (data[value + 11:value + 14] if is_stamped else b"\xff\xff\xff")
+    return Head(data[value + 2], data[value + 3] >> 3 & 7, frame.mode, data[value + 4:value + 6], b"\xff\xff", tist)
+
+
+def sequence_of(frame: Frame) -> int:
+    """The sequence number of a packet."""
+    return int.from_bytes(frame.data[6:8], "big")
+
+
+def tag(name: bytes, value: bytes) -> bytes:
+    """A TAG item."""
+    return b"".join((name, (8 * len(value)).to_bytes(4, "big"), value))
+
+
+def streams(parts: Sequence[Part]) -> List[bytes]:
+    """The TAG items of sub-channels."""
+    return [tag(b"est" + bytes((number,)), part.entry.sstc() + part.data) for number, part in enumerate(parts, 1)]
+
+
+def packet(items: bytes, sequence: int, flags: int = 0x90, wrong: int = 0) -> bytes:
+    """An AF packet of these TAG items, and what fills them up, with a sequence number modulo 65536."""
+    head = b"".join((b"AF", len(items).to_bytes(4, "big"), (sequence & 0xFFFF).to_bytes(2, "big"), bytes((flags,)),
+                     b"T"))
+    covered = head + items
+    check = crc(covered) if flags & 0x80 else 0
+    return covered + (check ^ wrong).to_bytes(2, "big")
+
+
+def rebuilt(frame: Frame, fic: bytes, parts: Sequence[Part], sequence: int, wrong: int = 0) -> bytes:
+    """A packet with another FIC of this size, these sub-channels and this sequence number. Its other TAG items stay as
+    they are, at their places; so does what fills it up."""
+    data, end, found = frame.data, AF_HEADER, []
+    est = streams(parts)
+    for name, value, after in tag_items(data):
+        end = after
+        if name[:3] == b"est":
+            found += est
+            est = []
+        elif value <= frame.start < after:
+            found.append(data[value - 8:frame.start] + fic + data[frame.start + frame.size:after])
+        else:
+            found.append(data[value - 8:after])
+    items = b"".join(found + est)
+    rest = data[end:len(data) - 2]
+    size = -len(items) % 8 if (len(data) - AF_REST) % 8 == 0 else len(rest)
+    return packet(items + rest[:size].ljust(size, b"\0"), sequence, data[8], wrong)
+
+
+def built(head: Head, count: int, fic: bytes, parts: Sequence[Part], sequence: int, wrong: int = 0) -> bytes:
+    """A packet of this count, this FIC and these sub-channels, without a time stamp: that of ETI has no seconds."""
+    deti = b"".join((bytes((0x40 | count // 250, count % 250, head.error, head.mode % 4 << 6 | head.phase << 3)),
+                     head.mnsc, fic))
+    items = b"".join((tag(b"*ptr", b"DETI" + bytes(4)), tag(b"deti", deti), *streams(parts)))
+    return packet(items + bytes(-len(items) % 8), sequence, 0x90, wrong)

@@ -5,11 +5,12 @@ a CRC over these from FCT on; the FIC, the streams, and a CRC over both; RFU 2, 
 """
 from __future__ import annotations
 
-from typing import List, Optional
+from functools import lru_cache
+from typing import List, Mapping, Optional, Sequence
 
-from .fibs import size_of
-from .frames import MODES, Frame, Item, NoFrame, wrong_by
-from .layout import ENTRY
+from .fibs import crc, size_of
+from .frames import MODES, Frame, Head, Item, NoFrame, Part, Place, wrong_by
+from .layout import ENTRY, stc_entries
 
 FRAME = 6144
 """The bytes of a frame."""
@@ -138,3 +139,45 @@ def unsettled(data: bytes) -> int:
 def looks_like(data: bytes) -> bool:
     """Whether these bytes begin with a frame, as far as they go."""
     return len(data) >= 4 and data[1:4] in FSYNCS
+
+
+@lru_cache(maxsize=256)
+def places_in(stc: bytes, first: int) -> Mapping[int, Place]:
+    """Where the sub-channels of an STC are in a frame, by SubChId; `first` is the offset of the first one."""
+    found, at = {}, first
+    for entry in stc_entries(stc):
+        found[entry.sub] = Place(entry.level, entry.words, at)
+        at += 8 * entry.words
+    return found
+
+
+def places_of(frame: Frame) -> Mapping[int, Place]:
+    """Where the sub-channels of a frame are, by SubChId."""
+    return places_in(frame.stc, frame.start + frame.size)
+
+
+def head_of(frame: Frame) -> Head:
+    """What a frame has beside its FIC and its sub-channels."""
+    data, end = frame.data, frame.crc_at
+    return Head(data[0], data[6] >> 5, frame.mode, data[frame.start - 4:frame.start - 2], data[end + 2:end + 4],
+                data[end + 4:end + 8])
+
+
+def sync_of(frame: Frame) -> bytes:
+    """The word of synchronisation of a frame."""
+    return frame.data[1:4]
+
+
+def built(head: Head, low: int, sync: bytes, fic: bytes, parts: Sequence[Part], wrong: int = 0) -> bytes:
+    """A frame of this count modulo 250, this word of synchronisation, this FIC and these sub-channels. `wrong` is what
+    its last CRC is exclusive or the right one. `ValueError` where the sub-channels are too many for a frame."""
+    main = b"".join((fic, *(part.data for part in parts)))
+    length = len(parts) + 1 + len(main) // 4
+    rest = b"".join((bytes((low, 0x80 | len(parts))),
+                     (head.phase << 13 | head.mode % 4 << 11 | length & 0x7FF).to_bytes(2, "big"),
+                     *(part.entry.stc() for part in parts), head.mnsc))
+    frame = b"".join((bytes((head.error,)), sync, rest, crc(rest).to_bytes(2, "big"), main,
+                      (crc(main) ^ wrong).to_bytes(2, "big"), head.rfu, head.tist))
+    if len(frame) > FRAME or len(parts) > MOST_STREAMS:
+        raise ValueError(f"{len(parts)} sub-channels of {len(main) - len(fic)} bytes are too many for a frame of ETI")
+    return frame.ljust(FRAME, PADDING)

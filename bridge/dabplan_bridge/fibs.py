@@ -222,6 +222,12 @@ class Listener:
         """The sub-channels in the next frame, which has this count: a swap may fall into it."""
         return self._next if self._change & 1 and count % 250 == self._low else self.current
 
+    @property
+    def following(self) -> Dict[int, SubChannel]:
+        """The sub-channels behind the swap that is announced; those of the current configuration where it changes
+        none."""
+        return self._next if self._change & 1 else self.current
+
     def _told(self, fib: bytes) -> Tuple[Told, ...]:
         """What a FIB says; that of the FIBs of late is known."""
         key = fib if fib[:2] not in ENSEMBLES else without_count(fib)

@@ -2,9 +2,10 @@
 from __future__ import annotations
 
 from dataclasses import dataclass
-from typing import NamedTuple, Optional, Union
+from typing import NamedTuple, Optional, Tuple, Union
 
 from .fibs import crc, crc_change
+from .layout import Entry
 
 
 class Frame(NamedTuple):
@@ -34,6 +35,8 @@ class Frame(NamedTuple):
     """Its time stamp, in seconds since 1970; None without one."""
     has_crc: bool = True
     """Whether it says that the CRC is there."""
+    beside: Tuple[Optional[Frame], ...] = ()
+    """Where there are several inputs: the frame of each of them that has this count, this one among them."""
 
     def fic(self) -> bytes:
         """The FIC of the frame."""
@@ -50,6 +53,41 @@ class Frame(NamedTuple):
             check = crc(b"".join((data[self.crc_from:self.start], fic, data[end:self.crc_at]))) ^ self.wrong
         return b"".join((data[:self.start], fic, data[end:self.crc_at], check.to_bytes(2, "big"),
                          data[self.crc_at + 2:]))
+
+
+class Place(NamedTuple):
+    """Where the bytes of a sub-channel are in a frame."""
+
+    level: int
+    """Its protection, six bits (TPL)."""
+    words: int
+    """Its words of 64 bits."""
+    at: int
+    """The offset of the first of them."""
+
+
+class Part(NamedTuple):
+    """A sub-channel of a frame that is made: its entry in the header, and its bytes."""
+
+    entry: Entry
+    data: bytes
+
+
+class Head(NamedTuple):
+    """What a frame has beside its FIC and its sub-channels, in either format."""
+
+    error: int
+    """ERR of ETI, STAT of EDI: 255 where there is no error."""
+    phase: int
+    """The frame phase, 0 to 7 (FP)."""
+    mode: int
+    """The transmission mode, 1 to 4."""
+    mnsc: bytes
+    """The multiplex network signalling channel, 2 bytes."""
+    rfu: bytes
+    """What ETI has behind its last CRC, 2 bytes."""
+    tist: bytes
+    """The time stamp in the form of ETI, 4 bytes: all bits are 1 where there is none."""
 
 
 @dataclass(frozen=True)

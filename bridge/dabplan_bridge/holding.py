@@ -78,6 +78,11 @@ class Holding:
         """The frames until a swap that is announced; None without one."""
         return self._listener.swap_in(self._count)
 
+    @property
+    def following(self) -> Dict[int, SubChannel]:
+        """The sub-channels behind a swap that is announced; those of now without one."""
+        return self.sub_channels if self.swap_in is None else self._listener.following
+
     def make(self, fic: bytes, count: int) -> bytes:
         """The FIC of the frame of this count, with FIGs of another FIC."""
         step = step_of(count, self._count)

@@ -5,7 +5,7 @@ import contextlib
 from collections import deque
 from dataclasses import dataclass
 from itertools import chain, islice
-from typing import Deque, Dict, Iterable, List, Optional
+from typing import Deque, Dict, Iterable, List, Optional, Tuple
 
 from .chain import Chain, Code, Live, Progress, frame_lines
 from .faults import Stopped, Trouble, number_of
@@ -66,6 +66,7 @@ class Player:
         self._listener = Listener()
         self._kept: Deque[bytes] = deque(maxlen=KEPT)
         self._since_swap = 0
+        self._layouts: Deque[Tuple[int, Dict[int, SubChannel]]] = deque(maxlen=KEPT)
         lines = [*steps] if start.frames < plan.history else steps
         again = min(start.frames, KEPT)
         code = Code(plan.path)
@@ -83,6 +84,7 @@ class Player:
         self._known = known
         if known is not None:
             self._listener.current = known
+            self._layouts.clear()
 
     @property
     def due(self) -> int:
@@ -126,6 +128,15 @@ class Player:
         back = self.made - number
         return self._kept[-back] if 0 < back <= len(self._kept) else None
 
+    def layout_of(self, number: int) -> Dict[int, SubChannel]:
+        """The sub-channels of the plan in its frame of a number, one of those that are kept."""
+        return next((subs for first, subs in reversed(self._layouts) if first <= number), self.sub_channels)
+
+    @property
+    def following(self) -> Dict[int, SubChannel]:
+        """The sub-channels of the plan behind the swap that is announced; those of now without one."""
+        return self._listener.following
+
     def since_swap(self) -> List[bytes]:
         """The FICs of the last frames that were made, from the last swap on, as far as they are kept."""
         frames = min(self._since_swap, len(self._kept))
@@ -151,4 +162,6 @@ class Player:
         if self.swapped:
             self.swaps += 1
             self._since_swap = 0
+        if self.swapped or not self._layouts:
+            self._layouts.append((self.made - 1, self._listener.current))
         self._since_swap += 1

@@ -1,7 +1,7 @@
 """The frames of a stream of bytes, of either format."""
 from __future__ import annotations
 
-from typing import Iterator, List, Optional, Union
+from typing import Iterator, List, Optional, Protocol, Union
 
 from . import edi, eti
 from .faults import Trouble
@@ -36,6 +36,13 @@ def format_of(data: bytes) -> Optional[str]:
     return None
 
 
+class Items(Protocol):
+    """Frames as they come."""
+
+    def items(self) -> Iterator[List[Item]]:
+        """The frames, and what is none, some at a time, to the end of the stream."""
+
+
 class Reader:
     """Reads the frames of a source, and finds its format where none is given."""
 
@@ -52,18 +59,22 @@ class Reader:
             data = self._source.read()
             if not data:
                 break
-            yield self._cut(data)
-        if self._cutter is None:
-            if self._first:
-                raise Trouble(f"{self._source.name}: neither ETI nor EDI")
-            return
-        cutter = self._cutter
-        if isinstance(cutter, edi.EdiCutter):
-            yield cutter.finish()
-        if cutter.end():
+            yield self.cut(data)
+        yield self.finish()
+        self.refuse_rest()
+
+    def finish(self) -> List[Item]:
+        """The frames of fragments that still waited at the end of the stream."""
+        return self._cutter.finish() if isinstance(self._cutter, edi.EdiCutter) else []
+
+    def refuse_rest(self) -> None:
+        """Raises `Trouble` where the stream was of neither format, or ended within a frame."""
+        if self._cutter is None and self._first:
+            raise Trouble(f"{self._source.name}: neither ETI nor EDI")
+        if self._cutter is not None and self._cutter.end():
             raise Trouble(f"{self._source.name}: not whole frames")
 
-    def _cut(self, data: bytes) -> List[Item]:
+    def cut(self, data: bytes) -> List[Item]:
         """The frames that are whole with these bytes."""
         if self._cutter is None:
             first = data if self._source.is_of_datagrams else self._first + data

@@ -8,6 +8,7 @@ from .access import Access
 from .addresses import Address, place_of, refuse_same
 from .beginning import Wish
 from .bridge import Bridge
+from .compose import Compose
 from .conditions import Condition
 from .control import Control
 from .faults import hold_signals
@@ -44,12 +45,15 @@ class Options:
     control: Optional[Access] = None
     conditions: Tuple[Condition, ...] = ()
     calendar: Calendar = field(default_factory=Calendar)
+    compose: Optional[Compose] = None
+    """What makes the transmission follow the plan; None where its FIC alone does."""
 
 
 def refuse(options: Options) -> None:
     """Raises `BadCommand` where two files of a command line are one, or where a FIFO is none."""
     named = (options.code, options.log, options.contacts, options.monitor, options.state)
-    streams = [(options.source.name, place_of(options.source, 0)),
+    sources = [options.source] if options.compose is None else [source for _, source in options.compose.inputs]
+    streams = [*((source.name, place_of(source, 0)) for source in sources),
                *((sink.name, place_of(sink, 1)) for sink in options.sinks)]
     refuse_same([*((path, path) for path in named[:1] if path is not None), *streams,
                  *((path, path) for path in named[1:] if path is not None)])
@@ -66,7 +70,22 @@ def begun(options: Options, plan: Plan) -> Bridge:
     given = Given(contacts, orders, options.conditions, options.calendar, options.wish.is_local)
     given.take_up(log.past, log.steps())
     control = Control(options.control, options.wish.program, plan, options.source.name, given, orders, state)
-    return Bridge(options.wish, plan, log, given, monitor, state, StateFile(options.state, state), control)
+    composer = None if options.compose is None else options.compose.composer(state, options.format)
+    return Bridge(options.wish, plan, log, given, monitor, state, StateFile(options.state, state), control, composer)
+
+
+def composed(options: Options, compose: Compose, plan: Plan, bridge: Bridge, waiter: Waiter) -> int:
+    """Plays a plan into the streams of several inputs to the end of all; returns the exit status."""
+    pairing = compose.pairing(plan, waiter, bridge.state, options.wish, bridge.is_resumed)
+    try:
+        sinks = Sinks(options.sinks, waiter, bridge.state)
+        try:
+            return bridge.run(options.source.name, pairing, sinks, False)
+        finally:
+            hold_signals()
+            sinks.close()
+    finally:
+        pairing.close()
 
 
 def played(options: Options, bridge: Bridge, waiter: Waiter) -> int:
@@ -74,8 +93,9 @@ def played(options: Options, bridge: Bridge, waiter: Waiter) -> int:
     source: Source = source_of(options.source, waiter)
     try:
         sinks = Sinks(options.sinks, waiter, bridge.state)
+        form = options.format if options.compose is None else None
         try:
-            return bridge.run(source.name, Reader(source, options.format), sinks, source.is_of_datagrams)
+            return bridge.run(source.name, Reader(source, form), sinks, source.is_of_datagrams)
         finally:
             hold_signals()
             sinks.close()
@@ -86,10 +106,14 @@ def played(options: Options, bridge: Bridge, waiter: Waiter) -> int:
 def run(options: Options) -> int:
     """The command `run`; returns the exit status."""
     refuse(options)
-    bridge = begun(options, plan_of(options.code))
+    plan = plan_of(options.code)
+    bridge = begun(options, plan)
     is_well = False
     try:
-        status = played(options, bridge, Waiter())
+        if options.compose is None or len(options.compose.inputs) == 1:
+            status = played(options, bridge, Waiter())
+        else:
+            status = composed(options, options.compose, plan, bridge, Waiter())
     finally:
         hold_signals()
         is_well = bridge.end()

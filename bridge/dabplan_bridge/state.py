@@ -3,7 +3,7 @@ from __future__ import annotations
 
 from dataclasses import dataclass, field
 from enum import Enum
-from typing import Dict, Optional
+from typing import Dict, List, Optional
 
 from .faults import say
 
@@ -34,6 +34,39 @@ class Alarm(Enum):
     """The log can't be written."""
     OUTPUT = "output"
     """An output can't be written, while another one can."""
+    INPUT = "input"
+    """One of several inputs is not there, or is late."""
+
+
+@dataclass
+class InputState:
+    """One of several inputs; counts of frames are of this run."""
+
+    name: str
+    is_connected: bool = False
+    """Whether bytes may come at this moment."""
+    depth: int = 0
+    """The frames that wait for those of other inputs."""
+    late: int = 0
+    """Frames that came when theirs had gone out."""
+    missing: int = 0
+    """Frames that went out without one of this input."""
+    damaged: int = 0
+    """Pieces of bytes that were no frame."""
+    stc: bytes = b""
+    """What its last frame says of its sub-channels, in the form of ETI; nothing before the first one."""
+
+
+@dataclass
+class StreamState:
+    """The stream of a sub-channel of the plan; counts of frames are of this run."""
+
+    source: str = ""
+    """The name of the input from which it comes; empty where none carries it."""
+    silent: int = 0
+    """Frames in which no input had it."""
+    fallbacks: int = 0
+    """How many times it came from another input from there on, while the plan did not change it."""
 
 
 @dataclass
@@ -66,6 +99,10 @@ class State:
     """The clients of all servers."""
     last: Optional[float] = None
     """When the last frame came, by `time.monotonic`."""
+    inputs: List[InputState] = field(default_factory=list)
+    """The inputs of `--compose`, in their order."""
+    streams: Dict[int, StreamState] = field(default_factory=dict)
+    """The streams of `--compose`, by SubChId: of each sub-channel that was on air in this run."""
     alarms: Dict[Alarm, str] = field(default_factory=dict)
     """The alarms that are on, each with its message."""
 

@@ -16,6 +16,22 @@ EVERY_SECONDS = 6.0
 """How often it is written."""
 
 
+def composed_lines(state: State) -> List[str]:
+    """The lines of inputs and streams; none without `--compose`."""
+    lines: List[str] = []
+    for each in state.inputs:
+        label = f'{{input="{each.name}"}}'
+        lines += [f"dab_input_connected{label} {each.is_connected:d}", f"dab_input_depth_frames{label} {each.depth}",
+                  f"dab_input_late_total{label} {each.late}", f"dab_input_missing_total{label} {each.missing}",
+                  f"dab_input_damaged_total{label} {each.damaged}"]
+    for sub, stream in sorted(state.streams.items()):
+        label = f'{{sub="{sub}"}}'
+        lines += [f'dab_stream_source{{sub="{sub}",input="{stream.source}"}} {bool(stream.source):d}',
+                  f"dab_stream_silent_total{label} {stream.silent}",
+                  f"dab_stream_fallbacks_total{label} {stream.fallbacks}"]
+    return lines
+
+
 def lines_of(state: State, now: float) -> List[str]:
     """The lines of a state at a moment, by `time.monotonic`."""
     counts = {"in": state.frames_in, "out": state.frames_out, "held": state.frames_held, "unfilled": state.unfilled}
@@ -23,6 +39,7 @@ def lines_of(state: State, now: float) -> List[str]:
     lines += [f'dab_state{{state="{phase.value}"}} {phase is state.phase:d}' for phase in Phase]
     lines += [f'dab_alarm{{alarm="{alarm.value}"}} {alarm in state.alarms:d}' for alarm in Alarm]
     lines += [f"dab_steps_total {state.steps}", f"dab_swaps_on_air_total {state.swaps}", f"dab_clients {state.clients}"]
+    lines += composed_lines(state)
     if state.fits is not None:
         lines.append(f"dab_fits {state.fits:d}")
     if state.last is not None:

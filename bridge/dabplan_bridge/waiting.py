@@ -40,6 +40,10 @@ class Waiter:
         """Waits so many seconds."""
         self._until(-1, seconds)
 
+    def once(self, seconds: Optional[float] = None) -> None:
+        """Waits until something that is served is ready, at most so many seconds, and serves it."""
+        self._once(-1, None if seconds is None else max(0.0, seconds) * 1000)
+
     def _until(self, descriptor: int, seconds: Optional[float]) -> bool:
         end = None if seconds is None else time.monotonic() + seconds
         while True:

@@ -8,17 +8,15 @@ import pathlib
 import re
 import shutil
 import signal
-import socket
 import subprocess
 import sys
 import tempfile
-import threading
 import time
 
 import bridges
 from bridges import common
+from real import LENGTH, Receiver, gaps_of, moves_of, silence
 
-LENGTH = 5000
 RESTARTS = "Detected change in ensemble configuration"
 """What odr-dabmod says where it restarts its modulation, and loses frames."""
 MULTIPLEXER = """\
@@ -95,94 +93,6 @@ commit in 240
 join
 }
 """
-
-
-def audio_crc(bits):
-    """The CRC of an MPEG audio frame: x^16 + x^15 + x^2 + 1, started with ones."""
-    register = 0xFFFF
-    for bit in bits:
-        register = register << 1 & 0xFFFF ^ (0x8005 if register >> 15 ^ bit else 0)
-    return register.to_bytes(2, "big")
-
-
-def silence(kbits, number):
-    """A frame of MPEG-1 Layer II, 48 kHz, mono, 24 ms, that is silent: no sub-band has any bits. Its number is where no
-    decoder looks."""
-    head = bytes([0xFF, 0xFC, {64: 0x44, 96: 0x64}[kbits], 0xC0])
-    bits = [head[at] >> bit & 1 for at in (2, 3) for bit in range(7, -1, -1)] + [0] * 88
-    frame = head + audio_crc(bits)
-    frame += bytes(100 - len(frame)) + number.to_bytes(4, "big")
-    return frame + bytes(3 * kbits - len(frame))
-
-
-def frames_heard(audio):
-    """The frames of an audio stream: their kbit/s and their numbers."""
-    found, at = [], 0
-    while at + 104 <= len(audio):
-        kbits = {0x4: 64, 0x6: 96}[audio[at + 2] >> 4]
-        found.append((kbits, int.from_bytes(audio[at + 100:at + 104], "big")))
-        at += 3 * kbits
-    return found
-
-
-def gaps_of(heard):
-    """How many times a number does not follow the one before."""
-    return sum(later != (earlier + 1) % LENGTH for (_, earlier), (_, later) in zip(heard, heard[1:]))
-
-
-def moves_of(heard):
-    """How many times the sub-channel changes."""
-    return sum(one != other for (one, _), (other, _) in zip(heard, heard[1:]))
-
-
-class Receiver:
-    """dablin on a service, from a TCP connection to the bridge; it may be connected again."""
-
-    def __init__(self, folder, port, sid):
-        self.job = subprocess.Popen(["dablin", "-u", "-s", f"0x{sid}", "-f", "edi"], cwd=folder, stdin=subprocess.PIPE,
-                                    stdout=subprocess.PIPE, stderr=subprocess.DEVNULL)
-        self.port, self.audio, self.stopped, self.bytes = port, bytearray(), False, 0
-        self.threads = [threading.Thread(target=self.feed), threading.Thread(target=self.read)]
-        for thread in self.threads:
-            thread.start()
-
-    def feed(self):
-        """Gives dablin what the bridge sends."""
-        while not self.stopped:
-            try:
-                with bridges.connected(self.port, 1.0) as connection:
-                    connection.settimeout(0.5)
-                    self.copy(connection)
-            except OSError:
-                time.sleep(0.05)
-        self.job.stdin.close()
-
-    def copy(self, connection):
-        """Copies one connection, as far as it goes."""
-        while not self.stopped:
-            try:
-                data = connection.recv(65536)
-            except socket.timeout:
-                continue
-            if not data:
-                return
-            self.bytes += len(data)
-            self.job.stdin.write(data)
-            self.job.stdin.flush()
-
-    def read(self):
-        """Keeps the audio."""
-        while piece := self.job.stdout.read1(65536):
-            self.audio += piece
-
-    def end(self):
-        """Ends it, and returns the frames that it played."""
-        self.stopped = True
-        self.threads[0].join(10)
-        self.job.terminate()
-        self.threads[1].join(10)
-        self.job.wait(10)
-        return frames_heard(bytes(self.audio))
 
 
 class Stand:
