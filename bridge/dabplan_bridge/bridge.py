@@ -153,4 +153,4 @@ class Bridge:
         state.count, state.last = count, moment.host
         state.swaps += air.has_swapped
         self._file.look(moment.host, air.swap_in)
-        self._control.frame(fic, count, state.swaps, air)
+        self._control.frame(fic, count, state, air)

@@ -7,6 +7,7 @@ import pathlib
 import re
 import signal
 import sys
+import threading
 import types
 from typing import Callable, List, Optional, Type
 
@@ -283,7 +284,7 @@ def stop(number: int, _: Optional[types.FrameType]) -> None:
     raise Stopped(signal.Signals(number).name)
 
 
-def unexpected(kind: Type[BaseException], fault: BaseException, trace: Optional[types.TracebackType]) -> None:
+def unexpected(kind: Type[BaseException], fault: Optional[BaseException], trace: Optional[types.TracebackType]) -> None:
     """Says in one line what no other line says."""
     while trace is not None and trace.tb_next is not None:
         trace = trace.tb_next
@@ -306,6 +307,7 @@ def fill_standard() -> None:
 def main(arguments: Optional[List[str]] = None) -> int:
     """Runs a command line; returns the exit status."""
     sys.excepthook = unexpected
+    threading.excepthook = lambda found: unexpected(found.exc_type, found.exc_value, found.exc_traceback)
     fill_standard()
     for each in (signal.SIGTERM, signal.SIGINT):
         signal.signal(each, stop)

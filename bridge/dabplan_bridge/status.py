@@ -5,14 +5,14 @@ import os
 import time
 from typing import Dict, List, Optional
 
-from .board import Board, Shown
+from .board import Board, Shown, last_row
 from .decoded import Decoder
 from .fibs import COUNTS, DAY_FRAMES
 from .given import Given
 from .labels import Labels
 from .past import day_frame_of_start, text_of
 from .plan import Plan
-from .state import Phase, State
+from .state import State
 
 Fields = Dict[str, object]
 
@@ -50,7 +50,7 @@ class Status:
             "ensemble": {"eid": f"{plan.eid:04X}", "label": self._labels.ensemble}, "mode": plan.mode,
             "time": text_of(time.time()), "frame": state.frame, "count": state.count,
             "day_time": time_of_frame(self._board.start[0], state.frame), "state": state.phase.value,
-            "configuration": current, "next": following if last is not None and last.swap_in is not None else None,
+            "configuration": current, "next": following,
             "swap": self._swap(last), "plan": {"path": plan.path, "name": os.path.basename(plan.path),
                                                "digest": plan.digest},
             "contacts": ["closed" if each else "open" for each in self._given.closed],
@@ -67,11 +67,11 @@ class Status:
                 self._seen = each.number
                 self._labels.take(each.fic)
         if frames:
-            last = frames[-1]
-            key = (last.swaps, last.swap_in is None, self._state.phase is Phase.HOLDING)
-            same = [each.fic for each in frames
-                    if each.swaps == last.swaps and (each.swap_in is None) == (last.swap_in is None)]
-            self._decoder.look(key, same)
+            last, most, period = frames[-1], 2 * self._plan.history, self._plan.header.period
+            row = last_row(frames, most)
+            announced = sum(each.swap_in is not None for each in row[-period:])
+            key = (last.swaps, last.swap_in is None, last.is_held, row[0].number if len(row) < most else -1)
+            self._decoder.look(key, [each.fic for each in row], announced == period)
 
     @staticmethod
     def _swap(last: Optional[Shown]) -> Optional[Fields]:

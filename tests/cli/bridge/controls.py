@@ -4,13 +4,20 @@ failed'."""
 import json
 import socket
 import statistics
+import sys
 import threading
 import time
+import unittest
 import urllib.error
 import urllib.request
 
 import bridges
 import units
+
+sys.dont_write_bytecode = True
+sys.path.insert(0, str(bridges.FOLDER))
+
+from dabplan_bridge import access, control, orders  # noqa: E402
 
 # FIG 1 of the ensemble E1C5 'Gate' and of service C221 'Oné' in the EBU Latin set (82 is é), 16 bytes each, and their flags.
 LABELS = bridges.fib("35 00 E1C5" + b"Gate            ".hex() + "F000")
@@ -124,7 +131,11 @@ class Shown(Controlled):
         self.assertEqual(found["swap"], {"in_frames": 10, "count": 4})
         self.assertEqual(found["next"]["subs"], [SUBS[2]])
         self.assertEqual(found["next"]["services"][0]["components"], [{"audio": 63, "sub": 2, "primary": True}])
-        feed.through(frames[34:56])
+        # Two frames behind the swap too: what was announced is what receivers have.
+        feed.through(frames[34:46])
+        found = self.until_shown(frame=45)
+        self.assertEqual((found["configuration"]["subs"], found["next"], found["swaps"]), ([SUBS[2]], None, 1))
+        feed.through(frames[46:56])
         found = self.until_shown(frame=55)
         self.assertEqual((found["configuration"]["subs"], found["next"], found["swap"], found["swaps"]), ([SUBS[2]], None, None, 1))
         self.assertEqual((found["inputs"][0]["name"], found["outputs"]), ("-", [{"name": "-", "clients": 0}]))
@@ -195,6 +206,43 @@ class Shown(Controlled):
                     self.assertEqual(json.loads(line[6:])["ensemble"]["eid"], "E1C5")
             self.assertLess(statistics.median(b - a for a, b in zip(moments, moments[1:])), 1.0)
             feed.end()
+
+
+class Steady:
+    """A watch that always has something new, and much of it."""
+
+    is_over = False
+
+    def after(self, number):
+        """The next one."""
+        return number + 1, b"x" * 100_000
+
+
+class Dropped(unittest.TestCase):
+    """Clients that take nothing."""
+
+    def test_a_client_that_takes_nothing_is_dropped(self):
+        """After five seconds, and its room is free again."""
+        port = bridges.free_port()
+        server = control.Server(access.Access("127.0.0.1", port), orders.Orders(), Steady())
+        threading.Thread(target=server.serve_forever, args=(0.1,), daemon=True).start()
+        before = threading.active_count()
+        with socket.create_connection(("127.0.0.1", port), 30) as client:
+            client.sendall(f"GET /events HTTP/1.1\r\nHost: localhost:{port}\r\n\r\n".encode())
+            self.assertTrue(bridges.until(lambda: threading.active_count() > before, 10))
+            start = time.monotonic()
+            self.assertTrue(bridges.until(lambda: threading.active_count() == before, 60))
+            self.assertGreater(time.monotonic() - start, 4)
+            found, more = 0, b"x"
+            while more:
+                try:
+                    more = client.recv(1 << 20)
+                except ConnectionResetError:
+                    more = b""
+                found += len(more)
+            self.assertLess(found, 20_000_000)
+        server.shutdown()
+        server.server_close()
 
 
 class Changed(Controlled):
