@@ -7,6 +7,7 @@ from typing import Optional
 from .agreeing import Agreeing
 from .air import Air
 from .beginning import Arrival, Beginning, Wish
+from .checking import Check
 from .control import Control
 from .faults import Repeats, Trouble, number_of, say
 from .fifos import Monitor
@@ -27,11 +28,11 @@ class Bridge:
     """Puts a plan into a stream, from which `read` gets the frames."""
 
     def __init__(self, wish: Wish, plan: Plan, log: Log, given: Given, monitor: Monitor, state: State,
-                 file: StateFile, control: Control) -> None:
+                 file: StateFile, control: Control, check: Check) -> None:
         self.state = state
         self._plan, self._log = plan, log
         self._given, self._monitor = given, monitor
-        self._file, self._control = file, control
+        self._file, self._control, self._check = file, control, check
         self._repeats = Repeats()
         self._placer = Placer()
         self._fit = Fit(plan, self._placer, state)
@@ -64,6 +65,7 @@ class Bridge:
             say(f"{number_of(unfilled)} could not be filled: nothing went out for {'it' if unfilled == 1 else 'them'}")
         is_well = self._beginning.end() if self._air is None else self._air.end()
         self._monitor.close()
+        self._check.close()
         self._given.close()
         self._control.close()
         is_well = self._log.close() and is_well
@@ -143,6 +145,7 @@ class Bridge:
             return
         self._sinks.put(frame.with_fic(fic))
         self._monitor.put(fic)
+        self._check.put(fic)
         if is_first:
             self._log.open()
         air.record(moment)

@@ -163,8 +163,9 @@ def options_of(words: argparse.Namespace) -> Options:
                 has_clock=not is_regular(words.source))
     return Options(code=words.code, source=words.source, sinks=words.sinks, wish=wish, format=words.format,
                    contacts=words.contacts, log=words.log, every=words.every or 250, anew=words.anew,
-                   monitor=words.monitor, state=words.state, control=access_of(words.control, words.token_file),
-                   conditions=tuple(words.conditions), calendar=calendar_of(words))
+                   monitor=words.monitor, state=words.state, is_checked=words.check,
+                   control=access_of(words.control, words.token_file), conditions=tuple(words.conditions),
+                   calendar=calendar_of(words))
 
 
 def add_times(one: argparse.ArgumentParser) -> None:
@@ -231,6 +232,8 @@ def add_run(commands: "argparse._SubParsersAction[argparse.ArgumentParser]") -> 
     one.add_argument("--strict", action="store_true",
                      help="end with status 4 where a count is not explained; nothing is held")
     one.add_argument("--monitor", metavar="FIFO", help="the FIBs of what goes out, for a monitor; made if absent")
+    one.add_argument("--check", action="store_true",
+                     help="let 'dabplan check' run over what goes out: faults are reported, totals are in the state")
     one.add_argument("--state", metavar="FILE", help="what the bridge does, as a textfile for Prometheus")
     add_control(one)
     one.add_argument("--status", action="store_true", help="report each notice and each swap")

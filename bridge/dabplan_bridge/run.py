@@ -8,6 +8,7 @@ from .access import Access
 from .addresses import Address, place_of, refuse_same
 from .beginning import Wish
 from .bridge import Bridge
+from .checking import Check
 from .conditions import Condition
 from .control import Control
 from .faults import hold_signals
@@ -42,6 +43,8 @@ class Options:
     monitor: Optional[str] = None
     state: Optional[str] = None
     control: Optional[Access] = None
+    is_checked: bool = False
+    """Whether `dabplan check` runs over what goes out."""
     conditions: Tuple[Condition, ...] = ()
     calendar: Calendar = field(default_factory=Calendar)
 
@@ -66,7 +69,8 @@ def begun(options: Options, plan: Plan) -> Bridge:
     given = Given(contacts, orders, options.conditions, options.calendar, options.wish.is_local)
     given.take_up(log.past, log.steps())
     control = Control(options.control, options.wish.program, plan, options.source.name, given, orders, state)
-    return Bridge(options.wish, plan, log, given, monitor, state, StateFile(options.state, state), control)
+    check = Check(options.wish.program, plan.mode, options.is_checked, state)
+    return Bridge(options.wish, plan, log, given, monitor, state, StateFile(options.state, state), control, check)
 
 
 def played(options: Options, bridge: Bridge, waiter: Waiter) -> int:

@@ -58,6 +58,7 @@ class Status:
             "alarms": [{"alarm": alarm.value, "text": text} for alarm, text in list(state.alarms.items())],
             "frames": {"in": state.frames_in, "out": state.frames_out, "held": state.frames_held,
                        "unfilled": state.unfilled},
+            "check": self._checked(),
             "steps": state.steps, "swaps": state.swaps, "needs_token": self._needs_token}
 
     def _look(self, frames: List[Shown]) -> None:
@@ -78,6 +79,11 @@ class Status:
         if last is None or last.swap_in is None:
             return None
         return {"in_frames": last.swap_in, "count": (last.cif + 1 + last.swap_in) % COUNTS}
+
+    def _checked(self) -> Optional[Fields]:
+        """What the check of what goes out found; None where there is none."""
+        checked = self._state.checked
+        return None if checked is None else {**checked.totals(), "is_up": checked.is_up, "last": checked.last}
 
     def _input(self) -> Fields:
         last = self._state.last
