@@ -14,7 +14,7 @@ Modules, from the bytes up:
 - its log: `past`, `lock`, `sync`, `compact`, `log`;
 - all of them together: `state`, `statefile`, `fit`, `beginning`, `retaking`, `air`, `bridge`;
 - contacts: `orders`, `conditions`, `weekdays`, `given`;
-- who watches it: `labels`, `decoded`, `board`, `status`, `metrics`, `watch`,
+- who watches it: `checking`, `labels`, `decoded`, `board`, `status`, `metrics`, `watch`,
   `access`, `receiving`, `handler`, `control`;
 - the commands: `run`, `convert`, `conditioning`, `command`.
 """

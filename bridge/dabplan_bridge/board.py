@@ -5,9 +5,10 @@ The thread of the frames adds to a queue, and waits for nothing.
 from __future__ import annotations
 
 from collections import deque
-from typing import Deque, List, NamedTuple, Optional, Tuple
+from typing import Deque, List, NamedTuple, Optional, Sequence, Tuple
 
 from .air import Air
+from .fibs import COUNTS
 from .sinks import Sinks
 
 KEPT = 750
@@ -24,8 +25,22 @@ class Shown(NamedTuple):
     """Its CIF count."""
     swaps: int
     """The swaps up to it."""
+    is_held: bool
+    """Whether its configuration was held."""
     swap_in: Optional[int]
     """The frames from the next one to the swap that is announced; None without one."""
+
+
+def last_row(frames: Sequence[Shown], most: int) -> Sequence[Shown]:
+    """The last frames whose counts follow each other, all held or none, at most so many: what a receiver knows from
+    them is so."""
+    first = len(frames) - 1
+    while first > max(0, len(frames) - most):
+        one, other = frames[first - 1], frames[first]
+        if (one.cif + 1) % COUNTS != other.cif or one.is_held != other.is_held:
+            break
+        first -= 1
+    return frames[max(0, first):]
 
 
 class Board:
@@ -38,10 +53,10 @@ class Board:
         self._frames: Deque[Shown] = deque(maxlen=KEPT)
         self._number = 0
 
-    def frame(self, fic: bytes, count: int, swaps: int, air: Air) -> None:
+    def frame(self, fic: bytes, count: int, swaps: int, is_held: bool, air: Air) -> None:
         """Puts down a frame that went out, behind so many swaps."""
         self.start = (air.player.start.time, air.player.start.first)
-        self._frames.append(Shown(self._number, fic, count, swaps, air.swap_in()))
+        self._frames.append(Shown(self._number, fic, count, swaps, is_held, air.swap_in()))
         self._number += 1
 
     def frames(self) -> List[Shown]:

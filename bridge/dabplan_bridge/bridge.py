@@ -8,6 +8,7 @@ from .agreeing import Agreeing
 from .air import Air
 from .beginning import Arrival, Beginning, Wish
 from .carried import Carried
+from .checking import Check
 from .composer import Composer
 from .control import Control
 from .faults import Repeats, Trouble, number_of, say
@@ -29,11 +30,11 @@ class Bridge:
     """Puts a plan into a stream, from which `read` gets the frames."""
 
     def __init__(self, wish: Wish, plan: Plan, log: Log, given: Given, monitor: Monitor, state: State,
-                 file: StateFile, control: Control, composer: Optional[Composer] = None) -> None:
+                 file: StateFile, control: Control, check: Check, composer: Optional[Composer] = None) -> None:
         self.state = state
         self._plan, self._log = plan, log
         self._given, self._monitor = given, monitor
-        self._file, self._control = file, control
+        self._file, self._control, self._check = file, control, check
         self._repeats = Repeats()
         self._placer = Placer()
         self._composer = composer
@@ -72,6 +73,7 @@ class Bridge:
             say(f"{number_of(unfilled)} could not be filled: nothing went out for {'it' if unfilled == 1 else 'them'}")
         is_well = self._beginning.end() if self._air is None else self._air.end()
         self._monitor.close()
+        self._check.close()
         self._given.close()
         self._control.close()
         is_well = self._log.close() and is_well
@@ -153,6 +155,7 @@ class Bridge:
         made = frame.with_fic(fic) if composer is None else composer.made(frame, count, fic, air.on_air())
         self._sinks.put(made)
         self._monitor.put(fic)
+        self._check.put(fic)
         if is_first:
             self._log.open()
         air.record(moment)
@@ -163,4 +166,4 @@ class Bridge:
         state.count, state.last = count, moment.host
         state.swaps += air.has_swapped
         self._file.look(moment.host, air.swap_in)
-        self._control.frame(fic, count, state.swaps, air)
+        self._control.frame(fic, count, state, air)

@@ -7,6 +7,7 @@ import pathlib
 import re
 import signal
 import sys
+import threading
 import types
 from typing import Callable, List, Optional, Type
 
@@ -173,8 +174,9 @@ def options_of(words: argparse.Namespace) -> Options:
                 has_clock=not is_regular(source))
     return Options(code=words.code, source=source, sinks=words.sinks, wish=wish, format=words.format,
                    contacts=words.contacts, log=words.log, every=words.every or 250, anew=words.anew,
-                   monitor=words.monitor, state=words.state, control=access_of(words.control, words.token_file),
-                   conditions=tuple(words.conditions), calendar=calendar_of(words), compose=compose)
+                   monitor=words.monitor, state=words.state, is_checked=words.check,
+                   control=access_of(words.control, words.token_file), conditions=tuple(words.conditions),
+                   calendar=calendar_of(words), compose=compose)
 
 
 def add_times(one: argparse.ArgumentParser) -> None:
@@ -241,6 +243,8 @@ def add_run(commands: "argparse._SubParsersAction[argparse.ArgumentParser]") -> 
     one.add_argument("--strict", action="store_true",
                      help="end with status 4 where a count is not explained; nothing is held")
     one.add_argument("--monitor", metavar="FIFO", help="the FIBs of what goes out, for a monitor; made if absent")
+    one.add_argument("--check", action="store_true",
+                     help="let 'dabplan check' run over what goes out: faults are reported, totals are in the state")
     one.add_argument("--state", metavar="FILE", help="what the bridge does, as a textfile for Prometheus")
     add_control(one)
     one.add_argument("--status", action="store_true", help="report each notice and each swap")
@@ -295,7 +299,7 @@ def stop(number: int, _: Optional[types.FrameType]) -> None:
     raise Stopped(signal.Signals(number).name)
 
 
-def unexpected(kind: Type[BaseException], fault: BaseException, trace: Optional[types.TracebackType]) -> None:
+def unexpected(kind: Type[BaseException], fault: Optional[BaseException], trace: Optional[types.TracebackType]) -> None:
     """Says in one line what no other line says."""
     while trace is not None and trace.tb_next is not None:
         trace = trace.tb_next
@@ -318,6 +322,7 @@ def fill_standard() -> None:
 def main(arguments: Optional[List[str]] = None) -> int:
     """Runs a command line; returns the exit status."""
     sys.excepthook = unexpected
+    threading.excepthook = lambda found: unexpected(found.exc_type, found.exc_value, found.exc_traceback)
     fill_standard()
     for each in (signal.SIGTERM, signal.SIGINT):
         signal.signal(each, stop)

@@ -31,7 +31,7 @@ from .handler import Handler
 from .orders import Orders
 from .plan import Plan
 from .receiving import GaveUp
-from .state import State
+from .state import Phase, State
 from .status import Status
 from .watch import Watch
 
@@ -39,6 +39,8 @@ MOST = 64
 """The most connections at a time."""
 MOST_EVENTS = 60
 """The most of them that follow events: some are left for those who give a contact."""
+BUFFER = 65_536
+"""The bytes that may wait for a client to take them."""
 ACCEPT_SECONDS = 1.0
 """The seconds after which a connection that can't be taken is tried again."""
 PAGE = pathlib.Path(__file__).with_name("page.html")
@@ -100,6 +102,8 @@ class Server(socketserver.ThreadingMixIn, socketserver.TCPServer):
             time.sleep(ACCEPT_SECONDS)
             raise
         self._is_told = False
+        # A client that takes nothing keeps little of the system's memory.
+        found[0].setsockopt(socket.SOL_SOCKET, socket.SO_SNDBUF, BUFFER)
         return found
 
     def process_request(self, request: object, client_address: object) -> None:
@@ -146,10 +150,10 @@ class Control:
             self._server = Server(access, orders, watch)
             threading.Thread(target=self._server.serve_forever, args=(0.1,), name="control", daemon=True).start()
 
-    def frame(self, fic: bytes, count: int, swaps: int, air: Air) -> None:
+    def frame(self, fic: bytes, count: int, state: State, air: Air) -> None:
         """Takes note of a frame that went out."""
         if self._server is not None:
-            self.board.frame(fic, count, swaps, air)
+            self.board.frame(fic, count, state.swaps, state.phase is Phase.HOLDING, air)
 
     def close(self) -> None:
         """Ends it; orders that wait are refused."""

@@ -42,7 +42,8 @@ def parts_of(entries: List[Dict[str, object]], labels: Labels) -> Optional[Parts
 
 
 class Decoder:
-    """Decodes what goes out. `dabplan` is run where something has changed alone."""
+    """Decodes what goes out. `dabplan` is run where something has changed alone. `history` is the frames after which a
+    receiver knows all of a configuration: nothing is said of it before."""
 
     def __init__(self, program: str, history: int) -> None:
         self._program = program
@@ -52,18 +53,22 @@ class Decoder:
         self._current: List[Dict[str, object]] = []
         self._next: List[Dict[str, object]] = []
 
-    def look(self, key: Tuple[object, ...], fics: List[bytes]) -> None:
-        """Takes the last frames that went out since something changed; `key` says what it is that changes."""
-        frames = min(len(fics), self._history)
-        if key == self._key and frames <= self._frames:
+    def look(self, key: Tuple[object, ...], fics: List[bytes], has_next: bool) -> None:
+        """Takes the last frames that went out, in a row; `key` is other where something has changed, and `has_next`
+        says whether the next configuration was announced for long enough."""
+        known = (key, has_next)
+        if known == self._key and self._frames in (len(fics), 2 * self._history):
+            return
+        self._key, self._frames = known, len(fics)
+        self._current, self._next = [], []
+        if len(fics) < self._history:
             return
         try:
-            found = json.loads(run(self._program, ["listen", "-", "--json"], b"".join(fics[-self._history:])))
-            self._current, self._next = list(found["current"]), list(found["next"])
+            found = json.loads(run(self._program, ["listen", "-", "--json"], b"".join(fics)))
+            self._current, self._next = list(found["current"]), list(found["next"]) if has_next else []
         except (Trouble, ValueError, KeyError, TypeError):
             # Nothing is shown that is not known.
             self._current, self._next = [], []
-        self._key, self._frames = key, frames
 
     def configurations(self, labels: Labels) -> Tuple[Optional[Parts], Optional[Parts]]:
         """The current and the next configuration; None where it is not known, or there is none."""

@@ -173,5 +173,7 @@ class Handler(http.server.BaseHTTPRequestHandler):
             self._head(200, "text/event-stream")
             seen = -1
             while not watch.is_over:
-                seen, data = watch.after(seen)
-                self.wfile.write(b"data: " + data + b"\n\n")
+                number, data = watch.after(seen)
+                # Where there is nothing new a comment shows whether the client is still there.
+                self.wfile.write(b"data: " + data + b"\n\n" if number != seen else b":\n\n")
+                seen = number

@@ -31,7 +31,7 @@ def lines_of(name: str, kind: str, common: Labels, values: Sequence[Value]) -> L
 def text_of_metrics(plan: Plan, state: State, swap_in: Optional[int], closed: Sequence[bool], now: float) -> str:
     """All metrics at a moment, by `time.monotonic`: of a swap in so many frames, and which contacts are closed."""
     frames = {"in": state.frames_in, "out": state.frames_out, "unfilled": state.unfilled, "held": state.frames_held}
-    on = list(state.alarms)
+    on, checked = list(state.alarms), state.checked
     known: List[Tuple[str, str, List[Value]]] = [
         ("dab_frames_total", "counter", [((("where", where),), count) for where, count in frames.items()]),
         ("dab_steps_total", "counter", [((), state.steps)]),
@@ -44,5 +44,10 @@ def text_of_metrics(plan: Plan, state: State, swap_in: Optional[int], closed: Se
         ("dab_contact", "gauge", [((("n", str(number)),), each) for number, each in enumerate(closed)]),
         ("dab_swap_seconds", "gauge", [] if swap_in is None else [((), round(swap_in * FRAME_SECONDS, 3))]),
     ]
+    if checked is not None:
+        known += [(f"dab_{name}_total", "counter", [((), value)]) for name, value in checked.totals().items()
+                  if name != "frames"]
+        known += [("dab_checked_frames_total", "counter", [((), checked.frames)]),
+                  ("dab_up", "gauge", [((), checked.is_up)])]
     common = (("ensemble", f"{plan.eid:04X}"), ("plan", os.path.basename(plan.path)))
     return "\n".join(line for name, kind, values in known for line in lines_of(name, kind, common, values)) + "\n"

@@ -49,7 +49,7 @@ class Order:
         self._lock = threading.Lock()
         self._is_answered = threading.Event()
         self._is_taken = self._is_given_up = False
-        self._answer = Answer(503, {})
+        self._answer = Answer(503, {"error": f"it takes more than {LONGEST_SECONDS:g} s"})
 
     def take(self) -> bool:
         """Begins to carry it out; returns False where it was given up."""

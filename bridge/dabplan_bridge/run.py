@@ -8,6 +8,7 @@ from .access import Access
 from .addresses import Address, place_of, refuse_same
 from .beginning import Wish
 from .bridge import Bridge
+from .checking import Check
 from .compose import Compose
 from .conditions import Condition
 from .control import Control
@@ -43,6 +44,8 @@ class Options:
     monitor: Optional[str] = None
     state: Optional[str] = None
     control: Optional[Access] = None
+    is_checked: bool = False
+    """Whether `dabplan check` runs over what goes out."""
     conditions: Tuple[Condition, ...] = ()
     calendar: Calendar = field(default_factory=Calendar)
     compose: Optional[Compose] = None
@@ -71,7 +74,8 @@ def begun(options: Options, plan: Plan) -> Bridge:
     given.take_up(log.past, log.steps())
     control = Control(options.control, options.wish.program, plan, options.source.name, given, orders, state)
     composer = None if options.compose is None else options.compose.composer(state, options.format)
-    return Bridge(options.wish, plan, log, given, monitor, state, StateFile(options.state, state), control, composer)
+    check = Check(options.wish.program, plan.mode, options.is_checked, state)
+    return Bridge(options.wish, plan, log, given, monitor, state, StateFile(options.state, state), control, check, composer)
 
 
 def composed(options: Options, compose: Compose, plan: Plan, bridge: Bridge, waiter: Waiter) -> int:

@@ -70,6 +70,30 @@ class StreamState:
 
 
 @dataclass
+class Checked:
+    """What `dabplan check` says of what went out, since the bridge was started."""
+
+    frames: int = 0
+    damaged: int = 0
+    """FIBs that are damaged."""
+    swaps: int = 0
+    faults: int = 0
+    is_up: bool = False
+    """Whether it runs."""
+    last: str = ""
+    """The last fault, as it says it; nothing where there was none."""
+
+    def totals(self) -> Dict[str, int]:
+        """Its totals, by their names."""
+        return {"frames": self.frames, "damaged": self.damaged, "swaps": self.swaps, "faults": self.faults}
+
+    def take(self, totals: Dict[str, int]) -> None:
+        """Takes other totals."""
+        self.frames, self.damaged = totals["frames"], totals["damaged"]
+        self.swaps, self.faults = totals["swaps"], totals["faults"]
+
+
+@dataclass
 class State:
     """The state of a bridge; counts of frames are of this run."""
 
@@ -103,6 +127,8 @@ class State:
     """The inputs of `--compose`, in their order."""
     streams: Dict[int, StreamState] = field(default_factory=dict)
     """The streams of `--compose`, by SubChId: of each sub-channel that was on air in this run."""
+    checked: Optional[Checked] = None
+    """What a check of what goes out found; None where there is none."""
     alarms: Dict[Alarm, str] = field(default_factory=dict)
     """The alarms that are on, each with its message."""
 

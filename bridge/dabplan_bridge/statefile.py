@@ -46,6 +46,8 @@ def lines_of(state: State, now: float) -> List[str]:
         lines.append(f"dab_input_age_seconds {max(0.0, now - state.last):.1f}")
     if state.swap_in is not None:
         lines.append(f"dab_swap_frames {state.swap_in}")
+    if state.checked is not None:
+        lines += [f"dab_checked_{name}_total {value}" for name, value in state.checked.totals().items()]
     return lines + [f"dab_bridge_timestamp_seconds {time.time():.1f}"]
 
 

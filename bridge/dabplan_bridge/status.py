@@ -5,14 +5,14 @@ import os
 import time
 from typing import Dict, List, Optional
 
-from .board import Board, Shown
+from .board import Board, Shown, last_row
 from .decoded import Decoder
 from .fibs import COUNTS, DAY_FRAMES
 from .given import Given
 from .labels import Labels
 from .past import day_frame_of_start, text_of
 from .plan import Plan
-from .state import Phase, State
+from .state import State
 
 Fields = Dict[str, object]
 
@@ -50,7 +50,7 @@ class Status:
             "ensemble": {"eid": f"{plan.eid:04X}", "label": self._labels.ensemble}, "mode": plan.mode,
             "time": text_of(time.time()), "frame": state.frame, "count": state.count,
             "day_time": time_of_frame(self._board.start[0], state.frame), "state": state.phase.value,
-            "configuration": current, "next": following if last is not None and last.swap_in is not None else None,
+            "configuration": current, "next": following,
             "swap": self._swap(last), "plan": {"path": plan.path, "name": os.path.basename(plan.path),
                                                "digest": plan.digest},
             "contacts": ["closed" if each else "open" for each in self._given.closed],
@@ -58,6 +58,7 @@ class Status:
             "alarms": [{"alarm": alarm.value, "text": text} for alarm, text in list(state.alarms.items())],
             "frames": {"in": state.frames_in, "out": state.frames_out, "held": state.frames_held,
                        "unfilled": state.unfilled},
+            "check": self._checked(),
             "steps": state.steps, "swaps": state.swaps, "needs_token": self._needs_token}
 
     def _look(self, frames: List[Shown]) -> None:
@@ -67,17 +68,22 @@ class Status:
                 self._seen = each.number
                 self._labels.take(each.fic)
         if frames:
-            last = frames[-1]
-            key = (last.swaps, last.swap_in is None, self._state.phase is Phase.HOLDING)
-            same = [each.fic for each in frames
-                    if each.swaps == last.swaps and (each.swap_in is None) == (last.swap_in is None)]
-            self._decoder.look(key, same)
+            last, most, period = frames[-1], 2 * self._plan.history, self._plan.header.period
+            row = last_row(frames, most)
+            announced = sum(each.swap_in is not None for each in row[-period:])
+            key = (last.swaps, last.swap_in is None, last.is_held, row[0].number if len(row) < most else -1)
+            self._decoder.look(key, [each.fic for each in row], announced == period)
 
     @staticmethod
     def _swap(last: Optional[Shown]) -> Optional[Fields]:
         if last is None or last.swap_in is None:
             return None
         return {"in_frames": last.swap_in, "count": (last.cif + 1 + last.swap_in) % COUNTS}
+
+    def _checked(self) -> Optional[Fields]:
+        """What the check of what goes out found; None where there is none."""
+        checked = self._state.checked
+        return None if checked is None else {**checked.totals(), "is_up": checked.is_up, "last": checked.last}
 
     def _input(self) -> Fields:
         last = self._state.last

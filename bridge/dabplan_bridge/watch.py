@@ -45,7 +45,7 @@ class Watch:
         return text.encode("utf-8")
 
     def after(self, number: int) -> Tuple[int, bytes]:
-        """The first one behind the one of a number, and its own number."""
+        """The first one behind the one of a number, and its own number; where none comes in time the same one."""
         with self._condition:
             self._condition.wait_for(lambda: self._number > number or self.is_over, 2 * EVERY_SECONDS)
             return self._number, self._data

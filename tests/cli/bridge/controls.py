@@ -2,15 +2,24 @@
 """The control port of `dabplan-bridge run`: what it shows, what it changes, and who may. The last line is 'N passed, M
 failed'."""
 import json
+import os
+import pathlib
 import socket
 import statistics
+import sys
 import threading
 import time
+import unittest
 import urllib.error
 import urllib.request
 
 import bridges
 import units
+
+sys.dont_write_bytecode = True
+sys.path.insert(0, str(bridges.FOLDER))
+
+from dabplan_bridge import access, control, orders  # noqa: E402
 
 # FIG 1 of the ensemble E1C5 'Gate' and of service C221 'Oné' in the EBU Latin set (82 is é), 16 bytes each, and their flags.
 LABELS = bridges.fib("35 00 E1C5" + b"Gate            ".hex() + "F000")
@@ -98,7 +107,7 @@ class Shown(Controlled):
         feed = self.begun()
         found = self.status()
         for name, value in (("state", "waiting"), ("mode", 1), ("frame", None), ("count", None), ("configuration", None), ("next", None),
-                            ("swap", None), ("fits", None), ("alarms", []), ("contacts", ["open"] * 16)):
+                            ("swap", None), ("fits", None), ("alarms", []), ("check", None), ("contacts", ["open"] * 16)):
             self.assertEqual(found[name], value, name)
         self.assertEqual((found["ensemble"]["eid"], found["plan"]["name"]), ("E1C5", "contacts.code"))
         self.assertRegex(found["time"], r"^\d{4}-\d\d-\d\dT\d\d:\d\d:\d\d\.\d{3}Z$")
@@ -124,7 +133,11 @@ class Shown(Controlled):
         self.assertEqual(found["swap"], {"in_frames": 10, "count": 4})
         self.assertEqual(found["next"]["subs"], [SUBS[2]])
         self.assertEqual(found["next"]["services"][0]["components"], [{"audio": 63, "sub": 2, "primary": True}])
-        feed.through(frames[34:56])
+        # Two frames behind the swap too: what was announced is what receivers have.
+        feed.through(frames[34:46])
+        found = self.until_shown(frame=45)
+        self.assertEqual((found["configuration"]["subs"], found["next"], found["swaps"]), ([SUBS[2]], None, 1))
+        feed.through(frames[46:56])
         found = self.until_shown(frame=55)
         self.assertEqual((found["configuration"]["subs"], found["next"], found["swap"], found["swaps"]), ([SUBS[2]], None, None, 1))
         self.assertEqual((found["inputs"][0]["name"], found["outputs"]), ("-", [{"name": "-", "clients": 0}]))
@@ -195,6 +208,102 @@ class Shown(Controlled):
                     self.assertEqual(json.loads(line[6:])["ensemble"]["eid"], "E1C5")
             self.assertLess(statistics.median(b - a for a, b in zip(moments, moments[1:])), 1.0)
             feed.end()
+
+
+class Checked(Controlled):
+    """`dabplan check` inside the bridge."""
+
+    def test_its_totals_and_its_alarms(self):
+        """A jump over a swap is a fault."""
+        feed = self.begun("moves", "--check --state s")
+        frames = self.stream("edi", 200)
+        feed.through(frames[:40])
+        # The swap at frame 44 is not on air: a receiver has to complain of that.
+        feed.through(frames[60:160])
+        found = self.until_shown(frame=159)
+        self.assertTrue(bridges.until(lambda: self.status()["check"]["frames"] >= 100, 30), self.status()["check"])
+        found = self.status()["check"]
+        self.assertEqual((found["is_up"], found["damaged"]), (True, 0))
+        self.assertGreaterEqual(found["faults"], 1)
+        self.assertIn('"kind":"fault"', found["last"])
+        text = asked(self.port, "GET", "/metrics")[2].decode()
+        self.assertIn(f'dab_faults_total{{ensemble="E1C5",plan="moves.code"}} {found["faults"]}\n', text)
+        self.assertIn('dab_up{ensemble="E1C5",plan="moves.code"} 1\n', text)
+        status, _, messages = feed.end()
+        self.assertEqual(status, 0, messages)
+        self.assertIn('dabplan-bridge: ALARM {"kind":"fault"', messages)
+        self.assertIn(b"dab_checked_frames_total ", self.read("s"))
+
+    def test_what_goes_out_without_a_fault(self):
+        """The totals are those of `dabplan check` over the same frames."""
+        feed = self.begun("moves", "--check")
+        found = b"".join(feed.through(self.stream("edi", 200)))
+        self.assertTrue(bridges.until(lambda: self.status()["check"]["frames"] == 200, 30))
+        self.assertEqual({name: self.status()["check"][name] for name in ("frames", "damaged", "swaps", "faults", "last")},
+                         {"frames": 200, "damaged": 0, "swaps": 4, "faults": 0, "last": ""})
+        self.assertRegex(self.checked(self.bridge("fic -", found)[1]), r"^frames 200 .* swaps 4 faults 0$")
+        self.assertNotIn("ALARM", feed.end()[2])
+
+    def test_it_is_started_again(self):
+        feed = self.begun("moves", "--check")
+        frames = self.stream("edi", 3000)
+        feed.through(frames[:100])
+        self.assertTrue(bridges.until(lambda: self.status()["check"]["frames"] == 100, 30))
+        child = next(pid for pid in feed.children() if b"check" in pathlib.Path(f"/proc/{pid}/cmdline").read_bytes().split(b"\0"))
+        os.kill(child, 9)
+        self.until_check(False)
+        at = 100
+        while self.status()["check"]["is_up"] is False and at < 2900:
+            feed.through(frames[at:at + 10])
+            at += 10
+            time.sleep(0.2)
+        out = feed.through(frames[at:at + 100])
+        self.filled("edi", b"".join(out), self.plan(at + 100)[96 * at:], at)
+        self.assertTrue(bridges.until(lambda: self.status()["check"]["frames"] >= 200, 30), self.status()["check"])
+        status, _, messages = feed.end()
+        self.assertEqual(status, 0, messages)
+        self.assertIn("'dabplan check' has ended: it is started again in 10 s\n", messages)
+
+    def until_check(self, is_up):
+        """Waits until the check runs, or does not."""
+        self.assertTrue(bridges.until(lambda: self.status()["check"]["is_up"] is is_up, 30))
+
+
+class Steady:
+    """A watch that always has something new, and much of it."""
+
+    is_over = False
+
+    def after(self, number):
+        """The next one."""
+        return number + 1, b"x" * 100_000
+
+
+class Dropped(unittest.TestCase):
+    """Clients that take nothing."""
+
+    def test_a_client_that_takes_nothing_is_dropped(self):
+        """After five seconds, and its room is free again."""
+        port = bridges.free_port()
+        server = control.Server(access.Access("127.0.0.1", port), orders.Orders(), Steady())
+        threading.Thread(target=server.serve_forever, args=(0.1,), daemon=True).start()
+        before = threading.active_count()
+        with socket.create_connection(("127.0.0.1", port), 30) as client:
+            client.sendall(f"GET /events HTTP/1.1\r\nHost: localhost:{port}\r\n\r\n".encode())
+            self.assertTrue(bridges.until(lambda: threading.active_count() > before, 10))
+            start = time.monotonic()
+            self.assertTrue(bridges.until(lambda: threading.active_count() == before, 60))
+            self.assertGreater(time.monotonic() - start, 4)
+            found, more = 0, b"x"
+            while more:
+                try:
+                    more = client.recv(1 << 20)
+                except ConnectionResetError:
+                    more = b""
+                found += len(more)
+            self.assertLess(found, 20_000_000)
+        server.shutdown()
+        server.server_close()
 
 
 class Changed(Controlled):
