@@ -59,6 +59,8 @@ class FileFeed(Feed):
         self._serve()
 
     def read(self) -> bytes:
+        """The next bytes; none at the end. `BlockingIOError` where nothing is there yet, `Trouble` if they can't be
+        read."""
         if self.has_ended or not self._poll.poll(0):
             raise BlockingIOError
         try:
@@ -74,6 +76,7 @@ class FileFeed(Feed):
         return data
 
     def look(self, now: float) -> None:
+        """Looks whether a FIFO that has ended has another writer."""
         if now < self.next_look:
             return
         self.next_look = now + FIRST_WAIT
@@ -83,6 +86,7 @@ class FileFeed(Feed):
             self._serve()
 
     def close(self) -> None:
+        """Closes it."""
         self._waiter.forget(self._file)
         if self._own:
             os.close(self._file)
@@ -106,6 +110,7 @@ class TcpFeed(Feed):
         self.next_look = 0.0
 
     def look(self, now: float) -> None:
+        """Connects, where it is time to."""
         if now < self.next_look or self.is_connected:
             return
         if self._socket is None:
@@ -114,6 +119,7 @@ class TcpFeed(Feed):
             self._finish(now)
 
     def read(self) -> bytes:
+        """The next bytes. `BlockingIOError` where nothing is there yet, or nothing is connected."""
         if self._socket is None or not self.is_connected:
             raise BlockingIOError
         try:
@@ -130,6 +136,7 @@ class TcpFeed(Feed):
         return data
 
     def close(self) -> None:
+        """Closes the connection, or gives up the attempt."""
         if self._socket is not None:
             self._waiter.forget(self._socket.fileno())
             self._socket.close()
@@ -197,6 +204,7 @@ class UdpFeed(UdpSource, Feed):
         waiter.serve(self._socket.fileno(), READABLE, nothing)
 
     def read(self) -> bytes:
+        """The next datagram. `BlockingIOError` where none is there yet."""
         while True:
             try:
                 data, sender = self._socket.recvfrom(PIECE)
@@ -211,6 +219,7 @@ class UdpFeed(UdpSource, Feed):
                 return data
 
     def close(self) -> None:
+        """Closes it."""
         self._waiter.forget(self._socket.fileno())
         super().close()
 
