@@ -206,7 +206,7 @@ class Pairing:
         if all(each.newest < due for each in self._inputs):
             return False
         is_over = any(each.newest >= due + self._delay for each in self._inputs if not each.feed.is_regular)
-        return is_over or all(each.has(due) for each in self._inputs)
+        return all(each.has(due) or (is_over and not each.feed.is_regular) for each in self._inputs)
 
     def _go(self) -> List[Item]:
         """The frame that is due; none where no input has it."""

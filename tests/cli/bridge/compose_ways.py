@@ -3,11 +3,9 @@
 byte. The last line is 'N passed, M failed'."""
 import composed
 import units
-from composed import DAY, HEAD, NIGHT, SERVICES, TURNS, entry, side
+from composed import DAY, DAY_SIDE, HEAD, NIGHT, NIGHT_SIDE, SERVICES, TURNS, entry, side
 
 BOTH = "run turns.code --compose --in day=day --in night=night --out out"
-DAY_SIDE = side(DAY, "day")
-NIGHT_SIDE = ((NIGHT[0], "night", 1), (NIGHT[1], "day", 2), (NIGHT[2], "night", 5))
 
 
 def fire_code(data):
