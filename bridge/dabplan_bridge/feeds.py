@@ -37,6 +37,10 @@ class Feed(Source):
     def look(self, now: float) -> None:
         """Does what is to be done by the clock."""
 
+    def give_up(self) -> None:
+        """Takes a stream that can't be read any more for one that has ended."""
+        self.has_ended, self.is_connected = True, False
+
 
 class FileFeed(Feed):
     """A file, a FIFO or standard input. A FIFO whose writer has gone is read on where another one comes."""
@@ -70,10 +74,14 @@ class FileFeed(Feed):
         except OSError as fault:
             raise Trouble(f"cannot read {self.name}: {why(fault)}") from None
         if not data:
-            self.has_ended, self.is_connected = True, False
-            self._waiter.forget(self._file)
+            self.give_up()
             self.next_look = time.monotonic() + FIRST_WAIT if self._is_fifo else NEVER
         return data
+
+    def give_up(self) -> None:
+        """Takes a stream that can't be read any more for one that has ended."""
+        super().give_up()
+        self._waiter.forget(self._file)
 
     def look(self, now: float) -> None:
         """Looks whether a FIFO that has ended has another writer."""

@@ -50,7 +50,7 @@ class Input:
         self.is_apart = False
         """Whether the last frame was more than 250 from what was due."""
         self.is_present = False
-        """Whether it is connected, and had a frame since it was, that can go out."""
+        """Whether it is connected, and had a frame since it was that can go out, or is not too late to wait for."""
         self._reader = Reader(feed)
         self._agreeing = Agreeing() if feed.is_of_datagrams else None
         self._joins = feed.joins
@@ -69,6 +69,12 @@ class Input:
         except BlockingIOError:
             self._look()
             return False, [], []
+        except Trouble as fault:
+            if not has_begun:
+                raise
+            say(f"input {self.name}: {fault}")
+            self.feed.give_up()
+            data = b""
         self._look()
         items = self._items(data, has_begun)
         damaged: List[Item] = []

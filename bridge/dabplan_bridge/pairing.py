@@ -5,9 +5,10 @@ Later one goes out when each input that is present has it, or a later one; or wh
 frames later. All that has arrived is read before that is decided. A regular file is read as far as it takes, and is no
 deadline for others.
 
-An input is present from its first frame on that can go out, until its connection or its stream ends. The first input
-that has the frame gives the clock: its header, its FIC, its time stamp. Frames more than 250 from what is due belong to
-no frame of the others. Where no input has any other frames, the stream goes on there, and the bridge sees a step.
+An input is present from its first frame on that can go out, or is late by less than the delay, until its connection or
+its stream ends. The first input that has the frame gives the clock: its header, its FIC, its time stamp. Frames more
+than 250 from what is due belong to no frame of the others. Where no input has any other frames, the stream goes on
+there, and the bridge sees a step.
 """
 from __future__ import annotations
 
@@ -125,6 +126,8 @@ class Pairing:
             return
         one.put_off(count, frame, abs(step) > NEAR)
         one.state.late += -NEAR <= step < 0
+        # One that is only a little late is waited for from here on.
+        one.is_present = one.is_present or -self._delay <= step < 0
 
     def _is_of_plan(self, one: Input, frame: Frame) -> bool:
         """Whether a frame is of the ensemble of the plan; an alarm where it is not."""

@@ -4,6 +4,7 @@ compared with ones that are made of the streams that they have to have. The last
 import random
 import re
 import signal
+import time
 
 import bridges
 import composed
@@ -136,15 +137,14 @@ class Late(composed.Turns):
             night.give(nights[at:at + 1])
             self.assertEqual(streams_of(feed.get(size))[1][1], bytes(8 * 48))
         day.accept()
-        day.give(days[28:31])
-        night.give(nights[30:31])
-        found = feed.get(size)
-        self.assertEqual(count_of(found), 30)
-        for at in range(31, 40):
-            day.give(days[at:at + 1])
+        # It is a frame behind the other one: the first frame goes out without it, and from there on it is waited for.
+        for at in range(30, 40):
             night.give(nights[at:at + 1])
+            time.sleep(0.2 if at == 30 else 0)
+            day.give(days[at:at + 1])
+            time.sleep(0.2 if at == 30 else 0)
             found = feed.get(size)
-        self.assertEqual((count_of(found), streams_of(found)[1][1]), (39, composed.data("day", 1, 39, 48)))
+            self.assertEqual((count_of(found), streams_of(found)[1][1]), (at, bytes(8 * 48) if at == 30 else composed.data("day", 1, at, 48)))
         self.assertEqual(feed.end(signal.SIGTERM)[0], 0)
 
     def test_the_last_frame_may_be_repeated(self):
