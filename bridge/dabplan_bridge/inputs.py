@@ -61,6 +61,12 @@ class Input:
         """Its name on the command line."""
         return self.state.name
 
+    @property
+    def at(self) -> int:
+        """The count at which it is before the first frame goes out: of a stream in real time the one that came last, of
+        a regular file the first one."""
+        return self.early[0 if self.feed.is_regular else -1][0]
+
     def read(self, has_begun: bool) -> Tuple[bool, List[Item], List[Counted]]:
         """Takes the next bytes; returns whether there were any, what is no frame in them, and the frames. A stream that
         is none is `Trouble`; where others go on with their frames already, it is left out."""

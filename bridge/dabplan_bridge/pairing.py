@@ -159,7 +159,7 @@ class Pairing:
             if wrong:
                 raise DoesNotFit(f"{self._plan.path}: input {each.name}: {wrong}")
         first = ready[0].early[0][0]
-        near = [each for each in ready if self._is_near(each, first)]
+        near = [each for each in ready if self._is_near(each, ready[0].at)]
         self._next = BASE + first + max(step_of(each.early[0][0], first) for each in near)
         for each in ready:
             early = list(each.early)
@@ -193,10 +193,9 @@ class Pairing:
     def _is_near(self, one: Input, first: int) -> bool:
         """Whether the counts of an input belong to those of the first one. `WillNotGuess` where they do not, if that is
         to end the bridge."""
-        step = step_of(one.early[0][0], first)
-        if abs(step) <= NEAR:
+        if abs(step_of(one.at, first)) <= NEAR:
             return True
-        text = f"input {one.name}: its count is {one.early[0][0]}, that of the first input is {first}"
+        text = f"input {one.name}: its count is {one.at}, that of the first input is {first}"
         if self._is_strict:
             raise WillNotGuess(text)
         say(f"{text}: it is left out as long as they are more than {NEAR} apart")

@@ -63,6 +63,22 @@ class Counts(composed.Turns):
             self.assertEqual(streams_of(packet), streams_of(composed.edi(1060 + number, bytes(96), given)))
 
 
+class Begun(composed.Turns):
+    """A plan that begins when all inputs are there."""
+
+    def test_one_that_comes_later_belongs_to_the_others(self):
+        """However long it was waited for: what came of the others meanwhile is passed over."""
+        feed, day, night = self.live()
+        days, nights = self.give("day", DAY, 400), self.give("night", NIGHT, 400)
+        day.give(days[:320])
+        self.assertIn(b"", [feed.get(1, 0.5)])
+        night.give(nights[318:340])
+        day.give(days[320:340])
+        wanted = self.wanted(22, 318)
+        self.same(b"".join(wanted), feed.get(len(b"".join(wanted))), "from the first frame of the night on")
+        self.assertEqual(feed.end(signal.SIGTERM)[0], 0)
+
+
 class Late(composed.Turns):
     """Inputs in real time that come late, or not at all."""
 
