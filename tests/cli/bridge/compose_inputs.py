@@ -78,6 +78,20 @@ class Begun(composed.Turns):
         self.same(b"".join(wanted), feed.get(len(b"".join(wanted))), "from the first frame of the night on")
         self.assertEqual(feed.end(signal.SIGTERM)[0], 0)
 
+    def test_the_clock_goes_over_to_the_next_input(self):
+        """Where the first input ends, counts, sequence numbers and words of synchronisation go on."""
+        fic = self.plan(200, 0, TURNS)
+        by_day, by_night = (tuple((each, "night", each[0]) for each in layout) for layout in (DAY, NIGHT))
+        turns = self.turns(fic, composed.DAY_SIDE, composed.NIGHT_SIDE)
+        sides = [each if at < 100 else by_day if each is composed.DAY_SIDE else by_night for at, each in enumerate(turns)]
+        silent = {at: (1,) for at, each in enumerate(sides) if each is by_day}
+        for form in ("edi", "eti"):
+            self.give("day", DAY, 100, 0, form)
+            self.give("night", NIGHT, 200, 0, form)
+            status, _, messages = self.bridge(BOTH)
+            self.assertEqual(status, 0, messages)
+            self.same(b"".join(self.made(fic, sides, 0, form, silent=silent)), self.read("out"), form)
+
 
 class Late(composed.Turns):
     """Inputs in real time that come late, or not at all."""
