@@ -3,10 +3,10 @@
 
     bench/compose_speed.py [FRAMES]
 
-Two multiplexers, by day and by night, each with 18 sub-channels of 48 units, 3-A at 64 kbit/s; by night each sub-channel of the first
-nine changes its place with one of the others, and half of them come from the other input. A swap comes every 500 frames. For ETI and
-for EDI, without and with --align5, a line has the milliseconds of processor time a frame, of the bridge alone and with its children.
-The limit is 2 ms for both together, in the slowest of these.
+Two multiplexers have the same 18 sub-channels of 48 units, 3-A at 64 kbit/s; half of the plan's come from the second one. At each swap,
+every 500 frames, the first nine change their places with the others. For ETI and for EDI, without and with --align5 (the streams are
+random, and have no superframes), a line has the milliseconds of processor time a frame, with those of the children and of the start.
+The limit is 2 ms, in the slowest of these.
 """
 import binascii
 import os

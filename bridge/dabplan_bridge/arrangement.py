@@ -64,6 +64,7 @@ class ForOdrDabmod(Arrangement):
         self._made: Tuple[Entry, ...] = ()
 
     def entries(self, on_air: OnAir, count: int) -> Tuple[Entry, ...]:
+        """The sub-channels of the frame of a count, in the order of their first capacity units."""
         is_ahead = on_air.swap_in is not None and on_air.swap_in <= lead_of((count + on_air.swap_in) % COUNTS)
         entries = self._entries_of(on_air.following if is_ahead else on_air.current)
         if entries != self._before:

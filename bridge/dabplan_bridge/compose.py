@@ -10,7 +10,7 @@ from .addresses import Address, of_source
 from .arrangement import Arrangement, ForOdrDabmod
 from .beginning import Wish
 from .composer import Composer
-from .faults import BadCommand
+from .faults import BadCommand, Stopped, Trouble
 from .feeds import feed_of
 from .inputs import Input
 from .pairing import Pairing
@@ -66,7 +66,7 @@ class Compose:
         try:
             for (_, address), each in zip(self.inputs, state.inputs):
                 inputs.append(Input(feed_of(address, waiter), self.delay, each))
-        except BaseException:
+        except (Trouble, Stopped):
             close(inputs)
             raise
         return Pairing(inputs, plan, waiter, state, self.delay, wish.is_strict, is_resumed)

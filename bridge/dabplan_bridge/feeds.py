@@ -37,6 +37,10 @@ class Feed(Source):
     def look(self, now: float) -> None:
         """Does what is to be done by the clock."""
 
+    def give_up(self) -> None:
+        """Takes a stream that can't be read any more for one that has ended."""
+        self.has_ended, self.is_connected = True, False
+
 
 class FileFeed(Feed):
     """A file, a FIFO or standard input. A FIFO whose writer has gone is read on where another one comes."""
@@ -59,6 +63,8 @@ class FileFeed(Feed):
         self._serve()
 
     def read(self) -> bytes:
+        """The next bytes; none at the end. `BlockingIOError` where nothing is there yet, `Trouble` if they can't be
+        read."""
         if self.has_ended or not self._poll.poll(0):
             raise BlockingIOError
         try:
@@ -68,12 +74,17 @@ class FileFeed(Feed):
         except OSError as fault:
             raise Trouble(f"cannot read {self.name}: {why(fault)}") from None
         if not data:
-            self.has_ended, self.is_connected = True, False
-            self._waiter.forget(self._file)
+            self.give_up()
             self.next_look = time.monotonic() + FIRST_WAIT if self._is_fifo else NEVER
         return data
 
+    def give_up(self) -> None:
+        """Takes a stream that can't be read any more for one that has ended."""
+        super().give_up()
+        self._waiter.forget(self._file)
+
     def look(self, now: float) -> None:
+        """Looks whether a FIFO that has ended has another writer."""
         if now < self.next_look:
             return
         self.next_look = now + FIRST_WAIT
@@ -83,6 +94,7 @@ class FileFeed(Feed):
             self._serve()
 
     def close(self) -> None:
+        """Closes it."""
         self._waiter.forget(self._file)
         if self._own:
             os.close(self._file)
@@ -106,6 +118,7 @@ class TcpFeed(Feed):
         self.next_look = 0.0
 
     def look(self, now: float) -> None:
+        """Connects, where it is time to."""
         if now < self.next_look or self.is_connected:
             return
         if self._socket is None:
@@ -114,6 +127,7 @@ class TcpFeed(Feed):
             self._finish(now)
 
     def read(self) -> bytes:
+        """The next bytes. `BlockingIOError` where nothing is there yet, or nothing is connected."""
         if self._socket is None or not self.is_connected:
             raise BlockingIOError
         try:
@@ -130,6 +144,7 @@ class TcpFeed(Feed):
         return data
 
     def close(self) -> None:
+        """Closes the connection, or gives up the attempt."""
         if self._socket is not None:
             self._waiter.forget(self._socket.fileno())
             self._socket.close()
@@ -197,6 +212,7 @@ class UdpFeed(UdpSource, Feed):
         waiter.serve(self._socket.fileno(), READABLE, nothing)
 
     def read(self) -> bytes:
+        """The next datagram. `BlockingIOError` where none is there yet."""
         while True:
             try:
                 data, sender = self._socket.recvfrom(PIECE)
@@ -211,6 +227,7 @@ class UdpFeed(UdpSource, Feed):
                 return data
 
     def close(self) -> None:
+        """Closes it."""
         self._waiter.forget(self._socket.fileno())
         super().close()
 

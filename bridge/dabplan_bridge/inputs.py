@@ -50,7 +50,7 @@ class Input:
         self.is_apart = False
         """Whether the last frame was more than 250 from what was due."""
         self.is_present = False
-        """Whether it is connected, and had a frame since it was, that can go out."""
+        """Whether it is connected, and had a frame since it was that can go out, or is not too late to wait for."""
         self._reader = Reader(feed)
         self._agreeing = Agreeing() if feed.is_of_datagrams else None
         self._joins = feed.joins
@@ -61,6 +61,12 @@ class Input:
         """Its name on the command line."""
         return self.state.name
 
+    @property
+    def at(self) -> int:
+        """The count at which it is before the first frame goes out: of a stream in real time the one that came last, of
+        a regular file the first one."""
+        return self.early[0 if self.feed.is_regular else -1][0]
+
     def read(self, has_begun: bool) -> Tuple[bool, List[Item], List[Counted]]:
         """Takes the next bytes; returns whether there were any, what is no frame in them, and the frames. A stream that
         is none is `Trouble`; where others go on with their frames already, it is left out."""
@@ -69,6 +75,12 @@ class Input:
         except BlockingIOError:
             self._look()
             return False, [], []
+        except Trouble as fault:
+            if not has_begun:
+                raise
+            say(f"input {self.name}: {fault}")
+            self.feed.give_up()
+            data = b""
         self._look()
         items = self._items(data, has_begun)
         damaged: List[Item] = []

@@ -5,9 +5,10 @@ Later one goes out when each input that is present has it, or a later one; or wh
 frames later. All that has arrived is read before that is decided. A regular file is read as far as it takes, and is no
 deadline for others.
 
-An input is present from its first frame on that can go out, until its connection or its stream ends. The first input
-that has the frame gives the clock: its header, its FIC, its time stamp. Frames more than 250 from what is due belong to
-no frame of the others. Where no input has any other frames, the stream goes on there, and the bridge sees a step.
+An input is present from its first frame on that can go out, or is late by less than the delay, until its connection or
+its stream ends. The first input that has the frame gives the clock: its header, its FIC, its time stamp. Frames more
+than 250 from what is due belong to no frame of the others. Where no input has any other frames, the stream goes on
+there, and the bridge sees a step.
 """
 from __future__ import annotations
 
@@ -125,6 +126,8 @@ class Pairing:
             return
         one.put_off(count, frame, abs(step) > NEAR)
         one.state.late += -NEAR <= step < 0
+        # One that is only a little late is waited for from here on.
+        one.is_present = one.is_present or -self._delay <= step < 0
 
     def _is_of_plan(self, one: Input, frame: Frame) -> bool:
         """Whether a frame is of the ensemble of the plan; an alarm where it is not."""
@@ -156,7 +159,7 @@ class Pairing:
             if wrong:
                 raise DoesNotFit(f"{self._plan.path}: input {each.name}: {wrong}")
         first = ready[0].early[0][0]
-        near = [each for each in ready if self._is_near(each, first)]
+        near = [each for each in ready if self._is_near(each, ready[0].at)]
         self._next = BASE + first + max(step_of(each.early[0][0], first) for each in near)
         for each in ready:
             early = list(each.early)
@@ -190,10 +193,9 @@ class Pairing:
     def _is_near(self, one: Input, first: int) -> bool:
         """Whether the counts of an input belong to those of the first one. `WillNotGuess` where they do not, if that is
         to end the bridge."""
-        step = step_of(one.early[0][0], first)
-        if abs(step) <= NEAR:
+        if abs(step_of(one.at, first)) <= NEAR:
             return True
-        text = f"input {one.name}: its count is {one.early[0][0]}, that of the first input is {first}"
+        text = f"input {one.name}: its count is {one.at}, that of the first input is {first}"
         if self._is_strict:
             raise WillNotGuess(text)
         say(f"{text}: it is left out as long as they are more than {NEAR} apart")
@@ -206,7 +208,7 @@ class Pairing:
         if all(each.newest < due for each in self._inputs):
             return False
         is_over = any(each.newest >= due + self._delay for each in self._inputs if not each.feed.is_regular)
-        return is_over or all(each.has(due) for each in self._inputs)
+        return all(each.has(due) or (is_over and not each.feed.is_regular) for each in self._inputs)
 
     def _go(self) -> List[Item]:
         """The frame that is due; none where no input has it."""

@@ -154,3 +154,72 @@ class Server:
         """Closes all."""
         self.drop()
         self.server.close()
+
+
+# Of the night all comes from the second multiplexer, but for sub-channel 2: it stays with the first one, which carries it too.
+DAY_SIDE = side(DAY, "day")
+NIGHT_SIDE = ((NIGHT[0], "night", 1), (NIGHT[1], "day", 2), (NIGHT[2], "night", 5))
+
+
+class Turns(Case):
+    """The plan of day and night."""
+
+    def setUp(self):
+        super().setUp()
+        self.compile(self.folder, "turns", TURNS)
+        self.servers = []
+
+    def tearDown(self):
+        for each in self.servers:
+            each.close()
+        super().tearDown()
+
+    def wanted(self, frames, first=0, form="edi", sides=(DAY_SIDE, NIGHT_SIDE), **others):
+        """The frames from a count on."""
+        fic = self.plan(frames, first, TURNS)
+        return self.made(fic, self.turns(fic, *sides, first=first), first, form, **others)
+
+    def live(self, options=""):
+        """A bridge over two servers, `day` and `night`, that are both connected."""
+        self.servers = [Server(), Server()]
+        day, night = self.servers
+        feed = self.started(f"run turns.code --compose --in day={day.address} --in night={night.address} --out - {options}".strip())
+        day.accept()
+        night.accept()
+        return feed, day, night
+
+
+def next_packet(feed):
+    """The next packet of EDI that a bridge writes."""
+    head = feed.get(10)
+    return head + feed.get(int.from_bytes(head[2:6], "big") + 2)
+
+
+def packets_of(data):
+    """The AF packets of a stream."""
+    found, at = [], 0
+    while at < len(data):
+        size = int.from_bytes(data[at + 2:at + 6], "big") + 12
+        found.append(data[at:at + size])
+        at += size
+    return found
+
+
+def values(packet):
+    """The names and values of the TAG items of a packet."""
+    at = 10
+    while at + 8 <= len(packet) - 2:
+        bits = int.from_bytes(packet[at + 4:at + 8], "big")
+        yield packet[at:at + 4], packet[at + 8:at + 8 + bits // 8]
+        at += 8 + bits // 8
+
+
+def count_of(packet):
+    """The CIF count of a packet of EDI."""
+    deti = next(value for name, value in values(packet) if name == b"deti")
+    return (deti[0] & 0x1F) * 250 + deti[1]
+
+
+def streams_of(packet):
+    """The sub-channels of a packet of EDI: by SubChId what the header says of it, and its bytes."""
+    return {value[0] >> 2: (value[:3], value[3:]) for name, value in values(packet) if name[:3] == b"est"}

@@ -8,12 +8,9 @@ import bridges
 import composed
 import units
 from bridges import common
-from composed import DAY, DAY_SUBS, HEAD, NIGHT, SERVICES, TURNS, entry, side
+from composed import DAY, DAY_SIDE, DAY_SUBS, HEAD, NIGHT, NIGHT_SIDE, SERVICES, TURNS, entry, side
 
 FORMS = ("eti", "edi")
-# Of the night all comes from the second multiplexer, but for sub-channel 2: it stays with the first one, which carries it too.
-DAY_SIDE = side(DAY, "day")
-NIGHT_SIDE = ((NIGHT[0], "night", 1), (NIGHT[1], "day", 2), (NIGHT[2], "night", 5))
 
 
 class OneInput(composed.Case):

@@ -4,46 +4,17 @@ compared with ones that are made of the streams that they have to have. The last
 import random
 import re
 import signal
+import time
 
 import bridges
 import composed
 import units
-from composed import DAY, NIGHT, TURNS, side
+from composed import DAY, NIGHT, TURNS, count_of, packets_of, streams_of
 
-DAY_SIDE = side(DAY, "day")
-NIGHT_SIDE = ((NIGHT[0], "night", 1), (NIGHT[1], "day", 2), (NIGHT[2], "night", 5))
 BOTH = "run turns.code --compose --in day=day --in night=night --out out"
 
 
-class Case(composed.Case):
-    """The plan of day and night."""
-
-    def setUp(self):
-        super().setUp()
-        self.compile(self.folder, "turns", TURNS)
-        self.servers = []
-
-    def tearDown(self):
-        for each in self.servers:
-            each.close()
-        super().tearDown()
-
-    def wanted(self, frames, first=0, form="edi", sides=(DAY_SIDE, NIGHT_SIDE), **others):
-        """The frames from a count on."""
-        fic = self.plan(frames, first, TURNS)
-        return self.made(fic, self.turns(fic, *sides, first=first), first, form, **others)
-
-    def live(self, options=""):
-        """A bridge over two servers, `day` and `night`, that are both connected."""
-        self.servers = [composed.Server(), composed.Server()]
-        day, night = self.servers
-        feed = self.started(f"run turns.code --compose --in day={day.address} --in night={night.address} --out - {options}".strip())
-        day.accept()
-        night.accept()
-        return feed, day, night
-
-
-class Counts(Case):
+class Counts(composed.Turns):
     """Inputs at other counts."""
 
     def test_how_far_apart_they_begin_changes_nothing(self):
@@ -71,8 +42,8 @@ class Counts(Case):
             self.assertIn(f"dabplan-bridge: {text}: it is left out as long as they are more than 250 apart\n", messages)
             # What it alone has is silence. (Where the first one ends, the stream goes on with the other one.)
             fic = self.plan(200, 100, TURNS)
-            sides = self.turns(fic, DAY_SIDE, NIGHT_SIDE, first=100)
-            silent = {at: (1, 5) for at, each in enumerate(sides) if each is NIGHT_SIDE}
+            sides = self.turns(fic, composed.DAY_SIDE, composed.NIGHT_SIDE, first=100)
+            silent = {at: (1, 5) for at, each in enumerate(sides) if each is composed.NIGHT_SIDE}
             wanted = b"".join(self.made(fic, sides, 100, silent=silent))
             self.same(wanted, self.read("out")[:len(wanted)], f"night from {first}")
 
@@ -88,11 +59,41 @@ class Counts(Case):
         packets = packets_of(found)
         self.assertEqual([count_of(packet) for packet in packets], [*range(60), *range(1060, 1100)])
         for number, packet in enumerate(packets[60:]):
-            given = [(each, composed.data(name, sub, 1060 + number, each[3])) for each, name, sub in NIGHT_SIDE]
+            given = [(each, composed.data(name, sub, 1060 + number, each[3])) for each, name, sub in composed.NIGHT_SIDE]
             self.assertEqual(streams_of(packet), streams_of(composed.edi(1060 + number, bytes(96), given)))
 
 
-class Late(Case):
+class Begun(composed.Turns):
+    """A plan that begins when all inputs are there."""
+
+    def test_one_that_comes_later_belongs_to_the_others(self):
+        """However long it was waited for: what came of the others meanwhile is passed over."""
+        feed, day, night = self.live()
+        days, nights = self.give("day", DAY, 400), self.give("night", NIGHT, 400)
+        day.give(days[:320])
+        self.assertIn(b"", [feed.get(1, 0.5)])
+        night.give(nights[318:340])
+        day.give(days[320:340])
+        wanted = self.wanted(22, 318)
+        self.same(b"".join(wanted), feed.get(len(b"".join(wanted))), "from the first frame of the night on")
+        self.assertEqual(feed.end(signal.SIGTERM)[0], 0)
+
+    def test_the_clock_goes_over_to_the_next_input(self):
+        """Where the first input ends, counts, sequence numbers and words of synchronisation go on."""
+        fic = self.plan(200, 0, TURNS)
+        by_day, by_night = (tuple((each, "night", each[0]) for each in layout) for layout in (DAY, NIGHT))
+        turns = self.turns(fic, composed.DAY_SIDE, composed.NIGHT_SIDE)
+        sides = [each if at < 100 else by_day if each is composed.DAY_SIDE else by_night for at, each in enumerate(turns)]
+        silent = {at: (1,) for at, each in enumerate(sides) if each is by_day}
+        for form in ("edi", "eti"):
+            self.give("day", DAY, 100, 0, form)
+            self.give("night", NIGHT, 200, 0, form)
+            status, _, messages = self.bridge(BOTH)
+            self.assertEqual(status, 0, messages)
+            self.same(b"".join(self.made(fic, sides, 0, form, silent=silent)), self.read("out"), form)
+
+
+class Late(composed.Turns):
     """Inputs in real time that come late, or not at all."""
 
     def test_late_by_one_less_than_the_delay_loses_nothing(self):
@@ -110,9 +111,9 @@ class Late(Case):
         feed, day, night = self.live("--delay 10 --state s")
         days, nights = self.give("day", DAY, 150), self.give("night", NIGHT, 150)
         fic = self.plan(150, 0, TURNS)
-        sides = self.turns(fic, DAY_SIDE, NIGHT_SIDE)
+        sides = self.turns(fic, composed.DAY_SIDE, composed.NIGHT_SIDE)
         silent = {at: (1, 5) for at in range(1, 150)}
-        wanted = self.made(fic, sides, silent={at: subs for at, subs in silent.items() if sides[at] is NIGHT_SIDE})
+        wanted = self.made(fic, sides, silent={at: subs for at, subs in silent.items() if sides[at] is composed.NIGHT_SIDE})
         day.give(days[:1])
         night.give(nights[:1])
         self.same(wanted[0], feed.get(len(wanted[0])), "both")
@@ -127,18 +128,18 @@ class Late(Case):
         self.assertIn('\ndab_alarm{alarm="input"} 1\n', lines)
         late = int(re.search(r'dab_input_late_total{input="night"} (\d+)', lines)[1])
         self.assertIn(late, (137, 138))
-        self.assertIn(f'dab_stream_silent_total{{sub="5"}} {sides[:139].count(NIGHT_SIDE)}\n', lines)
+        self.assertIn(f'dab_stream_silent_total{{sub="5"}} {sides[:139].count(composed.NIGHT_SIDE)}\n', lines)
 
     def test_a_connection_that_is_closed_is_not_waited_for(self):
         feed, day, night = self.live()
         days, nights = self.give("day", DAY, 150), self.give("night", NIGHT, 150)
         fic = self.plan(150, 0, TURNS)
         without_day = tuple((each, "night", each[0]) for each in NIGHT)
-        turns = self.turns(fic, DAY_SIDE, NIGHT_SIDE)
-        sides = [side_ if at < 60 or side_ is DAY_SIDE else without_day for at, side_ in enumerate(turns)]
+        turns = self.turns(fic, composed.DAY_SIDE, composed.NIGHT_SIDE)
+        sides = [side_ if at < 60 or side_ is composed.DAY_SIDE else without_day for at, side_ in enumerate(turns)]
         # The day's own stream is silence once it is gone; the one that both have comes from the night.
         gone = tuple((each, "night", each[0]) for each in DAY)
-        sides = [gone if side_ is DAY_SIDE and at >= 60 else side_ for at, side_ in enumerate(sides)]
+        sides = [gone if side_ is composed.DAY_SIDE and at >= 60 else side_ for at, side_ in enumerate(sides)]
         wanted = self.made(fic, sides, silent={at: (1,) for at, each in enumerate(sides) if each is gone})
         for at in range(60):
             day.give(days[at:at + 1])
@@ -166,15 +167,14 @@ class Late(Case):
             night.give(nights[at:at + 1])
             self.assertEqual(streams_of(feed.get(size))[1][1], bytes(8 * 48))
         day.accept()
-        day.give(days[28:31])
-        night.give(nights[30:31])
-        found = feed.get(size)
-        self.assertEqual(count_of(found), 30)
-        for at in range(31, 40):
-            day.give(days[at:at + 1])
+        # It is a frame behind the other one: the first frame goes out without it, and from there on it is waited for.
+        for at in range(30, 40):
             night.give(nights[at:at + 1])
+            time.sleep(0.2 if at == 30 else 0)
+            day.give(days[at:at + 1])
+            time.sleep(0.2 if at == 30 else 0)
             found = feed.get(size)
-        self.assertEqual((count_of(found), streams_of(found)[1][1]), (39, composed.data("day", 1, 39, 48)))
+            self.assertEqual((count_of(found), streams_of(found)[1][1]), (at, bytes(8 * 48) if at == 30 else composed.data("day", 1, at, 48)))
         self.assertEqual(feed.end(signal.SIGTERM)[0], 0)
 
     def test_the_last_frame_may_be_repeated(self):
@@ -192,7 +192,7 @@ class Late(Case):
         self.assertEqual(feed.end(signal.SIGTERM)[0], 0)
 
 
-class Others(Case):
+class Others(composed.Turns):
     """Inputs that do not fit, and inputs that are damaged."""
 
     def test_what_no_input_carries_is_refused_before_anything_goes_out(self):
@@ -225,7 +225,7 @@ class Others(Case):
         self.assertEqual(self.bridge(BOTH)[0], 5)
         self.assertEqual(self.bridge(BOTH + " --map 1=night:10 --map 1=day:1 --map 5=night:1")[0], 0)
         mapped = ((NIGHT[0], "night", 10), (NIGHT[1], "day", 2), (NIGHT[2], "night", 1))
-        self.same(b"".join(self.wanted(200, sides=(DAY_SIDE, mapped))), self.read("out"), "mapped")
+        self.same(b"".join(self.wanted(200, sides=(composed.DAY_SIDE, mapped))), self.read("out"), "mapped")
         # Without that of the day, sub-channel 1 of 128 kbit/s is carried by none.
         self.assertEqual(self.bridge(BOTH + " --map 1=night:10 --map 5=night:1")[0], 5)
 
@@ -275,7 +275,7 @@ class Others(Case):
         self.assertFalse((self.folder / "out").exists())
 
 
-class Resumed(Case):
+class Resumed(composed.Turns):
     """A plan whose bridge is killed in the night."""
 
     def test_layout_and_inputs_are_right_in_the_first_frame(self):
@@ -320,36 +320,6 @@ class Resumed(Case):
         self.write("out", "kept")
         self.assertEqual(self.bridge(BOTH), (1, b"", "dabplan-bridge: input night: no frames with a count\n"))
         self.assertEqual(self.read("out"), b"kept")
-
-
-def packets_of(data):
-    """The AF packets of a stream."""
-    found, at = [], 0
-    while at < len(data):
-        size = int.from_bytes(data[at + 2:at + 6], "big") + 12
-        found.append(data[at:at + size])
-        at += size
-    return found
-
-
-def values(packet):
-    """The names and values of the TAG items of a packet."""
-    at = 10
-    while at + 8 <= len(packet) - 2:
-        bits = int.from_bytes(packet[at + 4:at + 8], "big")
-        yield packet[at:at + 4], packet[at + 8:at + 8 + bits // 8]
-        at += 8 + bits // 8
-
-
-def count_of(packet):
-    """The CIF count of a packet of EDI."""
-    deti = next(value for name, value in values(packet) if name == b"deti")
-    return (deti[0] & 0x1F) * 250 + deti[1]
-
-
-def streams_of(packet):
-    """The sub-channels of a packet of EDI: by SubChId what the header says of it, and its bytes."""
-    return {value[0] >> 2: (value[:3], value[3:]) for name, value in values(packet) if name[:3] == b"est"}
 
 
 if __name__ == "__main__":

@@ -1,13 +1,21 @@
 #!/usr/bin/env python3
 """`dabplan-bridge run --compose` with `--align5`, `--shrink`, `--modulator` and `--state`, over streams that are made byte by
 byte. The last line is 'N passed, M failed'."""
+import sys
+
+import bridges
 import composed
 import units
-from composed import DAY, HEAD, NIGHT, SERVICES, TURNS, entry, side
+from bridges import common
+from composed import DAY, DAY_SIDE, HEAD, NIGHT, NIGHT_SIDE, SERVICES, TURNS, entry, side
+
+sys.dont_write_bytecode = True
+sys.path.insert(0, str(bridges.FOLDER))
+
+from dabplan_bridge.code_file import configurations_of  # noqa: E402
+from dabplan_bridge.layout import entries_of  # noqa: E402
 
 BOTH = "run turns.code --compose --in day=day --in night=night --out out"
-DAY_SIDE = side(DAY, "day")
-NIGHT_SIDE = ((NIGHT[0], "night", 1), (NIGHT[1], "day", 2), (NIGHT[2], "night", 5))
 
 
 def fire_code(data):
@@ -162,6 +170,30 @@ class ForOdrDabmod(composed.Case):
         status, _, messages = self.bridge("run full.code --compose --in all --out out --modulator odr-dabmod")
         self.assertEqual(status, 5)
         self.assertIn("a configuration of 2 sub-channels has no 4 capacity units or no SubChId left", messages)
+
+
+class Examples(composed.Case):
+    """Each example plan can be sent, whatever layouts it has: here with an input for each of its configurations."""
+
+    def test_each_begins(self):
+        several = 0
+        for path in sorted(common.EXAMPLES.glob("*.plan")):
+            script = path.read_text(encoding="utf-8")
+            self.compile(self.folder, "p", script)
+            fic = self.played(script, "frames 20")
+            layouts = [tuple(entries_of(subs)) for subs in configurations_of(self.read("p.code"))]
+            several += len(set(layouts)) > 1
+            inputs = []
+            for number, layout in enumerate(layouts):
+                frames = [composed.edi(at, each, composed.parts(f"c{number}", at, layout)) for at, each in enumerate(bridges.fics(fic))]
+                self.write(f"c{number}", b"".join(frames))
+                inputs.append(f"--in c{number}=c{number}")
+            status, _, messages = self.bridge(f"run p.code --compose {' '.join(inputs)} --out out")
+            self.assertEqual(status, 0, f"{path.name}: {messages}")
+            # The shortest notice has its swap within the 20 frames.
+            wanted = b"".join(self.made(fic, [side(layouts[0], "c0")] * 4))
+            self.same(wanted, self.read("out")[:len(wanted)], path.name)
+        self.assertGreater(several, 10)
 
 
 class Told(composed.Case):
