@@ -26,19 +26,23 @@ class Browser:
         self._rest = b""
         self._number = 0
         self._session = None
-        words = [program(), "--headless=new", "--no-sandbox", "--disable-gpu", "--disable-dev-shm-usage", "--no-first-run",
-                 "--disable-extensions", "--disable-background-networking", "--remote-debugging-pipe", "--hide-scrollbars",
+        words = [program(), "--headless=new", "--no-sandbox", "--disable-gpu", "--disable-dev-shm-usage",
+                 "--no-first-run",
+                 "--disable-extensions", "--disable-background-networking", "--remote-debugging-pipe",
+                 "--hide-scrollbars",
                  f"--user-data-dir={self._folder.name}", f"--window-size={width},{height}"]
         # The browser reads from descriptor 3, and writes to 4.
         line = f"exec 3<&{theirs_in} 4>&{theirs_out}; exec \"$@\""
-        self._job = subprocess.Popen(["bash", "-c", line, "bash", *words], pass_fds=(theirs_in, theirs_out), stdout=subprocess.DEVNULL,
+        self._job = subprocess.Popen(["bash", "-c", line, "bash", *words], pass_fds=(theirs_in, theirs_out),
+                                     stdout=subprocess.DEVNULL,
                                      stderr=subprocess.DEVNULL, start_new_session=True)
         for each in (theirs_in, theirs_out):
             os.close(each)
         target = self.call("Target.createTarget", url="about:blank")["targetId"]
         self._session = self.call("Target.attachToTarget", targetId=target, flatten=True)["sessionId"]
         self.size(width, height)
-        self.call("Emulation.setEmulatedMedia", features=[{"name": "prefers-color-scheme", "value": "dark" if is_dark else "light"}])
+        self.call("Emulation.setEmulatedMedia",
+                  features=[{"name": "prefers-color-scheme", "value": "dark" if is_dark else "light"}])
 
     def __enter__(self):
         return self

@@ -1,5 +1,6 @@
 #!/usr/bin/env python3
-"""The page of the control port, in a headless Chromium where one is installed. The last line is 'N passed, M failed'."""
+"""The page of the control port, in a headless Chromium where one is installed. The last line is 'N passed, M
+failed'."""
 import json
 import re
 import threading
@@ -46,10 +47,12 @@ class Source(unittest.TestCase):
 
     def test_nothing_comes_from_elsewhere(self):
         text = PAGE.read_text(encoding="utf-8")
-        self.assertEqual(re.findall(r"(?i)https?://|//cdn|@import|<link[^>]*stylesheet|<script[^>]*src|url\(", text), [])
+        self.assertEqual(re.findall(r"(?i)https?://|//cdn|@import|<link[^>]*stylesheet|<script[^>]*src|url\(", text),
+                         [])
 
     def test_nothing_of_others_is_taken_for_markup(self):
-        self.assertEqual(re.findall(r"innerHTML|outerHTML|insertAdjacentHTML|document\.write|eval\(", PAGE.read_text(encoding="utf-8")), [])
+        self.assertEqual(re.findall(r"innerHTML|outerHTML|insertAdjacentHTML|document\.write|eval\(",
+                                    PAGE.read_text(encoding="utf-8")), [])
 
 
 @unittest.skipUnless(browsers.program(), "no chromium: the page is not opened")
@@ -75,14 +78,17 @@ class Shown(bridges.Case):
 
     def shows(self, browser, text, seconds=30):
         """Asserts that the page comes to say a text."""
-        self.assertTrue(browser.until(f"{TEXT}.includes({json.dumps(text)})", seconds), f"{text}: {browser.value(TEXT)}")
+        self.assertTrue(browser.until(f"{TEXT}.includes({json.dumps(text)})", seconds),
+                        f"{text}: {browser.value(TEXT)}")
 
     def test_a_change_is_announced_and_made(self):
         """Labels are those of the multiplexer; one of them is no markup."""
-        feed = self.begun(bridges.MOVES.replace("notice 24", "notice 240").replace("commit in 24", "commit in 240"), "--time 21:59:50")
+        feed = self.begun(bridges.MOVES.replace("notice 24", "notice 240").replace("commit in 24", "commit in 240"),
+                          "--time 21:59:50")
         own = bridges.fics(self.own(800))
         label = bridges.fib("35 01 C221" + b"<b>One</b>      ".hex() + "E000")
-        frames = [bridges.edi_packet(number, fic[:32] + label + bridges.EMPTY_FIB if number % 4 else fic) for number, fic in enumerate(own)]
+        frames = [bridges.edi_packet(number, fic[:32] + label + bridges.EMPTY_FIB if number % 4 else fic) for number,
+                  fic in enumerate(own)]
         browser = self.browser()
         self.shows(browser, "waiting")
         feeder = Feeder(feed, frames)
@@ -90,12 +96,14 @@ class Shown(bridges.Case):
         self.shows(browser, "<b>One</b> (C221)")
         self.shows(browser, "24 of 864 capacity units")
         self.shows(browser, "Announced: swap in ")
-        self.assertEqual(browser.value("document.getElementById('swap').textContent.match(/at count (\\d+)/)[1]"), "260")
+        self.assertEqual(browser.value("document.getElementById('swap').textContent.match(/at count (\\d+)/)[1]"),
+                         "260")
         self.assertEqual(browser.value("document.querySelectorAll('#next tbody th')[0].textContent"), "2")
         self.assertEqual(browser.value("document.querySelectorAll('#current tbody th')[0].textContent"), "1")
         self.assertEqual(browser.value("document.getElementById('news').textContent"), "A change is announced.")
         # 24 units at 0 of 864 are 2.78 % of the bar.
-        self.assertAlmostEqual(float(browser.value("document.querySelector('#current .bar span').style.width")[:-1]), 2.78, places=2)
+        self.assertAlmostEqual(float(browser.value("document.querySelector('#current .bar span').style.width")[:-1]),
+                               2.78, places=2)
         self.assertTrue(browser.until("document.querySelectorAll('#current tbody th')[0].textContent === '2'"))
         self.assertTrue(browser.until("document.getElementById('news').textContent !== ''"))
         self.assertEqual(browser.value("document.querySelectorAll('#current b').length"), 0)
@@ -193,7 +201,8 @@ class Shown(bridges.Case):
         browser = self.browser()
         self.shows(browser, "following")
         nodes = browser.call("Accessibility.getFullAXTree")["nodes"]
-        named = [(node["role"]["value"], node.get("name", {}).get("value", "")) for node in nodes if not node.get("ignored")]
+        named = [(node["role"]["value"],
+                  node.get("name", {}).get("value", "")) for node in nodes if not node.get("ignored")]
         roles = ("switch", "button", "region", "heading", "textbox", "table")
         self.assertEqual([node for node in named if node[0] in roles and not node[1]], [])
         self.assertIn(("switch", "Contact 3 open"), named)
