@@ -62,6 +62,11 @@ class Carried(Fit):
         else:
             self._state.clear(Alarm.UNFIT, f"frame {at}: the plan fits the inputs again")
 
+    def _compare_ensemble(self, at: int) -> None:
+        """An alarm where the stream is of another ensemble. Of several inputs each is looked at as it comes."""
+        if not self._state.inputs:
+            super()._compare_ensemble(at)
+
     def _look(self, frame: Frame) -> None:
         """Takes note of what each input has, by its last frame; nothing where there was none."""
         if self._state.inputs:

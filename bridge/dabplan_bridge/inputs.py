@@ -35,6 +35,8 @@ class Input:
         """It knows the ensemble of the stream."""
         self.mode = 0
         """The transmission mode of the last frame; 0 before the first one."""
+        self.wrong = ""
+        """Why its frames are not of the plan's ensemble; empty where they are."""
         self.early: Deque[Counted] = deque(maxlen=EARLY)
         """The frames before the first one goes out, with their counts."""
         self.frames: Dict[int, Frame] = {}
@@ -105,11 +107,12 @@ class Input:
         return items
 
     def _look(self) -> None:
-        """Takes note of a connection that came or went."""
+        """Takes note of a connection that came or went. What comes by another one may be of another ensemble."""
         self.state.is_connected = self.feed.is_connected
-        if self._joins != self.feed.joins or not self.feed.is_connected:
-            self._joins = self.feed.joins
+        if self._joins != self.feed.joins:
+            self._joins, self.placer, self._due = self.feed.joins, Placer(), -1
             self.is_present = False
+        self.is_present = self.is_present and self.feed.is_connected
 
     def _taken(self, item: Item, damaged: List[Item]) -> List[Counted]:
         """The frames whose counts are known by an item."""

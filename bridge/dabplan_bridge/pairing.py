@@ -117,7 +117,7 @@ class Pairing:
         if self._next is None:
             one.early.append((count, frame))
             return
-        if not self._is_of_plan(one, frame):
+        if not self._is_of_plan(one):
             return
         step = step_of(count, self._next % COUNTS)
         one.seen = self._next + step
@@ -129,13 +129,17 @@ class Pairing:
         # One that is only a little late is waited for from here on.
         one.is_present = one.is_present or -self._delay <= step < 0
 
-    def _is_of_plan(self, one: Input, frame: Frame) -> bool:
-        """Whether a frame is of the ensemble of the plan; an alarm where it is not."""
+    def _is_of_plan(self, one: Input) -> bool:
+        """Whether the last frame of an input is of the ensemble of the plan; an alarm where it is not."""
         wrong = against(one, self._plan)
-        if not wrong:
-            return True
-        self._state.alarm(Alarm.ENSEMBLE, f"input {one.name}: {wrong}: nothing of it goes out")
-        return False
+        if wrong != one.wrong:
+            one.wrong = wrong
+            texts = [f"input {each.name}: {each.wrong}" for each in self._inputs if each.wrong]
+            if texts:
+                self._state.alarm(Alarm.ENSEMBLE, f"{listed(texts)}: nothing of it goes out")
+            else:
+                self._state.clear(Alarm.ENSEMBLE, "all inputs are of the ensemble of the plan again")
+        return not wrong
 
     def _ready(self) -> List[Item]:
         """The frames that can go out now."""

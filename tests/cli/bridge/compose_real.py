@@ -1,7 +1,7 @@
 #!/usr/bin/env python3
 """`dabplan-bridge run --compose` with two ODR-DabMux, one for the day and one for the night: dablin plays services over swaps by EDI
-and by ETI, and odr-dabmod reads ETI from a FIFO. The tools are skipped, and it is said so, where they are not installed.
-The last line is 'N passed, M failed'."""
+and by ETI, one multiplexer is killed and started again, and odr-dabmod reads ETI from a FIFO. The tools are skipped, and it is said
+so, where they are not installed. The last line is 'N passed, M failed'."""
 import os
 import pathlib
 import re
@@ -10,6 +10,7 @@ import signal
 import subprocess
 import sys
 import tempfile
+import threading
 import time
 
 import bridges
@@ -190,6 +191,48 @@ def by_network(stand):
         received(stand, form, receivers, form)
 
 
+class Counts:
+    """The counts of the packets that a bridge sends, and when they came."""
+
+    def __init__(self, port):
+        self.found, self.connection = [], bridges.connected(port)
+        self.thread = threading.Thread(target=self.read, daemon=True)
+        self.thread.start()
+
+    def read(self):
+        """Reads to the end."""
+        with self.connection.makefile("rb") as stream:
+            while len(head := stream.read(10)) == 10:
+                packet = head + stream.read(int.from_bytes(head[2:6], "big") + 2)
+                at = packet.index(b"deti") + 8
+                self.found.append((time.monotonic(), (packet[at] & 0x1F) * 250 + packet[at + 1]))
+
+    def gaps(self):
+        """How many counts do not follow the one before, and the longest time between two, in seconds."""
+        pairs = list(zip(self.found, self.found[1:]))
+        return sum(later != (earlier + 1) % 5000 for (_, earlier), (_, later) in pairs), max(end - start for (start, _), (end, _) in pairs)
+
+
+def without_one(stand, multiplexers):
+    """One multiplexer is killed, and started again: no count is missing, and its streams are used again."""
+    tally, port = stand.tally, bridges.free_port()
+    bridge = stand.bridge("kill", f"--out tcp://:{port}")
+    counts = Counts(port)
+    tally.hold(bridges.until(lambda: len(counts.found) > 100, 60), "the plan begins")
+    multiplexers["day"].kill()
+    multiplexers["day"].wait()
+    tally.hold(bridges.until(lambda: "no frames in time of input day" in stand.said("kill"), 60), "the day is missing")
+    stand.start("day", ["odr-dabmux", "day.conf"])
+    tally.hold(bridges.until(lambda: "all inputs have their frames in time again" in stand.said("kill"), 60), "the day is back")
+    time.sleep(2)
+    steps, longest = counts.gaps()
+    tally.same("counts that do not follow", 0, steps)
+    print(f"a multiplexer killed and started again: {len(counts.found)} frames, {steps} counts missing, at most {longest:.2f} s between two", flush=True)
+    bridge.send_signal(signal.SIGTERM)
+    tally.same("the bridge ends", 0, bridge.wait(10))
+    counts.thread.join(10)
+
+
 def by_fifo(stand):
     """odr-dabmod reads ETI from a FIFO: it restarts its modulation once a swap, and goes on."""
     tally = stand.tally
@@ -211,10 +254,11 @@ def test(tally, folder):
     stand = Stand(tally, folder)
     stand.prepare()
     try:
-        for name in stand.ports:
-            stand.start(name, ["odr-dabmux", f"{name}.conf"])
-            bridges.connected(stand.ports[name]).close()
+        multiplexers = {name: stand.start(name, ["odr-dabmux", f"{name}.conf"]) for name in stand.ports}
+        for port in stand.ports.values():
+            bridges.connected(port).close()
         by_network(stand)
+        without_one(stand, multiplexers)
         if shutil.which("odr-dabmod") is None:
             print("skipped: a modulator: no odr-dabmod")
         else:
