@@ -29,7 +29,8 @@ from simulated_story import Killed, World
 TOP = pathlib.Path(__file__).resolve().parents[1]
 sys.path.insert(0, str(TOP / "bridge"))
 
-from dabplan_bridge import air, beginning, bridge, faults, fifos, holding, log, plan, reader, sinks, sources, state, statefile, sync  # noqa: E402
+from dabplan_bridge import (air, beginning, bridge, checking, control, faults, fifos, given, holding, log, orders,  # noqa: E402
+                            plan, reader, sinks, sources, state, statefile, sync)
 
 
 VERBOSE = bool(os.environ.get("VERBOSE"))
@@ -93,8 +94,13 @@ class Life:
             world.log.with_suffix(".new").replace(world.log)
         self._log = log.Log(str(world.log), 250, False, status)
         wish = beginning.Wish(program=world.program)
-        self._bridge = bridge.Bridge(wish, plan.plan_of(str(world.code)), self._log, world, fifos.Monitor(None), status,
-                                     statefile.StateFile(None, status))
+        played, asked = plan.plan_of(str(world.code)), orders.Orders()
+        contacts = given.Given(world, asked)
+        contacts.take_up(self._log.past, self._log.steps())
+        port = control.Control(None, world.program, played, "world", contacts, asked, status)
+        self._bridge = bridge.Bridge(wish, played, self._log, contacts, fifos.Monitor(None), status,
+                                     statefile.StateFile(None, status), port,
+                                     checking.Check(world.program, played.mode, False, status))
         world.begins(self)
         self._bridge.run("world", reader.Reader(Input(world), world.form), Output(world), world.is_of_datagrams)
 
