@@ -32,6 +32,7 @@ def ordinary() -> Iterator[Callable[[int], None]]:
         return
 
     def also(process: int) -> None:
+        """Takes a process, 0 for this one."""
         processes.append(process)
         set_policy(process, os.SCHED_OTHER, 0)
 
