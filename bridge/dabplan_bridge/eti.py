@@ -180,4 +180,4 @@ def built(head: Head, low: int, sync: bytes, fic: bytes, parts: Sequence[Part], 
                       (crc(main) ^ wrong).to_bytes(2, "big"), head.rfu, head.tist))
     if len(frame) > FRAME or len(parts) > MOST_STREAMS:
         raise ValueError(f"{len(parts)} sub-channels of {len(main) - len(fic)} bytes are too many for a frame of ETI")
-    return frame.ljust(FRAME, PADDING)
+    return frame + PADDING[len(frame):]

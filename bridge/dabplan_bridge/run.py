@@ -75,7 +75,8 @@ def begun(options: Options, plan: Plan) -> Bridge:
     control = Control(options.control, options.wish.program, plan, options.source.name, given, orders, state)
     composer = None if options.compose is None else options.compose.composer(state, options.format)
     check = Check(options.wish.program, plan.mode, options.is_checked, state)
-    return Bridge(options.wish, plan, log, given, monitor, state, StateFile(options.state, state), control, check, composer)
+    file = StateFile(options.state, state)
+    return Bridge(options.wish, plan, log, given, monitor, state, file, control, check, composer)
 
 
 def composed(options: Options, compose: Compose, plan: Plan, bridge: Bridge, waiter: Waiter) -> int:

@@ -102,6 +102,12 @@ def from_six_to_nine(second, is_closed):
     return FULL | REGION if is_closed and is_between(second, "06:00:00", "09:00:00") else FULL
 
 
+def by_day_or_night(second, _):
+    """A sub-channel by night, and one of a higher rate by day, beside one that stays."""
+    service = audio(1, 0, 48, "C221") if is_between(second, "22:00:00", "06:00:00") else audio(3, 0, 72, "C221")
+    return service | audio(2, 72, 48, "C222")
+
+
 def by_contact(closed):
     """A configuration while the contact is closed."""
     return lambda _, is_closed: closed if is_closed else FULL
@@ -122,6 +128,7 @@ ROWS = (
     Row("bouncing_contact", 3, (), (NOON, NOON), "18:00:00", by_contact(LOWER)),
     Row("settled_change", 3, (), (NOON, NOON), "18:00:00", by_contact(LOWER)),
     Row("short_notice", None, (), (NOON, NOON), "18:00:00", lambda *_: LOWER),
+    Row("day_night", None, ("22:00:00", "06:00:00"), ("05:59:54", "21:59:54"), "23:00:00", by_day_or_night),
 )
 
 

@@ -167,6 +167,7 @@ class Checked(Controlled):
         """The totals are those of `dabplan check` over the same frames."""
         feed = self.begun("moves", "--check")
         found = b"".join(feed.through(self.stream("edi", 200)))
+        self.until_shown(frame=199)
         self.assertTrue(bridges.until(lambda: self.status()["check"]["frames"] == 200, 30))
         self.assertEqual({name: self.status()["check"][name] for name in ("frames", "damaged", "swaps", "faults",
                                                                           "last")},
@@ -178,6 +179,7 @@ class Checked(Controlled):
         feed = self.begun("moves", "--check")
         frames = self.stream("edi", 3000)
         feed.through(frames[:100])
+        self.until_shown(frame=99)
         self.assertTrue(bridges.until(lambda: self.status()["check"]["frames"] == 100, 30))
         lines = {pid: pathlib.Path(f"/proc/{pid}/cmdline").read_bytes().split(b"\0") for pid in feed.children()}
         child = next(pid for pid, words in lines.items() if b"check" in words)

@@ -133,7 +133,7 @@ class Vim(unittest.TestCase):
             run("vim", "-Nes", "-u", "NONE", "-i", "NONE", "-S", "try.vim", cwd=folder, stdin=subprocess.DEVNULL,
                 timeout=60)
             found = (folder / "found").read_text().split("\n")
-        self.assertIn("[[7, 6, 'e'], [7, 0, ''], [9, 0, 'w']]", found)
+        self.assertIn("[[7, 6, 'e'], [7, 0, 'I'], [9, 0, 'w']]", found)
         self.assertIn("dabplan", found, "the type of the file")
 
 
