@@ -318,7 +318,8 @@ class Resumed(composed.Turns):
         feed.end(signal.SIGKILL)
         day.drop()
         night.drop()
-        feed = self.started(f"run turns.code --compose --in day={day.address} --in night={night.address} --out - --log l")
+        feed = self.started(f"run turns.code --compose --in day={day.address} --in night={night.address} --out - --log l"
+                            " --delay 250")
         day.accept()
         night.accept()
         # 44 to 87 are the night. What follows is of another run: sequence numbers begin with that of the first frame.

@@ -40,8 +40,8 @@ class OtherPlaces(composed.Turns):
         with open(self.folder / "day", "wb", buffering=0) as day:
             for first, last in ((0, 30), (30, 60)):
                 with open(self.folder / "night", "wb", buffering=0) as night:
+                    night.write(b"".join(nights[first:last]))
                     for at in range(first, last):
-                        night.write(nights[at])
                         day.write(days[at])
                         self.same(wanted[at], feed.get(len(wanted[at])), f"frame {at}")
                 # The bridge sees its end before the next writer comes.
