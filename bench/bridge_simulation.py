@@ -94,7 +94,7 @@ class Life:
             world.log.with_suffix(".new").replace(world.log)
         self._log = log.Log(str(world.log), 250, False, status)
         wish = beginning.Wish(program=world.program)
-        played, asked = plan.plan_of(str(world.code)), orders.Orders()
+        played, asked = plan.plan_of(str(world.code), world.program), orders.Orders()
         contacts = given.Given(world, asked)
         contacts.take_up(self._log.past, self._log.steps())
         port = control.Control(None, world.program, played, "world", contacts, asked, status)

@@ -28,17 +28,15 @@ program_crates() {
     }' "$top/crates.txt"
 }
 
-# The SHA-256 of the sources: of the lines that sha256sum prints of crates.txt and of every file of src/, specs/ and
-# proofs/ of the program's crates, by their paths from the top, which are sorted byte by byte.
+# The SHA-256 of what the program's bytes come from: of the lines that sha256sum prints of crates.txt and of every file of src/
+# of the program's crates, by their paths from the top, which are sorted byte by byte. Definitions and proofs change no byte.
 sum_of_sources() {
   (
     cd "$top"
     {
       echo crates.txt
       for crate in $(program_crates); do
-        for part in src specs proofs; do
-          if [ -d "crates/$crate/$part" ]; then find "crates/$crate/$part" -type f; fi
-        done
+        if [ -d "crates/$crate/src" ]; then find "crates/$crate/src" -type f; fi
       done
     } | LC_ALL=C sort | tr '\n' '\0' | xargs -0 sha256sum | sha256sum | cut -d ' ' -f 1
   )

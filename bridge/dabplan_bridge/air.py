@@ -1,7 +1,7 @@
 """What goes on air: the FIC of each frame of the stream, by the plan or by what is held."""
 from __future__ import annotations
 
-from typing import Callable, Dict, Optional, Union
+from typing import Callable, Dict, Optional, Tuple, Union
 
 from .faults import Repeats, WillNotGuess, number_of
 from .fibs import FRAME_SECONDS
@@ -31,6 +31,8 @@ class Air:
 
     def __init__(self, program: str, plan: Plan, player: Player, follower: Follower, log: Log, given: Given,
                  state: State, repeats: Repeats, retaking: Retaking, is_strict: bool) -> None:
+        self.plan = plan
+        """The plan that is on air."""
         self.player = player
         self.has_swapped = False
         """Whether a swap fell into the last frame, or into those before it that were not sent."""
@@ -78,10 +80,50 @@ class Air:
         assert number is not None
         return self._planned(frame, number, moment)
 
-    def hold(self, script: bytes, frame: int, why: str) -> None:
+    @property
+    def is_held(self) -> bool:
+        """Whether what is on air is held."""
+        return self._holding is not None
+
+    @property
+    def is_changing(self) -> bool:
+        """Whether a swap is announced, or is to be announced in the next frame."""
+        return self.player.swap_in is not None if self._holding is None else self._holding.is_changing
+
+    @property
+    def is_busy(self) -> bool:
+        """Whether the plan that is held is being taken up."""
+        return self._retaking.is_wanted
+
+    @property
+    def swaps(self) -> Tuple[int, Optional[bytes]]:
+        """Is another one where what is on air may be."""
+        return (self.player.swaps, None) if self._holding is None else (-1, self._holding.script)
+
+    def known(self) -> Optional[Callable[[], bytes]]:
+        """What gives the script of the configuration that is on air, in any thread, where nothing else is announced;
+        None where that is not known yet: a receiver needs some frames."""
+        if self._holding is not None:
+            script = self._holding.script
+            return lambda: script
+        found = self.player.since_swap()
+        if len(found) < self._plan.history:
+            return None
+        return lambda: script_of(self._program, self._plan, found)
+
+    def handed_over(self, number: int) -> Follower:
+        """What follows the counts of a plan that takes the place of this one with its frame of a number, which is
+        due."""
+        return self._follower.handed_over(number)
+
+    def number_by_clock(self, moment: Moment) -> int:
+        """The number of the plan's frame that is due at a moment, by the clock."""
+        return self._follower.by_clock(moment)
+
+    def hold(self, script: bytes, frame: Optional[int], why: str) -> None:
         """Holds a configuration from here on, which the plan has from a frame on, and says why."""
         self._holding = Holding(self._program, self._plan, script, frame)
-        self._log.held(frame)
+        self._log_held(self._holding)
         self._state.phase = Phase.HOLDING
         self._state.alarm(Alarm.HELD, f"{why}: what is on air is held until counts and clock agree")
 
@@ -111,7 +153,8 @@ class Air:
         self._retaking.refuse()
         ahead = number - player.made
         if ahead < 0:
-            state.frame = self._again = number
+            state.frame = number if number >= 0 else None
+            self._again = number
             return player.kept(number)
         self.has_swapped = self._pass_over(ahead, lambda: moment.wall)
         lines = self._given.lines(number, player.due)
@@ -140,22 +183,31 @@ class Air:
             if wanted is not None:
                 holding.change_to(wanted, self.player.made - len(self.player.since_swap()))
         self._state.frame = None
-        before = holding.frame
+        before = holding.script
         made = holding.make(frame.fic(), count)
         self._state.frames_held += 1
-        if holding.frame != before:
+        if holding.script != before:
             self.has_swapped = True
-            self._log.held(holding.frame)
+            self._log_held(holding)
         return made
+
+    def _log_held(self, holding: Holding) -> None:
+        """Logs which configuration is held."""
+        if holding.frame is None:
+            self._log.holds(holding.script)
+        else:
+            self._log.held(holding.frame)
 
     def _is_retaken(self, frame: Frame, count: int, moment: Moment, at: int) -> bool:
         """Whether an order has taken up the plan with this frame."""
         self._retaking.look(self._follower.by_clock(moment), frame, count, moment, at)
-        taken = self._retaking.done()
+        taken = self._retaking.done(None if self._holding is None else self._holding.script)
         if taken is None or taken.player is None:
             return False
         self.player.end()
         self.player, self._follower, self._seen_swaps = taken.player, taken.follower, -1
+        if taken.is_anew and self._holding is not None:
+            self._holding.forget_frames()
         self._not_before = taken.number + taken.later
         return True
 

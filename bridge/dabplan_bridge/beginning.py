@@ -7,7 +7,7 @@ from dataclasses import dataclass
 from typing import Iterable, Iterator, List, Optional, Tuple
 
 from .air import TAKE_UP, Air
-from .chain import Code, Live, frame_lines, taken
+from .chain import Live, frame_lines, taken
 from .faults import Repeats, WillNotGuess, number_of, say
 from .fibs import COUNTS, DAY_FRAMES, FRAME_SECONDS, Listener, day_frame_of, size_of, utc_of
 from .fit import Fit
@@ -15,7 +15,7 @@ from .follower import NEAR, Follower, Step, frames_by_clock, step_of
 from .frames import Frame
 from .given import Given
 from .holding import script_of, settled
-from .log import Log
+from .log import Log, date_line
 from .moments import Moment
 from .past import Past, steps_in
 from .plan import Plan
@@ -117,7 +117,7 @@ class Beginning:
         if self._wish.resume_at is not None:
             return self._moved(past, here, fit)
         number, step = self._place(past, here)
-        if number is None or past.held is not None:
+        if number is None or past.is_held:
             return self._held(past, here, step)
         return self._resumed(past, here, number, fit)
 
@@ -179,21 +179,27 @@ class Beginning:
             raise WillNotGuess(f"{self._log.path}: {step}: {TAKE_UP}")
         player = self._player
         assert player is not None
-        program, plan = self._wish.program, self._plan
-        if past.held is None:
-            found, held = settled(player, plan)
-        else:
-            found, held = self._frames_from(past, past.held), past.held
-        script = script_of(program, plan, found)
+        script, held = self._held_script(past, player)
         follower = self._follower(player.start)
         follower.hold(past.frames, self._end_of(past, here.moment))
         air = self._air(player, follower, here)
         air.hold(script, held, f"{self._log.path}: {step}")
         return air
 
+    def _held_script(self, past: Past, player: Player) -> Tuple[bytes, Optional[int]]:
+        """The script of what was on air at the end of a log, and the frame of the plan from which on it has that; None
+        where none has it."""
+        program, plan = self._wish.program, self._plan
+        if past.holds is not None:
+            return past.holds, None
+        if past.held is not None:
+            return script_of(program, plan, self._frames_from(past, past.held)), past.held
+        found, held = settled(player, plan)
+        return script_of(program, plan, found), held
+
     def _frames_from(self, past: Past, frame: int) -> List[bytes]:
         """The FICs of the plan of a log from one of its frames on, up to a swap, as many as a receiver needs."""
-        live = Live(self._wish.program, Code(self._plan.path), [*past_start(past).options(), "--skip", str(frame)])
+        live = Live(self._wish.program, self._plan.code, [*past_start(past).options(), "--skip", str(frame)])
         live.feed(first_steps(self._log.steps(), frame))
         live.feed(frame_lines(self._plan.history))
         found: List[bytes] = []
@@ -208,7 +214,9 @@ class Beginning:
         return found
 
     def _air(self, player: Player, follower: Follower, here: Arrival) -> Air:
-        start, wish = player.start, self._wish
+        start = player.start
+        if self._plan.script is not None:
+            self._log.keep(self._plan.data, self._plan.script)
         self._log.start(start.first, start.time, self._plan.digest, here.moment.wall)
         past = self._log.past
         before = 0 if past is None else past.frames
@@ -216,10 +224,39 @@ class Beginning:
         self._log.dated(self._given.begin(start.time, follower.due, here.moment.wall, known))
         if player.made > before:
             self._log.count(player.made - before, here.moment.wall)
+        return self._of(player, follower)
+
+    def _of(self, player: Player, follower: Follower) -> Air:
+        wish = self._wish
         retaking = Retaking(self._given.orders, self._log, self._plan, self._given, self._anew, self._retaken,
                             self._follower)
         return Air(wish.program, self._plan, player, follower, self._log, self._given, self._state, self._repeats,
                    retaking, wish.is_strict)
+
+    @property
+    def is_told(self) -> bool:
+        """Whether notices and swaps are reported."""
+        return self._wish.is_told
+
+    def replaced(self, air: Air, plan: Plan, player: Player, here: Arrival, number: int) -> Air:
+        """Another plan goes on in the place of one that is on air, or held, with this frame, which would have been that
+        of a number: what it begins with is on air."""
+        start, log, given = player.start, self._log, self._given
+        if air.is_held:
+            follower = self._follower(start)
+            follower.begin(0, here.moment)
+        else:
+            follower = air.handed_over(number)
+            player.come_after(air.player)
+        closed = given.closed_lines()
+        player.pass_over(0, closed)
+        first = given.hand_over(start.time, number)
+        lines = [line.decode("ascii") for line in closed] + ([] if first is None else [date_line(first)])
+        self._plan = plan
+        log.keep(plan.data, plan.script)
+        log.begin_anew(start.first, start.time, plan.digest, here.moment.wall, [*lines, *given.remarks()])
+        self._state.phase = Phase.FOLLOWING
+        return self._of(player, follower)
 
     def _anew(self, frame: Frame, count: int, moment: Moment, at: int) -> Optional[Start]:
         """How the plan begins anew with a frame; None where it needs one with a FIG 0/10."""

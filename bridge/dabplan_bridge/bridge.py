@@ -21,6 +21,7 @@ from .moments import Moment
 from .placing import Placer
 from .plan import Plan
 from .reader import Items
+from .reloading import Reloading
 from .sinks import Sinks
 from .state import State
 from .statefile import StateFile
@@ -40,6 +41,7 @@ class Bridge:
         self._composer = composer
         self._fit = Fit(plan, self._placer, state) if composer is None else Carried(plan, self._placer, state, composer)
         self._beginning = Beginning(wish, plan, log, given, state, self._repeats)
+        self._reloading = Reloading(wish.program, given.orders, log, state, self._fit, self._beginning)
         self._utc = self._beginning.utc
         self._has_clock = wish.has_clock
         self._air: Optional[Air] = None
@@ -71,6 +73,7 @@ class Bridge:
         unfilled = self.state.unfilled
         if unfilled:
             say(f"{number_of(unfilled)} could not be filled: nothing went out for {'it' if unfilled == 1 else 'them'}")
+        self._reloading.end()
         is_well = self._beginning.end() if self._air is None else self._air.end()
         self._monitor.close()
         self._check.close()
@@ -143,9 +146,13 @@ class Bridge:
         air = self._air
         is_first = air is None
         if air is None:
+            self._reloading.refuse("the plan has not begun")
             if not self._beginning.is_in(frame, count):
                 return
             air = self._air = self._beginning.begin(Arrival(frame, count, moment, at), self._fit)
+        other = None if is_first else self._reloading.look(air, frame, count, moment, at)
+        if other is not None:
+            air = self._air = other
         fic = air.fic(frame, count, moment, at)
         self._expected = 0 if count == 4999 else count + 1
         if fic is None:

@@ -1,7 +1,7 @@
 """Whether the inputs carry what a plan needs, where the transmission follows the plan."""
 from __future__ import annotations
 
-from typing import Callable, Dict, List, Mapping, Tuple
+from typing import Callable, Dict, List, Mapping, Optional, Tuple
 
 from .arrangement import ForOdrDabmod, filler_of, sizes_of
 from .composer import Composer
@@ -29,12 +29,13 @@ class Carried(Fit):
         """Raises `DoesNotFit` where no input carries a sub-channel of the plan. Where the plan begins, all its
         configurations are looked at; later the others are an alarm, and so is what an input may carry that is not
         there."""
-        if isinstance(self._composer.arrangement, ForOdrDabmod):
-            self._refuse_modulator(self._composer.form_of(frame))
+        wrong = self._against_modulator(self._plan, frame)
+        if wrong:
+            raise DoesNotFit(f"{self._plan.path} does not fit odr-dabmod: {listed(wrong)}")
         self._look(frame)
         headers = self._headers()
         wrong = self._missing(current, headers)
-        self._others = self._missing_ever(headers)
+        self._others = self._missing_ever(self._plan, headers, None)
         if is_first and not wrong:
             wrong = self._others
         if wrong and (is_first or b"" not in self._stcs):
@@ -52,7 +53,7 @@ class Carried(Fit):
             return
         headers = self._headers()
         wrong = self._missing(current(), headers)
-        others = wrong or self._missing_ever(headers)
+        others = wrong or self._missing_ever(self._plan, headers, None)
         self._state.fits = not others
         if wrong:
             what = "from the swap on " if has_swapped else ""
@@ -61,6 +62,16 @@ class Carried(Fit):
             self._state.alarm(Alarm.UNFIT, f"frame {at}: the plan will not fit the inputs: {listed(others)}")
         else:
             self._state.clear(Alarm.UNFIT, f"frame {at}: the plan fits the inputs again")
+
+    def against(self, plan: Plan, frame: Frame, current: Dict[int, SubChannel]) -> List[str]:
+        """What no input carries of any configuration of another plan but the current one, and what the modulator does
+        not take of it."""
+        return self._missing_ever(plan, self._headers(), current) + self._against_modulator(plan, frame)
+
+    def take(self, plan: Plan) -> None:
+        """From the next frame on it is about another plan."""
+        super().take(plan)
+        self._stcs = []
 
     def _compare_ensemble(self, at: int) -> None:
         """An alarm where the stream is of another ensemble. Of several inputs each is looked at as it comes."""
@@ -81,26 +92,27 @@ class Carried(Fit):
     def _missing(self, subs: Mapping[int, SubChannel], headers: Headers) -> List[str]:
         return self._composer.naming.missing(subs, headers)
 
-    def _missing_ever(self, headers: Headers) -> List[str]:
-        """What no input carries of any configuration of the plan; each once."""
+    def _missing_ever(self, plan: Plan, headers: Headers, but: Optional[Dict[int, SubChannel]]) -> List[str]:
+        """What no input carries of any configuration of a plan, but for one of them; each once."""
         found: Dict[str, None] = {}
-        for each in self._plan.configurations:
-            found.update(dict.fromkeys(self._missing(each, headers)))
+        for each in plan.configurations:
+            if each != but:
+                found.update(dict.fromkeys(self._missing(each, headers)))
         return list(found)
 
-    def _refuse_modulator(self, form: str) -> None:
-        """Raises `DoesNotFit` where odr-dabmod would end, or put out what is wrong: by EDI where a sub-channel has
-        another size or start in another configuration; by ETI where there is no room for the sub-channel that comes
-        and goes."""
-        if form == "edi":
-            wrong = changing(self._plan.configurations)
+    def _against_modulator(self, plan: Plan, frame: Frame) -> List[str]:
+        """Where odr-dabmod would end, or put out what is wrong: by EDI where a sub-channel has another size or start in
+        another configuration; by ETI where there is no room for the sub-channel that comes and goes."""
+        if not isinstance(self._composer.arrangement, ForOdrDabmod):
+            return []
+        if self._composer.form_of(frame) == "edi":
+            wrong = changing(plan.configurations)
             what = "odr-dabmod takes no such change by EDI; by ETI it does"
         else:
-            wrong = [text for text in map(without_room, self._plan.configurations) if text] \
-                if moves(self._plan.configurations) else []
+            wrong = [text for text in map(without_room, plan.configurations) if text] \
+                if moves(plan.configurations) else []
             what = "odr-dabmod does not see a move by itself, and there is no room for a sub-channel that shows it"
-        if wrong:
-            raise DoesNotFit(f"{self._plan.path} does not fit odr-dabmod: {listed(wrong)}: {what}")
+        return [f"{listed(wrong)}: {what}"] if wrong else []
 
 
 def changing(configurations: Tuple[Dict[int, SubChannel], ...]) -> List[str]:

@@ -228,7 +228,7 @@ def add_control(one: argparse.ArgumentParser) -> None:
 def add_run(commands: "argparse._SubParsersAction[argparse.ArgumentParser]") -> None:
     """The command `run` and its options."""
     one = commands.add_parser("run", help="plays a plan into a stream")
-    one.add_argument("code", metavar="CODE", help="the code file of the plan")
+    one.add_argument("code", metavar="PLAN", help="the plan: its script, or its code file; SIGHUP reads it anew")
     one.add_argument("--in", metavar="IN", dest="source", type=words_of_input, required=True, action="append",
                      help="the stream of the multiplexer; with --compose NAME=IN, once or more")
     one.add_argument("--out", metavar="OUT", dest="sinks", type=output_of, required=True, action="append",

@@ -8,12 +8,14 @@ from typing import BinaryIO, Tuple
 
 from .faults import Trouble, why
 from .lock import lock, locked
-from .past import HEAD_TEXT, UTC_TEXT, Past, past_of, steps_in
+from .past import HEAD_TEXT, UTC_TEXT, Past, holds_line, past_of, steps_in
 
 
 def write(file: BinaryIO, path: str, past: Past) -> None:
     """Writes what a log says to another file, in a few lines."""
     file.write(f"{HEAD_TEXT}count {past.count} {past.start} code {past.digest}\n".encode("ascii"))
+    if past.script is not None:
+        file.write(f"# script {past.script}\n".encode("ascii"))
     is_first = True
     for step in steps_in(path):
         file.write(step if is_first else b" " + step)
@@ -30,6 +32,8 @@ def write(file: BinaryIO, path: str, past: Past) -> None:
         file.write(f"# given {contact} {word}\n".encode("ascii"))
     if past.held is not None:
         file.write(f"# held {past.held}\n".encode("ascii"))
+    if past.holds is not None:
+        file.write(f"{holds_line(past.holds)}\n".encode("ascii"))
 
 
 def keep_rights(file: int, known: os.stat_result) -> None:

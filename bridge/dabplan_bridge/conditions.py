@@ -93,6 +93,11 @@ class Conditioned:
             self._is_over = True
         return True
 
+    def renumber(self, frames: int) -> None:
+        """From here on each frame has a number that is less by so many."""
+        self._given_since -= frames
+        self._closed_since -= frames
+
     def acts(self, frame: int) -> Optional[int]:
         """The frame from which the plan has it as it was given; None where it will not have it so."""
         return frame if self.is_closed == self.is_given else self.due()
@@ -120,6 +125,11 @@ class Conditions:
     def acts(self, contact: int, frame: int) -> Optional[int]:
         """The frame from which the plan has a contact as it was given; None where it will not have it so."""
         return self._contacts[contact].acts(frame)
+
+    def renumber(self, frames: int) -> None:
+        """From here on each frame has a number that is less by so many: times that run go on."""
+        for each in self._contacts.values():
+            each.renumber(frames)
 
     def words(self) -> Dict[int, str]:
         """What a log says of each."""

@@ -7,6 +7,7 @@
 | `GET /events` | that object twice a second, as server-sent events |
 | `PUT /contacts/N`, body `closed` or `open` | the frame of the plan from which it acts |
 | `POST /resume?count=N`, `/anew` | a plan that is held goes on, or begins anew |
+| `POST /reload` | the file of the plan is read anew, and takes its place without a gap |
 
 Each connection has a thread, and no frame waits for any: a connection has 5 s for its request, of 8 KB at most, and 5 s
 for what it takes; there are 64 at most.
@@ -140,13 +141,13 @@ class Control:
 
     def __init__(self, access: Optional[Access], program: str, plan: Plan, source: str, given: Given, orders: Orders,
                  state: State) -> None:
-        self.board = Board()
+        self.board = Board(plan)
         """What goes out."""
         self._orders = orders
         self._server: Optional[Server] = None
         if access is not None:
-            status = Status(plan, program, source, self.board, given, state, access.token is not None)
-            watch = Watch(plan, status, self.board, given, state)
+            status = Status(program, source, self.board, given, state, access.token is not None)
+            watch = Watch(status, self.board, given, state)
             self._server = Server(access, orders, watch)
             threading.Thread(target=self._server.serve_forever, args=(0.1,), name="control", daemon=True).start()
 

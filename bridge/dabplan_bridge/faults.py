@@ -47,7 +47,9 @@ def say(text: object) -> None:
     if sys.stderr is None:
         return
     try:
-        print(f"{PROGRAM}: {text}", file=sys.stderr, flush=True)
+        # one call, so that what children write does not come between a line and its end
+        sys.stderr.write(f"{PROGRAM}: {text}\n")
+        sys.stderr.flush()
     except OSError:
         pass
 

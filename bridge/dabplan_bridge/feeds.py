@@ -15,11 +15,14 @@ from typing import Optional
 
 from .addresses import LOOPBACK, Address
 from .faults import Trouble, reason_of, say, why
+from .lookup import Lookup
 from .sources import CONNECT_SECONDS, FIRST_WAIT, LAST_WAIT, LEAST, PIECE, Source, UdpSource
 from .waiting import READABLE, WRITABLE, Waiter
 
 NEVER = float("inf")
 """A moment that does not come."""
+LOOKUP_SECONDS = 0.05
+"""How often it is looked whether the address of a name is known."""
 
 
 class Feed(Source):
@@ -112,6 +115,7 @@ class TcpFeed(Feed):
         super().__init__(address.name, waiter)
         self._where = (address.host or LOOPBACK, address.port)
         self._socket: Optional[socket.socket] = None
+        self._lookup: Optional[Lookup] = None
         self._until = 0.0
         self._wait = FIRST_WAIT
         self._is_told = False
@@ -152,9 +156,14 @@ class TcpFeed(Feed):
         self.is_connected = False
 
     def _begin(self, now: float) -> None:
-        """Begins to connect."""
+        """Begins to connect, once the address is known."""
+        self._lookup = self._lookup or Lookup(*self._where)
+        if not self._lookup.is_done:
+            self.next_look = now + LOOKUP_SECONDS
+            return
+        lookup, self._lookup = self._lookup, None
         try:
-            family, kind, protocol, _, where = socket.getaddrinfo(*self._where, type=socket.SOCK_STREAM)[0]
+            family, kind, protocol, where = lookup.found()
             self._socket = socket.socket(family, kind, protocol)
             self._socket.setblocking(False)
             found = self._socket.connect_ex(where)

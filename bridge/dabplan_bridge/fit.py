@@ -2,7 +2,7 @@
 FIG 0/0."""
 from __future__ import annotations
 
-from typing import Callable, Dict, List
+from typing import Callable, Dict, List, Optional
 
 from .faults import DoesNotFit, listed
 from .frames import Frame
@@ -36,6 +36,15 @@ class Fit:
         self._state.fits = not self._others
         if self._others:
             self._state.alarm(Alarm.UNFIT, f"{self._plan.path} will not fit the multiplexer: {listed(self._others)}")
+
+    def against(self, plan: Plan, frame: Frame, current: Dict[int, SubChannel]) -> List[str]:
+        """What the multiplexer has otherwise than another plan, in any of its configurations but the current one."""
+        there = sub_channels(frame.stc)
+        return differing(plan, there, current)
+
+    def take(self, plan: Plan) -> None:
+        """From the next frame on it is about another plan."""
+        self._plan, self._stc = plan, b""
 
     def refuse_ensemble(self, frame: Frame) -> None:
         """Raises `DoesNotFit` where the stream is of another mode or ensemble than the plan."""
@@ -81,7 +90,13 @@ class Fit:
 
     def _differences(self, there: Dict[int, SubChannel]) -> List[str]:
         """What the multiplexer has otherwise than any configuration of the plan; each once."""
-        found: Dict[str, None] = {}
-        for each in self._plan.configurations:
+        return differing(self._plan, there, None)
+
+
+def differing(plan: Plan, there: Dict[int, SubChannel], but: Optional[Dict[int, SubChannel]]) -> List[str]:
+    """What a multiplexer has otherwise than any configuration of a plan, but for one of them; each once."""
+    found: Dict[str, None] = {}
+    for each in plan.configurations:
+        if each != but:
             found.update(dict.fromkeys(differences(each, there)))
-        return list(found)
+    return list(found)

@@ -101,6 +101,14 @@ class Follower:
         self.begin(number, moment)
         self._to_hold()
 
+    def handed_over(self, number: int) -> Follower:
+        """What follows the counts of another plan, whose first frame has the count of this one's frame of a number,
+        which is due."""
+        found = Follower(self.count_of(number), self._tolerance, self._has_clock, self._utc)
+        found.phase, found.due, found._last = Phase.FOLLOWING, self.due - number, self._last - number
+        found._pace = self._anchor().renumbered(number)
+        return found
+
     def count_of(self, number: int) -> int:
         """The count of the plan's frame of a number."""
         return (self._first + number) % COUNTS

@@ -52,6 +52,20 @@ class Given:
         self._calendar.begin(start, found)
         return found
 
+    def hand_over(self, start: str, frame: int) -> Optional[date]:
+        """Another plan goes on in the place of the frame of a number; the time of its first frame is spelled as in a
+        log. Returns the date of that frame where there is a calendar."""
+        self._conditions.renumber(frame)
+        self._words = {}
+        first = self._calendar.date_of(frame)
+        if first is not None:
+            self._calendar.begin(start, first)
+        return first
+
+    def closed_lines(self) -> List[bytes]:
+        """The lines of the contacts that are closed."""
+        return [contact_line(contact, True) for contact, is_closed in enumerate(self.closed) if is_closed]
+
     def lines(self, frame: int, count: int) -> List[bytes]:
         """The lines for the plan's frame of a number, which has this count; 16 at most are from others."""
         lines = [line for given in self._fifo.lines() for line in self._passed(given, frame)]

@@ -79,12 +79,14 @@ class Handler(http.server.BaseHTTPRequestHandler):
             self._order(Order(Kind.CONTACT, int(contact[1]), is_closed))
 
     def do_POST(self) -> None:
-        """What becomes of a plan that is held."""
+        """What becomes of the plan."""
         if not self._may_change():
             return
         path = self._path()
         if path == "/anew":
             self._order(Order(Kind.ANEW))
+        elif path == "/reload":
+            self._order(Order(Kind.RELOAD))
         elif path == "/resume":
             self._resume()
         else:

@@ -46,16 +46,16 @@ def settled(player: Player, plan: Plan) -> Tuple[List[bytes], int]:
 
 class Holding:
     """A configuration that is on air, and the way from it to another one. `frame` is that of the plan from which on it
-    has this configuration."""
+    has this configuration; None where it is of no frame of the plan."""
 
-    def __init__(self, program: str, plan: Plan, script: bytes, frame: int) -> None:
+    def __init__(self, program: str, plan: Plan, script: bytes, frame: Optional[int]) -> None:
         self.script = script
         """The script of the configuration that receivers hold."""
         self.frame = frame
-        """The plan's frame from which on it has that configuration, up to a swap."""
+        """The plan's frame from which on it has that configuration, up to a swap; None where no frame has it."""
         self._program = program
         self._plan = plan
-        self._next: Optional[Tuple[bytes, int]] = None
+        self._next: Optional[Tuple[bytes, Optional[int]]] = None
         self._refused: Optional[bytes] = None
         self._listener = Listener()
         self._code: Optional[Code] = None
@@ -111,6 +111,12 @@ class Holding:
         except Trouble as fault:
             self._refused = script
             say(f"what is held can't become what the plan has: {fault}")
+
+    def forget_frames(self) -> None:
+        """Another plan is to go on: its frames have other numbers."""
+        self.frame = None
+        if self._next is not None:
+            self._next = self._next[0], None
 
     def end(self) -> None:
         """Ends the children."""

@@ -5,6 +5,7 @@ goes on. A log that has grown is written anew, with one line for frames between 
 """
 from __future__ import annotations
 
+import contextlib
 import datetime
 import os
 import stat
@@ -12,11 +13,12 @@ import time
 from typing import Iterable, Iterator, List, Optional, Tuple
 
 from .chain import frame_lines
-from .compact import compacted
+from .compact import compacted, keep_rights
+from .copies import keep
 from .faults import Trouble, WillNotGuess, say, why
 from .fibs import COUNTS
-from .lock import locked
-from .past import HEAD_TEXT, UTC_TEXT, Past, past_of, steps_in, text_of
+from .lock import lock, locked
+from .past import HEAD_TEXT, UTC_TEXT, Past, holds_line, past_of, steps_in, text_of
 from .state import Alarm, State
 from .sync import Syncer
 
@@ -24,6 +26,11 @@ AGAIN_SECONDS = 10.0
 """How often it is tried to write what could not be written."""
 LARGE = 1_000_000
 """A log of so many bytes is written anew, with less for what is past."""
+
+
+def date_line(first: datetime.date) -> str:
+    """The comment that says which date the plan's first frame has."""
+    return f"# date {first}"
 
 
 class Unwritten:
@@ -74,6 +81,11 @@ class Log:
         self._large = LARGE
         """It is written anew where it has more bytes."""
         self._is_torn = self._is_open = self._has_utc = False
+        self._beside: Optional[str] = None
+        """Where it is written that is to come to its path; None where it is there."""
+        self._copy: Optional[bytes] = None
+        """The code file of which a copy is to be written before it."""
+        self._script: Optional[str] = None
         self._again = 0.0
         self._frames = self._pending = self._count = 0
         self._wall = 0.0
@@ -94,6 +106,17 @@ class Log:
         """Whether all is in the file; not where there is no log."""
         return self._is_open and not self._unwritten
 
+    @property
+    def has_copies(self) -> bool:
+        """Whether copies of code files are kept beside it: not of one that is no regular file, or none."""
+        return self._file is not None and self._is_regular()
+
+    def keep(self, data: bytes, script: Optional[str]) -> None:
+        """From the next head on it is of a plan of which a copy is kept, a code file with these bytes, which was
+        compiled from the script of a digest, or from none."""
+        self._script = script
+        self._copy = data if self.path is not None else None
+
     def steps(self) -> Iterator[bytes]:
         """The steps so far."""
         return steps_in(self.path) if self.path is not None and self.past is not None else iter(())
@@ -112,7 +135,7 @@ class Log:
         self._count, self._is_torn = count, True
         if past is not None:
             self._size, self._frames, self._count = past.size, past.frames, (count + past.frames) % COUNTS
-            self._has_utc = past.has_utc
+            self._has_utc, self._script = past.has_utc, past.script
         if past is None or past.count != count:
             self._add_head(count, start, digest, wall)
 
@@ -125,13 +148,16 @@ class Log:
             self._add_head(count, start, digest, wall)
             self._flush()
 
-    def begin_anew(self, count: int, start: str, digest: str, wall: float) -> None:
-        """The plan begins anew while it is on its way: the log so far, which is written, is renamed."""
+    def begin_anew(self, count: int, start: str, digest: str, wall: float, lines: Iterable[str]) -> None:
+        """The plan, or another one, begins while the bridge is on its way: the log so far, which is written, is
+        renamed. The other one begins with these lines, contacts and comments."""
         if self.path is not None:
             self.past, self._is_anew, self._has_utc = None, True, False
             self._size = self._frames = self._pending = 0
             self.start(count, start, digest, wall)
+            self._unwritten.add(0, "".join(f"{line}\n" for line in lines))
             self._flush()
+            self.sync()
 
     def open(self) -> None:
         """The plan is on air: from now on all is written."""
@@ -150,13 +176,21 @@ class Log:
     def dated(self, first: Optional[datetime.date]) -> None:
         """Writes which date the plan's first frame has, where there is one and the log does not say it yet."""
         if first is not None and (self.past is None or self.past.first_date != first):
-            self.contacts([], [f"# date {first}"])
+            self.contacts([], [date_line(first)])
 
     def held(self, frame: Optional[int]) -> None:
         """Writes that the configuration of a frame of the plan is held from here on, or none any more."""
+        self._remark("# not held" if frame is None else f"# held {frame}")
+
+    def holds(self, script: bytes) -> None:
+        """Writes that the configuration of a script is held from here on, which no frame of the plan has."""
+        self._remark(holds_line(script))
+
+    def _remark(self, text: str) -> None:
+        """Writes a comment, which is to be on the disk at once."""
         if self.path is not None:
             self._note()
-            self._unwritten.add(0, "# not held\n" if frame is None else f"# held {frame}\n")
+            self._unwritten.add(0, f"{text}\n")
             self._flush()
             self.sync()
 
@@ -210,11 +244,15 @@ class Log:
         if self._is_open and self._unwritten:
             say(f"{self.path} is not whole: what could not be written is lost")
         self._close()
+        if self._beside is not None:
+            with contextlib.suppress(OSError):
+                os.unlink(self._beside)
         return not (self._is_open and self._unwritten)
 
     def _add_head(self, count: int, start: str, digest: str, wall: float) -> None:
         """Adds how a plan begins to what is to be written."""
-        self._unwritten.add(0, f"{HEAD_TEXT}count {count} {start} code {digest} at {text_of(wall)}\n")
+        script = "" if self._script is None else f"# script {self._script}\n"
+        self._unwritten.add(0, f"{HEAD_TEXT}count {count} {start} code {digest} at {text_of(wall)}\n{script}")
 
     def _note(self) -> None:
         """Adds the frames since the last line to what is to be written."""
@@ -237,7 +275,9 @@ class Log:
                 self._compact()
             data = self._unwritten.text().encode("ascii")
             self._write(data)
+            self._put_in_place()
         except OSError as fault:
+            self._is_torn = True
             self._again = time.monotonic() + AGAIN_SECONDS
             self._state.alarm(Alarm.LOG, f"cannot write {self.path}: {why(fault)}: what is to be logged is kept, and "
                                          f"tried again each {AGAIN_SECONDS:g} s")
@@ -255,10 +295,15 @@ class Log:
         if not self._is_torn:
             return
         if self._is_anew and self._file is not None and self._is_regular():
-            self._put_away()
+            self._begin_beside()
         self._is_anew = False
         if self._file is None:
             self._file = locked(self.path, os.O_RDWR | os.O_CREAT)
+        if self._copy is not None:
+            if self._is_regular():
+                # Frames wait for this: they do not wait for the disk.
+                keep(self.path, self._copy, False)
+            self._copy = None
         if self._is_regular():
             os.ftruncate(self._file, self._size)
             os.lseek(self._file, 0, os.SEEK_END)
@@ -275,7 +320,7 @@ class Log:
 
     def _compact(self) -> None:
         """Writes the file anew, with less for what is past; where that fails it stays as it is."""
-        if self._file is None or self.path is None or not self._is_regular():
+        if self._file is None or self.path is None or self._beside is not None or not self._is_regular():
             return
         try:
             file, self._size = compacted(self.path, self._file, self._size)
@@ -304,15 +349,40 @@ class Log:
         if not os.path.isdir(os.path.dirname(os.path.realpath(path))):
             raise Trouble(f"cannot write {path}: No such file or directory")
 
-    def _put_away(self) -> None:
-        """Renames a log, to a name that no file has."""
-        assert self.path is not None
-        number = 1
-        while os.path.lexists(f"{self.path}.{number}"):
-            number += 1
-        os.rename(self.path, f"{self.path}.{number}")
-        say(f"{self.path} is now {self.path}.{number}")
+    def _begin_beside(self) -> None:
+        """Begins another log beside the one so far, which stays at its place until there is something in the other."""
+        assert self.path is not None and self._file is not None
+        if self._beside is not None:
+            # The last one did not come to its place.
+            return
+        beside = f"{os.path.realpath(self.path)}.{os.getpid()}"
+        file = os.open(beside, os.O_RDWR | os.O_CREAT | os.O_TRUNC | os.O_CLOEXEC, 0o600)
+        try:
+            keep_rights(file, os.fstat(self._file))
+            lock(beside, file)
+        except (OSError, Trouble):
+            os.close(file)
+            raise
         self._close()
+        self._file, self._beside = file, beside
+
+    def _put_in_place(self) -> None:
+        """Puts a log that was begun beside another one in its place: that one gets a name that no file has."""
+        if self._beside is None or self.path is None:
+            return
+        place, number = os.path.realpath(self.path), 1
+        names = place if os.path.islink(self.path) else self.path
+        while os.path.lexists(f"{names}.{number}"):
+            number += 1
+        with contextlib.suppress(FileNotFoundError):
+            try:
+                os.link(place, f"{names}.{number}")
+            except OSError:
+                # A file system without links: for a moment there is no log.
+                os.rename(place, f"{names}.{number}")
+            say(f"{self.path} is now {names}.{number}")
+        os.rename(self._beside, place)
+        self._beside = None
 
     def _close(self) -> None:
         if self._file is not None:

@@ -49,5 +49,22 @@ def text_of_metrics(plan: Plan, state: State, swap_in: Optional[int], closed: Se
                   if name != "frames"]
         known += [("dab_checked_frames_total", "counter", [((), checked.frames)]),
                   ("dab_up", "gauge", [((), checked.is_up)])]
+    known += composed(state)
     common = (("ensemble", f"{plan.eid:04X}"), ("plan", os.path.basename(plan.path)))
     return "\n".join(line for name, kind, values in known for line in lines_of(name, kind, common, values)) + "\n"
+
+
+def composed(state: State) -> List[Tuple[str, str, List[Value]]]:
+    """The metrics of inputs and streams; without values where there is one input."""
+    inputs = [((("input", each.name),), each) for each in list(state.inputs)]
+    streams = [((("sub", str(sub)),), each) for sub, each in sorted(state.streams.copy().items())]
+    return [
+        ("dab_input_connected", "gauge", [(own, each.is_connected) for own, each in inputs]),
+        ("dab_input_depth_frames", "gauge", [(own, each.depth) for own, each in inputs]),
+        ("dab_input_late_total", "counter", [(own, each.late) for own, each in inputs]),
+        ("dab_input_missing_total", "counter", [(own, each.missing) for own, each in inputs]),
+        ("dab_input_damaged_total", "counter", [(own, each.damaged) for own, each in inputs]),
+        ("dab_stream_source", "gauge", [((*own, ("input", each.source)), bool(each.source)) for own, each in streams]),
+        ("dab_stream_silent_total", "counter", [(own, each.silent) for own, each in streams]),
+        ("dab_stream_fallbacks_total", "counter", [(own, each.fallbacks) for own, each in streams]),
+    ]

@@ -78,6 +78,15 @@ class Pace:
             self._offset = moment.host - number * FRAME_SECONDS
         self.take(number, moment)
 
+    def renumbered(self, frames: int) -> Pace:
+        """The same, where each frame has a number that is less by so many."""
+        found = Pace(self.number - frames, self.moment)
+        found.last = self.last[0] - frames, self.last[1]
+        found._offset, found._late = self._offset + frames * FRAME_SECONDS, self._late
+        if found._late is not None:
+            found._late = _Late(found._late.since, found._late.offset + frames * FRAME_SECONDS)
+        return found
+
     def _is_steady(self, offset: float, now: float) -> bool:
         """Whether frames have been behind for long without catching up: the stream paused, and its pace is this one."""
         if self._late is None or offset < self._late.offset - CATCH_UP:

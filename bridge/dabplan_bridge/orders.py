@@ -25,6 +25,8 @@ class Kind(Enum):
     """The plan goes on by the counts that come."""
     ANEW = "anew"
     """The plan begins anew."""
+    RELOAD = "reload"
+    """The file of the plan is read anew, and takes its place."""
 
 
 class Answer(NamedTuple):
@@ -79,10 +81,12 @@ class Orders:
     def __init__(self) -> None:
         self._contacts: Deque[Order] = deque()
         self._others: Deque[Order] = deque()
+        self._reloads: Deque[Order] = deque()
+        self._queues = {Kind.CONTACT: self._contacts, Kind.RELOAD: self._reloads}
 
     def put(self, order: Order) -> None:
         """Gives an order."""
-        (self._contacts if order.kind is Kind.CONTACT else self._others).append(order)
+        self._queues.get(order.kind, self._others).append(order)
 
     def contacts(self, most: int) -> List[Order]:
         """Takes the next orders about contacts, at most so many."""
@@ -94,14 +98,23 @@ class Orders:
         return found
 
     def other(self) -> Optional[Order]:
-        """Takes the next order about the plan; None where there is none."""
-        while self._others:
-            order = self._others.popleft()
-            if order.take():
-                return order
-        return None
+        """Takes the next order about a plan that is held; None where there is none."""
+        return next_of(self._others)
+
+    def reload(self) -> Optional[Order]:
+        """Takes the next order to replace the plan; None where there is none."""
+        return next_of(self._reloads)
 
     def close(self) -> None:
         """Refuses those that wait: the bridge ends."""
-        for order in [*self.contacts(len(self._contacts)), *filter(None, [self.other()])]:
+        for order in [*self.contacts(len(self._contacts)), *filter(None, [self.other(), self.reload()])]:
             order.answer(503, error="the bridge ends")
+
+
+def next_of(orders: Deque[Order]) -> Optional[Order]:
+    """Takes the next one that was not given up; None where there is none."""
+    while orders:
+        order = orders.popleft()
+        if order.take():
+            return order
+    return None

@@ -13,15 +13,20 @@ not explained a comment says which frame of the plan has what was held, and anot
     # given 1 closed
     # held 250
     # not held
+    # script fedcba9876543210
+    # holds ZW5zZW1ibGUg
 
 `# utc` says that the multiplexer sends FIG 0/10, `# date` which date the day of the plan's first frame has, where there
-is a calendar, and `# given` how a contact under conditions was given last, `over` if it was closed too long. A last
-line without its line feed was cut short, and is passed over.
+is a calendar, and `# given` how a contact under conditions was given last, `over` if it was closed too long. `# script`
+has the first digits of the SHA-256 of the script of the plan, and `# holds` the script, in base64, of what is held
+where no frame of the plan has it. A last line without its line feed was cut short, and is passed over.
 """
 from __future__ import annotations
 
+import base64
+import binascii
 import re
-from dataclasses import dataclass, field
+from dataclasses import dataclass, field, replace
 from datetime import date, datetime, timezone
 from typing import Dict, Iterator, List, Optional, Tuple
 
@@ -37,6 +42,8 @@ NOTE = re.compile(rb"# count (\d{1,4}) frames (\d{1,15}) at (\d{4}-\d\d-\d\dT\d\
 UTC_TEXT = "# utc"
 """The line that says that the multiplexer sends FIG 0/10."""
 HELD = re.compile(rb"# (?:held (\d{1,15})|not held)")
+HOLDS = re.compile(rb"# holds ([A-Za-z0-9+/]{1,65536}={0,2})")
+SCRIPT = re.compile(rb"# script ([0-9a-f]{16})")
 DATE = re.compile(rb"# date (\d{4}-\d\d-\d\d)")
 GIVEN = re.compile(rb"# given (\d{1,2}) (closed|open|over)")
 STEP = re.compile(rb"contact (\d{1,2}) (?:closed|open)|frames (\d{1,7})")
@@ -96,6 +103,10 @@ class Past:
     """When the last of them came, as the log says it; nothing if it does not."""
     held: Optional[int] = None
     """The frame of the plan whose configuration was held at the end; None if none was."""
+    holds: Optional[bytes] = None
+    """The script of the configuration that was held at the end, where no frame of the plan has it."""
+    script: Optional[str] = None
+    """What `plan.Plan.script` was."""
     has_utc: bool = False
     """Whether the multiplexer sent FIG 0/10."""
     first_date: Optional[date] = None
@@ -104,6 +115,11 @@ class Past:
     """How contacts under conditions were given last."""
     size: int = 0
     """The bytes of the whole lines."""
+
+    @property
+    def is_held(self) -> bool:
+        """Whether a configuration was held at the end."""
+        return self.held is not None or self.holds is not None
 
     def due(self) -> int:
         """The count of the frame behind the last one."""
@@ -148,10 +164,8 @@ def head_of(head: "re.Match[bytes]", past: Optional[Past]) -> Past:
         raise ValueError("a number out of range")
     if not is_day and start != "time -":
         datetime.strptime(start, "time %H:%M:%S")
-    fresh = Past(int(head[1]), start, head[3].decode("ascii"))
-    if past is not None:
-        fresh.frames, fresh.wall_text, fresh.held, fresh.has_utc = past.frames, past.wall_text, past.held, past.has_utc
-        fresh.first_date, fresh.given = past.first_date, past.given
+    count, digest = int(head[1]), head[3].decode("ascii")
+    fresh = Past(count, start, digest) if past is None else replace(past, count=count, start=start, digest=digest)
     fresh.wall_text = head[4] or fresh.wall_text
     return fresh
 
@@ -172,17 +186,34 @@ def note_of(past: Optional[Past], line: bytes) -> Optional[Past]:
         if int(note[1]) != past.due():
             raise ValueError(f"count {int(note[1])}, but {past.due()} follows")
     past.has_utc = past.has_utc or line == UTC_TEXT.encode("ascii")
-    held = HELD.fullmatch(line)
-    if held:
-        past.held = None if held[1] is None else int(held[1])
     if line[:1] == b"#":
+        take_held(past, line)
         take_remark(past, line)
     return past
 
 
+def holds_line(script: bytes) -> str:
+    """The comment that says that the configuration of a script is held."""
+    return f"# holds {base64.b64encode(script).decode('ascii')}"
+
+
+def take_held(past: Past, line: bytes) -> None:
+    """Takes the comments about what is held; `ValueError` if a script of it is none."""
+    held, holds = HELD.fullmatch(line), HOLDS.fullmatch(line)
+    if held:
+        past.held, past.holds = None if held[1] is None else int(held[1]), None
+    elif holds:
+        try:
+            past.held, past.holds = None, base64.b64decode(holds[1], validate=True)
+        except binascii.Error:
+            raise ValueError("no script of what is held") from None
+
+
 def take_remark(past: Past, line: bytes) -> None:
-    """Takes the comments about calendar and conditions; `ValueError` if a date is none."""
-    day, given = DATE.fullmatch(line), GIVEN.fullmatch(line)
+    """Takes the comments about the script, calendar and conditions; `ValueError` if a date is none."""
+    day, given, script = DATE.fullmatch(line), GIVEN.fullmatch(line), SCRIPT.fullmatch(line)
+    if script:
+        past.script = script[1].decode("ascii")
     if day:
         past.first_date = date.fromisoformat(day[1].decode("ascii"))
     elif given and int(given[1]) <= HIGHEST:

@@ -1,15 +1,18 @@
-"""What the bridge has to know of a plan: its ensemble, and the sub-channels that it has in a frame."""
+"""What the bridge has to know of a plan: its ensemble, and the sub-channels that it has in a frame. A plan is a code
+file, or a script, which is compiled here."""
 from __future__ import annotations
 
 import hashlib
+import os
 from dataclasses import dataclass
-from typing import Dict, Iterable, List, Tuple
+from typing import Dict, Iterable, List, Optional, Tuple
 
-from .chain import Live, frame_lines, taken
-from .code_file import Fields, Header, NoCode, configurations_of, header_of
-from .faults import Trouble, why
+from .chain import Code, Live, frame_lines, taken
+from .code_file import MAGIC, Fields, Header, NoCode, configurations_of, header_of
+from .faults import Trouble, reason_of
 from .fibs import COUNTS, Listener, size_of
 from .layout import SubChannel
+from .program import code_of, in_memory, path_of
 
 
 @dataclass(frozen=True)
@@ -17,12 +20,24 @@ class Plan:
     """What a code file says of its ensemble."""
 
     path: str
+    """That of the code file, or of the script."""
     header: Header
     digest: str
     """The first 16 digits of the SHA-256 of the code file."""
     configurations: Tuple[Dict[int, SubChannel], ...]
     """The sub-channels of each configuration that it may bring on air; none where `dabplan` has to say what is wrong
     with the file."""
+    data: bytes
+    """The bytes of the code file."""
+    code: Code
+    """The code file, in memory, where there is room: whatever becomes of the one at the path, this one is played."""
+    script: Optional[str] = None
+    """The same digits of the script that it was compiled from; None where the path is that of a code file."""
+
+    def close(self) -> None:
+        """Lets go of the code file in memory."""
+        if self.code.file is not None:
+            os.close(self.code.file)
 
     @property
     def mode(self) -> int:
@@ -49,18 +64,52 @@ def configurations_in(data: bytes) -> List[Dict[int, SubChannel]]:
         return []
 
 
-def plan_of(path: str) -> Plan:
-    """The plan of a code file, by its header; `dabplan` verifies the rest. `Trouble` if it is none, or can't be
-    read."""
+def digest_of(data: bytes) -> str:
+    """The first 16 digits of a SHA-256."""
+    return hashlib.sha256(data).hexdigest()[:16]
+
+
+def bytes_of(path: str) -> bytes:
+    """The bytes of a file; `Trouble` if it can't be read."""
     try:
         with open(path, "rb") as file:
-            data = file.read()
+            return file.read()
+    except (OSError, ValueError) as fault:
+        raise Trouble(f"cannot read {path}: {reason_of(fault)}") from None
+
+
+def is_script(data: bytes) -> bool:
+    """Whether these bytes may be a script: text, and not the beginning of a code file."""
+    try:
+        data.decode("utf-8")
+    except UnicodeDecodeError:
+        return False
+    return b"\0" not in data and not data.startswith(MAGIC) and not MAGIC.startswith(data)
+
+
+def of_code(path: str, data: bytes, script: Optional[str] = None) -> Plan:
+    """The plan of the bytes of a code file, by its header; `dabplan` verifies the rest. `Trouble` if it is none."""
+    try:
         header = header_of(Fields(data))
     except NoCode:
         raise Trouble(f"{path}: no code file") from None
-    except (OSError, ValueError) as fault:
-        raise Trouble(f"cannot read {path}: {why(fault) if isinstance(fault, OSError) else fault}") from None
-    return Plan(path, header, hashlib.sha256(data).hexdigest()[:16], tuple(configurations_in(data)))
+    code = Code(path)
+    try:
+        file = in_memory(data)
+        code = Code(path_of(file), file)
+    except Trouble:
+        if script is not None:
+            raise
+    return Plan(path, header, digest_of(data), tuple(configurations_in(data)), data, code, script)
+
+
+def plan_of(path: str, program: str, now: Optional[bytes] = None) -> Plan:
+    """The plan at a path, a code file or a script; one of a script begins with what the items of the script `now` make,
+    where it is given. `Trouble` if it can't be read, or is neither, or is refused."""
+    data = bytes_of(path)
+    if not is_script(data):
+        return of_code(path, data)
+    return of_code(path, code_of(program, path, data, now), digest_of(data))
 
 
 def opening(live: Live, plan: Plan, count: int, steps: Iterable[bytes], at: int) -> Dict[int, SubChannel]:

@@ -7,7 +7,7 @@ from dataclasses import dataclass
 from itertools import chain, islice
 from typing import Deque, Dict, Iterable, List, Optional, Tuple
 
-from .chain import Chain, Code, Live, Progress, frame_lines
+from .chain import Chain, Live, Progress, frame_lines
 from .faults import Stopped, Trouble, number_of
 from .fibs import COUNTS, Listener
 from .follower import KEPT
@@ -69,7 +69,7 @@ class Player:
         self._layouts: Deque[Tuple[int, Dict[int, SubChannel]]] = deque(maxlen=KEPT)
         lines = [*steps] if start.frames < plan.history else steps
         again = min(start.frames, KEPT)
-        code = Code(plan.path)
+        code = plan.code
         known: Optional[Dict[int, SubChannel]] = None
         if isinstance(lines, list):
             given = [*lines, *frame_lines(start.missed)]
@@ -141,6 +141,12 @@ class Player:
         """The FICs of the last frames that were made, from the last swap on, as far as they are kept."""
         frames = min(self._since_swap, len(self._kept))
         return list(islice(self._kept, len(self._kept) - frames, None))
+
+    def come_after(self, other: Player) -> None:
+        """Its first frame comes behind the last one that another plan made, which had what this one begins with: those
+        frames are kept too, under numbers below 0."""
+        self._kept.extend(other._kept)
+        self._layouts.extend((number - other.made, subs) for number, subs in other._layouts)
 
     def end(self) -> bool:
         """Ends the children; returns whether they ended well."""

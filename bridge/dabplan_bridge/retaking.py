@@ -15,10 +15,10 @@ from .fibs import COUNTS, FRAME_SECONDS
 from .follower import Follower
 from .frames import Frame
 from .given import Given
-from .log import Log
+from .log import Log, date_line
 from .moments import Moment
 from .orders import Kind, Order, Orders
-from .past import contact_line, past_of
+from .past import holds_line, past_of
 from .plan import Plan
 from .player import Player, Start
 
@@ -46,6 +46,7 @@ class Taken:
     steps: List[bytes] = field(default_factory=list)
     """What the plan is given at its beginning, where it begins anew."""
     player: Optional[Player] = None
+    """The plan, once it is played so far."""
     fault: Optional[Trouble] = None
     thread: Optional[threading.Thread] = None
 
@@ -55,13 +56,18 @@ class Taken:
         self.thread.start()
 
     @property
+    def is_anew(self) -> bool:
+        """Whether it begins anew."""
+        return self.order.kind is Kind.ANEW
+
+    @property
     def is_done(self) -> bool:
         """Whether it was played so far."""
         return self.thread is not None and not self.thread.is_alive()
 
     def _run(self, made: Made) -> None:
         try:
-            self.player = made(self.start, self.steps, self.order.kind is Kind.ANEW)
+            self.player = made(self.start, self.steps, self.is_anew)
         except Trouble as fault:
             self.fault = fault
 
@@ -80,6 +86,11 @@ class Retaking:
     def is_busy(self) -> bool:
         """Whether a plan is being played for an order: the one that is held is given nothing then."""
         return self._taken is not None
+
+    @property
+    def is_wanted(self) -> bool:
+        """Whether an order is being carried out, or waits for a frame with which it can be."""
+        return self._taken is not None or self._anew is not None
 
     def refuse(self) -> None:
         """Refuses what is asked for while nothing is held."""
@@ -109,8 +120,9 @@ class Retaking:
         self._taken = taken
         taken.play(self._made)
 
-    def done(self) -> Optional[Taken]:
-        """The plan that is taken up, once it is played; from here on the log is its log. None where there is none."""
+    def done(self, held: Optional[bytes]) -> Optional[Taken]:
+        """The plan that is taken up, once it is played; from here on the log is its log. None where there is none.
+        `held` is the script of what is held."""
         taken = self._taken
         if taken is None or not taken.is_done:
             return None
@@ -118,21 +130,22 @@ class Retaking:
         if taken.player is None:
             taken.order.answer(409, error=str(taken.fault or "the plan can't be played"))
             return None
-        self._write(taken)
+        self._write(taken, held)
         taken.order.answer(200, frame=taken.number + taken.later, count=(taken.count + taken.later) % COUNTS)
         return taken
 
-    def _write(self, taken: Taken) -> None:
-        """Writes the log of a plan that is taken up, and says so."""
+    def _write(self, taken: Taken, held: Optional[bytes]) -> None:
+        """Writes the log of a plan that is taken up, with what is held meanwhile, and says so."""
         start, digest, place = taken.start, self._plan.digest, f"its frame {taken.number} is at count {taken.count}"
         if taken.order.kind is Kind.RESUME:
             self._log.move(start.first, start.time, digest, taken.follower.wall_of(start.frames - 1))
             say(f"the plan is taken up: {place}")
             return
         wall = taken.follower.wall_of(taken.number)
-        self._log.begin_anew(start.first, start.time, digest, wall)
-        self._log.dated(self._given.begin(start.time, taken.number, wall, None))
-        self._log.contacts(taken.steps)
+        first = self._given.begin(start.time, taken.number, wall, None)
+        lines = [line.decode("ascii") for line in taken.steps] + ([] if first is None else [date_line(first)])
+        lines += [] if held is None else [holds_line(held)]
+        self._log.begin_anew(start.first, start.time, digest, wall, lines)
         self._log.count(start.frames, wall)
         say(f"the plan begins anew: {place}")
 
@@ -157,7 +170,7 @@ class Retaking:
         """The plan begins with this frame, and with the contacts that are closed."""
         if start is None:
             return None
-        steps = [contact_line(contact, True) for contact, is_closed in enumerate(self._given.closed) if is_closed]
+        steps = self._given.closed_lines()
         return Taken(order, start, self._follower(start, start.frames, moment), start.frames, count, 0, steps)
 
     def _follower(self, start: Start, number: int, moment: Moment) -> Follower:

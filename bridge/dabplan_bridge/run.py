@@ -1,6 +1,7 @@
 """The command `run`: a plan on its way into a stream."""
 from __future__ import annotations
 
+import signal
 from dataclasses import dataclass, field
 from typing import List, Optional, Tuple
 
@@ -12,12 +13,13 @@ from .checking import Check
 from .compose import Compose
 from .conditions import Condition
 from .control import Control
+from .copies import plan_with_log
 from .faults import hold_signals
 from .fifos import Contacts, Monitor, refuse_other
 from .given import Given
 from .log import Log
-from .orders import Orders
-from .plan import Plan, plan_of
+from .orders import Kind, Order, Orders
+from .plan import Plan
 from .reader import Reader
 from .sinks import Sinks
 from .sources import Source, source_of
@@ -64,19 +66,27 @@ def refuse(options: Options) -> None:
     refuse_other("--monitor", options.monitor)
 
 
-def begun(options: Options, plan: Plan) -> Bridge:
-    """A bridge whose past was played, where it has one."""
+def reload_at_hangup(orders: Orders) -> None:
+    """From here on SIGHUP is an order to replace the plan, unless it was to be ignored."""
+    if signal.getsignal(signal.SIGHUP) is not signal.SIG_IGN:
+        signal.signal(signal.SIGHUP, lambda *_: orders.put(Order(Kind.RELOAD)))
+
+
+def begun(options: Options) -> Tuple[Plan, Bridge]:
+    """A plan, and a bridge whose past was played, where it has one."""
     state = State()
-    log = Log(options.log, options.every, options.anew, state)
-    contacts, monitor = Contacts(options.contacts), Monitor(options.monitor)
     orders = Orders()
+    reload_at_hangup(orders)
+    log = Log(options.log, options.every, options.anew, state)
+    plan = plan_with_log(options.code, options.wish.program, options.log, log.past)
+    contacts, monitor = Contacts(options.contacts), Monitor(options.monitor)
     given = Given(contacts, orders, options.conditions, options.calendar, options.wish.is_local)
     given.take_up(log.past, log.steps())
     control = Control(options.control, options.wish.program, plan, options.source.name, given, orders, state)
     composer = None if options.compose is None else options.compose.composer(state, options.format)
     check = Check(options.wish.program, plan.mode, options.is_checked, state)
     file = StateFile(options.state, state)
-    return Bridge(options.wish, plan, log, given, monitor, state, file, control, check, composer)
+    return plan, Bridge(options.wish, plan, log, given, monitor, state, file, control, check, composer)
 
 
 def composed(options: Options, compose: Compose, plan: Plan, bridge: Bridge, waiter: Waiter) -> int:
@@ -111,8 +121,7 @@ def played(options: Options, bridge: Bridge, waiter: Waiter) -> int:
 def run(options: Options) -> int:
     """The command `run`; returns the exit status."""
     refuse(options)
-    plan = plan_of(options.code)
-    bridge = begun(options, plan)
+    plan, bridge = begun(options)
     is_well = False
     try:
         if options.compose is None or len(options.compose.inputs) == 1:

@@ -11,7 +11,6 @@ from .fibs import COUNTS, DAY_FRAMES
 from .given import Given
 from .labels import Labels
 from .past import day_frame_of_start, text_of
-from .plan import Plan
 from .state import State
 
 Fields = Dict[str, object]
@@ -29,20 +28,22 @@ def time_of_frame(start: str, frame: Optional[int]) -> Optional[str]:
 class Status:
     """Makes the object. Not for several threads at once."""
 
-    def __init__(self, plan: Plan, program: str, source: str, board: Board, given: Given, state: State,
+    def __init__(self, program: str, source: str, board: Board, given: Given, state: State,
                  needs_token: bool) -> None:
-        self._plan = plan
+        self._plan = board.plan
         self._needs_token = needs_token
         self._source = source
         self._board, self._given, self._state = board, given, state
         self._labels = Labels()
-        self._decoder = Decoder(program, plan.history)
+        self._program = program
+        self._decoder = Decoder(program, self._plan.history)
         self._seen = -1
 
     def fields(self) -> Fields:
         """What is so at this moment."""
-        state, plan = self._state, self._plan
-        frames = self._board.frames()
+        state, plan, frames = self._state, self._board.plan, self._board.frames()
+        if plan is not self._plan:
+            self._plan, self._decoder = plan, Decoder(self._program, plan.history)
         self._look(frames)
         current, following = self._decoder.configurations(self._labels)
         last = frames[-1] if frames else None

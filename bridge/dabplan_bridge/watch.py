@@ -10,7 +10,6 @@ from typing import Tuple
 from .board import Board
 from .given import Given
 from .metrics import text_of_metrics
-from .plan import Plan
 from .priority import REAL_TIME, set_policy
 from .state import State
 from .status import Status
@@ -22,10 +21,10 @@ EVERY_SECONDS = 0.5
 class Watch:
     """What is shown now."""
 
-    def __init__(self, plan: Plan, status: Status, board: Board, given: Given, state: State) -> None:
+    def __init__(self, status: Status, board: Board, given: Given, state: State) -> None:
         self.is_over = False
         """Whether the bridge ends."""
-        self._plan, self._status = plan, status
+        self._status = status
         self._board, self._given, self._state = board, given, state
         self._condition = threading.Condition()
         self._number = 0
@@ -41,7 +40,7 @@ class Watch:
         """What `/metrics` says."""
         frames = self._board.frames()
         swap_in = frames[-1].swap_in if frames else None
-        text = text_of_metrics(self._plan, self._state, swap_in, self._given.closed, time.monotonic())
+        text = text_of_metrics(self._board.plan, self._state, swap_in, self._given.closed, time.monotonic())
         return text.encode("utf-8")
 
     def after(self, number: int) -> Tuple[int, bytes]:

@@ -77,6 +77,10 @@ class Calendar:
         self._begin, self._date = day_frame_of_start(start) or 0, first
         self._from, self._until = 0, -1
 
+    def date_of(self, frame: int) -> Optional[date]:
+        """The date that the plan's frame of a number has; None where that is not known."""
+        return None if self._date is None else self._date + timedelta(days=(self._begin + frame) // DAY_FRAMES)
+
     def next(self, frame: int) -> Optional[int]:
         """The frame of the plan's next midnight behind the frame of a number; None where there is no calendar."""
         if not self.is_there or self._date is None:

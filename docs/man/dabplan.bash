@@ -10,7 +10,7 @@ _dabplan() {
   fi
   case $before in
     --mode) _dabplan_words "1 2 3 4"; return ;;
-    --budget|--contacts|--count|--day|--ensemble|--every|--notice|--page|--period|--reserve|--skip|--time) return ;;
+    --budget|--contacts|--count|--day|--ensemble|--every|--from|--notice|--page|--period|--reserve|--skip|--time) return ;;
   esac
   case ${COMP_WORDS[1]} in
     frame) options="--ensemble --count --page --mode --reserve --script --raw --quiet --help" ;;
@@ -18,7 +18,7 @@ _dabplan() {
     check) options="--mode --period --every --time --until-fault --json --help" ;;
     merge) options="--mode --help" ;;
     diff) options="--quiet --help" ;;
-    compile) options="--explain --quiet --help" ;;
+    compile) options="--from --explain --quiet --help" ;;
     verify) options="--explain --quiet --help" ;;
     map) options="--svg --layout --quiet --help" ;;
     play) options="--count --day --time --contacts --help" ;;

@@ -2,7 +2,7 @@
 """Live runs that are killed and resumed, lines without steps, and failing streams.
 
 A hundred runs that are killed, and resumed with the written frames skipped; a million lines
-of garbage; a million frames, and a line without an end, in constant memory; outputs with a size limit; messages that
+of garbage; a million frames, and a line without an end, in constant memory; a year that is skipped; outputs with a size limit; messages that
 nobody reads. The last line is 'N passed, M failed'.
 """
 import pathlib
@@ -16,6 +16,10 @@ import common
 
 CODE = common.SAMPLES / "contact_lowers_a_rate.code"
 FRAME = 96
+YEAR = 365 * 3_600_000
+# Four changes of a rate a day, by the clock.
+DAYS = "ensemble E1C5 period 4 notice 240 budget 20\nsub 1 at 0 eep 3-A 128 service C221 audio 63 sub 1 in C221\nbegin forever {\n" + "".join(
+    f"until {hour}:59:54 rate sub 1 {rate} commit in 250 join\n" for hour, rate in (("01", 96), ("05", 112), ("11", 96), ("21", 128))) + "}\n"
 
 
 def some_lines(source, count):
@@ -122,6 +126,22 @@ def try_memory(tally, program, folder):
     tally.hold(full[3] <= least + 8192, f"a full line of steps: {full[3]} KB")
 
 
+def try_year(tally, program, folder, source):
+    """A year of frames with four swaps a day and 1,000 contacts is skipped within two seconds."""
+    common.write(folder, "year.plan", DAYS)
+    common.run([program, "compile", "year.plan", "year.code"], folder)
+    lines, left = [], YEAR
+    for number in range(1000):
+        frames = left // (1000 - number)
+        left -= frames
+        lines.append(f"frames {frames}\ncontact {source.randrange(16)} {source.choice(('closed', 'open'))}\n")
+    begun = time.monotonic()
+    ended = common.run([program, "live", "year.code", "--skip", str(YEAR), "--status"], folder, stdin=("".join(lines) + "frames 1\n").encode())
+    lasted = time.monotonic() - begun
+    tally.same("a year", (0, FRAME, 365 * 4), (ended.status, len(ended.printed), ended.messages.count(b" swap\n")))
+    tally.hold(lasted < 2, f"a year took {lasted:.1f} s")
+
+
 def try_outputs(tally, program, folder):
     """An output with a size limit: the reported numbers are those of the bytes that it took, and no later line is reported."""
     for skip in (0, 3):
@@ -162,6 +182,7 @@ def main():
         try_kills(tally, program, folder, source)
         try_garbage(tally, program, folder, source)
         try_memory(tally, program, folder)
+        try_year(tally, program, folder, source)
         try_outputs(tally, program, folder)
         try_ends(tally, program, folder)
     tally.end()

@@ -108,6 +108,17 @@ def by_day_or_night(second, _):
     return service | audio(2, 72, 48, "C222")
 
 
+def by_night_or_region(second, is_closed):
+    """A lower rate by night, and a region's programme from six to nine while the contact is closed."""
+    region = REGION if is_closed and is_between(second, "06:00:00", "09:00:00") else set()
+    return by_night(second, is_closed) | region
+
+
+def by_night_or_emergency(second, is_closed):
+    """A lower rate by night, and a programme for emergencies while the contact is closed."""
+    return by_night(second, is_closed) | (audio(4, 240, 72, "C224") if is_closed else set())
+
+
 def by_contact(closed):
     """A configuration while the contact is closed."""
     return lambda _, is_closed: closed if is_closed else FULL
@@ -129,6 +140,8 @@ ROWS = (
     Row("settled_change", 3, (), (NOON, NOON), "18:00:00", by_contact(LOWER)),
     Row("short_notice", None, (), (NOON, NOON), "18:00:00", lambda *_: LOWER),
     Row("day_night", None, ("22:00:00", "06:00:00"), ("05:59:54", "21:59:54"), "23:00:00", by_day_or_night),
+    Row("night_and_region", 5, ("22:00:00", "06:00:00", "09:00:00"), (NOON, NOON), "07:30:00", by_night_or_region),
+    Row("two_regions", 9, ("22:00:00", "06:00:00"), (NOON, NOON), "23:00:00", by_night_or_emergency),
 )
 
 

@@ -10,7 +10,7 @@ use crate::products::{answer_product, can_stream, has_product};
 use crate::remarks::{Remark, make_remark};
 use crate::same_files::same_file;
 use cli_plans::{debug, play};
-use cli_scripts::{compile, diff, frame_script, listen_script, map, verify};
+use cli_scripts::{compile, compile_from, diff, frame_script, listen_script, map, verify};
 use cli_streams::{check, frame, listen};
 use console::ending::{finish, report, status_number};
 use console::exit::{Failure, Status};
@@ -122,6 +122,9 @@ pub(crate) fn run<'a, F: Files, W: Write>(
         Request::Diff(request) => diff::show_diff(alloc, request, files, out),
         Request::Check(request) => check::show_check(alloc, request, files, out),
         Request::Compile(request) => compile::show_compile(alloc, request, files, out),
+        Request::CompileFrom(request) => {
+            compile_from::show_compile_from(alloc, request, files, out)
+        }
         Request::Verify(request) => verify::show_verdict(alloc, request, files, out),
         Request::Play(request) => play::run_play(alloc, request, files, out),
         Request::Debug(request) => debug::show_debug(alloc, request, files, out),

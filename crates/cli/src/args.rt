@@ -10,6 +10,7 @@ mod listen;
 mod live;
 mod map;
 mod merge;
+mod moment;
 mod parser;
 mod play;
 mod shared;
@@ -21,6 +22,7 @@ use cli_plans::debug::DebugRequest;
 use cli_plans::live::LiveRequest;
 use cli_plans::play::PlayRequest;
 use cli_scripts::compile::CompileRequest;
+use cli_scripts::compile_from::CompileFromRequest;
 use cli_scripts::diff::DiffRequest;
 use cli_scripts::frame_script::FrameScriptRequest;
 use cli_scripts::listen_script::ListenScriptRequest;
@@ -55,6 +57,8 @@ pub enum Request<'a> {
     Check(CheckRequest<'a>),
     /// `compile`.
     Compile(CompileRequest<'a>),
+    /// `compile --from`.
+    CompileFrom(CompileFromRequest<'a>),
     /// `verify`.
     Verify(VerifyRequest<'a>),
     /// `play`.
@@ -181,7 +185,7 @@ pub fn request_of<'a, S: AsStr>(
         Some("listen") => listen::request(&values),
         Some("diff") => Ok(diff::request(&values)),
         Some("check") => check::request(&values),
-        Some("compile") => Ok(compile::request(&values)),
+        Some("compile") => compile::request(&values),
         Some("verify") => Ok(verify::request(&values)),
         Some("play") => play::request(&values),
         Some("debug") => debug::request(&values),

@@ -6,6 +6,7 @@ use crate::args::Request;
 use crate::remarks::{Remark, make_remark};
 use cli_plans::play::stream_play;
 use cli_scripts::compile::stream_compile;
+use cli_scripts::compile_from::stream_compile_from;
 use cli_scripts::explained::report_lines;
 use console::ending::report;
 use console::exit::{Failure, Status};
@@ -19,6 +20,7 @@ use std::io::Write;
 pub(crate) fn has_product(request: &Request<'_>) -> bool {
     match request {
         Request::Compile(request) => request.out == "-",
+        Request::CompileFrom(request) => request.out == "-",
         Request::Play(request) => request.out == "-",
         Request::Frame(request) => request.raw,
         Request::FrameScript(_) | Request::ListenScript(_) | Request::Diff(_) => true,
@@ -55,6 +57,9 @@ pub(crate) fn answer_product<F: Files, W: Write>(
             ended
         }
         Request::Compile(request) => stream_compile(alloc, request, files, out, &mut lines),
+        Request::CompileFrom(request) => {
+            stream_compile_from(alloc, request, files, out, &mut lines)
+        }
         _ => print_product(alloc, request, files, out, &mut lines),
     };
     let remark = Remark::on(&ended);

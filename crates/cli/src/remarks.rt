@@ -132,6 +132,7 @@ fn place_of(before: &[u8]) -> (usize, usize) {
 fn wanted_of<'r>(request: &Request<'r>) -> Option<(&'r str, Kind)> {
     match request {
         Request::Compile(request) => Some((request.script, Kind::Script)),
+        Request::CompileFrom(request) => Some((request.script, Kind::Script)),
         Request::Map(request) => Some((request.script, Kind::Script)),
         Request::FrameScript(request) => Some((request.script, Kind::Script)),
         Request::Verify(request) => Some((request.code, Kind::Code)),
@@ -150,7 +151,11 @@ fn is_monitor(request: &Request<'_>) -> bool {
 /// Whether a command reads the file of this path as text.
 fn is_text(request: &Request<'_>, path: &str) -> bool {
     match request {
-        Request::Compile(_) | Request::Map(_) | Request::FrameScript(_) | Request::Diff(_) => true,
+        Request::Compile(_)
+        | Request::CompileFrom(_)
+        | Request::Map(_)
+        | Request::FrameScript(_)
+        | Request::Diff(_) => true,
         Request::Play(request) => path == request.events,
         Request::Debug(request) => path == request.commands,
         _ => false,

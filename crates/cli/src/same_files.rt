@@ -11,6 +11,13 @@ pub(crate) fn same_file<'a, F: Files>(request: &Request<'a>, files: &F) -> Optio
         Request::Compile(request) => {
             one_file(files, ("SCRIPT", request.script), ("OUT", request.out))
         }
+        Request::CompileFrom(request) => {
+            let out = ("OUT", request.out);
+            match one_file(files, ("SCRIPT", request.script), out) {
+                None => one_file(files, ("--from <NOW>", request.on_air), out),
+                mistake => mistake,
+            }
+        }
         Request::Play(request) => {
             let out = ("OUT", request.out);
             match one_file(files, ("CODE", request.code), out) {

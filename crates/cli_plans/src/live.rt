@@ -22,8 +22,8 @@ pub struct LiveRequest<'a> {
     pub code: &'a str,
     /// The start options.
     pub start: StartOptions,
-    /// The number of frames at the beginning that are generated but not written.
-    pub skip: u32,
+    /// The number of frames at the beginning that are played but not written.
+    pub skip: u64,
     /// The notes of frames that are reported on standard error.
     pub wanted: Wanted,
     /// Whether messages and the reason for an early end are objects of JSON, one a line.

@@ -4,7 +4,11 @@ use Rattle.cli_scripts.proofs.Words.{IsReadOf, IsReason, IsUncompiled, Keeps, Li
 use Rattle.cli_scripts.proofs.Words.{ScriptRefusal, Some, arith, length, subst, take, take_all, ℕ}
 use Rattle.console.specs.World.{World, Becomes, Stays, HasWritten}
 use Rattle.console.proofs.Worlds.{stays_then_written}
+use Rattle.cli_scripts.proofs.Words.{Compiled, Tree, inl, inr}
+use Rattle.cli_scripts.specs.Compiled.{IsFileOf, IsMadeOf, IsScheduledBy}
 use Rattle.cli_scripts.specs.declared.compile.Found.{Found}
+use Rattle.plan_code.specs.Program.{Program}
+use Rattle.schedule_front.specs.Tree.{Tree as Schedule}
 use Rattle.cli_scripts.proofs.ReadTexts.{compiled_whole, refused_whole}
 
 -- all bytes are taken, and then the writer is flushed
@@ -15,6 +19,14 @@ all_taken before mid after bytes count taken all kept =
     Appends-kept before mid after bytes (subst (Appends before mid) whole taken) kept
 
 -- ---- before the output is written
+
+pub of_steps : (text : List ℕ) (tree : Tree) (code : Program) (c : Compiled) → IsMadeOf text tree code → IsFileOf code c
+    → IsCompiled text c
+of_steps text tree code c made file = inl (tree, code, made, file)
+
+pub of_schedule : (text : List ℕ) (tree : Schedule) (code : Program) (c : Compiled) → IsScheduledBy text tree code
+    → IsFileOf code c → IsCompiled text c
+of_schedule text tree code c made file = inr (tree, code, made, file)
 
 pub found : (bytes text : List ℕ) (f : Found) → IsReadOf bytes text → IsCompiled text f.compiled
     → FindsCompiled bytes (Some f)
@@ -39,6 +51,13 @@ still_written path bytes (Some a) None new p q = absurd p
 still_written path bytes (Some a) (Some b) None p q = absurd q
 still_written path bytes (Some a) (Some b) (Some c) p q =
     record { written = q path ∙ p.written; others = λ other not. q other ∙ p.others other not }
+
+-- files that stay as they were, and stay so again
+pub stays_on : (old mid new : Option World) → Stays old mid → Stays mid new → Stays old new
+stays_on None mid new p q = tt
+stays_on (Some a) None new p q = absurd p
+stays_on (Some a) (Some b) None p q = absurd q
+stays_on (Some a) (Some b) (Some c) p q = λ path. q path ∙ p path
 
 pub written_then_stays : (path bytes file : List ℕ) (u v w x : Option World) → bytes ≡ file → Stays u v
     → Becomes (HasWritten path bytes) v w → Stays w x → Becomes (HasWritten path file) u x

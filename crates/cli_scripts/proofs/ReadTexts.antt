@@ -4,9 +4,11 @@ use Rattle.cli_scripts.proofs.Words.{◌<◌, ◌∙◌, ◌≡◌, ◌≤◌, C
 use Rattle.cli_scripts.proofs.Words.{IsReadOf, IsReason, IsRefusedFrom, IsUncompiled, IsUtf8, List, Memory, None, Ok}
 use Rattle.cli_scripts.proofs.Words.{OnOk, Option, Result, Script, ScriptRefusal, Some, ap, arith, cases_lt, inl, inr}
 use Rattle.cli_scripts.proofs.Words.{length, length-take, min, subst, sym, take, take-take, take_all, ℕ}
-use Rattle.script_front.specs.Denoting.{IsScriptOf, IsNoScript}
+use Rattle.script_front.specs.Denoting.{IsScriptOf}
+use Rattle.schedule_front.specs.Denoting.{IsScheduleOf}
+use Rattle.schedule_front.specs.Sources.{IsNoSource}
 use Rattle.script_tokens.specs.Texts.{MOST_BYTES}
-use Rattle.cli_scripts.specs.declared.compile.ScriptRefusal.TheVariants.{Plan}
+use Rattle.cli_scripts.specs.declared.compile.ScriptRefusal.TheVariants.{Plan, Schedule as ScheduleFault}
 
 -- what is so of a value, if there is one, and what is so beside it
 pub both_ok : {A E : Type 0} (given : Result A E) (P Q : A → Type 0) (U : Type 0) → ((a : A) → P a → U → Q a)
@@ -55,17 +57,30 @@ whole_of bytes text r fits = elim r.enough [
 pub compiled_whole : (bytes text : List ℕ) (c : Compiled) → IsReadOf bytes text → IsCompiled text c
     → IsCompiledFrom bytes c
 compiled_whole bytes text c r h =
-    let e : text ≡ bytes = whole_of bytes text r h.2.denotes.short in
+    let e : text ≡ bytes = whole_of bytes text r (short_of h) in
     record { utf8 = subst IsUtf8 e r.utf8; compiled = subst (λ (t : List ℕ). IsCompiled t c) e h }
+  where
+    short_of : IsCompiled text c → length text ≤ MOST_BYTES
+    short_of (inl steps) = steps.2.denotes.short
+    short_of (inr schedule) = schedule.2.denotes.short
 
-pub none_in_whole : (bytes text : List ℕ) → IsReadOf bytes text → IsNoScript text → IsNoScript bytes
-none_in_whole bytes text r none tree script is = elim r.enough [
-  | inl e ↦ none tree script (subst (λ (t : List ℕ). IsScriptOf t tree) (sym e) is)
+-- a file that is short enough for a script was read to its end
+pub whole_if_short : (bytes text : List ℕ) → IsReadOf bytes text → length bytes ≤ MOST_BYTES → text ≡ bytes
+whole_if_short bytes text r short = elim r.enough [
+  | inl e ↦ e
   | inr more ↦
       let cut : length text ≡ min (length text) (length bytes) = ap length r.front ∙ length-take (length text) bytes in
-      let short : length bytes ≤ MOST_BYTES = is.short in
       absurd (omega (arith, cut, more, short))
 ]
+
+pub none_in_whole : (bytes text : List ℕ) → IsReadOf bytes text → IsNoSource text → IsNoSource bytes
+none_in_whole bytes text r none = (
+  λ tree script is.
+      none.0 tree script (subst (λ (t : List ℕ). IsScriptOf t tree) (sym (whole_if_short bytes text r is.short)) is),
+  λ tree schedule is.
+      none.1 tree schedule
+      (subst (λ (t : List ℕ). IsScheduleOf t tree) (sym (whole_if_short bytes text r is.short)) is),
+)
 
 pub refused_whole : (bytes text : List ℕ) (refusal : ScriptRefusal) → IsReadOf bytes text → IsUncompiled text refusal
     → IsReason refusal → IsRefusedFrom bytes refusal
@@ -74,4 +89,7 @@ refused_whole bytes text (Script fault) r h reason =
 refused_whole bytes text (Plan fault) r h reason =
     let e : text ≡ bytes = whole_of bytes text r h.2.short in
     record { uncompiled = subst (λ (t : List ℕ). IsUncompiled t (Plan fault)) e h; reason = reason }
+refused_whole bytes text (ScheduleFault fault) r h reason =
+    let e : text ≡ bytes = whole_of bytes text r h.2.short in
+    record { uncompiled = subst (λ (t : List ℕ). IsUncompiled t (ScheduleFault fault)) e h; reason = reason }
 refused_whole bytes text Memory r h reason = absurd reason

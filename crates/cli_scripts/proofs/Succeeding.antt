@@ -3,7 +3,10 @@ use Rattle.cli_scripts.proofs.Words.{◌≡◌, Consumes, Consumes-whole, Diffs,
 use Rattle.cli_scripts.proofs.Words.{FramesScript, GivesFrame, HasPlan, HasScript, HasScriptOpening, HearsNamed, IfOk}
 use Rattle.cli_scripts.proofs.Words.{IfSome, IsAtEnd, IsReadOf, Keeps, List, ListenScriptRequest, Misused, Named, None}
 use Rattle.cli_scripts.proofs.Words.{Ok, Opening, Opens, Option, Refused, Result, Some, TellsScript, count_of, subst}
-use Rattle.cli_scripts.proofs.Words.{true, ℕ}
+use Rattle.cli_scripts.proofs.Words.{true, ℕ, ◌≤◌, Plan, inl, inr, length}
+use Rattle.script_config.specs.Openings.{BeginsWith}
+use Rattle.script_front.specs.declared.tree.Item.{Item}
+use Rattle.script_tokens.specs.Texts.{MOST_BYTES}
 use Rattle.console.specs.declared.exit.Status.{Status}
 use Rattle.cli_scripts.proofs.ReadTexts.{whole_of}
 
@@ -11,11 +14,17 @@ use Rattle.cli_scripts.proofs.ReadTexts.{whole_of}
 pub of_ok : {A E : Type 0} (given : Result A E) (a : A) (P : A → Type 0) → given ≡ Ok a → IfOk given P → P a
 of_ok {A = A} {E = E} given a P is h = subst (λ (r : Result A E). IfOk r P) is h
 
+-- a text that begins with items is short
+short_beginning : {text : List ℕ} {header : Plan} {items : List Item} {line : ℕ} → BeginsWith text header items line
+    → length text ≤ MOST_BYTES
+short_beginning (inl script) = script.denotes.short
+short_beginning (inr schedule) = schedule.denotes.short
+
 -- ---- `diff`
 
 pub has_opening : (bytes text : List ℕ) (o : Opening) → IsReadOf bytes text → Opens text o → HasScriptOpening bytes o
 has_opening bytes text o r h =
-    let e : text ≡ bytes = whole_of bytes text r h.denotes.short in
+    let e : text ≡ bytes = whole_of bytes text r (short_beginning h.begins) in
     subst (λ (t : List ℕ). HasScriptOpening t o) e (record { utf8 = r.utf8; opens = h })
 
 -- what holds of bytes that stayed known
@@ -52,7 +61,7 @@ pub frames : (bytes text : List ℕ) (request : FrameScriptRequest) (count : ℕ
 frames bytes text request count frame Prints r same h printed =
     let here : GivesFrame text (count_of request) request.page (Ok frame) =
     subst (λ (n : ℕ). GivesFrame text n request.page (Ok frame)) same h in
-    let e : text ≡ bytes = whole_of bytes text r here.2.short in
+    let e : text ≡ bytes = whole_of bytes text r (short_beginning here.3) in
     (frame, subst (λ (t : List ℕ). GivesFrame t (count_of request) request.page (Ok frame)) e here, printed)
 
 -- ---- `listen --script`

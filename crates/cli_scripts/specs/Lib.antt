@@ -1,3 +1,4 @@
+pub mod Begun
 pub mod Compiled
 pub mod FileTexts
 pub mod Naming

@@ -1,14 +1,15 @@
--- One frame of the initial configuration of a script, or the first fault.
+-- One frame of the initial configuration of a script or a schedule, or the first fault.
 use Rattle.std.specs.Prelude.{◌≡◌, ◌≢◌, ℕ, false, List, None, Result, Ok, Err}
 use Rattle.mux_config.specs.Configuration.{Configuration, nothing}
 use Rattle.mux_config.specs.Sound.{sound_or_fault}
 use Rattle.mux_types.specs.Entries.{EnsembleInformation}
 use Rattle.plan_code.specs.declared.plan.Plan.{Plan}
-use Rattle.script_front.specs.Denoting.{IsScriptOf, IsNoScript}
-use Rattle.script_front.specs.Tree.{Tree, IsScript}
+use Rattle.schedule_front.specs.Sources.{IsNoSource}
+use Rattle.script_front.specs.declared.tree.Item.{Item as AddItem}
 use Rattle.script_tokens.specs.declared.fault.ScriptFault.TheVariants.{Memory as NoMemoryForScript}
 use Rattle.script_config.specs.declared.items.ItemFault.{ItemFault}
 use Rattle.script_config.specs.Items.{made_by}
+use Rattle.script_config.specs.Openings.{BeginsWith}
 use Rattle.cli_streams.specs.declared.frame.FrameFault.{FrameFault}
 use Rattle.cli_streams.specs.Frame.{frame_or_fault, page_or_fault}
 use Rattle.cli_scripts.specs.declared.frame_script.ScriptFrameFault.{ScriptFrameFault}
@@ -28,15 +29,17 @@ frame_of_made header count index (Err fault) = Err (Item fault)
 frame_of_made header count index (Ok c) =
     in_frame (frame_or_fault (sound_or_fault c) (page_or_fault header.layout (ensemble_named_at header count) index c))
 
-abbrev pub frame_of_script : Tree → (count index : ℕ) → Result (List ℕ) ScriptFrameFault
-frame_of_script tree count index = frame_of_made tree.header count index (made_by tree.items nothing)
+-- the text is a script or a schedule, whose header and items have this frame, or this fault
+abbrev pub HasFrame : List ℕ → (count index : ℕ) → Result (List ℕ) ScriptFrameFault → Type 0
+HasFrame text count index given =
+    (header : Plan) × (items : List AddItem) × (line : ℕ) × BeginsWith text header items line
+    × (frame_of_made header count index (made_by items nothing) ≡ given)
 
--- the text is a script with this frame, or it is not a script
+-- the text has this frame, or it is neither a script nor a schedule
 abbrev pub GivesFrame : List ℕ → (count index : ℕ) → Result (List ℕ) ScriptFrameFault → Type 0
-GivesFrame text count index (Err (Script fault)) = IsNoScript text
+GivesFrame text count index (Err (Script fault)) = IsNoSource text
 GivesFrame text count index (Err Memory) = Unit {0}
-GivesFrame text count index given =
-    (tree : Tree) × IsScript tree × IsScriptOf text tree × (frame_of_script tree count index ≡ given)
+GivesFrame text count index given = HasFrame text count index given
 
 -- out of memory is no reason that a script gives no frame
 abbrev pub IsFrameReason : ScriptFrameFault → Type 0

@@ -3,7 +3,11 @@
 ghost use Rattle.std.specs.Prelude.{◌≡◌, ◌≢◌, ℕ, List, codes, take, IfOk, IfErr, IfSome, OnOk};
 ghost use Rattle.std.specs.Io.KnownBytes.{Appends};
 ghost use Rattle.console.specs.World.{Becomes, HasWritten, Stays};
-ghost use Rattle.cli_scripts.specs.Compiled.{IsFileOf, IsMadeOf, IsUncompiled, IsReasonOrMemory};
+ghost use Rattle.cli_scripts.specs.Compiled.{IsFileOf, IsMadeOf, IsScheduledBy, IsUncompiled};
+ghost use Rattle.cli_scripts.specs.Compiled.{IsReasonOrMemory};
+ghost use Rattle.script_front.specs.Denoting.{IsScriptOf};
+ghost use Rattle.schedule_front.specs.Denoting.{IsScheduleOf};
+ghost use Rattle.schedule_front.specs.Sources.{IsSourceOf};
 ghost use Rattle.cli_scripts.specs.Compiled.{IsCompiled, FindsCompiled};
 ghost use Rattle.cli_scripts.specs.Success.{Compiles};
 
@@ -14,8 +18,11 @@ use console::exit::{Failure, Status, write_file};
 use console::files::Files;
 use console::output::write_out;
 use plan_code::{Code, encode};
+use plan_verifier::Verified;
+use schedule_compiler::{ScheduleFault, compile_schedule};
+use schedule_front::{Schedule, Source, parse_source};
 use script_compiler::{CompileFault, compile};
-use script_front::{Script, ScriptFault, parse};
+use script_front::{Script, ScriptFault};
 use std::alloc::{AllocError, Global};
 use std::io::{self, Write};
 use thiserror::Error;
@@ -54,12 +61,15 @@ pub(crate) struct Found {
 /// Why a script is not compiled. Its text is the line that is printed.
 #[derive(Clone, Copy, Debug, Error)]
 pub enum ScriptRefusal {
-    /// The text is not a script.
+    /// The text is no script: neither of steps nor a schedule.
     #[error("{0}")]
     Script(ScriptFault),
     /// The plan is refused.
     #[error("{0}")]
     Plan(CompileFault),
+    /// The schedule is refused.
+    #[error("{0}")]
+    Schedule(ScheduleFault),
     /// Out of memory.
     #[error("no memory")]
     Memory,
@@ -143,7 +153,7 @@ pub fn stream_compile<'a, F: Files, W: Write, L: Write>(
 
 /// Writes all bytes, and flushes the writer.
 #[tactic(auto, using(crate::proofs::Compiling::all_taken))]
-fn write_through<W: Write>(bytes: &[u8], out: &mut W) -> io::Result<()>
+pub(crate) fn write_through<W: Write>(bytes: &[u8], out: &mut W) -> io::Result<()>
     ensures { OnOk result (Appends (W.contents out.old) (W.contents out.new) bytes.now) }
 {
     let (_taken, written) = write_out(bytes, out);
@@ -203,7 +213,7 @@ fn compile_bytes<'a, F: Files, W: Write>(
 
 /// Compiles the text of the script of the request into a code file, with the notes on it.
 ///
-/// The refusals are those of [`made_of`].
+/// The refusals are those of [`source_of`], [`code_of`] and [`verified_of`].
 fn compile_noted(
     alloc: Global,
     request: &CompileRequest<'_>,
@@ -213,20 +223,61 @@ fn compile_noted(
     ensures refused { IfErr result (IsUncompiled text.now) }
     ensures reason { IfErr result IsReasonOrMemory }
 {
-    let (script, code) = match made_of(alloc, text) {
-        Ok(made) => made,
+    match source_of(alloc, text) {
+        Ok(Source::Steps(script)) => compiled_steps(alloc, request, text, &script),
+        Ok(Source::Schedule(schedule)) => compiled_schedule(alloc, text, &schedule),
+        Err(refusal) => Err(refusal),
+    }
+}
+
+/// Compiles the script of steps of a text into a code file, with the notes on it.
+#[tactic(auto, using(crate::proofs::Compiling::of_steps))]
+fn compiled_steps(
+    alloc: Global,
+    request: &CompileRequest<'_>,
+    text: &str,
+    script: &Script,
+) -> Result<Found, ScriptRefusal>
+    requires { IsScriptOf text.now script.now }
+    ensures found { IfOk result (λ found. IsCompiled text.now found.compiled) }
+    ensures refused { IfErr result (IsUncompiled text.now) }
+    ensures reason { IfErr result IsReasonOrMemory }
+{
+    let code = match code_of(alloc, text, script) {
+        Ok(code) => code,
         Err(refusal) => return Err(refusal),
     };
     let compiled = match compiled_of(alloc, &code) {
         Ok(compiled) => compiled,
         Err(_) => return Err(ScriptRefusal::Memory),
     };
-    let notes = Notes::on(alloc, request.script, &script, &code, request.explanation);
+    let notes = Notes::on(alloc, request.script, script, &code, request.explanation);
     Ok(Found { compiled, notes })
 }
 
+/// Compiles the schedule of a text into a code file, without notes.
+#[tactic(auto, using(crate::proofs::Compiling::of_schedule))]
+fn compiled_schedule(alloc: Global, text: &str, schedule: &Schedule) -> Result<Found, ScriptRefusal>
+    requires { IsScheduleOf text.now schedule.now }
+    ensures found { IfOk result (λ found. IsCompiled text.now found.compiled) }
+    ensures refused { IfErr result (IsUncompiled text.now) }
+    ensures reason { IfErr result IsReasonOrMemory }
+{
+    let verified = match verified_of(alloc, text, schedule) {
+        Ok(verified) => verified,
+        Err(refusal) => return Err(refusal),
+    };
+    match compiled_of(alloc, verified.code()) {
+        Ok(compiled) => Ok(Found {
+            compiled,
+            notes: Notes::Lines(Vec::new(alloc)),
+        }),
+        Err(_) => Err(ScriptRefusal::Memory),
+    }
+}
+
 /// The code file of a code, with its numbers. The error is out of memory.
-fn compiled_of(alloc: Global, code: &Code) -> Result<Compiled, AllocError>
+pub(crate) fn compiled_of(alloc: Global, code: &Code) -> Result<Compiled, AllocError>
     ensures { IfOk result (IsFileOf code.now) }
 {
     let file = encode(alloc, code)?;
@@ -238,30 +289,61 @@ fn compiled_of(alloc: Global, code: &Code) -> Result<Compiled, AllocError>
     })
 }
 
-/// Parses and compiles the text of a script.
-///
-/// `Script` if the text is not a script, with its first fault; `Plan` if the plan is refused;
+/// The script of steps or the schedule of a text; `Script` if it is neither, with its first fault,
 /// `Memory` if there is not enough.
-pub(crate) fn made_of(alloc: Global, text: &str) -> Result<(Script, Code), ScriptRefusal>
-    ensures made { IfOk result (λ made. IsMadeOf text.now made.0 made.1) }
+pub fn source_of(alloc: Global, text: &str) -> Result<Source, ScriptRefusal>
+    ensures source { IfOk result (IsSourceOf text.now) }
     ensures refused { IfErr result (IsUncompiled text.now) }
     ensures reason { IfErr result IsReasonOrMemory }
 {
-    let script = match parse(alloc, text) {
-        Ok(script) => script,
-        Err(ScriptFault::Memory) => return Err(ScriptRefusal::Memory),
-        Err(fault) => return Err(ScriptRefusal::Script(fault)),
-    };
-    let code = match compile(alloc, &script) {
-        Ok(code) => code,
-        Err(CompileFault::Memory) => return Err(ScriptRefusal::Memory),
-        Err(fault) => return Err(ScriptRefusal::Plan(fault)),
-    };
-    Ok((script, code))
+    match parse_source(alloc, text) {
+        Ok(source) => Ok(source),
+        Err(ScriptFault::Memory) => Err(ScriptRefusal::Memory),
+        Err(fault) => Err(ScriptRefusal::Script(fault)),
+    }
+}
+
+/// The code of the script of steps of a text; `Plan` if the plan is refused, `Memory` if there is
+/// not enough.
+pub fn code_of(alloc: Global, text: &str, script: &Script) -> Result<Code, ScriptRefusal>
+    requires { IsScriptOf text.now script.now }
+    ensures made { IfOk result (IsMadeOf text.now script.now) }
+    ensures refused { IfErr result (IsUncompiled text.now) }
+    ensures reason { IfErr result IsReasonOrMemory }
+{
+    script.header();
+    match compile(alloc, script) {
+        Ok(code) => Ok(code),
+        Err(CompileFault::Memory) => Err(ScriptRefusal::Memory),
+        Err(fault) => Err(ScriptRefusal::Plan(fault)),
+    }
+}
+
+/// The code of the schedule of a text; `Schedule` if it is refused, `Memory` if there is not
+/// enough.
+pub fn verified_of(
+    alloc: Global,
+    text: &str,
+    schedule: &Schedule,
+) -> Result<Verified, ScriptRefusal>
+    requires { IsScheduleOf text.now schedule.now }
+    ensures made { IfOk result (IsScheduledBy text.now schedule.now) }
+    ensures refused { IfErr result (IsUncompiled text.now) }
+    ensures reason { IfErr result IsReasonOrMemory }
+{
+    schedule.header();
+    match compile_schedule(alloc, schedule) {
+        Ok(verified) => {
+            verified.code();
+            Ok(verified)
+        }
+        Err(ScheduleFault::Memory) => Err(ScriptRefusal::Memory),
+        Err(fault) => Err(ScriptRefusal::Schedule(fault)),
+    }
 }
 
 /// Prints the numbers of instructions, labels and configurations.
-fn print_counts<W: Write>(compiled: &Compiled, out: &mut W) -> io::Result<()> {
+pub(crate) fn print_counts<W: Write>(compiled: &Compiled, out: &mut W) -> io::Result<()> {
     let instructions = compiled.instructions;
     let labels = compiled.labels;
     let configurations = compiled.configurations;

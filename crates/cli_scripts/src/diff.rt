@@ -1,24 +1,20 @@
 //! `dabplan diff`: prints a plan that changes one configuration into another.
 
-ghost use Rattle.std.specs.Prelude.{◌≡◌, ℕ, List, take, IfOk, IfErr, IfSome, string_bytes};
-ghost use Rattle.std.specs.Io.KnownBytes.{Appends, Keeps};
-ghost use Rattle.console.specs.declared.exit.Status.TheVariants.{Refused};
+ghost use Rattle.std.specs.Prelude.{IfOk, IfErr, IfSome, string_bytes};
+ghost use Rattle.std.specs.Io.KnownBytes.{Appends};
 ghost use Rattle.script_config.specs.Openings.{IsSoundOpening};
 ghost use Rattle.script_config.specs.Refusals.{CanBePlanned};
 ghost use Rattle.cli_scripts.specs.Planned.{IsPlanText, IsPlanFault};
-ghost use Rattle.cli_scripts.specs.Success.{Diffs, HasScriptOpening, HasPlan};
+ghost use Rattle.cli_scripts.specs.Success.{Diffs, HasPlan};
 
-use crate::compile::ScriptRefusal;
-use crate::explained::{Explanation, explain_script};
-use crate::script_file::{read_script, script_text};
+use crate::explained::Explanation;
+use crate::openings::{opening_in, print_no_opening};
 use console::escaped::Escaped;
 use console::exit::{Failure, Status};
 use console::files::Files;
 use plan_verifier::Cause;
 use script_compiler::{CompileFault, compile};
-use script_config::{
-    DiffFault, Opening, OpeningFault, fault_between, fits_period, plan_between, read_opening,
-};
+use script_config::{DiffFault, Opening, fault_between, fits_period, plan_between};
 use script_front::print;
 use std::alloc::Global;
 use std::io::Write;
@@ -46,13 +42,6 @@ pub enum PlanFault {
     Memory,
 }
 
-/// A script without an opening: the first bytes of its file, and why it has none.
-#[derive(Drop)]
-struct NoOpening {
-    bytes: Vec<u8>,
-    fault: OpeningFault,
-}
-
 /// Runs `diff`: prints the plan, or why there is none: all of FROM's refusals come before those of
 /// TO, and these before those of the change between them. No file is changed.
 ///
@@ -68,93 +57,18 @@ pub fn show_diff<'a, F: Files, W: Write>(
         (λ from. IfSome (F.known files.old request.now.to.now)
         (λ to. Diffs from to (Appends (W.contents out.old) (W.contents out.new)) status))) }
 {
+    let explanation = request.explanation.of_product();
     let from = match opening_in(alloc, files, request.from)? {
         Ok(opening) => opening,
-        Err(none) => return print_no_opening(alloc, request.from, &none, request, files, out),
+        Err(none) => {
+            return print_no_opening(alloc, request.from, &none, explanation, files, out);
+        }
     };
     let to = match opening_in(alloc, files, request.to)? {
         Ok(opening) => opening,
-        Err(none) => return print_no_opening(alloc, request.to, &none, request, files, out),
+        Err(none) => return print_no_opening(alloc, request.to, &none, explanation, files, out),
     };
     print_plan(alloc, request, &from, &to, out)
-}
-
-/// The opening of the script in a file, or why there is none. No file is changed.
-fn opening_in<'a, F: Files>(
-    alloc: Global,
-    files: &mut F,
-    path: &'a str,
-) -> Result<Result<Opening, NoOpening>, Failure<'a>>
-    ensures formed { IfOk result (λ found. IfOk found IsSoundOpening) }
-    ensures opening { IfOk result (λ found. IfOk found (λ opening.
-        IfSome (F.known files.old path.now) (λ bytes. HasScriptOpening bytes opening))) }
-    ensures known { (other : List ℕ)
-        → Keeps (F.known files.old other) (F.known files.new other) }
-{
-    let bytes = read_script(alloc, files, path)?;
-    match opening_of_bytes(alloc, path, bytes.as_slice())? {
-        Ok(opening) => Ok(Ok(opening)),
-        Err(fault) => Ok(Err(NoOpening { bytes, fault })),
-    }
-}
-
-/// The same for the first bytes of the file, which are all that was read of it.
-fn opening_of_bytes<'a>(
-    alloc: Global,
-    path: &'a str,
-    bytes: &[u8],
-) -> Result<Result<Opening, OpeningFault>, Failure<'a>>
-    ensures formed { IfOk result (λ found. IfOk found IsSoundOpening) }
-    ensures opening { IfOk result (λ found. IfOk found (λ opening.
-        (file : List ℕ) → bytes.now ≡ take 1048581 file → HasScriptOpening file opening)) }
-{
-    let text = script_text(bytes, path)?;
-    match read_opening(alloc, text) {
-        Ok(opening) => Ok(Ok(opening)),
-        Err(OpeningFault::Memory) => Err(Failure::Memory),
-        Err(fault) => Ok(Err(fault)),
-    }
-}
-
-/// Prints why the script of this path has no opening, and explains it.
-fn print_no_opening<'a, F: Files, W: Write>(
-    alloc: Global,
-    path: &'a str,
-    none: &NoOpening,
-    request: &DiffRequest<'a>,
-    files: &mut F,
-    out: &mut W,
-) -> Result<Status, Failure<'a>>
-    ensures { IfOk result (λ status. status ≡ Refused) }
-{
-    let shown = Escaped::in_line(path);
-    match none.fault {
-        OpeningFault::Script(fault) => writeln!(out, "{shown}:{fault}")?,
-        _ => writeln!(out, "{shown}: {}", none.fault)?,
-    }
-    let text = script_text(none.bytes.as_slice(), path)?;
-    let explanation = request.explanation.of_product();
-    explain_script(
-        alloc,
-        path,
-        text,
-        refusal_of(none.fault),
-        explanation,
-        files,
-        out,
-    )?;
-    Ok(Status::Refused)
-}
-
-/// The refusal by `compile` of a script that has no opening for this reason.
-fn refusal_of(fault: OpeningFault) -> ScriptRefusal {
-    let (line, cause) = match fault {
-        OpeningFault::Script(fault) => return ScriptRefusal::Script(fault),
-        OpeningFault::Item(item) => (item.line, Cause::Edit(item.fault)),
-        OpeningFault::Unsound { line, fault } => (line, Cause::Config(fault)),
-        OpeningFault::Memory => return ScriptRefusal::Memory,
-    };
-    ScriptRefusal::Plan(CompileFault::Refused { line, cause })
 }
 
 /// Prints the plan from one opening to the other, or why there is none.

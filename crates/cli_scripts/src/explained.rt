@@ -4,6 +4,7 @@
 ghost use Rattle.console.specs.World.{Stays};
 
 use crate::compile::ScriptRefusal;
+use crate::schedule_notes::{names_schedule, notes_on_schedule, notes_on_text};
 use console::escaped::Escaped;
 use console::exit::Failure;
 use console::files::Files;
@@ -43,7 +44,7 @@ impl Explanation {
 ///
 /// If out of memory for an explanation that is asked for, the line alone is printed and `Memory` is
 /// returned; another one is left out then.
-pub(crate) fn show_script_refusal<'a, F: Files, W: Write>(
+pub fn show_script_refusal<'a, F: Files, W: Write>(
     alloc: Global,
     path: &str,
     text: &str,
@@ -82,12 +83,14 @@ pub(crate) fn explain_script<'a, F: Files, W: Write>(
 #[inline(never)]
 fn notes_on(alloc: Global, text: &str, refusal: &ScriptRefusal) -> io::Result<Vec<Note>> {
     match refusal {
+        ScriptRefusal::Script(fault) if names_schedule(text) => notes_on_text(alloc, *fault),
         ScriptRefusal::Script(fault) => notes_on_fault(alloc, text, *fault),
         ScriptRefusal::Plan(fault) => match parse(alloc, text) {
             Ok(script) => notes_on_script(alloc, text, &script, *fault),
             Err(ScriptFault::Memory) => Err(io::Error::from(ErrorKind::OutOfMemory)),
             Err(_fault) => Ok(Vec::new(alloc)),
         },
+        ScriptRefusal::Schedule(fault) => notes_on_schedule(alloc, text, fault),
         ScriptRefusal::Memory => Ok(Vec::new(alloc)),
     }
 }

@@ -1,9 +1,13 @@
-//! `dabplan frame --script`: prints one frame of the initial configuration of a script.
+//! `dabplan frame --script`: prints one frame of the initial configuration of a script or a
+//! schedule.
 
 ghost use Rattle.std.specs.Prelude.{◌≡◌, ◌≢◌, ◌<◌, ℕ, List, codes, take, true, IfErr, IfOk, IfSome};
 ghost use Rattle.std.specs.Io.KnownBytes.{Appends};
 ghost use Rattle.mux_types.specs.declared.limits.TheConstants.{COUNTS};
-ghost use Rattle.cli_scripts.specs.ScriptFrame.{GivesFrame, IsFrameReason};
+ghost use Rattle.mux_types.specs.Configuration.{nothing};
+ghost use Rattle.plan_code.specs.Program.{IsPlan};
+ghost use Rattle.script_config.specs.Items.{made_by};
+ghost use Rattle.cli_scripts.specs.ScriptFrame.{GivesFrame, IsFrameReason, frame_of_made};
 ghost use Rattle.cli_scripts.specs.Success.{FramesScript, count_of};
 ghost use Rattle.cli_scripts.specs.declared.frame_script.ScriptFrameFault.TheVariants.{Memory as Unavailable};
 
@@ -15,10 +19,12 @@ use console::exit::{Failure, Status};
 use console::files::Files;
 use fib_codec::FibFrame;
 use mux_config::{Ensemble, soundness};
+use plan_code::Plan;
 use plan_verifier::Cause;
+use schedule_front::{Source, parse_source};
 use script_compiler::CompileFault;
-use script_config::{ItemFault, opening_of};
-use script_front::{ScriptFault, parse};
+use script_config::{ItemFault, made_by};
+use script_front::{Item, ScriptFault};
 use std::alloc::Global;
 use std::io::Write;
 use thiserror::Error;
@@ -45,7 +51,7 @@ pub struct FrameScriptRequest<'a> {
 /// line that is printed.
 #[derive(Clone, Copy, Debug, Error)]
 pub enum ScriptFrameFault {
-    /// The text is not a script.
+    /// The text is neither a script nor a schedule.
     #[error("{0}")]
     Script(ScriptFault),
     /// An item of the script has a fault.
@@ -142,9 +148,9 @@ fn count_of(request: &FrameScriptRequest<'_>) -> u16
     }
 }
 
-/// The FIBs of page `index` of a script's initial configuration, in its mode, with FIG 0/0 of its
-/// ensemble if the count is a multiple of the mode's step: 4, 1, 1 or 2 (EN 300 401 clauses 5.1 and
-/// 6.4). Its blocks and statements are only parsed.
+/// The FIBs of page `index` of the initial configuration of a script or a schedule, in its mode,
+/// with FIG 0/0 of its ensemble if the count is a multiple of the mode's step: 4, 1, 1 or 2
+/// (EN 300 401 clauses 5.1 and 6.4). Its blocks and statements, or its overlays, are only parsed.
 ///
 /// Returns the first fault in the order of [`ScriptFrameFault`].
 pub fn frame_of_script(
@@ -157,19 +163,37 @@ pub fn frame_of_script(
     ensures gives { GivesFrame text.now count index result }
     ensures reason { IfErr result (λ fault. fault ≢ Unavailable → IsFrameReason fault) }
 {
-    let script = match parse(alloc, text) {
-        Ok(script) => script,
-        Err(ScriptFault::Memory) => return Err(ScriptFrameFault::Memory),
-        Err(fault) => return Err(ScriptFrameFault::Script(fault)),
-    };
-    let config = match opening_of(&script) {
+    match parse_source(alloc, text) {
+        Ok(Source::Steps(script)) => frame_of_items(script.header(), script.items(), count, index),
+        Ok(Source::Schedule(schedule)) => {
+            frame_of_items(schedule.header(), schedule.items(), count, index)
+        }
+        Err(ScriptFault::Memory) => Err(ScriptFrameFault::Memory),
+        Err(fault) => Err(ScriptFrameFault::Script(fault)),
+    }
+}
+
+/// The FIBs of page `index` of the configuration that these items make, as `frame_of_script` says.
+///
+/// `Item` or `Frame`.
+fn frame_of_items(
+    header: Plan,
+    items: &[Item],
+    count: u16,
+    index: u16,
+) -> Result<FibFrame, ScriptFrameFault>
+    requires plan { IsPlan header }
+    requires count { count < COUNTS }
+    ensures frame { frame_of_made header count index (made_by items.now nothing) ≡ result }
+    ensures reason { IfErr result IsFrameReason }
+{
+    let config = match made_by(items) {
         Ok(config) => config,
         Err(fault) => return Err(ScriptFrameFault::Item(fault)),
     };
     if let Err(fault) = soundness(&config) {
         return Err(ScriptFrameFault::Frame(FrameFault::Unsound(fault)));
     }
-    let header = script.header();
     let ensemble = Ensemble::new(header.eid, 0, false, count, None).unwrap();
     match page_of(&config, header.layout, ensemble, index) {
         Ok(frame) => Ok(frame),

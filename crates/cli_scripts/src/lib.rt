@@ -5,12 +5,15 @@
 
 mod commit_blocks;
 pub mod compile;
+pub mod compile_from;
 pub mod diff;
 pub mod explained;
 pub mod frame_script;
 pub mod listen_script;
 pub mod map;
 mod notes;
+mod openings;
+mod schedule_notes;
 pub mod script_file;
 pub mod script_map;
 pub mod verify;

@@ -2,13 +2,16 @@
 //! warnings about it.
 
 ghost use Rattle.plan_verifier.specs.Typing.{IsTyped};
+ghost use Rattle.schedule_front.specs.Denoting.{IsScheduleOf};
+ghost use Rattle.script_front.specs.Denoting.{IsScriptOf};
 
 use crate::commit_blocks::commit_blocks;
-use crate::compile::{ScriptRefusal, made_of};
+use crate::compile::{ScriptRefusal, code_of, source_of, verified_of};
 use mux_types::BoundedVec;
 use plan_code::Code;
 use plan_explain::{Warning, warnings_of};
 use plan_map::{Layout, Row, RowKind, Use, key_of, layout_of, rows_of};
+use schedule_front::{Schedule, Source};
 use script_front::{BlockId, Names, Script};
 use std::alloc::{AllocError, Global};
 
@@ -29,8 +32,55 @@ pub struct Map {
 
 /// The map of a script's text, or why it is refused.
 pub(crate) fn map_of(alloc: Global, text: &str) -> Result<Map, ScriptRefusal> {
-    let (script, code) = made_of(alloc, text)?;
-    Ok(map_from(alloc, &script, &code)?)
+    match source_of(alloc, text) {
+        Ok(Source::Steps(script)) => map_of_steps(alloc, text, &script),
+        Ok(Source::Schedule(schedule)) => map_of_schedule(alloc, text, &schedule),
+        Err(refusal) => Err(refusal),
+    }
+}
+
+/// The map of the script of steps of a text, or why it is refused.
+fn map_of_steps(alloc: Global, text: &str, script: &Script) -> Result<Map, ScriptRefusal>
+    requires { IsScriptOf text.now script.now }
+{
+    let code = match code_of(alloc, text, script) {
+        Ok(code) => code,
+        Err(refusal) => return Err(refusal),
+    };
+    match map_from(alloc, script, &code) {
+        Ok(map) => Ok(map),
+        Err(_) => Err(ScriptRefusal::Memory),
+    }
+}
+
+/// The map of the schedule of a text, or why it is refused.
+fn map_of_schedule(alloc: Global, text: &str, schedule: &Schedule) -> Result<Map, ScriptRefusal>
+    requires { IsScheduleOf text.now schedule.now }
+{
+    let verified = match verified_of(alloc, text, schedule) {
+        Ok(verified) => verified,
+        Err(refusal) => return Err(refusal),
+    };
+    match map_of_code(alloc, schedule.line(), verified.code()) {
+        Ok(map) => Ok(map),
+        Err(_) => Err(ScriptRefusal::Memory),
+    }
+}
+
+/// The map of a code that begins with this line, without warnings. The error is out of memory.
+fn map_of_code(alloc: Global, line: u16, code: &Code) -> Result<Map, AllocError>
+    requires { IsTyped code.now }
+{
+    let rows = rows_of(alloc, line, code)?;
+    let key = key_of(alloc, rows.as_slice())?;
+    let layout = layout_of(alloc, rows.as_slice())?;
+    Ok(Map {
+        eid: code.plan().eid,
+        rows,
+        key,
+        layout,
+        warnings: Vec::new(alloc),
+    })
 }
 
 /// The map of a script with this code. The error is out of memory.

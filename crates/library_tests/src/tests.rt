@@ -1,5 +1,5 @@
 //! Tests of library calls: of stores (`stores`), FIBs (`fibs`, `entries`, `places`), printed
-//! scripts (`printing`) and playback (the others).
+//! scripts (`printing`), schedules (`schedules`) and playback (the others).
 
 mod codes;
 mod entries;
@@ -9,6 +9,7 @@ mod largest_file;
 mod laws;
 mod places;
 mod printing;
+mod schedules;
 mod sinks;
 mod stores;
 mod texts;

@@ -18,8 +18,12 @@ pub(crate) const STATEMENTS: [&str; 12] = [
 pub(crate) const WAITS: [&str; 3] = ["until", "or", "early"];
 
 /// The others.
-pub(crate) const OTHERS: [&str; 15] = [
+pub(crate) const OTHERS: [&str; 19] = [
     "begin",
+    "schedule",
+    "overlay",
+    "while",
+    "and",
     "at",
     "eep",
     "in",

@@ -1,8 +1,11 @@
 -- A live run continues over events, and then over more.
-use Rattle.plan_live.proofs.Words.{[], ◌++◌, ◌-◌, ◌∙◌, ◌∷◌, ◌≡◌, Appends, Appends-kept, Appends-nil, Appends-trans}
+use Rattle.plan_live.proofs.Words.{[], ◌++◌, ◌+◌, ◌-◌, ◌∙◌, ◌∷◌, ◌≡◌, ◌≤◌, Appends, Appends-kept, Appends-nil}
+use Rattle.plan_live.proofs.Words.{Appends-trans}
 use Rattle.plan_live.proofs.Words.{Bool, Contact, Err, Event, Frame, FrameWent, Keeps, List, Ok, OnOk, Option, Playing}
 use Rattle.plan_live.proofs.Words.{Result, Streamed, Went, ap, append-nil, arith, concat, drop, frames_of, inl, inr}
-use Rattle.plan_live.proofs.Words.{kept, kept_bytes, length, next_frame, played, refl, subst, suc, sym, ℕ}
+use Rattle.plan_live.proofs.Words.{kept, kept_bytes, length, next_frame, played, refl, replicate, subst, suc, sym}
+use Rattle.plan_live.proofs.Words.{zero, ℕ}
+use Rattle.plan_player.proofs.Joining.{all_frames}
 use Rattle.std.proofs.lemmas.Bool.{cases_lt, lt-ltb, le-ltb}
 use Rattle.plan_live.specs.declared.fault.Stop.{Stop}
 use Rattle.plan_live.proofs.Joining.{played_join, counts_join, drop_none, kept_none, kept_from}
@@ -58,6 +61,30 @@ frame_went skip p q n m a b c bytes is state h left written =
           (kept_one skip n (next_frame p)) out;
     }
 
+-- ---- frames that are all skipped
+
+drop_all : (n : ℕ) (xs : List (List ℕ)) → length xs ≤ n → drop n xs ≡ []
+drop_all zero [] le = refl
+drop_all zero (x ∷ xs) le = absurd (omega (arith, le))
+drop_all (suc n) [] le = refl
+drop_all (suc n) (x ∷ xs) le = drop_all n xs (omega (arith, le))
+
+pub went_skipped : (skip : ℕ) (p q : Playing) (n m k : ℕ) (a : Streamed) → q ≡ played p (replicate k Frame)
+    → m ≡ n + k → k ≤ skip - n → Went skip p n (replicate k Frame) q m a a
+went_skipped skip p q n m k a state count le =
+    let all : k ≡ length (frames_of p (replicate k Frame)) = all_frames p.code p.state k in
+    let none : kept_bytes (skip - n) p (replicate k Frame) ≡ [] =
+    ap (λ (fs : List (List ℕ)). concat fs)
+    (drop_all (skip - n) (frames_of p (replicate k Frame)) (omega (arith, all, le)))
+    in
+    record {
+      state = state;
+      count = omega (arith, count, all);
+      left = refl;
+      out = appends_as a.written a.written [] (kept_bytes (skip - n) p (replicate k Frame)) (sym none)
+          (Appends-nil a.written);
+    }
+
 -- ---- events, and then more
 
 pub went_join : (skip : ℕ) (p q r : Playing) (n m k : ℕ) (xs ys : List Event) (a b c : Streamed)
@@ -75,6 +102,14 @@ went_join skip p q r n m k xs ys a b c h g =
           (Appends-trans a.written b.written c.written (kept_bytes (skip - n) p xs) (kept_bytes (skip - m) q ys) h.out
           g.out);
     }
+
+-- none were skipped, and then one frame was made
+pub went_one : (skip : ℕ) (p q r : Playing) (n m k j : ℕ) (a d : Streamed) → j ≡ 0
+    → ((at : Streamed) → Went skip p n (replicate j Frame) q m at at) → Went skip q m (Frame ∷ []) r k a d
+    → Went skip p n (replicate 1 Frame) r k a d
+went_one skip p q r n m k j a d none h g =
+    let still : Went skip p n [] q m a a = subst (λ (x : ℕ). Went skip p n (replicate x Frame) q m a a) none (h a) in
+    went_join skip p q r n m k [] (Frame ∷ []) a a d still g
 
 -- the output is flushed after them
 pub went_flushed : (skip : ℕ) (p q : Playing) (n m : ℕ) (events : List Event) (a b c : Streamed)

@@ -92,3 +92,13 @@ fn note_of_passing(count: u16, frame: u64, every: u32) -> Option<Message> {
     }
     None
 }
+
+/// The number of frames before the next one that is reported because it is one of so many, from the
+/// frame of this number on.
+pub(crate) fn silent_frames(number: u64, every: u32) -> u64 {
+    let every = u64::from(every);
+    if every == 0 {
+        return u64::MAX;
+    }
+    every - 1 - number % every
+}

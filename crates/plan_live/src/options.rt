@@ -3,8 +3,9 @@
 /// What a live run writes and reports.
 #[derive(Clone, Copy, Debug, PartialEq, Eq)]
 pub struct LiveOptions {
-    /// The number of frames at the beginning of the run that are made but not written.
-    pub skip: u32,
+    /// The number of frames at the beginning of the run that are played but not written. Those of
+    /// them in which nothing happens take no time.
+    pub skip: u64,
     /// The notes that are reported.
     pub wanted: Wanted,
 }

@@ -7,7 +7,7 @@ use mux_types::sameness::{is_same_packet, is_same_service, is_same_sub};
 use std::io::{self, Write};
 
 /// Prints an SId as four or eight digits.
-pub(crate) fn print_sid<W: Write>(sid: Sid, out: &mut W) -> io::Result<()> {
+pub fn print_sid<W: Write>(sid: Sid, out: &mut W) -> io::Result<()> {
     match sid {
         Sid::Short(number) => write!(out, "{number:04X}"),
         Sid::Long(number) => write!(out, "{number:08X}"),
@@ -105,11 +105,7 @@ fn mark_both<P: Part, W: Write>(before: &[P], now: &[P], out: &mut W) -> io::Res
 /// Prints what changes from one configuration to another: sub-channels, services, packet
 /// components, of each what is left out and then what is new. A part that differs is left out as it
 /// was, and new as it is.
-pub(crate) fn print_changes<W: Write>(
-    before: &Config,
-    now: &Config,
-    out: &mut W,
-) -> io::Result<()> {
+pub fn print_changes<W: Write>(before: &Config, now: &Config, out: &mut W) -> io::Result<()> {
     mark_both(before.subs(), now.subs(), out)?;
     mark_both(before.services(), now.services(), out)?;
     mark_both(before.packets(), now.packets(), out)

@@ -39,7 +39,7 @@ fn light_of(id: SubId) -> u32 {
 }
 
 /// Writes the colour of a sub-channel, the same in every row.
-pub(crate) fn draw_colour<W: Write>(id: SubId, out: &mut W) -> io::Result<()> {
+pub fn draw_colour<W: Write>(id: SubId, out: &mut W) -> io::Result<()> {
     let hue = hue_of(id);
     let light = light_of(id);
     write!(out, "hsl({hue},80%,{light}%)")

@@ -24,7 +24,7 @@ fn sub_of(config: &Config, component: Component) -> Option<SubId> {
 }
 
 /// Whether one of these components of a configuration is carried by a sub-channel.
-pub(crate) fn is_carried_by(config: &Config, components: &[Component], sub: SubId) -> bool {
+pub fn is_carried_by(config: &Config, components: &[Component], sub: SubId) -> bool {
     components
         .iter()
         .any(|component| sub_of(config, *component) == Some(sub))

@@ -21,8 +21,11 @@ mod legend;
 pub mod rows;
 pub mod text;
 
+pub use cells::units_of;
+pub use changes::{print_changes, print_sid};
 pub use drawing::draw_map;
-pub use key::{Use, key_of};
+pub use drawn_parts::draw_colour;
+pub use key::{Use, is_carried_by, key_of};
 pub use layout::{Clash, Layout, layout_of, print_layout};
 pub use lead::{AnyOf, Lead, Reached, Ways};
 pub use rows::{Row, RowKind, rows_of};

@@ -91,6 +91,14 @@ replicate_more (suc m) n =
     let next : suc m + n ≡ suc (m + n) = omega arith in
     rw (next, replicate_more m n) refl
 
+-- a player after n frames, and then after k more
+pub played_frames : (a b c : Playing) (n k : ℕ) → b ≡ played a (replicate n Frame) → c ≡ played b (replicate k Frame)
+    → c ≡ played a (replicate (n + k) Frame)
+played_frames a b c n k d e =
+    e ∙ ap (λ (p : Playing). played p (replicate k Frame)) d
+    ∙ sym (played_join a (replicate n Frame) (replicate k Frame))
+    ∙ ap (λ (l : List Event). played a l) (sym (replicate_more n k))
+
 pub length_replicate : (n : ℕ) → length (replicate n Frame) ≡ n
 length_replicate zero = refl
 length_replicate (suc n) = rw (length_replicate n) refl

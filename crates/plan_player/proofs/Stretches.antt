@@ -151,6 +151,16 @@ played_on p n s steps some quiet =
     ∙ ap (λ (k : ℕ). let r : Playing = record { code = p; state = run p s (replicate n Frame); steps = k } in r)
     (sym (steps_on p n s steps some quiet))
 
+-- the same of a player whose fields these are
+pub passed_by : (p : Program) (plan : Plan) (n : ℕ) (s t : State) (steps : ℕ) → plan ≡ p.plan → 1 ≤ n → AreQuiet p n s
+    → t ≡ counted_on plan n s
+    → (let old : Playing = record { code = p; state = s; steps = steps } in
+    (record { code = p; state = t; steps = 0 }) ≡ played old (replicate n Frame))
+passed_by p plan n s t steps e some quiet state =
+    let at : t ≡ counted_on p.plan n s = rw (← e) state in
+    ap (λ (u : State). let r : Playing = record { code = p; state = u; steps = 0 } in r) at
+    ∙ played_on p n s steps some quiet
+
 bytes_on : (p : Program) (n : ℕ) (s : State) → AreQuiet p n s
     → concat (notice_frames p.plan n s) ≡ concat (run_frames p s (replicate n Frame))
 bytes_on p n s quiet = ap (λ (fs : List (List ℕ)). concat fs) (sym (quiet_frames_are_copied p n s quiet).frames)

@@ -56,6 +56,9 @@ pub(crate) struct Machine<S: Store> {
     eid: u16,
     /// The index of the page in turn, from 0.
     pub(crate) page_index: u8,
+    /// The index of the last commit that was executed, if there was one: nothing that is sent
+    /// depends on it.
+    pub(crate) committed: Option<u16>,
 }
 
 impl<S: Store> Machine<S> {
@@ -80,6 +83,7 @@ impl<S: Store> Machine<S> {
             day: start.day,
             eid: start.eid,
             page_index: 0,
+            committed: None,
         }
     }
 

@@ -22,7 +22,7 @@ ghost use Rattle.plan_player.specs.Quiet.{IsQuiet, AreQuiet};
 use crate::batch::{Batch, MOST_FRAMES};
 use crate::fault::{Accepted, StartFault};
 use crate::frame_step::{make_frame, send};
-use crate::machine::{Machine, quiet_frames};
+use crate::machine::{Machine, pass_many, quiet_frames};
 use crate::phase_pages::PhasePages;
 use crate::sink::{Sink, put_all};
 use crate::stretch::put_stretch;
@@ -244,6 +244,36 @@ impl<'a, S: Store> Player<'a, S> {
         )
     }
 
+    /// Makes the next frame, which is quiet, without its bytes.
+    fn pass_quiet_frame(&mut self, plan: &Plan)
+        requires plan { plan.now ≡ self.old.code.plan }
+        requires quiet { IsQuiet self.old.code self.old.state }
+        ensures { self.new ≡ played self.old (Frame ∷ []) }
+    {
+        send(plan, &mut self.machine, &mut self.pages);
+        self.steps = QUIET_STEPS;
+    }
+
+    /// Makes at most `most` of the next frames, all of them quiet, without their bytes, and returns
+    /// their number, at least one. If all pages of the phase have been made, only the counts are
+    /// advanced.
+    pub(crate) fn pass_quiet(&mut self, plan: &Plan, most: u32) -> u32
+        requires one { 1 ≤ most }
+        requires plan { plan.now ≡ self.old.code.plan }
+        requires quiet { AreQuiet self.old.code most self.old.state }
+        ensures state { self.new ≡ played self.old (replicate result Frame) }
+        ensures some { (1 ≤ result) × (result ≤ most) }
+    {
+        if !self.pages.is_whole {
+            self.pass_quiet_frame(plan);
+            return 1;
+        }
+        let count = most.min(u32::from(u16::MAX)) as u16;
+        self.steps = QUIET_STEPS;
+        pass_many(self.pages.made, count, &mut self.machine);
+        u32::from(count)
+    }
+
     /// The current configuration, which is always sound.
     pub fn current(&self) -> &S
         ensures value { S.content result.now ≡ self.now.state.current }
@@ -309,6 +339,14 @@ impl<'a, S: Store> Player<'a, S> {
         ensures value { line_at self.now.code self.now.state.pc ≡ Some result }
     {
         self.code.code().line_at(self.machine.pc).unwrap()
+    }
+
+    /// The source line number of the last `commit` that was executed; 0 before the first one.
+    pub fn commit_line(&self) -> u16 {
+        match self.machine.committed {
+            Some(pc) => self.code.code().line_at(pc).unwrap_or(0),
+            None => 0,
+        }
     }
 
     /// The number of instructions that the last frame executed, at most the budget; 0 before the

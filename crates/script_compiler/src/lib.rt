@@ -34,7 +34,7 @@ mod judge;
 mod labels;
 pub mod laws;
 mod longest_path;
-mod needs;
+pub mod needs;
 mod numbers;
 mod opening_items;
 mod pool;

@@ -87,7 +87,7 @@ fn are_same(numbers: &[u16], others: &[u16]) -> bool
 
 /// The lengths of the longest paths of at most `budget + 1` instructions. If none is over the
 /// budget, they are the needs. Once an iteration changes nothing, later ones do not either.
-pub(crate) fn needs(alloc: Global, lines: &[Line], budget: u8) -> Result<Vec<u16>, AllocError>
+pub fn needs(alloc: Global, lines: &[Line], budget: u8) -> Result<Vec<u16>, AllocError>
     requires room { length lines.now ≤ 4096 }
     ensures { IfOk result (λ v. (pc : ℕ) → slice_index v.items pc
         ≡ longest (instrs_of lines.now) (budget + 1) pc) }
@@ -104,7 +104,7 @@ pub(crate) fn needs(alloc: Global, lines: &[Line], budget: u8) -> Result<Vec<u16
 }
 
 /// The first pc whose need is over the budget, if there is one.
-pub(crate) fn first_over(needs: &[u16], budget: u8) -> Option<usize>
+pub fn first_over(needs: &[u16], budget: u8) -> Option<usize>
     ensures none { result ≡ None → (pc : ℕ) → slice_index needs.now pc ≤ budget }
     ensures some { IfSome result (λ pc. budget < slice_index needs.now pc) }
     ensures first { IfSome result (λ pc. (k : ℕ) → k < pc → slice_index needs.now k ≤ budget) }

@@ -12,6 +12,7 @@ mod ItemByItem
 mod Members
 pub mod MorePages
 mod Named
+mod OpeningFaults
 pub mod Pacing
 mod PlainScripts
 mod Scriptable

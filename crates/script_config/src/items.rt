@@ -8,7 +8,7 @@ ghost use Rattle.script_config.specs.Sequences.{Transform};
 ghost use Rattle.script_config.specs.Items.{made_by};
 
 use mux_config::{Config, EditFault, Store};
-use script_front::{Item, Script};
+use script_front::Item;
 use thiserror::Error;
 
 /// Why the items of a script make no configuration: the first item with a fault. The line is 1 to
@@ -36,9 +36,10 @@ fn add(item: &Item, config: &mut Config) -> Result<(), ItemFault>
     }
 }
 
-/// Applies the items to the empty configuration, in order.
+/// The configuration that items make: they are applied to the empty one, in order. It may be
+/// unsound. The first item with a fault is reported, with its line.
 #[tactic(auto, using(crate::proofs::ItemByItem::made_leads))]
-fn made_by(items: &[Item]) -> Result<Config, ItemFault>
+pub fn made_by(items: &[Item]) -> Result<Config, ItemFault>
     ensures value { result ≡ made_by items.now nothing }
     ensures leads { IfOk result (λ c. Transform (added_by items.now) nothing c) }
 {
@@ -49,13 +50,4 @@ fn made_by(items: &[Item]) -> Result<Config, ItemFault>
         }
     }
     Ok(config)
-}
-
-/// The configuration that a script begins with: its items, applied to the empty one. It may be
-/// unsound. The first item with a fault is reported, with its line.
-pub fn opening_of(script: &Script) -> Result<Config, ItemFault>
-    ensures value { result ≡ made_by script.now.items nothing }
-    ensures leads { IfOk result (λ c. Transform (added_by script.now.items) nothing c) }
-{
-    made_by(script.items())
 }

@@ -1,8 +1,8 @@
 //! Configurations as scripts, and the plans between them (EN 300 401 clauses 6.1 to 6.5).
 //!
-//! - From a script: [`opening_of`] applies its items to the empty configuration, and
-//! [`read_opening`] returns the
-//!   [`Opening`] of a text, whose configuration is sound.
+//! - From a script or a schedule: [`made_by`] applies its items to the empty configuration, and
+//! [`read_opening`]
+//!   returns the [`Opening`] of a text, whose configuration is sound.
 //! - To a script: [`script_of`] makes the script that begins with a configuration, and
 //! [`config_text`] its text.
 //! - From a stream of FIBs: [`eid_after`] returns the EId that it signals last, and
@@ -43,9 +43,9 @@ pub mod text;
 pub use difference::{edits_between, edits_that_make};
 pub use ensembles::eid_after;
 pub use heard::config_heard;
-pub use items::{ItemFault, opening_of};
+pub use items::{ItemFault, made_by};
 pub use opening::{Opening, OpeningFault, read_opening};
 pub use plain::{MOST_ACTS, script_of};
-pub use plan::plan_between;
+pub use plan::{acts_between, plan_between};
 pub use refusal::{DiffFault, fault_between, fits_period};
 pub use text::{config_text, usual_period};

@@ -47,8 +47,10 @@ fn paced(alloc: Global, full: u16, edits: &[Edit]) -> Result<Vec<Act>, AllocErro
     Ok(acts)
 }
 
-/// The acts of the plan.
-fn acts_between(
+/// The acts of the plan that turns one configuration into another: the edits between them, paced so
+/// that each frame has at most the budget less one of them and a wait, a commit with the notice of
+/// the header, and `join`.
+pub fn acts_between(
     alloc: Global,
     header: Plan,
     from: &Config,

@@ -27,7 +27,7 @@ use Rattle.script_front.proofs.Lined.{IsLine, AreLines, all_words, lines_have}
 
 -- ---- edits and acts
 
-both_words : (xs ys : Spelled) → AreWords xs → AreWords ys → AreWords (xs ++ ys)
+pub both_words : (xs ys : Spelled) → AreWords xs → AreWords ys → AreWords (xs ++ ys)
 both_words [] ys h k = k
 both_words (x ∷ xs) ys h k = (h.0, both_words xs ys h.1 k)
 
@@ -59,7 +59,7 @@ component_are sid (Stream ty sub) s h = (
 )
 component_are sid (InPackets scid) s h = (keyword_text the.Carry, (decimal_word scid (omega (arith, h)), in_are sid s))
 
-edit_are : (e : Edit) → IsEdit e → IsLine (edit_lexemes e)
+pub edit_are : (e : Edit) → IsEdit e → IsLine (edit_lexemes e)
 edit_are (AddSub s) h = (
   keyword_text the.Sub,
   (
@@ -129,7 +129,7 @@ edit_are (AddPacket p) h = (
 edit_are (DropPacket scid) h =
     (keyword_text the.Drop, (keyword_text the.Packet, (decimal_word scid (omega (arith, h)), tt)))
 
-level_are : (closed : Bool) → IsWord (level_text closed)
+pub level_are : (closed : Bool) → IsWord (level_text closed)
 level_are true = keyword_text the.Closed
 level_are false = keyword_text the.Open
 
@@ -186,14 +186,14 @@ act_are Settle h = (keyword_text the.Settle, tt)
 
 -- ---- blocks
 
-lines_both : (xs ys : List Line) → AreLines xs → AreLines ys → AreLines (xs ++ ys)
+pub lines_both : (xs ys : List Line) → AreLines xs → AreLines ys → AreLines (xs ++ ys)
 lines_both [] ys h k = k
 lines_both (x ∷ xs) ys h k = (h.0, lines_both xs ys h.1 k)
 
 abbrev AreNamed : List (List ℕ) → Type 0
 AreNamed names = (n : ℕ) → n < length names → IsWord (name_at names n)
 
-closing_are : (d : ℕ) → IsLine (closing d).lexemes
+pub closing_are : (d : ℕ) → IsLine (closing d).lexemes
 closing_are d = (keyword_text the.CloseBrace, tt)
 
 block_are : (names : List (List ℕ)) (known depth d : ℕ) → known ≤ length names → AreNamed names → (b : Block)
@@ -238,11 +238,11 @@ block_are names known depth d le are (apply n number named rest) h =
     ((keyword_text the.Apply, (are number (omega (arith, h.0, le)), tt)), block_are names known depth d le are rest h.1)
 
 -- the tokens of two lists of lines
-all_both : (xs ys : List Line) → all_words (xs ++ ys) ≡ all_words xs ++ all_words ys
+pub all_both : (xs ys : List Line) → all_words (xs ++ ys) ≡ all_words xs ++ all_words ys
 all_both [] ys = refl
 all_both (x ∷ xs) ys = rw (all_both xs ys) (sym (append_assoc x.lexemes (all_words xs) (all_words ys)))
 
-body_all : (body rest : List Line) (b r : Spelled) (d : ℕ) → all_words body ≡ b → all_words rest ≡ r
+pub body_all : (body rest : List Line) (b r : Spelled) (d : ℕ) → all_words body ≡ b → all_words rest ≡ r
     → all_words (body ++ closing d ∷ rest) ≡ b ++ letters the.CloseBrace ∷ r
 body_all body rest b r d e f = rw (← f, ← e) (all_both body (closing d ∷ rest))
 
@@ -277,7 +277,7 @@ block_all names d (apply n number named rest) = rw (block_all names d rest) refl
 
 -- ---- a script
 
-name_among : (names : List (List ℕ)) → All IsName names → AreNamed names
+pub name_among : (names : List (List ℕ)) → All IsName names → AreNamed names
 name_among names h n lt = name_word (name_at names n) (h n [] lt)
 
 mode_are : (m : Mode) → AreWords (mode_lexemes m)
@@ -291,7 +291,7 @@ reserve_are (Whole mode) = tt
 reserve_are (ReserveOne mode) = (keyword_text the.Reserve, (decimal_word 1 (omega arith), tt))
 reserve_are ReserveTwo = (keyword_text the.Reserve, (decimal_word 2 (omega arith), tt))
 
-header_are : (h : Plan) → IsPlan h → AreLines (header_lines h)
+pub header_are : (h : Plan) → IsPlan h → AreLines (header_lines h)
 header_are h is = (
   (keyword_text the.Ensemble, (hex_word_word h.eid is.ensemble, mode_are (layout_mode h.layout))),
   (
@@ -321,11 +321,11 @@ header_are h is = (
 all_rest : (x : Item) (xs : List Item) → All IsItem (x ∷ xs) → All IsItem xs
 all_rest x xs h k d lt = h (suc k) d (omega arith)
 
-items_are : (is : List Item) → All IsItem is → AreLines (items_lines is)
+pub items_are : (is : List Item) → All IsItem is → AreLines (items_lines is)
 items_are [] h = tt
 items_are (i ∷ is) h = (edit_are i.edit (h 0 i (omega arith)).0, items_are is (all_rest i is h))
 
-items_all : (is : List Item) → all_words (items_lines is) ≡ items_lexemes is
+pub items_all : (is : List Item) → all_words (items_lines is) ≡ items_lexemes is
 items_all [] = refl
 items_all (i ∷ is) = rw (items_all is) refl
 
@@ -349,7 +349,7 @@ reserve_all (Whole mode) = refl
 reserve_all (ReserveOne mode) = refl
 reserve_all ReserveTwo = refl
 
-header_all : (h : Plan) → all_words (header_lines h) ≡ header_lexemes h
+pub header_all : (h : Plan) → all_words (header_lines h) ≡ header_lexemes h
 header_all h = rw (reserve_all h.layout) refl
 
 tree_all : (t : Tree) → all_words (tree_lines t) ≡ tree_lexemes t

@@ -31,7 +31,7 @@ not_stopped : (front bs : List ℕ) (ts : List Token) (ps : List Piece)
     → lexemes_of (front ++ (bs ++ text_of ps)) ts ≡ lexemes_in ps
 not_stopped front bs ts ps h = rw (← append_assoc front bs (text_of ps)) h
 
-slices : (front : List ℕ) (p : Place) (ps : List Piece) → p.at ≡ length front
+pub slices : (front : List ℕ) (p : Place) (ps : List Piece) → p.at ≡ length front
     → lexemes_of (front ++ text_of ps) (tokens_of p ps) ≡ lexemes_in ps
 slices front p [] e = refl
 slices front p (blank b ∷ ps) e =
@@ -75,7 +75,7 @@ are_tokens text t s = (
   record { pieces = s.pieces; formed = s.formed; whole = s.whole; are = refl; within = s.within },
 )
 
-ok_same : (x y : List Token) (r : Result (List Token) ScriptFault) → r ≡ Ok x → r ≡ Ok y → x ≡ y
+pub ok_same : (x y : List Token) (r : Result (List Token) ScriptFault) → r ≡ Ok x → r ≡ Ok y → x ≡ y
 ok_same x y r e f = let g = sym e ∙ f in cc
 
 -- and it has no others

@@ -1,19 +1,19 @@
 mod Beside
-mod Denoted
-mod Denoting
+pub mod Denoted
+pub mod Denoting
 mod FoundBlocks
-mod Lined
+pub mod Lined
 mod Listing
 mod Naming
-mod Printed
-mod PrintedWaits
+pub mod Printed
+pub mod PrintedWaits
 mod ReadingBlocks
-mod ReadingDefinitions
-mod ReadingHeaders
-mod ReadingItems
+pub mod ReadingDefinitions
+pub mod ReadingHeaders
+pub mod ReadingItems
 mod ReadingOn
-mod ReadingScripts
-mod ReadingWaits
-mod Readings
+pub mod ReadingScripts
+pub mod ReadingWaits
+pub mod Readings
 mod Vectors
-mod Words
+pub mod Words

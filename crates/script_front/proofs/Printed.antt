@@ -72,13 +72,14 @@ text_both [] ys = refl
 text_both (x ∷ xs) ys = rw (text_both xs ys) (sym (append_assoc (line_text x) (text_of_lines xs) (text_of_lines ys)))
 
 -- a line, and the lines after it
-line_then : (old new : List ℕ) (l : Line) (ls : List Line) → new ≡ old ++ line_text l → new ++ text_of_lines ls ≡ old
+pub line_then : (old new : List ℕ) (l : Line) (ls : List Line) → new ≡ old ++ line_text l
+    → new ++ text_of_lines ls ≡ old
     ++ text_of_lines (l ∷ ls)
 unfolding text_of_lines
 line_then old new l ls e = rw (e) (append_assoc old (line_text l) (text_of_lines ls))
 
 -- lines, and more after them
-lines_then : (old new : List ℕ) (xs ys : List Line) → new ≡ old ++ text_of_lines xs → new ++ text_of_lines ys ≡ old
+pub lines_then : (old new : List ℕ) (xs ys : List Line) → new ≡ old ++ text_of_lines xs → new ++ text_of_lines ys ≡ old
     ++ text_of_lines (xs ++ ys)
 lines_then old new xs ys e = rw (e) (rw (text_both xs ys) (append_assoc old (text_of_lines xs) (text_of_lines ys)))
 

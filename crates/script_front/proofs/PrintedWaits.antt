@@ -12,11 +12,12 @@ use Rattle.script_tokens.specs.declared.keyword.Keyword.TheVariants as the
 use Rattle.script_front.proofs.Beside.{Alternatives}
 use Rattle.script_front.proofs.Printed.{behind_both}
 
-abbrev Text : Type 0
+abbrev pub Text : Type 0
 Text = List ℕ
 
 -- two texts put one after the other
-twice : (old one new first second : Text) → one ≡ old ++ first → new ≡ one ++ second → new ≡ old ++ (first ++ second)
+pub twice : (old one new first second : Text) → one ≡ old ++ first → new ≡ one ++ second
+    → new ≡ old ++ (first ++ second)
 twice old one new first second e f = f ∙ ap (λ (t : Text). t ++ second) e ∙ append_assoc old first second
 
 -- ---- moments

@@ -21,7 +21,7 @@ name_front [] more n lt = absurd (omega arith)
 name_front (x ∷ names) more zero lt = refl
 name_front (x ∷ names) more (suc n) lt = name_front names more n (omega arith)
 
-name_mid : (names : Names) (n : List ℕ) (ns : Names) → name_at (names ++ n ∷ ns) (length names) ≡ n
+pub name_mid : (names : Names) (n : List ℕ) (ns : Names) → name_at (names ++ n ∷ ns) (length names) ≡ n
 name_mid [] n ns = refl
 name_mid (x ∷ names) n ns = name_mid names n ns
 
@@ -47,10 +47,10 @@ named_of all names later front named n lt =
 
 -- ---- one definition
 
-record IsNewName (names : Names) (ws : Spelled) (x : List ℕ × Spelled) : Type 0 where
-  named : IsName x.0
-  absent : All (λ other. other ≢ x.0) names
-  spelled : ws ≡ x.0 ∷ x.1
+pub record IsNewName (names : Names) (ws : Spelled) (x : List ℕ × Spelled) : Type 0 where
+  pub named : IsName x.0
+  pub absent : All (λ other. other ≢ x.0) names
+  pub spelled : ws ≡ x.0 ∷ x.1
 
 within : (names : Names) (w : List ℕ) (k : ℕ) (d : List ℕ) → k < length names → slice_index_or names k d ≡ w
     → position_or_len (bytes_eq w) names ≤ k
@@ -69,7 +69,7 @@ absent_all names w none k d lt e =
     rw (lt-ltb (position_or_len (bytes_eq w) names) (length names) (omega (arith, within names w k d lt e, lt))) refl in
     let f : None ≡ Some (position_or_len (bytes_eq w) names) = sym none ∙ some in absurd cc
 
-new_name_given : (names : Names) (ws : Spelled) (x : List ℕ × Spelled) → new_name_at names ws ≡ Some x
+pub new_name_given : (names : Names) (ws : Spelled) (x : List ℕ × Spelled) → new_name_at names ws ≡ Some x
     → IsNewName names ws x
 unfolding new_name_at
 new_name_given names ws x e =
@@ -83,7 +83,7 @@ new_name_given names ws x e =
         (record { named = g.0; absent = absent_all names name.0 is; spelled = g.1 })
     chosen name g (Some n) is f = absurd cc
 
-new_name_found : (names : Names) (name : List ℕ) (rest : Spelled) → IsName name
+pub new_name_found : (names : Names) (name : List ℕ) (rest : Spelled) → IsName name
     → ((k : ℕ) → k < length names → name_at names k ≢ name) → new_name_at names (name ∷ rest) ≡ Some (name, rest)
 unfolding new_name_at
 new_name_found names name rest named absent =

@@ -105,7 +105,7 @@ no_reserve names n [] ws = other_next the.Begin the.Reserve ws (λ e. cc)
 no_reserve names n (b ∷ bs) ws = other_next the.Define the.Reserve _ (λ e. cc)
 
 -- no item begins with `reserve`
-ends_header : (is : List Item) (later : Spelled) → is_next the.Reserve later ≡ false
+pub ends_header : (is : List Item) (later : Spelled) → is_next the.Reserve later ≡ false
     → is_next the.Reserve (items_lexemes is ++ later) ≡ false
 ends_header [] later h = h
 ends_header (i ∷ is) later h =

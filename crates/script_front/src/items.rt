@@ -217,8 +217,13 @@ fn rated(reader: &mut TokenReader) -> Result<Edit, ScriptFault>
 }
 
 /// An edit, after its first keyword.
+///
+/// # Errors
+///
+/// The first in text order of: `Number` for an atom where a value is required that is not such a
+/// value in range, `Expected` for any other wrong token or the end of the text.
 #[tactic(auto, unfolding(crate::specs::Readers::edit_from))]
-fn edit(reader: &mut TokenReader, first: EditKeyword) -> Result<Edit, ScriptFault>
+pub fn edit(reader: &mut TokenReader, first: EditKeyword) -> Result<Edit, ScriptFault>
     ensures { Takes (edit_from first reader.old.lexemes) result reader.old reader.new }
 {
     match first {

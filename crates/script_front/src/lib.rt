@@ -19,7 +19,7 @@ pub mod printer;
 pub mod script;
 pub mod statements;
 pub mod tree;
-mod wait_lexemes;
+pub mod wait_lexemes;
 mod waits;
 
 pub use alternatives::{Alternative, Alternatives, MOST_ALTERNATIVES};

@@ -25,7 +25,7 @@ use script_tokens::values::name;
 use std::alloc::Global;
 
 /// The maximum number of items and statements of a script.
-const MOST_STATEMENTS: u16 = 8192;
+pub const MOST_STATEMENTS: u16 = 8192;
 
 /// The maximum number of defined blocks of a script.
 const MOST_BLOCKS: usize = 64;
@@ -83,9 +83,13 @@ fn definition(
     Ok(body)
 }
 
-/// A name that is not defined yet; the reader does not advance
+/// A name that is not among `names`; the reader does not advance.
+///
+/// # Errors
+///
+/// `Expected` where no name is next, and `NameUsed` where it is one of `names`.
 #[tactic(auto, unfolding(crate::specs::BlockReader::new_name_at))]
-fn new_name<'a>(reader: &TokenReader<'a>, names: &Names) -> Result<&'a str, ScriptFault>
+pub fn new_name<'a>(reader: &TokenReader<'a>, names: &Names) -> Result<&'a str, ScriptFault>
     ensures read { IfOk result (λ s. new_name_at names.now reader.now.lexemes ≡ Some (
       s.now,
       drop 1
@@ -102,7 +106,11 @@ fn new_name<'a>(reader: &TokenReader<'a>, names: &Names) -> Result<&'a str, Scri
 }
 
 /// Checks that no token is left.
-fn end(reader: &TokenReader) -> Result<(), ScriptFault>
+///
+/// # Errors
+///
+/// `Expected` at the next token.
+pub fn end(reader: &TokenReader) -> Result<(), ScriptFault>
     ensures all { OnOk result (reader.now.lexemes ≡ []) }
     ensures none { OnErr result (reader.now.lexemes ≢ []) }
 {

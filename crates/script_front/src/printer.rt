@@ -45,8 +45,12 @@ fn put_item(out: &mut String, item: &Item) -> Result<(), AllocError>
 }
 
 /// The items, one per line.
+///
+/// # Errors
+///
+/// If memory runs out.
 #[tactic(auto, using(crate::proofs::Printed::item_more, crate::proofs::Printed::items_all))]
-fn put_items(out: &mut String, items: &[Item]) -> Result<(), AllocError>
+pub fn put_items(out: &mut String, items: &[Item]) -> Result<(), AllocError>
     ensures { OnOk result (string_bytes out.new ≡ string_bytes out.old ++ text_of_lines
         (items_lines items.now)) }
 {
@@ -90,9 +94,13 @@ fn put_apply(out: &mut String, names: &Names, block: BlockId, depth: u8) -> Resu
     Ok(())
 }
 
-/// The name of a block.
+/// The name at an index below the number of names.
+///
+/// # Errors
+///
+/// If memory runs out.
 #[tactic(auto, using(crate::proofs::Printed::name_got, crate::proofs::Printed::name_there))]
-fn put_name(out: &mut String, names: &Names, index: usize) -> Result<(), AllocError>
+pub fn put_name(out: &mut String, names: &Names, index: usize) -> Result<(), AllocError>
     requires { index < length names.now }
     ensures { OnOk result (string_bytes out.new ≡ string_bytes out.old ++ name_at names.now index) }
 {

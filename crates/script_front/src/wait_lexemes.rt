@@ -66,8 +66,12 @@ pub(crate) fn put_moment(out: &mut String, moment: Moment) -> Result<(), AllocEr
 }
 
 /// A space, then `contact C closed` or `open`.
+///
+/// # Errors
+///
+/// If memory runs out.
 #[tactic(auto, unfolding(script_tokens::specs::Keywords::letters))]
-fn put_contact(out: &mut String, contact: ContactId, closed: bool) -> Result<(), AllocError>
+pub fn put_contact(out: &mut String, contact: ContactId, closed: bool) -> Result<(), AllocError>
     ensures { OnOk result (string_bytes out.new ≡ string_bytes out.old ++ each_after
         (alternative_lexemes (OfContact contact closed))) }
 {
@@ -132,8 +136,12 @@ pub(crate) fn put_alternatives(
 }
 
 /// A space, then `time A to B`.
+///
+/// # Errors
+///
+/// If memory runs out.
 #[tactic(auto, using(crate::proofs::PrintedWaits::window_put))]
-fn put_window(out: &mut String, from: TimeOfDay, to: TimeOfDay) -> Result<(), AllocError>
+pub fn put_window(out: &mut String, from: TimeOfDay, to: TimeOfDay) -> Result<(), AllocError>
     ensures { OnOk result (string_bytes out.new ≡ string_bytes out.old ++ each_after
         (condition_lexemes (Time from to))) }
 {

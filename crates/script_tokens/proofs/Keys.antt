@@ -6,13 +6,14 @@ use Rattle.script_tokens.proofs.Words.{IsNoKeyword, Join, Keyword, List, Mode, M
 use Rattle.script_tokens.proofs.Words.{Option, Or, Packet, Period, Rate, Raw, Repeat, Reserve, Service, Settle, Some}
 use Rattle.script_tokens.proofs.Words.{Spelled, Sub, Time, To, TypeWord, Until, Wait, all_ascii_digits, ap, arith}
 use Rattle.script_tokens.proofs.Words.{bytes_eq, bytes_eq-Decides, decimal, digits_decimal, false, false≢true, keywords}
+use Rattle.script_tokens.proofs.Words.{And, Overlay, Schedule, While}
 use Rattle.script_tokens.proofs.Words.{level_text, lexeme_among, refl, subst, sym, text, the, true, ℕ}
 use denote.Enum.Bare.{sameb}
 use denote.Enum.Declared.{tag_of}
 use Rattle.std.specs.Cmp.{nat_eq_equiv}
 use Rattle.script_tokens.specs.contracts.keyword.Keyword.{the_type}
 use Rattle.script_tokens.specs.Keywords.{IsNoneOf, change_keywords, flow_keywords, head_keywords, item_keywords}
-use Rattle.script_tokens.specs.Keywords.{letters, packet_keywords, wait_keywords, word_of}
+use Rattle.script_tokens.specs.Keywords.{letters, packet_keywords, schedule_keywords, wait_keywords, word_of}
 use Rattle.script_tokens.proofs.Digits.{own}
 
 pub word_the : (k : Keyword) → word_of (letters k) ≡ the k
@@ -25,6 +26,10 @@ word_the Budget = refl
 word_the Reserve = refl
 word_the Define = refl
 word_the Begin = refl
+word_the Schedule = refl
+word_the Overlay = refl
+word_the While = refl
+word_the And = refl
 word_the Sub = refl
 word_the At = refl
 word_the Eep = refl
@@ -113,15 +118,18 @@ not_among [] w h = refl
 not_among (k ∷ ks) w h =
     rw ((false_if (bytes_eq w (letters k)) (λ f. h.0 ((bytes_eq-Decides w (letters k)).0 f)))) (not_among ks w h.1)
 
-pub no_keyword : (w : List ℕ) → IsNoneOf head_keywords w → IsNoneOf item_keywords w → IsNoneOf packet_keywords w
-    → IsNoneOf change_keywords w → IsNoneOf wait_keywords w → IsNoneOf flow_keywords w → IsNoKeyword w
+pub no_keyword : (w : List ℕ) → IsNoneOf head_keywords w → IsNoneOf schedule_keywords w → IsNoneOf item_keywords w
+    → IsNoneOf packet_keywords w → IsNoneOf change_keywords w → IsNoneOf wait_keywords w → IsNoneOf flow_keywords w
+    → IsNoKeyword w
 unfolding word_of
-no_keyword w head item packet change wait flow k e =
+no_keyword w head schedule item packet change wait flow k e =
     let late = both_none wait_keywords flow_keywords w wait flow in
     let changes = both_none change_keywords (wait_keywords ++ flow_keywords) w change late in
     let packets = both_none packet_keywords (change_keywords ++ (wait_keywords ++ flow_keywords)) w packet changes in
     let body = packet_keywords ++ (change_keywords ++ (wait_keywords ++ flow_keywords)) in
-    let none = both_none head_keywords (item_keywords ++ body) w head (both_none item_keywords body w item packets) in
+    let items = both_none item_keywords body w item packets in
+    let schedules = both_none schedule_keywords (item_keywords ++ body) w schedule items in
+    let none = both_none head_keywords (schedule_keywords ++ (item_keywords ++ body)) w head schedules in
     let other : the k ≡ text w = sym (word_the k) ∙ ap word_of (sym e) ∙ not_among keywords w none in
     absurd cc
 

@@ -3,7 +3,8 @@ use Rattle.script_tokens.proofs.Words.{[], ◌∷◌, ◌≡◌, AreTokens, Byte
 use Rattle.script_tokens.proofs.Words.{Token, arith, decimal, first_item, first_position, first_statement, number_at}
 use Rattle.script_tokens.proofs.Words.{refl, script_limits, token_at, tokens_left}
 use Rattle.script_tokens.specs.Lexing.{lexed}
-use Rattle.script_tokens.specs.Keywords.{letters, word_of}
+use Rattle.std.specs.Prelude.{codes}
+use Rattle.script_tokens.specs.Keywords.{the as the_token, text as bare, letters, word_of}
 use Rattle.script_tokens.specs.Taking.{name_next}
 use Rattle.script_tokens.specs.declared.keyword.Keyword.TheVariants as the
 use Rattle.script_tokens.specs.declared.first_keyword.ItemKeyword.TheVariants as item
@@ -63,6 +64,34 @@ an_item = item_found the.Sub []
 
 no_item : first_item (letters the.Drop ∷ []) ≡ None
 no_item = item_found the.Drop []
+
+-- `schedule`, `overlay`, `while` and `and` are keywords, and begin no statement
+the_schedule : word_of (codes "schedule") ≡ the_token the.Schedule
+unfolding letters word_of
+the_schedule = refl
+
+an_overlay : word_of (codes "overlay") ≡ the_token the.Overlay
+unfolding letters word_of
+an_overlay = refl
+
+a_while : word_of (codes "while") ≡ the_token the.While
+unfolding letters word_of
+a_while = refl
+
+an_and : word_of (codes "and") ≡ the_token the.And
+unfolding letters word_of
+an_and = refl
+
+no_plural : word_of (codes "overlays") ≡ bare (codes "overlays")
+unfolding letters word_of
+no_plural = refl
+
+no_overlay : first_statement (letters the.Overlay ∷ []) ≡ None
+no_overlay = statement_found the.Overlay []
+
+no_name_and : name_next (letters the.And ∷ []) ≡ None
+unfolding name_next letters word_of
+no_name_and = refl
 
 -- a keyword is no name, `a` is one
 no_name : name_next (letters the.Sub ∷ []) ≡ None

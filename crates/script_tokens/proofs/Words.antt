@@ -34,7 +34,7 @@ pub use Rattle.script_tokens.specs.declared.keyword.Keyword.TheVariants.{End, En
 pub use Rattle.script_tokens.specs.declared.keyword.Keyword.TheVariants.{Mode, Move, Notice, Open, OpenBrace, Or}
 pub use Rattle.script_tokens.specs.declared.keyword.Keyword.TheVariants.{Packet, Period, Rate, Raw, Repeat, Reserve}
 pub use Rattle.script_tokens.specs.declared.keyword.Keyword.TheVariants.{Service, Settle, Sub, Time, To, TypeWord}
-pub use Rattle.script_tokens.specs.declared.keyword.Keyword.TheVariants.{Until, Wait}
+pub use Rattle.script_tokens.specs.declared.keyword.Keyword.TheVariants.{Until, Wait, Schedule, Overlay, While, And}
 pub use Rattle.script_tokens.specs.declared.token.Inside.{Inside}
 pub use Rattle.script_tokens.specs.declared.token.Inside.TheVariants.{Atom, Comment, Nothing}
 pub use Rattle.script_tokens.specs.declared.token.Kind.{Kind}

@@ -5,7 +5,8 @@ use Rattle.std.specs.List.{list_all, AllByRecursion}
 use Rattle.std.specs.Str.{bytes_eq}
 use Rattle.script_tokens.specs.declared.keyword.Keyword.{Keyword}
 use Rattle.script_tokens.specs.declared.keyword.Keyword.TheVariants.{Ensemble, Mode, Period, Notice, Budget, Reserve}
-use Rattle.script_tokens.specs.declared.keyword.Keyword.TheVariants.{Define, Begin, Sub, At, Eep, Service, Audio, In}
+use Rattle.script_tokens.specs.declared.keyword.Keyword.TheVariants.{Define, Begin, Schedule, Overlay, While, And}
+use Rattle.script_tokens.specs.declared.keyword.Keyword.TheVariants.{Sub, At, Eep, Service, Audio, In}
 use Rattle.script_tokens.specs.declared.keyword.Keyword.TheVariants.{Data, Carry, Packet, Groups, Raw, TypeWord}
 use Rattle.script_tokens.specs.declared.keyword.Keyword.TheVariants.{Address, Drop, Component, Move, Rate, Wait}
 use Rattle.script_tokens.specs.declared.keyword.Keyword.TheVariants.{Contact, Closed, Open, Until, Early, Or, Time, To}
@@ -21,6 +22,10 @@ letters Budget = codes "budget"
 letters Reserve = codes "reserve"
 letters Define = codes "define"
 letters Begin = codes "begin"
+letters Schedule = codes "schedule"
+letters Overlay = codes "overlay"
+letters While = codes "while"
+letters And = codes "and"
 letters Sub = codes "sub"
 letters At = codes "at"
 letters Eep = codes "eep"
@@ -64,10 +69,13 @@ pub data Lexeme : Type 0 where
   the : (keyword : Keyword) → Lexeme
   text : (bytes : List ℕ) → Lexeme
 
--- the keywords by subject: the head of a script, its items, packet components, changes, waiting and times, and control
--- flow
+-- the keywords by subject: the head of a script, schedules, items, packet components, changes, waiting and times, and
+-- control flow
 abbrev pub head_keywords : List Keyword
 head_keywords = Ensemble ∷ Mode ∷ Period ∷ Notice ∷ Budget ∷ Reserve ∷ Define ∷ Begin ∷ []
+
+abbrev pub schedule_keywords : List Keyword
+schedule_keywords = Schedule ∷ Overlay ∷ While ∷ And ∷ []
 
 abbrev pub item_keywords : List Keyword
 item_keywords = Sub ∷ At ∷ Eep ∷ Service ∷ Audio ∷ In ∷ Data ∷ Carry ∷ []
@@ -86,7 +94,8 @@ flow_keywords = End ∷ If ∷ Else ∷ Repeat ∷ Forever ∷ Apply ∷ OpenBra
 
 abbrev pub keywords : List Keyword
 keywords =
-    head_keywords ++ (item_keywords ++ (packet_keywords ++ (change_keywords ++ (wait_keywords ++ flow_keywords))))
+    head_keywords ++ (schedule_keywords ++ (item_keywords ++ (packet_keywords ++ (change_keywords
+    ++ (wait_keywords ++ flow_keywords)))))
 
 abbrev pub lexeme_among : List Keyword → List ℕ → Lexeme
 lexeme_among [] bytes = text bytes

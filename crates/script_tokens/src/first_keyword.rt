@@ -101,6 +101,10 @@ impl Keyword {
             | Keyword::Reserve
             | Keyword::Define
             | Keyword::Begin
+            | Keyword::Schedule
+            | Keyword::Overlay
+            | Keyword::While
+            | Keyword::And
             | Keyword::At
             | Keyword::Eep
             | Keyword::In

@@ -1,7 +1,8 @@
 //! The keywords of the grammar.
 
 ghost use Rattle.std.specs.Prelude.{◌≡◌, IfSome, None};
-ghost use Rattle.script_tokens.specs.Keywords.{letters, IsNoneOf, head_keywords, item_keywords};
+ghost use Rattle.script_tokens.specs.Keywords.{letters, IsNoneOf, head_keywords};
+ghost use Rattle.script_tokens.specs.Keywords.{schedule_keywords, item_keywords};
 ghost use Rattle.script_tokens.specs.Keywords.{packet_keywords, change_keywords, wait_keywords};
 ghost use Rattle.script_tokens.specs.Keywords.{flow_keywords};
 
@@ -24,6 +25,14 @@ pub enum Keyword {
     Define,
     /// `begin`
     Begin,
+    /// `schedule`
+    Schedule,
+    /// `overlay`
+    Overlay,
+    /// `while`
+    While,
+    /// `and`
+    And,
     /// `sub`
     Sub,
     /// `at`
@@ -112,6 +121,9 @@ impl Keyword {
         if let Some(keyword) = find_head(bytes) {
             return Some(keyword);
         }
+        if let Some(keyword) = find_schedule(bytes) {
+            return Some(keyword);
+        }
         if let Some(keyword) = find_item(bytes) {
             return Some(keyword);
         }
@@ -147,6 +159,21 @@ fn find_head(bytes: &[u8]) -> Option<Keyword>
         b"reserve" => Some(Keyword::Reserve),
         b"define" => Some(Keyword::Define),
         b"begin" => Some(Keyword::Begin),
+        _ => None,
+    }
+}
+
+/// The keyword that these bytes spell, if it is one of a schedule and its overlays.
+#[tactic(auto, unfolding(crate::specs::Keywords::letters))]
+fn find_schedule(bytes: &[u8]) -> Option<Keyword>
+    ensures found { IfSome result (λ k. bytes.now ≡ letters k) }
+    ensures none { result ≡ None → IsNoneOf schedule_keywords bytes.now }
+{
+    match bytes {
+        b"schedule" => Some(Keyword::Schedule),
+        b"overlay" => Some(Keyword::Overlay),
+        b"while" => Some(Keyword::While),
+        b"and" => Some(Keyword::And),
         _ => None,
     }
 }

@@ -10,7 +10,7 @@ syntax keyword dabplanItem sub at eep service audio data carry packet groups raw
 syntax keyword dabplanEdit drop component move rate
 syntax keyword dabplanSwap commit join settle
 syntax keyword dabplanWait wait until early or contact closed open
-syntax keyword dabplanFlow if else time to repeat forever apply end
+syntax keyword dabplanFlow if else time to repeat forever apply end schedule overlay while and
 syntax match dabplanTime /\<\d\d:\d\d:\d\d\>/
 syntax match dabplanProfile /\<[1-4]-[AB]\>/
 syntax match dabplanNumber /\<\d\+\>/

@@ -318,8 +318,9 @@ class Resumed(composed.Turns):
         feed.end(signal.SIGKILL)
         day.drop()
         night.drop()
+        # However long that takes on a busy machine, the clock agrees.
         feed = self.started(f"run turns.code --compose --in day={day.address} --in night={night.address} --out - --log l"
-                            " --delay 250")
+                            " --delay 250 --tolerance 59")
         day.accept()
         night.accept()
         # 44 to 87 are the night. What follows is of another run: sequence numbers begin with that of the first frame.

@@ -72,6 +72,20 @@ commit in 48
 join
 }
 """
+# A sub-channel moves, and nothing else changes.
+MOVE = PLAN.split("begin\n")[0] + """\
+begin
+forever {
+wait 72
+move sub 2 at 200
+commit in 48
+join
+wait 72
+move sub 2 at 96
+commit in 48
+join
+}
+"""
 MODULATOR = """\
 [remotecontrol]
 telnet=0
@@ -81,7 +95,7 @@ syslog=0
 filelog=0
 [input]
 transport=file
-source=air.eti
+source={name}.eti
 loop=0
 [modulator]
 digital_gain=0.8
@@ -112,10 +126,10 @@ class Stand:
         for name, subs in (("day", DAY), ("night", NIGHT)):
             text = "\n".join(SUB.format(*each) for each in subs)
             common.write(self.folder, f"{name}.conf", MULTIPLEXER.format(subs=text, last=f"s{subs[-1][0]}", port=self.ports[name]))
-        common.write(self.folder, "x.plan", PLAN)
-        common.write(self.folder, "mod.ini", MODULATOR)
-        done = common.run([self.program, "compile", "x.plan", "x.code"], self.folder)
-        self.tally.same("compiled", 0, done.status)
+        for name, plan in (("x", PLAN), ("move", MOVE)):
+            common.write(self.folder, f"{name}.plan", plan)
+            done = common.run([self.program, "compile", f"{name}.plan", f"{name}.code"], self.folder)
+            self.tally.same("compiled", 0, done.status)
 
     def start(self, name, words, **options):
         """Starts a program, whose messages go to NAME.log."""
@@ -124,11 +138,11 @@ class Stand:
         self.jobs.append(job)
         return job
 
-    def bridge(self, name, options):
+    def bridge(self, name, options, code="x.code"):
         """Starts a bridge over both multiplexers."""
         inputs = [word for each, port in self.ports.items() for word in ("--in", f"{each}=tcp://127.0.0.1:{port}")]
-        return self.start(name, [sys.executable, str(bridges.BRIDGE), "run", "x.code", "--compose", *inputs, "--status", "--dabplan", self.program,
-                                 *options.split()])
+        words = [sys.executable, str(bridges.BRIDGE), "run", code, "--compose", *inputs, "--status"]
+        return self.start(name, [*words, "--dabplan", self.program, *options.split()])
 
     def said(self, name):
         """The messages of a program."""
@@ -233,20 +247,25 @@ def without_one(stand, multiplexers):
     counts.thread.join(10)
 
 
-def by_fifo(stand):
-    """odr-dabmod reads ETI from a FIFO: it restarts its modulation once a swap, and goes on."""
+def by_fifo(stand, name, code):
+    """odr-dabmod reads ETI from a FIFO: it restarts its modulation once a swap, also at a move alone, which it does not
+    see by itself, and goes on."""
     tally = stand.tally
-    os.mkfifo(stand.folder / "air.eti")
-    bridge = stand.bridge("fifo", "--format eti --modulator odr-dabmod --out air.eti")
-    modulator = stand.start("mod", ["odr-dabmod", "mod.ini"])
-    tally.hold(bridges.until(lambda: stand.said("fifo").count(" swap\n") >= 4, 120), "4 swaps by FIFO")
+    os.mkfifo(stand.folder / f"{name}.eti")
+    common.write(stand.folder, f"{name}.ini", MODULATOR.format(name=name))
+    bridge = stand.bridge(f"{name}-bridge", f"--format eti --modulator odr-dabmod --out {name}.eti", code)
+    modulator = stand.start(f"{name}-mod", ["odr-dabmod", f"{name}.ini"])
+    is_done = bridges.until(lambda: stand.said(f"{name}-bridge").count(" swap\n") >= 4, 120)
+    tally.hold(is_done, f"{name}: 4 swaps by FIFO")
     time.sleep(2)
-    tally.same("odr-dabmod runs", None, modulator.poll())
-    swaps, restarts = stand.said("fifo").count(" swap\n"), stand.said("mod").count(RESTARTS)
-    tally.hold(swaps - 1 <= restarts <= swaps + 1, f"odr-dabmod: {restarts} restarts, {swaps} swaps")
-    print(f"odr-dabmod by FIFO: {restarts} restarts of its modulation, {swaps} swaps", flush=True)
+    tally.same(f"{name}: odr-dabmod runs", None, modulator.poll())
+    swaps, restarts = stand.said(f"{name}-bridge").count(" swap\n"), stand.said(f"{name}-mod").count(RESTARTS)
+    tally.hold(swaps - 1 <= restarts <= swaps + 1, f"{name}, odr-dabmod: {restarts} restarts, {swaps} swaps")
+    print(f"{name}, odr-dabmod by FIFO: {restarts} restarts of its modulation, {swaps} swaps", flush=True)
     bridge.send_signal(signal.SIGTERM)
-    tally.same("the bridge ends", 0, bridge.wait(10))
+    tally.same(f"{name}: the bridge ends", 0, bridge.wait(10))
+    modulator.kill()
+    modulator.wait()
 
 
 def test(tally, folder):
@@ -262,7 +281,8 @@ def test(tally, folder):
         if shutil.which("odr-dabmod") is None:
             print("skipped: a modulator: no odr-dabmod")
         else:
-            by_fifo(stand)
+            by_fifo(stand, "turns", "x.code")
+            by_fifo(stand, "moves", "move.code")
     except BaseException:
         print(*(stand.said(path.stem)[-1500:] for path in stand.folder.glob("*.log")))
         raise

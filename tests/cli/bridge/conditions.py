@@ -178,7 +178,10 @@ class Weekdays(bridges.Case):
         status, _, messages = feed.end()
         self.assertEqual(status, 0, messages)
         self.filled("edi", b"".join(found), self.plan(80))
-        lines = [re.sub(" #.*", "", line) for line in self.read("l").decode().splitlines()[1:]]
+        # Where the stream paused, frames are two lines.
+        lines = ["frames " + str(sum(map(int, re.findall("[0-9]+", line)))) if line.startswith("frames") else line
+                 for line in re.findall("(?:frames [0-9]+;)+|[^;]+", ";".join(
+                     re.sub(" #.*", "", line) for line in self.read("l").decode().splitlines()[1:]) + ";")]
         day = today.weekday()
         after = sorted([f"contact {day} open", f"contact {(day + 1) % 7} closed"],
                        key=lambda line: int(line.split()[1]))

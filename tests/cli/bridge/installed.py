@@ -86,6 +86,7 @@ class Pages(bridges.Case):
             self.assertRegex(texts[name], r"(?m)^After=dab-folder\.service")
         self.assertRegex(texts["dab-bridge"], r"(?m)^After=.*dab-mux\.service")
         self.assertIn("RestartPreventExitStatus=2 4 5\n", texts["dab-bridge"])
+        self.assertIn("\nExecReload=/bin/kill -HUP $MAINPID\n", texts["dab-bridge"])
         if shutil.which("systemd-analyze") is None:
             self.skipTest("no systemd-analyze: service files are not verified")
         done = subprocess.run(["systemd-analyze", "verify", *map(str, self.copied())], capture_output=True, text=True, check=False)
@@ -112,7 +113,7 @@ class Pages(bridges.Case):
             self.assertIn("\nRestrictAddressFamilies=", text, name)
             if name in STARTS:
                 self.assertIn("\nOnFailure=dab-alarm@%n.service\n", text, name)
-        self.assertEqual(self.units()["dab-folder"].count("mkfifo -m 0660 "), 2)
+        self.assertEqual(self.units()["dab-folder"].count("mkfifo -m 0660 "), 1)
         if shutil.which("systemd-analyze") is None:
             self.skipTest("no systemd-analyze: the exposure of services is not known")
         for path in self.copied():
@@ -126,11 +127,13 @@ class Pages(bridges.Case):
         text = (FOLDER / "systemd/dab-bridge.service").read_text(encoding="utf-8")
         line = re.search(r"ExecStart=/usr/local/bin/dabplan-bridge ((?:.*\\\n)*.*)\n", text)[1].replace("\\\n", " ")
         self.assertIn("--time now", line)
+        self.assertIn("--check", line)
         self.assertIn("time-sync.target", re.search(r"(?m)^After=.*", text)[0])
-        line = line.replace("/etc/dab/plan.code", "none.code")
+        line = line.replace("/etc/dab/on_air.plan", "none.plan").replace("/var/lib/dab/plan.log", "none.log")
         done = subprocess.run(["sh", "-c", f"exec '{sys.executable}' '{bridges.BRIDGE}' {line}"], cwd=self.folder, capture_output=True, text=True,
                               check=False)
-        self.assertEqual((done.returncode, done.stderr), (1, "dabplan-bridge: cannot read none.code: No such file or directory\n"))
+        self.assertEqual((done.returncode, done.stderr),
+                         (1, "dabplan-bridge: cannot read none.plan: No such file or directory\n"))
 
 
 class Shapes(bridges.Case):

@@ -52,24 +52,40 @@ class Monitors(bridges.Case):
         self.assertIn(b"dab_frames 120\n", self.read("out.prom"))
 
     def test_a_monitor_outlives_the_bridge(self):
-        os.mkfifo(self.folder / "monitor")
+        """The line of its service, which reads what goes out as a modulator does."""
         text = (FOLDER / "systemd/dab-monitor.service").read_text(encoding="utf-8")
-        line = re.search(r"ExecStart=/bin/sh -c '(.*)'", text)[1]
+        line, port = re.search(r"ExecStart=/bin/sh -c '(.*)'", text)[1], bridges.free_port()
+        bridge = f"{shlex.quote(sys.executable)} {shlex.quote(str(bridges.BRIDGE))} "
         program, monitor = shlex.quote(str(self.program)), shlex.quote(str(FOLDER / "dab-monitor"))
-        for old, new in (("/usr/local/bin/dabplan ", f"{program} "), ("/usr/local/bin/dab-monitor", monitor), ("/run/dab/", ""), ("/var/lib/dab/", ""), ("--every 250", "--every 10")):
+        for old, new in (("/usr/local/bin/dabplan-bridge ", bridge), ("/usr/local/bin/dabplan ", f"{program} "),
+                         ("/usr/local/bin/dab-monitor", monitor), ("9202", str(port)), ("/var/lib/dab/", ""),
+                         ("--every 250", "--every 10")):
             self.assertIn(old, line)
             line = line.replace(old, new)
         with open(self.folder / "alarms", "wb") as alarms:
             job = subprocess.Popen(["sh", "-c", line], cwd=self.folder, stderr=alarms, start_new_session=True)
-        for first, wanted in ((0, b"dab_frames 40\n"), (60, b"dab_frames 80\n")):
-            self.write("a", b"".join(self.stream("edi", 40, first)))
-            self.assertEqual(self.bridge("run moves.code --in a --out b --log l --monitor monitor")[0], 0)
-            self.assertTrue(bridges.until(lambda wanted=wanted: (self.folder / "dab.prom").exists() and wanted in self.read("dab.prom")))
+        count = 0
+        for wanted in (40, 80):
+            feed = self.started(f"run moves.code --in - --out tcp://:{port} --log l --tolerance 59")
+            end = time.monotonic() + bridges.PATIENCE
+            while self.frames_checked() < wanted and time.monotonic() < end:
+                feed.give(self.stream("edi", 4, count % 5000))
+                count += 4
+                time.sleep(0.02)
+            self.assertGreaterEqual(self.frames_checked(), wanted)
             self.assertIn(b"dab_up 1\n", self.read("dab.prom"))
+            self.assertEqual(feed.end()[0], 0)
+            # A swap falls into these.
+            count += 60
         os.killpg(job.pid, 15)
         job.wait(10)
-        # The gap: a swap at 44 fell into it.
         self.assertIn(b'ALARM {"kind":"fault"', self.read("alarms"))
+
+    def frames_checked(self):
+        """The frames that the monitor has counted."""
+        text = self.read("dab.prom") if (self.folder / "dab.prom").exists() else b""
+        found = re.search(rb"(?m)^dab_frames (\d+)$", text)
+        return int(found[1]) if found else 0
 
     def test_a_file_that_cannot_be_written(self):
         (self.folder / "folder").mkdir()

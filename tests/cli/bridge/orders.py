@@ -1,6 +1,8 @@
 #!/usr/bin/env python3
 """The control port of `dabplan-bridge run`: what it changes. The last line is 'N passed, M failed'."""
+import base64
 import json
+import re
 import threading
 import time
 
@@ -83,7 +85,7 @@ class Changed(Controlled):
                 ("PUT", "/contacts/16", b"open", 404),
                 ("PUT", "/contacts/03", b"open", 404), ("PUT", "/contacts/", b"open", 404), ("PUT", "/", b"open", 404),
                 ("GET", "/contacts/3", None, 404), ("GET", "/none", None, 404), ("GET", "/../status.json", None, 404),
-                ("POST", "/reload", b"", 404), ("POST", "/contacts/3", b"open", 404),
+                ("POST", "/contacts/3", b"open", 404), ("GET", "/reload", None, 404),
                 ("POST", "/resume?count=5000", b"", 400),
                 ("POST", "/resume?count=", b"", 400), ("POST", "/resume?count=1&count=2", b"", 400),
                 ("POST", "/resume?at=1", b"", 400),
@@ -194,6 +196,39 @@ class Retaken(Controlled):
         index = answer["count"] + number - 1024
         wanted = bridges.made("edi", plan[96 * number:], answer["count"] + number)
         self.same(b"".join(wanted), b"".join(found[index:index + 20]), "the plan")
+
+    def test_a_kill_before_the_plan_is_back_loses_nothing(self):
+        """The plan begins anew, and what is held goes on for some frames still: killed then, it is held again, and what
+        the plan has is announced."""
+        feed = self.held("contacts", "--log l --contacts c")
+        self.write("c", "contact 3 closed\n")
+        self.paced(feed, bridges.made("edi", self.own(60, 1012), 1012))
+        self.assertTrue(bridges.until(lambda: self.status()["contacts"][3] == "closed", 10))
+        self.assertEqual(self.until_shown(state="holding")["swap"], None)
+        status, answer, found = self.ordered(feed, "/anew", bridges.made("edi", self.own(12, 1072), 1072))
+        self.assertEqual((status, answer["frame"]), (200, 0))
+        self.assertEqual(self.status()["state"], "holding")
+        feed.job.kill()
+        feed.end()
+        lines = self.read("l").decode().splitlines()
+        self.assertRegex(lines[0], f"^# dabplan-bridge: count {answer['count']} ")
+        self.assertEqual([line.split()[1] for line in lines[1:3]], ["3", "holds"])
+        script = base64.b64decode(lines[2].split()[2]).decode()
+        self.assertEqual(re.findall("(?m)^sub .*", script), ["sub 1 at 0 eep 3-A 32"])
+        self.assertTrue((self.folder / "l.1").exists())
+        # Compacted it still says so.
+        self.assertEqual(self.bridge("compact l")[0], 0)
+        self.assertIn(lines[2].encode(), self.read("l").splitlines())
+        self.port = bridges.free_port()
+        feed = self.begun("contacts", "--log l --tolerance 30")
+        count = (1072 + len(found) + 40) // 4 * 4
+        stream = bridges.made("edi", self.own(300, count), count)
+        feed.give(stream[:8])
+        more = [feed.get(len(frame)) for frame in stream[:8]] + self.paced(feed, stream[8:200])
+        fic = self.bridge("fic -", b"".join(found + more))[1]
+        self.assertEqual(feed.end()[0], 0)
+        # A gap of frames, and no swap that was not announced: the plan with its contact closed goes over to 2.
+        self.assertRegex(self.checked(fic), r"swaps [12] faults 1$")
 
     def test_where_nothing_is_held(self):
         feed = self.begun("slow", "--log l")

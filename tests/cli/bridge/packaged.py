@@ -100,13 +100,13 @@ class Package(bridges.Case):
         self.filled("edi", self.read("b"), self.plan(40))
         self.assertEqual(run(self.root / "usr/bin/dab-contact", "16", "open").returncode, 2)
         self.assertEqual(run(self.root / "usr/bin/dab-monitor").returncode, 2)
-        plan = self.root / "etc/dab/plan.code"
-        plan.write_bytes(self.read("moves.code"))
+        plan = self.root / "etc/dab/on_air.plan"
+        plan.write_text(bridges.MOVES, encoding="ascii")
         done = self.dpkg("--purge", "dabplan")
         self.assertEqual(done.returncode, 0, done.stderr)
         left = [name for name in self.files() if not name.startswith(("etc/passwd", "etc/group", "etc/shadow",
                                                                       "etc/gshadow", "etc/.pwd.lock"))]
-        self.assertEqual(left, ["etc/dab/plan.code"], "a plan is not the package's, and stays")
+        self.assertEqual(left, ["etc/dab/on_air.plan"], "a plan is not the package's, and stays")
 
 
 class Vim(unittest.TestCase):

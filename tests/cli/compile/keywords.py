@@ -40,12 +40,15 @@ STATEMENTS = ("drop", "move", "rate", "wait", "until", "commit", "join", "settle
 # The keywords that may go on with a statement that could end there, too: what is expected is named without them.
 GOING_ON = ("or", "early")
 
+# The keywords of schedules: what is wrong with one is said without naming what is expected.
+SCHEDULES = ("schedule", "overlay", "while", "and")
+
 
 def keywords():
-    """The keywords of the grammar, in the order in which it names them."""
+    """The keywords of the grammar of steps, in the order in which it names them."""
     text = (common.TOP / "docs/guide/SCRIPTS.md").read_text(encoding="utf-8")
     grammar = text.split("## Grammar\n")[1].split("\n| Value |")[0]
-    return list(dict.fromkeys(re.findall(r'"([a-z]+)"', grammar)))
+    return [word for word in dict.fromkeys(re.findall(r'"([a-z]+)"', grammar)) if word not in SCHEDULES]
 
 
 def exchanged(word):

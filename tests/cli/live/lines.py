@@ -44,7 +44,7 @@ def frames_are_skipped(rows):
     """The first frames are made, counted and reported, but not written."""
     wanted = played(rows, RATES_FILE, " ".join(LINES))
     lines = "\n".join(LINES).encode()
-    for skip in (0, 1, 28, 69, 70, 71, 4294967295):
+    for skip in (0, 1, 28, 69, 70, 71, 4294967296, 2 ** 63 - 1):
         live(rows, RATES_FILE, lines, f"--skip {skip} --status", 0, wanted[96 * skip:], STATUS)
 
 
@@ -175,8 +175,9 @@ def until(day):
 def a_time_is_a_day_frame(rows):
     """`--time` is the first frame at or after that time; three seconds have 125 frames."""
     for time, day in (("00:00:00", 0), ("00:00:01", 42), ("00:00:02", 84), ("00:00:03", 125), ("12:00:00", 1800000),
-                      ("11:59:59", 1799959), ("23:59:59", 3599959)):
-        files = {"x.code": hexadecimal(until(day + 10)), "x.commands": "next next", "x.events": "frames 20"}
+                      ("11:59:59", 1799959), ("23:59:59", 3599959), ("00:00:00.000", 0), ("00:00:00.001", 1), ("00:00:00.024", 1),
+                      ("00:00:00.025", 2), ("12:00:00.048", 1800002), ("23:59:59.976", 3599999), ("23:59:59.977", 0)):
+        files = {"x.code": hexadecimal(until((day + 10) % 3_600_000)), "x.commands": "next next", "x.events": "frames 20"}
         ended = rows.run(f"debug x.code x.commands --time {time}", files)
         wanted = "frames 1 steps 1 pc 1 line 2 count 1 remaining none\nframes 10 steps 1 pc 2 line 3 count 11 remaining none\n"
         rows.tally.same(f"debug --time {time}", (0, wanted.encode()), ended.lines())
@@ -189,7 +190,7 @@ def a_time_is_a_day_frame(rows):
 def wrong_command_lines(rows):
     """They are reported on standard error, and nothing goes to standard output; help does."""
     for options in ("--time 24:00:00", "--time 12:60:00", "--time 12:00", "--time 1:00:00", "--time=", "--day 0 --time 00:00:00",
-                    "--skip -1", "--skip 4294967296", "--skip x", "--status --status",
+                    "--skip -1", "--skip 9223372036854775808", "--skip x", "--status --status",
                     "--every 0", "--every 4294967296", "--every x", "--json --json", "--json=1", "--page 1", "x", "--contacts 00g0"):
         ended = rows.run(f"live x.code {options}", {"x.code": hexadecimal(RATES_FILE)}, b"frames 1\n")
         rows.tally.same(f"live {options}", (2, b"", b"error: ", 1),

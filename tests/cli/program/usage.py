@@ -8,7 +8,7 @@ from rows import common
 COMMANDS = ("frame", "listen", "check", "diff", "compile", "verify", "map", "play", "debug", "live")
 FOUR_DIGITS = "expected four hexadecimal digits (0-9, A-F)"
 NO_TEXT = b"error: an argument is not UTF-8\n"
-TIME = "expected 00:00:00 to 23:59:59"
+TIME = "expected 00:00:00 to 23:59:59.999"
 
 
 def required(name):
@@ -98,9 +98,11 @@ def wrong_live_lines(rows):
         ("x.code --count 65536", "invalid value '65536' for '--count <N>': expected a number from 0 to 65535"),
         ("x.code --day -1", "unexpected argument '-1' found"),
         ("x.code --time 24:00:00", f"invalid value '24:00:00' for '--time <HH:MM:SS>': {TIME}"),
+        ("x.code --time 12:00:00.5", f"invalid value '12:00:00.5' for '--time <HH:MM:SS>': {TIME}"),
         ("x.code --day 0 --time 00:00:00", together("--day <N>", "--time <HH:MM:SS>")),
         ("x.code --skip -1", "unexpected argument '-1' found"),
-        ("x.code --skip 4294967296", "invalid value '4294967296' for '--skip <N>': expected a number from 0 to 4294967295"),
+        ("x.code --skip 9223372036854775808",
+         "invalid value '9223372036854775808' for '--skip <N>': expected a number from 0 to 9223372036854775807"),
         ("x.code --skip 0 --skip 0", twice("--skip <N>")),
         ("x.code --status --status", twice("--status")),
         ("x.code --explain", "unexpected argument '--explain' found"),
@@ -119,7 +121,7 @@ def help_is_no_fault(rows):
         ("--help", "Usage: dabplan <COMMAND>"),
         ("--version", "dabplan 0.3.0\n"),
         ("-V", "dabplan 0.3.0\n"),
-        ("compile --help", "Usage: dabplan compile <SCRIPT> <OUT> [--explain | --quiet]"),
+        ("compile --help", "Usage: dabplan compile <SCRIPT> <OUT> [--from <NOW>] [--explain | --quiet]"),
         ("play --help", "Usage: dabplan play <CODE> <EVENTS> <OUT> [--count <N>] [--day <N> | --time <HH:MM:SS>]"),
         ("debug --help", "Usage: dabplan debug <CODE> <COMMANDS> [--count <N>] [--day <N> | --time <HH:MM:SS>]"),
         ("live --help", "Usage: dabplan live <CODE> [--count <N>] [--day <N> | --time <HH:MM:SS>]"),

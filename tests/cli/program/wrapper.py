@@ -12,7 +12,7 @@ import common
 
 SOURCES = {"crates.txt": "# crates\ndabplan: low\nlow: thiserror\nother: low\n", "crates/dabplan/src/main.rt": "fn main() {}\n",
            "crates/low/src/lib.rt": "//! Low.\n", "crates/low/specs/Lib.antt": "", "crates/other/src/lib.rt": "//! Not of the program.\n"}
-OF_PROGRAM = [name for name in SOURCES if "other" not in name]
+OF_PROGRAM = [name for name in SOURCES if "other" not in name and "specs" not in name]
 RELEASED = "#!/bin/sh\necho released \"$@\"\n"
 OWN = "#!/bin/sh\necho own \"$@\"\n"
 # No prover is on this path.
@@ -103,6 +103,8 @@ def changed(tally, folder):
     tally.same("put back", "released\n", run(["./dabplan"], top)[1])
     (top / "crates/other/src/lib.rt").write_text("//! Changed.\n")
     tally.same("a crate that is no part of it", "released\n", run(["./dabplan"], top)[1])
+    (top / "crates/low/specs/Lib.antt").write_text("-- Changed.\n")
+    tally.same("a definition", "released\n", run(["./dabplan"], top)[1])
     executable(top / "release/dabplan", RELEASED + "# changed\n")
     tally.same("another released program", refused, run(["./dabplan"], top))
 

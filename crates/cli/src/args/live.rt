@@ -1,6 +1,6 @@
 //! The command line of `live`.
 
-use crate::args::parser::Kind::{Flag, Number, Operand};
+use crate::args::parser::Kind::{Flag, Long, Number, Operand};
 use crate::args::parser::{Argument, Page, Values};
 use crate::args::start::{CONTACTS, COUNT, DAY, TIME, start_options};
 use crate::args::{FramesRequest, UsageError};
@@ -8,7 +8,7 @@ use cli_plans::live::LiveRequest;
 use plan_live::Wanted;
 
 const SKIP: &str = "\
-How many frames at the beginning are played but not written, 0 to 4294967295";
+How many frames at the beginning are played but not written, 0 to 9223372036854775807";
 
 const STATUS: &str = "\
 Reports each notice that begins, each swap and the end of the plan on standard error";
@@ -37,7 +37,7 @@ dabplan live <CODE> [--count <N>] [--day <N> | --time <HH:MM:SS>] [--contacts <H
         DAY,
         TIME,
         CONTACTS,
-        Argument("skip", Number("N", 0, 4294967295, Some("0")), &[], SKIP),
+        Argument("skip", Long("N", 0, i64::MAX, Some("0")), &[], SKIP),
         Argument("status", Flag, &[], STATUS),
         Argument("every", Number("N", 1, 4294967295, None), &[], EVERY),
         Argument("json", Flag, &[], JSON),

@@ -47,6 +47,8 @@ pub(crate) enum Kind {
     Text(&'static str, Option<&'static str>),
     /// An option with a number: its lowest and highest value, and its default.
     Number(&'static str, i64, i64, Option<&'static str>),
+    /// The same for numbers of 64 bits.
+    Long(&'static str, i64, i64, Option<&'static str>),
 }
 
 /// A rule of an argument; one without rules is optional.
@@ -113,6 +115,11 @@ fn of_kind<'a>(arg: Arg<'a>, name: &'static str, kind: Kind) -> Arg<'a> {
         Kind::Text(value, default) => with_default(arg.long(name).value_name(value), default),
         Kind::Number(value, lowest, highest, default) => {
             let range = value_parser!(u32).range(lowest..=highest);
+            let arg = arg.long(name).value_name(value).value_parser(range);
+            with_default(arg, default)
+        }
+        Kind::Long(value, lowest, highest, default) => {
+            let range = value_parser!(u64).range(lowest..=highest);
             let arg = arg.long(name).value_name(value).value_parser(range);
             with_default(arg, default)
         }

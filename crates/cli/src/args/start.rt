@@ -2,10 +2,11 @@
 //! first frame.
 
 use crate::args::UsageError;
+use crate::args::moment::moment_of;
 use crate::args::parser::Kind::{Number, Text};
 use crate::args::parser::Rule::Excludes;
 use crate::args::parser::{Argument, Values};
-use crate::args::shared::{digits_of, time_of};
+use crate::args::shared::digits_of;
 use plan_code::Contacts;
 use plan_session::StartOptions;
 
@@ -30,7 +31,7 @@ pub(crate) const TIME: Argument = Argument(
     "time",
     Text("HH:MM:SS", None),
     &[Excludes("day")],
-    "The time of day of the first frame, 00:00:00 to 23:59:59, instead of --day",
+    "The time of day of the first frame, 00:00:00 to 23:59:59.999, instead of --day",
 );
 
 /// The contacts that are closed at the start.
@@ -46,8 +47,8 @@ pub(crate) const CONTACTS: Argument = Argument(
 pub(crate) fn start_options<'a>(values: &Values<'a>) -> Result<StartOptions, UsageError<'a>> {
     let contacts = Contacts(digits_of(values, "contacts", "--contacts <HHHH>")?);
     let count = values.number("count");
-    let day = match time_of(values)? {
-        Some(time) => time.frame().get(),
+    let day = match moment_of(values)? {
+        Some(moment) => moment.frame(),
         None => values.number("day"),
     };
     Ok(StartOptions {

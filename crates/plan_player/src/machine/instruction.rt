@@ -57,6 +57,7 @@ fn commit_in<S: Store>(plan: &Plan, delay: Delay, machine: &mut Machine<S>)
     ensures { state_of S.content machine.new ≡ effect plan.now (CommitIn delay)
         (state_of S.content machine.old) }
 {
+    machine.committed = Some(machine.pc);
     machine.left = Some(left_in(plan.layout.mode().step(), machine.count, delay.get()));
     machine.pc += 1;
 }
@@ -68,6 +69,7 @@ fn commit_at<S: Store>(plan: &Plan, count: u16, machine: &mut Machine<S>)
     ensures { state_of S.content machine.new ≡ effect plan.now (CommitAt count)
         (state_of S.content machine.old) }
 {
+    machine.committed = Some(machine.pc);
     machine.left = Some(left_at(machine.count, plan.notice, count));
     machine.pc += 1;
 }

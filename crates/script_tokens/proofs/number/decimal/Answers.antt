@@ -1,4 +1,4 @@
-use Rattle.script_tokens.proofs.Words.{◌+◌, ◌∙◌, arith, eqb-true, get_or, length, refl, sym}
+use Rattle.script_tokens.proofs.Words.{◌∙◌, arith, eqb-true, get_or, length, refl, sym}
 use Rattle.script_tokens.proofs.Digits.{no_digit, reads_on, found_all, value_small, too_long, empty}
 use Rattle.script_tokens.proofs.Digits.{zero_first, digit_range, nonzero}
 use Rattle.script_tokens.proofs.number.decimal.Goals.{then-atom-eq48+else-atom-gt1, else-atom-eq48}

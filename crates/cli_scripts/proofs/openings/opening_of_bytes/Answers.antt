@@ -1,5 +1,5 @@
 use Rattle.cli_scripts.proofs.Succeeding.{has_opening}
-use Rattle.cli_scripts.proofs.diff.opening_of_bytes.Goals as goal
+use Rattle.cli_scripts.proofs.openings.opening_of_bytes.Goals as goal
 
 pub returns-in-Ok-clause-opening : goal.returns-in-Ok-clause-opening
 returns-in-Ok-clause-opening c =

@@ -1,0 +1,2 @@
+mod Sequences
+mod Takeovers

@@ -1,0 +1,53 @@
+//! Why a schedule does not compile.
+
+use plan_verifier::Cause;
+use std::alloc::AllocError;
+use thiserror::Error;
+
+/// A limit on schedules and their codes.
+#[derive(Clone, Copy, Debug, PartialEq, Eq)]
+pub enum ScheduleLimit {
+    /// At most 4,096 combinations of overlays can hold at some moment.
+    Combinations,
+    /// At most 256 configurations can be due.
+    Configurations,
+    /// A code has at most 4,096 instructions.
+    Instructions,
+    /// A code has at most 1,024 labels.
+    Labels,
+}
+
+/// Why a schedule does not compile. `Display` writes the line that `dabplan compile` prints.
+#[derive(Clone, Copy, Debug, PartialEq, Eq, Error)]
+pub enum ScheduleFault {
+    /// A configuration, a change or the cost of the code is refused. The line is that of the edit
+    /// at fault, or of the last overlay that holds, or of `schedule`; 1 to 65,535. The overlays are
+    /// those that hold there, or before a change or behind it; the first one is the lowest bit.
+    #[error("refused line {line}: {cause}")]
+    Refused {
+        line: u16,
+        cause: Cause,
+        overlays: u64,
+    },
+    /// A limit is exceeded.
+    #[error("refused: Limit")]
+    Limit(ScheduleLimit),
+    /// The verifier does not accept the code; no such schedule is known.
+    #[error("refused: Uncertified")]
+    Uncertified,
+    /// Out of memory.
+    #[error("no memory")]
+    Memory,
+}
+
+impl From<AllocError> for ScheduleFault {
+    ghost use Rattle.std.specs.Prelude.{◌≡◌};
+    ghost use Rattle.schedule_compiler.specs.declared.fault.ScheduleFault.TheVariants.{Memory};
+
+    ghost from_gives = { λ _ e. e ≡ Memory };
+
+    /// An allocation failure is `Memory`.
+    fn from(_error: AllocError) -> Self {
+        ScheduleFault::Memory
+    }
+}

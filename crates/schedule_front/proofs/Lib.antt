@@ -1,0 +1,12 @@
+mod Denoted
+mod Denoting
+mod PrintedAgain
+mod PrintedConditions
+mod PrintedOverlays
+mod ReadingEdits
+mod ReadingOverlays
+mod ReadingSchedules
+mod ReadingTests
+mod Sources
+mod Vectors
+mod Words

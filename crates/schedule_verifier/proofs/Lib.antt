@@ -1,0 +1,12 @@
+mod Words
+mod Windows
+mod Regions
+mod Walking
+mod Applying
+mod Waiting
+mod Tops
+mod Leaving
+mod Bursts
+mod Standing
+mod Played
+mod Vectors

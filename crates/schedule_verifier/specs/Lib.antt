@@ -1,0 +1,6 @@
+pub mod Certificate
+pub mod Playing
+pub mod Regions
+pub mod Walks
+pub use Rattle.schedule_runs.specs.Due
+pub use Rattle.schedule_runs.specs.Machine

@@ -1,0 +1,101 @@
+#!/usr/bin/env python3
+"""Random schedules over random events from random starts, beside a second reading of what they mean: 'schedule_runs.py [SEED [RUNS]]'.
+
+Each schedule is compiled, and played from a random count, day and set of closed contacts, over contacts that change at random
+frames. Its machine, read a second time in tests/lib/schedules.py, says which commits there are; a plan of steps with just
+these commits, which has no condition in it, is compiled and played from the same start. The FIBs of both have to be the same,
+byte by byte. The last line is 'N passed, M failed'."""
+import os
+import random
+import sys
+import tempfile
+from concurrent.futures import ThreadPoolExecutor
+
+import common
+import schedules
+from schedules import Contact, Overlay, Programme, Schedule, Start, Window
+
+SEED, RUNS = 1, 1000
+
+
+def random_window(chance, around):
+    """A window near a time of the day, or anywhere; seldom an empty one."""
+    if chance.random() < 0.7:
+        begin = (around + chance.randint(-20, 20)) % 86_400
+        return Window(begin, (begin + chance.randint(1, 30)) % 86_400)
+    return Window(chance.randrange(86_400), chance.randrange(86_400))
+
+
+def random_condition(chance, around):
+    """Up to three alternatives of up to three tests."""
+    def test():
+        if chance.random() < 0.6:
+            return Contact(chance.randrange(4), chance.random() < 0.6)
+        return random_window(chance, around)
+
+    return tuple(tuple(test() for _test in range(chance.choice((1, 1, 2, 3)))) for _tests in range(chance.choice((1, 1, 1, 2, 3))))
+
+
+def random_schedule(chance, around):
+    """One to four overlays, each with a programme of its own, a rate of one of the items, or both."""
+    items = tuple(Programme(number, 100 * number, 96, f"C2{number:02X}") for number in range(1, 3))
+    overlays = []
+    for number in range(chance.choice((1, 1, 2, 2, 3, 4))):
+        added = (Programme(10 + number, 300 + 60 * number, 64, f"C3{number:02X}"),) if chance.random() < 0.6 else ()
+        rates = ((chance.choice((1, 2)), chance.choice((64, 96, 128))),) if not added or chance.random() < 0.3 else ()
+        overlays.append(Overlay(f"o{number}", random_condition(chance, around), added, rates))
+    return Schedule(items, tuple(overlays), chance.choice((1, 1, 1, 2, 3, 4)), chance.choice((24, 30, 100, 240)))
+
+
+def random_run(chance):
+    """A schedule, a start near its windows, contacts, and a number of frames."""
+    around = chance.choice((0, 5, 21_600, 43_200, 86_390))
+    schedule = random_schedule(chance, around)
+    day = (schedules.frame_of(around) + chance.randint(-1500, 600) - schedule.notice) % schedules.DAY
+    closed = frozenset(contact for contact in range(4) if chance.random() < 0.3)
+    frames = chance.randint(200, 3000)
+    events = [(chance.randrange(frames), chance.randrange(5), chance.random() < 0.5) for _event in range(chance.randint(0, 12))]
+    # Of two changes of a contact before one frame, the later one counts; one is left.
+    events = list({(frame, contact): (frame, contact, closed) for frame, contact, closed in events}.values())
+    return schedule, Start(chance.randrange(schedules.COUNTS), day, closed), events, frames
+
+
+def played(program, folder, name, text, start, events):
+    """The FIBs of a plan with this text, or why there are none."""
+    common.write(folder, f"{name}.plan", text)
+    ended = common.run([program, "compile", f"{name}.plan", f"{name}.code"], folder)
+    if ended.status != 0:
+        return ended.printed.decode(), b""
+    common.write(folder, "events", events)
+    ended = common.run([program, "play", f"{name}.code", "events", f"{name}.fib", *schedules.start_words(start)], folder)
+    with open(f"{folder}/{name}.fib", "rb") as fibs:
+        return ended.printed.decode(), fibs.read()
+
+
+def try_run(program, number):
+    """Whether a run is as it reads, and what it was: its commits, or what differs."""
+    schedule, start, events, frames = random_run(random.Random(number))
+    found = schedules.commits(schedule, start, events, frames)
+    text = schedules.events_text(events, frames)
+    with tempfile.TemporaryDirectory() as folder:
+        had, fibs = played(program, folder, "schedule", schedule.text(), start, text)
+        wanted, others = played(program, folder, "steps", schedules.steps(schedule, found), start, text)
+    is_same = had == wanted == f"played {frames} frames\n" and fibs == others and len(fibs) > 0
+    return is_same, len(found), f"run {number}: {had.strip()} beside {wanted.strip()}\n{schedule.text()}{start}\n{text}"
+
+
+def main():
+    """Runs them all, several at a time."""
+    seed, runs = (int(word) for word in (sys.argv[1:] + [str(SEED), str(RUNS)][len(sys.argv) - 1:])[:2])
+    tally, program, swaps = common.Tally(), common.dabplan(), 0
+    with ThreadPoolExecutor(os.cpu_count()) as pool:
+        for is_same, commits, what in pool.map(lambda number: try_run(program, number), range(seed * 1_000_000, seed * 1_000_000 + runs)):
+            tally.hold(is_same, what)
+            swaps += commits
+    print(f"{runs} runs, {swaps} commits", flush=True)
+    tally.hold(swaps > runs, "too few commits to say anything")
+    tally.end()
+
+
+if __name__ == "__main__":
+    main()
