@@ -49,6 +49,7 @@ class Air:
         self._seen_swaps = -1
         self._is_new = False
         self._wall = float("inf")
+        self._late = 0.0
 
     def sub_channels(self) -> Dict[int, SubChannel]:
         """The sub-channels that receivers hold, by SubChId."""
@@ -134,12 +135,19 @@ class Air:
             self._log.count(1, moment.wall)
         if self._holding is None:
             step = self._follower.step
-            if moment.wall - self._wall > PAUSE or (step is not None and abs(step.frames or 0) * FRAME_SECONDS > PAUSE):
+            pause = moment.wall - self._wall - self._late
+            if moment.wall != self._wall:
+                self._late = 0.0
+            if pause > PAUSE or (step is not None and abs(step.frames or 0) * FRAME_SECONDS > PAUSE):
                 self._log.tell(self._follower.wall_behind(self.player.made, moment))
             self._wall = moment.wall
         if self.has_swapped:
             self._log.sync()
         self._given.acted(self._log.is_written)
+
+    def begun(self, seconds: float) -> None:
+        """It took so long to begin: the frames that came meanwhile came without a pause of the stream."""
+        self._late = seconds
 
     def end(self) -> bool:
         """Ends the children; returns whether they ended well."""

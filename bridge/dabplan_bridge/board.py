@@ -10,6 +10,7 @@ from typing import Deque, List, NamedTuple, Optional, Sequence, Tuple
 from .air import Air
 from .fibs import COUNTS
 from .plan import Plan
+from .player import Player
 from .sinks import Sinks
 
 KEPT = 750
@@ -50,6 +51,8 @@ class Board:
     def __init__(self, plan: Plan) -> None:
         self.plan = plan
         """The plan that is on air, or is to be."""
+        self.player: Optional[Player] = None
+        """That plan, as it plays; None before it is on air."""
         self.sinks: Optional[Sinks] = None
         self.start: Tuple[str, int] = ("", 0)
         """The time of the plan's first frame, as the log says it, and the count of that frame."""
@@ -58,7 +61,7 @@ class Board:
 
     def frame(self, fic: bytes, count: int, swaps: int, is_held: bool, air: Air) -> None:
         """Puts down a frame that went out, behind so many swaps."""
-        self.plan = air.plan
+        self.plan, self.player = air.plan, air.player
         self.start = (air.player.start.time, air.player.start.first)
         self._frames.append(Shown(self._number, fic, count, swaps, is_held, air.swap_in()))
         self._number += 1

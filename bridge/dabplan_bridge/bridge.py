@@ -166,6 +166,8 @@ class Bridge:
         if is_first:
             self._log.open()
         air.record(moment)
+        if is_first:
+            air.begun(time.time() - self._moment.wall)
         if self._utc.is_seen:
             self._log.utc()
         self._fit.compare(frame, at, air.sub_channels, air.has_swapped)

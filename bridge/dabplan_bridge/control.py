@@ -30,6 +30,7 @@ from .faults import Trouble, say, why
 from .given import Given
 from .handler import Handler
 from .orders import Orders
+from .outlook import Outlook
 from .plan import Plan
 from .receiving import GaveUp
 from .state import Phase, State
@@ -145,8 +146,10 @@ class Control:
         """What goes out."""
         self._orders = orders
         self._server: Optional[Server] = None
+        self._outlook: Optional[Outlook] = None
         if access is not None:
-            status = Status(program, source, self.board, given, state, access.token is not None)
+            self._outlook = Outlook(program, self.board, given, state)
+            status = Status(program, source, self.board, given, state, self._outlook, access.token is not None)
             watch = Watch(status, self.board, given, state)
             self._server = Server(access, orders, watch)
             threading.Thread(target=self._server.serve_forever, args=(0.1,), name="control", daemon=True).start()
@@ -163,3 +166,5 @@ class Control:
             self._server.watch.end()
             self._server.shutdown()
             self._server.server_close()
+        if self._outlook is not None:
+            self._outlook.end()

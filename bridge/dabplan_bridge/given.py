@@ -84,6 +84,18 @@ class Given:
             yield stop - frame, lines
             frame = stop
 
+    def coming(self, frame: int, end: int) -> List[Tuple[int, bytes]]:
+        """The contacts that the calendar will change before the plan's frames from one up to another, each with the
+        number of its frame."""
+        closed, found = list(self.closed), []
+        while (turn := self._calendar.next(frame)) is not None and turn < end:
+            for contact, is_closed in self._calendar.on(turn):
+                if closed[contact] != is_closed:
+                    closed[contact] = is_closed
+                    found.append((turn, contact_line(contact, is_closed)))
+            frame = turn
+        return found
+
     def remarks(self) -> List[str]:
         """What the log has to say beside these lines: of contacts under conditions, how they were given."""
         before, self._words = self._words, self._conditions.words()

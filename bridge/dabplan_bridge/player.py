@@ -5,19 +5,21 @@ import contextlib
 from collections import deque
 from dataclasses import dataclass
 from itertools import chain, islice
-from typing import Deque, Dict, Iterable, List, Optional, Tuple
+from typing import Deque, Dict, Iterable, Iterator, List, Optional, Set, Tuple
 
 from .chain import Chain, Live, Progress, frame_lines
 from .faults import Stopped, Trouble, number_of
 from .fibs import COUNTS, Listener
 from .follower import KEPT
 from .layout import SubChannel
-from .past import Past
+from .past import Past, contacts_in
 from .plan import Plan, opening
 from .priority import ordinary
 
 MANY = 5000
 """Where more frames are passed over, it is said that this takes its time."""
+MOST_CONTACTS = 100_000
+"""So many changes of contacts are noted."""
 
 
 @dataclass(frozen=True)
@@ -62,12 +64,17 @@ class Player:
         """Whether a swap fell into the last frame that was made."""
         self.swaps = 0
         """The swaps of the frames that were made here."""
+        self.contacts: List[Tuple[int, bytes]] = []
+        """The lines of contacts that changed something, each with the number of the frame before which it came; more
+        than `MOST_CONTACTS` where some are not there."""
+        self._closed: Set[int] = set()
         self._plan = plan
         self._listener = Listener()
         self._kept: Deque[bytes] = deque(maxlen=KEPT)
         self._since_swap = 0
         self._layouts: Deque[Tuple[int, Dict[int, SubChannel]]] = deque(maxlen=KEPT)
-        lines = [*steps] if start.frames < plan.history else steps
+        noted = self._noted(steps)
+        lines = [*noted] if start.frames < plan.history else noted
         again = min(start.frames, KEPT)
         code = plan.code
         known: Optional[Dict[int, SubChannel]] = None
@@ -109,6 +116,7 @@ class Player:
 
     def make(self, fic: bytes, lines: List[bytes]) -> bytes:
         """The FIC of the plan's next frame, after these lines of contacts, with FIGs of another FIC."""
+        self._note(self.made, lines)
         made = self._chain.frame(fic, lines)
         self._keep(made)
         return made
@@ -116,7 +124,8 @@ class Player:
     def pass_over(self, frames: int, lines: Iterable[bytes] = ()) -> bool:
         """Lets the plan make frames that are not sent, after these lines; returns whether a swap fell into one of
         them."""
-        before = self.swaps
+        before, lines = self.swaps, [*lines]
+        self._note(self.made, lines)
         text = f"{number_of(frames)} of the plan are made, and not sent"
         with (Progress(text) if frames > MANY else contextlib.nullcontext()):  # type: ignore[attr-defined]
             for made in self._chain.pass_over(frames, lines):
@@ -151,6 +160,25 @@ class Player:
     def end(self) -> bool:
         """Ends the children; returns whether they ended well."""
         return self._chain.end()
+
+    def _noted(self, steps: Iterable[bytes]) -> Iterator[bytes]:
+        """The steps of what was, whose contacts are noted as they are taken."""
+        at = 0
+        for step in steps:
+            if step.startswith(b"frames"):
+                at += int(step[7:])
+            else:
+                self._note(at, [step])
+            yield step
+
+    def _note(self, frame: int, lines: Iterable[bytes]) -> None:
+        """Notes lines of contacts that come before the frame of a number."""
+        for line in lines:
+            before = set(self._closed)
+            for contact, is_closed in contacts_in(line):
+                (self._closed.add if is_closed else self._closed.discard)(contact)
+            if self._closed != before and len(self.contacts) <= MOST_CONTACTS:
+                self.contacts.append((frame, line))
 
     def _take_up(self, lines: Iterable[bytes], again: int) -> None:
         """Plays what was, and keeps the last frames of it, so many."""

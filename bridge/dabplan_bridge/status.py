@@ -10,6 +10,7 @@ from .decoded import Decoder
 from .fibs import COUNTS, DAY_FRAMES
 from .given import Given
 from .labels import Labels
+from .outlook import Outlook
 from .past import day_frame_of_start, text_of
 from .state import State
 
@@ -28,12 +29,13 @@ def time_of_frame(start: str, frame: Optional[int]) -> Optional[str]:
 class Status:
     """Makes the object. Not for several threads at once."""
 
-    def __init__(self, program: str, source: str, board: Board, given: Given, state: State,
+    def __init__(self, program: str, source: str, board: Board, given: Given, state: State, outlook: Outlook,
                  needs_token: bool) -> None:
         self._plan = board.plan
         self._needs_token = needs_token
         self._source = source
         self._board, self._given, self._state = board, given, state
+        self._outlook = outlook
         self._labels = Labels()
         self._program = program
         self._decoder = Decoder(program, self._plan.history)
@@ -52,8 +54,9 @@ class Status:
             "time": text_of(time.time()), "frame": state.frame, "count": state.count,
             "day_time": time_of_frame(self._board.start[0], state.frame), "state": state.phase.value,
             "configuration": current, "next": following,
-            "swap": self._swap(last), "plan": {"path": plan.path, "name": os.path.basename(plan.path),
-                                               "digest": plan.digest},
+            "swap": self._swap(last), "changes": self._outlook.changes(),
+            "plan": {"path": plan.path, "name": os.path.basename(plan.path), "digest": plan.digest,
+                     "line": self._outlook.line(), "overlays": None},
             "contacts": ["closed" if each else "open" for each in self._given.closed],
             "inputs": [self._input()], "outputs": self._outputs(), "fits": state.fits,
             "alarms": [{"alarm": alarm.value, "text": text} for alarm, text in list(state.alarms.items())],

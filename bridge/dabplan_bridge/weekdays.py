@@ -98,6 +98,11 @@ class Calendar:
             self._wanted = self._of(self._date + timedelta(days=day))
         return self._wanted
 
+    def on(self, frame: int) -> List[Change]:
+        """The same, in any thread."""
+        day = self.date_of(frame)
+        return [] if day is None or not self.is_there else self._of(day)
+
     def _of(self, day: date) -> List[Change]:
         """How the contacts are on a date."""
         found: Dict[int, bool] = {}

@@ -3,6 +3,7 @@ them.
 
 Nothing here comes from the bridge: what it has to write is computed from the standards, and from the frames of `dabplan
 play`."""
+import collections
 import functools
 import lzma
 import os
@@ -67,6 +68,8 @@ begin
 """
 # The seconds after which something does not come any more, on a machine with much else to do.
 PATIENCE = 120.0
+# What keeps the last ports for this script.
+CLAIMS = collections.deque(maxlen=300)
 EMPTY_FIB = bytes.fromhex("FF" + "00" * 29 + "A8A8")
 # A time stamp of EDI that has no time: SECONDS is 0 (TS 102 693).
 NO_TIME = b"\x05" + bytes(7)
@@ -160,11 +163,34 @@ def unpacked(path):
     return lzma.decompress(path.read_bytes())
 
 
-def free_port(kind=socket.SOCK_STREAM):
-    """A port of the loopback address that nobody has."""
+def is_free(port, kind):
+    """Whether nobody has a port of the loopback address."""
     with socket.socket(socket.AF_INET, kind) as found:
-        found.bind(("127.0.0.1", 0))
-        return found.getsockname()[1]
+        try:
+            found.bind(("127.0.0.1", port))
+        except OSError:
+            return False
+    return True
+
+
+def free_port(kind=socket.SOCK_STREAM):
+    """A port of the loopback address that nobody has, and that nobody gets by chance before it is used: it is none of
+    those that the system gives out by itself, and no other script that runs meanwhile gets it here."""
+    with open("/proc/sys/net/ipv4/ip_local_port_range", encoding="ascii") as file:
+        last = int(file.read().split()[0]) - 1
+    for port in random.sample(range(10_000, last), 500):
+        claim = socket.socket(socket.AF_UNIX, socket.SOCK_STREAM)
+        try:
+            # A name without a file, which goes with this process.
+            claim.bind(f"\0port {port} of a test of dabplan-bridge")
+        except OSError:
+            claim.close()
+            continue
+        if is_free(port, kind):
+            CLAIMS.append(claim)
+            return port
+        claim.close()
+    raise RuntimeError("no free port")
 
 
 def until(holds, seconds=PATIENCE):

@@ -74,7 +74,10 @@ class Controlled(bridges.Case):
             asked(self.port, "PUT", f"/contacts/{contact}", state, **headers)))
         asking.start()
         found = []
-        for frame in frames:
+        for left, frame in zip(range(len(frames), 0, -1), frames):
+            if left <= 3:
+                # On a busy machine it takes its time to ask: the last frames wait for it.
+                asking.join(3)
             found += feed.through([frame])
             time.sleep(0.005)
         asking.join(30)

@@ -1,17 +1,27 @@
 #!/usr/bin/env python3
 """`dab-monitor`: what comes of the lines of `dabplan check`, and of lines of others. The last line is 'N passed, M
 failed'."""
+import json
 import os
 import re
 import shlex
+import shutil
 import subprocess
 import sys
+import tempfile
 import time
+import types
+import unittest
 
 import bridges
 import units
+from bridges import common
 
 FOLDER = bridges.FOLDER
+sys.dont_write_bytecode = True
+sys.path.insert(0, str(FOLDER))
+
+from dabplan_bridge import metrics, state, statefile  # noqa: E402
 
 
 class Monitors(bridges.Case):
@@ -63,9 +73,13 @@ class Monitors(bridges.Case):
             self.assertIn(old, line)
             line = line.replace(old, new)
         with open(self.folder / "alarms", "wb") as alarms:
-            job = subprocess.Popen(["sh", "-c", line], cwd=self.folder, stderr=alarms, start_new_session=True)
+            job = subprocess.Popen(["sh", "-c", line], cwd=self.folder, stdout=subprocess.DEVNULL, stderr=alarms,
+                                   start_new_session=True)
+        self.addCleanup(self.ended, job)
         count = 0
-        for wanted in (40, 80):
+        for _ in range(2):
+            # What the first bridge sent last may be checked behind its end.
+            wanted = count + 40
             feed = self.started(f"run moves.code --in - --out tcp://:{port} --log l --tolerance 59")
             end = time.monotonic() + bridges.PATIENCE
             while self.frames_checked() < wanted and time.monotonic() < end:
@@ -74,12 +88,19 @@ class Monitors(bridges.Case):
                 time.sleep(0.02)
             self.assertGreaterEqual(self.frames_checked(), wanted)
             self.assertIn(b"dab_up 1\n", self.read("dab.prom"))
-            self.assertEqual(feed.end()[0], 0)
+            status, _, messages = feed.end()
+            self.assertEqual(status, 0, messages)
             # A swap falls into these.
             count += 60
-        os.killpg(job.pid, 15)
-        job.wait(10)
+        self.ended(job)
         self.assertIn(b'ALARM {"kind":"fault"', self.read("alarms"))
+
+    @staticmethod
+    def ended(job):
+        """Ends the processes of a monitor that still run."""
+        if job.poll() is None:
+            os.killpg(job.pid, 15)
+            job.wait(bridges.PATIENCE)
 
     def frames_checked(self):
         """The frames that the monitor has counted."""
@@ -138,6 +159,54 @@ class Monitors(bridges.Case):
         (self.folder / "state.prom").unlink()
         self.assertEqual(subprocess.run(words, cwd=self.folder, stdin=subprocess.DEVNULL, check=False).returncode, 0)
         self.assertNotIn("dab_fits", self.read("out.prom").decode())
+
+
+class Documented(unittest.TestCase):
+    """What the guide says of metrics and alarms."""
+
+    GUIDE = common.TOP / "docs/guide/MONITORING.md"
+
+    def names(self):
+        """The names of all metrics of the control port, and of all of a textfile."""
+        known = state.State(fits=True, last=0.0, swap_in=3, inputs=[state.InputState("day")], checked=state.Checked(),
+                            streams={1: state.StreamState("day")})
+        plan = types.SimpleNamespace(eid=0xE1C5, path="day.plan")
+        texts = metrics.text_of_metrics(plan, known, 3, [False] * 16, 1.0), "\n".join(statefile.lines_of(known, 1.0))
+        return [set(re.findall(r"(?m)^(dab_\w+)", text)) for text in texts]
+
+    def test_each_metric_is_there_and_is_explained(self):
+        port, file = self.names()
+        text = self.GUIDE.read_text(encoding="utf-8")
+        table = set(re.findall(r"`(dab_\w+)", text.split("## Metrics")[1].split("## ")[0]))
+        self.assertEqual(table ^ port, {"dab_alarm", "dab_fits"})
+        named = set(re.findall(r"\bdab_\w+", text.split("## Other streams")[0]))
+        self.assertEqual(named - port, {"dab_bridge_timestamp_seconds", "dab_checked_faults_total", "dab_swap_frames"})
+        self.assertEqual(port - named, set())
+        self.assertLessEqual(named - port, file)
+        self.assertEqual(port - file, {"dab_contact", "dab_swap_seconds", "dab_up", "dab_faults_total",
+                                       "dab_damaged_total", "dab_swaps_total"})
+
+    def test_each_value_of_a_label_is_one(self):
+        text = self.GUIDE.read_text(encoding="utf-8")
+        others, = re.findall(r"`dab_alarm` has `(\w+)` and `(\w+)`", text)
+        alarms = set(re.findall(r'dab_alarm\{alarm="(\w+)"', text)) | set(others)
+        self.assertEqual(alarms, {each.value for each in state.Alarm})
+        self.assertLessEqual(set(re.findall(r'dab_state\{state="(\w+)"', text)), {each.value for each in state.Phase})
+
+    @unittest.skipUnless(shutil.which("promtool"), "the expressions of alarms are not parsed: no promtool")
+    def test_the_expressions_of_alarms_are_some(self):
+        text = self.GUIDE.read_text(encoding="utf-8")
+        rows = re.findall(r"(?m)^\| `(.*?)` \|", text.split("## Alarms")[1].split("## ")[0])
+        self.assertGreater(len(rows), 10)
+        rules = [{"alert": f"Row{number}", "expr": row} for number, row in enumerate(rows)]
+        with tempfile.NamedTemporaryFile("w", suffix=".yml") as file:
+            # JSON is YAML too.
+            json.dump({"groups": [{"name": "dab", "rules": rules}]}, file)
+            file.flush()
+            words = ["promtool", "check", "rules", file.name]
+            done = subprocess.run(words, capture_output=True, text=True, check=False)
+        self.assertEqual(done.returncode, 0, done.stdout + done.stderr)
+        self.assertIn(f"SUCCESS: {len(rows)} rules found", done.stdout)
 
 
 if __name__ == "__main__":

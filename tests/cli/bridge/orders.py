@@ -101,8 +101,8 @@ class Retaken(Controlled):
 
     def setUp(self):
         super().setUp()
-        # Swaps at 324, 648 and so on; by contact 3 at any time.
-        self.slow = bridges.MOVES.replace("wait 20", "wait 300")
+        # No swap in the first minute; by contact 3 at any time.
+        self.slow = bridges.MOVES.replace("wait 20", "wait 3000")
         self.compile(self.folder, "slow", self.slow)
 
     def held(self, code, options, before=40, count=1000):
@@ -122,14 +122,29 @@ class Retaken(Controlled):
             found += feed.through([frame])
         return found
 
-    def ordered(self, feed, path, frames):
-        """The answer of an order that is given before these frames, and what comes for them."""
+    def paced_until(self, feed, stream, holds):
+        """What comes for frames that are given in real time until something holds, which is looked at now and then."""
+        found, due = [], time.monotonic()
+        for number, frame in enumerate(stream):
+            if number % 5 == 0 and holds():
+                break
+            due += 0.024
+            time.sleep(max(0.0, due - time.monotonic()))
+            found += feed.through([frame])
+        return found
+
+    def ordered(self, feed, path, stream, is_back=False):
+        """The answer of an order that is given before frames of a stream, and what comes for them: up to the answer,
+        or until the plan is back, and for a second more. A busy machine takes seconds for either."""
         answers = []
         asking = threading.Thread(target=lambda: answers.append(asked(self.port, "POST", path, b"")))
         asking.start()
         time.sleep(0.2)
-        found = self.paced(feed, frames)
+        found = self.paced_until(feed, stream, lambda: not asking.is_alive())
         asking.join(60)
+        if is_back:
+            found += self.paced_until(feed, stream[len(found):], lambda: self.status()["state"] == "following")
+            found += self.paced(feed, stream[len(found):len(found) + 40])
         return answers[0][0], json.loads(answers[0][2]), found
 
     def goes_on(self, feed, stream, answer, script, at, found):
@@ -137,6 +152,7 @@ class Retaken(Controlled):
         frame on; returns the number of the plan's first one."""
         status, _, messages = feed.end()
         self.assertEqual(status, 0, messages)
+        stream = stream[:len(found)]
         number = int(messages.rsplit("the plan goes on with its frame ", 1)[1].split()[0])
         first = (answer["count"] - answer["frame"]) % 5000
         index = next(index for index, _ in enumerate(stream) if (at + index - first - number) % 5000 == 0)
@@ -148,8 +164,8 @@ class Retaken(Controlled):
 
     def test_it_goes_on_by_the_counts_that_come(self):
         feed = self.held("slow", "--log l")
-        stream = bridges.made("edi", self.own(150, 1012), 1012)
-        status, answer, found = self.ordered(feed, "/resume", stream)
+        stream = bridges.made("edi", self.own(1500, 1012), 1012)
+        status, answer, found = self.ordered(feed, "/resume", stream, True)
         self.assertEqual(status, 200, answer)
         self.assertEqual(self.until_shown(state="following")["alarms"], [])
         number, messages = self.goes_on(feed, stream, answer, self.slow, 1012, found)
@@ -160,15 +176,17 @@ class Retaken(Controlled):
         # The log leads there again.
         self.port = bridges.free_port()
         feed = self.begun("slow", "--log l --tolerance 30")
-        feed.through(bridges.made("edi", self.own(8, 1164), 1164))
-        self.assertEqual(self.until_shown(count=1171)["state"], "following")
+        count = (1012 + len(found) + 5) // 4 * 4
+        feed.through(bridges.made("edi", self.own(8, count), count))
+        self.assertEqual(self.until_shown(count=count + 7)["state"], "following")
         feed.end()
 
     def test_it_goes_on_at_a_count(self):
         feed = self.held("slow", "--log l")
-        stream = bridges.made("edi", self.own(150, 1012), 1012)
-        status, answer, found = self.ordered(feed, "/resume?count=1100", stream)
-        self.assertEqual((status, answer["count"]), (200, 1100))
+        stream = bridges.made("edi", self.own(1500, 1012), 1012)
+        # Five seconds ahead: by then the plan is played so far.
+        status, answer, found = self.ordered(feed, "/resume?count=1220", stream, True)
+        self.assertEqual((status, answer["count"]), (200, 1220))
         number, _ = self.goes_on(feed, stream, answer, self.slow, 1012, found)
         self.assertEqual(number, answer["frame"])
 
@@ -179,10 +197,10 @@ class Retaken(Controlled):
         self.write("c", "contact 3 closed\n")
         self.paced(feed, bridges.made("edi", self.own(12, 1012), 1012))
         self.assertTrue(bridges.until(lambda: self.status()["contacts"][3] == "closed", 10))
-        stream = bridges.made("edi", self.own(240, 1024), 1024)
-        status, answer, found = self.ordered(feed, "/anew", stream)
+        stream = bridges.made("edi", self.own(1500, 1024), 1024)
+        status, answer, found = self.ordered(feed, "/anew", stream, True)
         self.assertEqual((status, answer["frame"]), (200, 0))
-        self.assertTrue(1024 <= answer["count"] < 1264)
+        self.assertTrue(1024 <= answer["count"] < 1024 + len(found))
         status, _, messages = feed.end()
         self.assertIn(f"the plan begins anew: its frame 0 is at count {answer['count']}", messages)
         self.assertTrue(self.read("l.1").startswith(before), "the old log is renamed")
@@ -205,7 +223,7 @@ class Retaken(Controlled):
         self.paced(feed, bridges.made("edi", self.own(60, 1012), 1012))
         self.assertTrue(bridges.until(lambda: self.status()["contacts"][3] == "closed", 10))
         self.assertEqual(self.until_shown(state="holding")["swap"], None)
-        status, answer, found = self.ordered(feed, "/anew", bridges.made("edi", self.own(12, 1072), 1072))
+        status, answer, found = self.ordered(feed, "/anew", bridges.made("edi", self.own(1500, 1072), 1072))
         self.assertEqual((status, answer["frame"]), (200, 0))
         self.assertEqual(self.status()["state"], "holding")
         feed.job.kill()
@@ -222,9 +240,10 @@ class Retaken(Controlled):
         self.port = bridges.free_port()
         feed = self.begun("contacts", "--log l --tolerance 30")
         count = (1072 + len(found) + 40) // 4 * 4
-        stream = bridges.made("edi", self.own(300, count), count)
+        stream = bridges.made("edi", self.own(1500, count), count)
         feed.give(stream[:8])
-        more = [feed.get(len(frame)) for frame in stream[:8]] + self.paced(feed, stream[8:200])
+        more = [feed.get(len(frame)) for frame in stream[:8]]
+        more += self.paced_until(feed, stream[8:], lambda: self.status()["swaps"] > 0)
         fic = self.bridge("fic -", b"".join(found + more))[1]
         self.assertEqual(feed.end()[0], 0)
         # A gap of frames, and no swap that was not announced: the plan with its contact closed goes over to 2.
@@ -233,19 +252,22 @@ class Retaken(Controlled):
     def test_where_nothing_is_held(self):
         feed = self.begun("slow", "--log l")
         feed.through(self.stream("edi", 8))
+        at = 8
         for path in ("/resume", "/resume?count=7", "/anew"):
-            status, answer, _ = self.ordered(feed, path, self.stream("edi", 8, 8))
+            status, answer, found = self.ordered(feed, path, self.stream("edi", 400, at))
+            at += len(found)
             self.assertEqual((status, answer), (409, {"error": "nothing is held"}), path)
         self.assertEqual(feed.end()[0], 0)
 
     def test_without_a_log_it_can_begin_anew_alone(self):
         feed = self.held("slow", "")
-        stream = bridges.made("edi", self.own(60, 1012), 1012)
-        status, answer, _ = self.ordered(feed, "/resume", stream[:4])
+        stream = bridges.made("edi", self.own(1500, 1012), 1012)
+        status, answer, found = self.ordered(feed, "/resume", stream)
         self.assertEqual((status, answer), (409, {"error": "without a log the plan can't be played again: anew"}))
-        status, answer, found = self.ordered(feed, "/anew", stream[4:])
+        later = len(found)
+        status, answer, found = self.ordered(feed, "/anew", stream[later:], True)
         self.assertEqual((status, answer["frame"]), (200, 0))
-        self.goes_on(feed, stream[4:], answer, self.slow, 1016, found)
+        self.goes_on(feed, stream[later:], answer, self.slow, 1012 + later, found)
 
 
 if __name__ == "__main__":

@@ -10,6 +10,7 @@ import unittest
 import bridges
 import browsers
 import units
+from timelines import stand_in, swap
 
 PAGE = bridges.FOLDER / "dabplan_bridge/page.html"
 # What the page says, as one text.
@@ -134,6 +135,33 @@ class Shown(bridges.Case):
         feeder.stop()
         feed.end()
         self.assertIn(b"\ncontact 3 closed\n", self.read("l"))
+
+    def test_the_changes_of_the_next_day(self):
+        """Two changes, 10,000 and 150,000 frames ahead at the start: 4 minutes, and an hour; where none are known
+        nothing is said."""
+        self.program = stand_in(self.program, self.folder)
+        later = swap(150_000, time="23:00:00.000", dropped=["<b>sub 2</b>", "service C221"], added=[])
+        feed = self.begun(bridges.CONTACTS, "--time 21:59:50")
+        feeder = Feeder(feed, self.stream("edi", 3000))
+        browser = self.browser()
+        self.shows(browser, "following")
+        self.assertTrue(browser.value("document.getElementById('coming').hidden"))
+        feeder.stop()
+        feed.end()
+        self.write("says", swap(10_000) + later)
+        feed = self.begun(bridges.CONTACTS, "--time 21:59:50")
+        feeder = Feeder(feed, self.stream("edi", 3000))
+        browser = self.browser()
+        self.shows(browser, "Changes of the next day")
+        cells = "[...document.querySelectorAll('#changes td')].map((each) => each.textContent)"
+        self.assertTrue(browser.until(f"{cells}[1] === '3 min'"), browser.value(f"{cells}"))
+        self.assertEqual(browser.value(cells), [
+            "22:00:00", "3 min", "sub 1 at 0 size 24 eep 3-A", "sub 2 at 24 size 24 eep 3-A", "23:00:00", "59 min",
+            "<b>sub 2</b>; service C221", ""])
+        self.assertEqual(browser.value("document.querySelectorAll('#changes b').length"), 0)
+        self.shows(browser, "Next line of the script")
+        feeder.stop()
+        feed.end()
 
     def test_a_token_is_asked_for(self):
         self.write("token", "s3cret")
