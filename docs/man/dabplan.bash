@@ -5,7 +5,7 @@ _dabplan_words() {
 _dabplan() {
   local word=${COMP_WORDS[COMP_CWORD]} before=${COMP_WORDS[COMP_CWORD-1]} options=
   if [ "$COMP_CWORD" -eq 1 ]; then
-    _dabplan_words "frame listen check merge diff compile verify map play debug live help --help --version"
+    _dabplan_words "frame listen check merge diff compile verify map timeline play debug live help --help --version"
     return
   fi
   case $before in
@@ -20,11 +20,12 @@ _dabplan() {
     diff) options="--quiet --help" ;;
     compile) options="--from --explain --quiet --help" ;;
     verify) options="--explain --quiet --help" ;;
-    map) options="--svg --layout --quiet --help" ;;
+    map) options="--svg --layout --json --quiet --help" ;;
+    timeline) options="--count --day --time --contacts --svg --json --quiet --help" ;;
     play) options="--count --day --time --contacts --help" ;;
     debug) options="--count --day --time --contacts --help" ;;
     live) options="--count --day --time --contacts --skip --status --every --json --help" ;;
-    help) _dabplan_words "frame listen check merge diff compile verify map play debug live"; return ;;
+    help) _dabplan_words "frame listen check merge diff compile verify map timeline play debug live"; return ;;
   esac
   if [[ $word == -* ]]; then
     _dabplan_words "$options"

@@ -28,9 +28,13 @@ ROWS = [
     ("check x.fib", ["cannot read x.fib\n"]),
     ("compile x.script x.out", ["cannot read x.script\n", "cannot write x.out\n"]),
     ("compile x.script x.out --explain", ["cannot read x.script\n", "cannot write x.out\n"]),
+    ("compile x.schedule x.out", ["cannot read x.schedule\n", "cannot write x.out\n"]),
+    ("compile x.script x.out --from x.schedule", ["cannot read x.script\n", "cannot read x.schedule\n", "cannot write x.out\n"]),
     ("verify x.code", ["cannot read x.code\n"]),
     ("verify x.code --explain", ["cannot read x.code\n"]),
     ("play x.code x.events x.out", ["cannot read x.code\n", "cannot read x.events\n", "cannot write x.out\n"]),
+    ("timeline x.code x.events", ["cannot read x.code\n", "cannot read x.events\n"]),
+    ("timeline x.schedule x.events", ["cannot read x.schedule\n", "cannot read x.events\n"]),
     ("debug x.code x.commands", ["cannot read x.code\n", "cannot read x.commands\n"]),
 ]
 
@@ -63,6 +67,7 @@ class Failing:
         common.write(folder, "x.record", self.record)
         common.write(folder, "x.wrong", (common.SAMPLES / "contact_rate.plan").read_bytes().replace(b"join", b"joi"))
         common.write(folder, "x.script", (common.SAMPLES / "contact_rate.plan").read_bytes())
+        common.write(folder, "x.schedule", (common.EXAMPLES / "night_and_region.plan").read_bytes())
         common.write(folder, "x.code", (common.SAMPLES / "contact_lowers_a_rate.code").read_bytes())
         common.write(folder, "x.events", "contact 3 closed frames 30")
         common.write(folder, "x.mistake", "contact 3 shut")

@@ -19,6 +19,7 @@ import tempfile
 import common
 
 SCRIPT = common.SAMPLES / "contact_rate.plan"
+SCHEDULE = common.EXAMPLES / "night_and_region.plan"
 CODE = common.SAMPLES / "contact_lowers_a_rate.code"
 EVENTS = "frames 1 contact 3 closed contact 3 open contact 3 closed frames 39 contact 3 open frames 30"
 COMMANDS = "break 9 run 100 contact 3 closed run 2 next clear show"
@@ -114,6 +115,11 @@ def commands():
         (["check", "a.fib"], []),
         (["compile", SCRIPT, "made.code"], ["made.code"]),
         (["compile", "wrong.plan", "made.code"], ["made.code"]),
+        (["compile", SCHEDULE, "made.code"], ["made.code"]),
+        (["compile", "apart.plan", "made.code", "--explain"], ["made.code"]),
+        (["compile", SCRIPT, "made.code", "--from", SCHEDULE], ["made.code"]),
+        (["timeline", CODE, "a.events"], []),
+        (["timeline", SCHEDULE, "a.events", "--json"], []),
         (["verify", CODE], []),
         (["verify", "wrong.code"], []),
         (["compile", "wrong.plan", "made.code", "--explain"], ["made.code"]),
@@ -144,6 +150,7 @@ def try_commands(tally, library, program, folder):
     common.write(folder, "a.commands", COMMANDS)
     common.write(folder, "wrong.plan", SCRIPT.read_text().replace("wait contact 3 open", "join"))
     common.write(folder, "typo.plan", SCRIPT.read_text().replace("commit", "comit"))
+    common.write(folder, "apart.plan", SCHEDULE.read_text().replace("sub 2 at 96", "sub 2 at 90"))
     common.write(folder, "costly.plan", SCRIPT.read_text().replace("budget 20", "budget 1"))
     common.write(folder, "early.code", CODE.read_bytes().replace(b"\x04\x00\x18", b"\x04\x00\x17"))
     common.write(folder, "wrong.code", CODE.read_bytes()[:-1])

@@ -12,6 +12,7 @@ use crate::same_files::same_file;
 use cli_plans::{debug, play};
 use cli_scripts::{compile, compile_from, diff, frame_script, listen_script, map, verify};
 use cli_streams::{check, frame, listen};
+use cli_timeline::timeline;
 use console::ending::{finish, report, status_number};
 use console::exit::{Failure, Status};
 use console::files::Files;
@@ -129,6 +130,7 @@ pub(crate) fn run<'a, F: Files, W: Write>(
         Request::Play(request) => play::run_play(alloc, request, files, out),
         Request::Debug(request) => debug::show_debug(alloc, request, files, out),
         Request::Map(request) => map::show_map(alloc, request, files, out),
+        Request::Timeline(request) => timeline::show_timeline(alloc, request, files, out),
     }
 }
 
@@ -137,6 +139,8 @@ fn is_json_of(request: &Request<'_>) -> bool {
     match request {
         Request::Listen(request) => request.is_json,
         Request::Check(request) => request.options.form.is_json,
+        Request::Map(request) => request.is_json,
+        Request::Timeline(request) => request.is_json,
         _ => false,
     }
 }

@@ -15,6 +15,7 @@ mod parser;
 mod play;
 mod shared;
 mod start;
+mod timeline;
 mod verify;
 
 use crate::args::parser::{Page, parse};
@@ -32,6 +33,7 @@ use cli_streams::check::CheckRequest;
 use cli_streams::frame::FrameRequest;
 use cli_streams::listen::ListenRequest;
 use cli_streams::merge::MergeRequest;
+use cli_timeline::timeline::TimelineRequest;
 use console::escaped::Escaped;
 use console::exit::Failure;
 pub use parser::Message;
@@ -67,6 +69,8 @@ pub enum Request<'a> {
     Debug(DebugRequest<'a>),
     /// `map`.
     Map(MapRequest<'a>),
+    /// `timeline`.
+    Timeline(TimelineRequest<'a>),
 }
 
 /// The parsed command line of a command that writes frames to standard output.
@@ -156,10 +160,10 @@ impl Display for UsageError<'_> {
 
 /// The message where no command is named.
 const MISSING_COMMAND: &str = "error: missing command; expected one of frame, listen, check, \
-     merge, diff, compile, verify, map, play, debug, live, help";
+     merge, diff, compile, verify, map, timeline, play, debug, live, help";
 
 /// The program's commands, in the order of its help.
-pub(crate) const PAGES: [Page; 11] = [
+pub(crate) const PAGES: [Page; 12] = [
     frame::PAGE,
     listen::PAGE,
     check::PAGE,
@@ -168,6 +172,7 @@ pub(crate) const PAGES: [Page; 11] = [
     compile::PAGE,
     verify::PAGE,
     map::PAGE,
+    timeline::PAGE,
     play::PAGE,
     debug::PAGE,
     live::PAGE,
@@ -190,6 +195,7 @@ pub fn request_of<'a, S: AsStr>(
         Some("play") => play::request(&values),
         Some("debug") => debug::request(&values),
         Some("map") => map::request(&values),
+        Some("timeline") => timeline::request(&values),
         _ => Err(UsageError::Nothing),
     }
 }

@@ -158,6 +158,7 @@ fn is_text(request: &Request<'_>, path: &str) -> bool {
         | Request::Diff(_) => true,
         Request::Play(request) => path == request.events,
         Request::Debug(request) => path == request.commands,
+        Request::Timeline(_) => true,
         _ => false,
     }
 }

@@ -29,6 +29,13 @@ pub(crate) fn same_file<'a, F: Files>(request: &Request<'a>, files: &F) -> Optio
             let drawing = ("--svg <OUT>", request.drawing?);
             one_file(files, ("SCRIPT", request.script), drawing)
         }
+        Request::Timeline(request) => {
+            let drawing = ("--svg <OUT>", request.drawing?);
+            match one_file(files, ("CODE", request.plan), drawing) {
+                None => one_file(files, ("EVENTS", request.events), drawing),
+                mistake => mistake,
+            }
+        }
         _ => None,
     }
 }

@@ -8,6 +8,8 @@ use Rattle.schedule_front.specs.Denoting.{IsScheduleOf}
 use Rattle.schedule_front.specs.Sources.{IsNoSource}
 use Rattle.schedule_front.specs.Tree.{IsSchedule}
 use Rattle.schedule_front.specs.Tree.{Tree as Schedule}
+use Rattle.schedule_runs.specs.Due.{opening_of}
+use Rattle.schedule_verifier.specs.Playing.{PlaysAsScheduled}
 use Rattle.schedule_compiler.specs.declared.fault.ScheduleFault.TheVariants.{Memory as NoMemoryForSchedule}
 use Rattle.script_front.specs.Tree.{Tree, IsScript}
 use Rattle.script_compiler.specs.Compiled.{IsAccepted, IsCodeOf, CostsItsNeeds}
@@ -33,11 +35,12 @@ pub record IsMadeOf (text : List ℕ) (tree : Tree) (code : Program) : Type 0 wh
   pub typed : IsTyped code
   pub plays : PlaysAsItReads tree code
 
--- the text denotes this schedule, and this is a typed code; that it plays as the schedule reads is tested
+-- the text denotes this schedule, and this is a typed code that plays as the schedule prescribes, begun with its items
 pub record IsScheduledBy (text : List ℕ) (tree : Schedule) (code : Program) : Type 0 where
   pub schedule : IsSchedule tree
   pub denotes : IsScheduleOf text tree
   pub typed : IsTyped code
+  pub plays : PlaysAsScheduled tree (opening_of tree) code
 
 -- the file is that of this code, with its numbers of instructions, labels and configurations
 pub record IsFileOf (code : Program) (c : Compiled) : Type 0 where

@@ -7,6 +7,7 @@ mod commit_blocks;
 pub mod compile;
 pub mod compile_from;
 pub mod diff;
+mod exclusion;
 pub mod explained;
 pub mod frame_script;
 pub mod listen_script;

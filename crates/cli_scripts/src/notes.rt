@@ -9,6 +9,7 @@ use plan_explain::{Warning, put_warning, warnings_of};
 use script_front::Script;
 use std::alloc::Global;
 use std::io::{self, Write};
+use std::str;
 
 /// The notes on an accepted script.
 #[derive(Drop)]
@@ -55,6 +56,39 @@ fn lines_on(alloc: Global, path: &str, script: &Script, code: &Code) -> io::Resu
 {
     let warnings = warnings_of(alloc, script, code)?;
     warning_lines(alloc, path, warnings.as_slice())
+}
+
+/// The line and the text of a warning, of what is printed of it behind an empty path: `:9: warning:
+/// no component names sub 3`.
+fn parts_of(printed: &str) -> Option<(&str, &str)> {
+    let printed = printed.strip_prefix(':')?;
+    printed.split_once(": warning: ")
+}
+
+/// Prints a warning as an object of JSON. The error is out of memory.
+fn put_object(alloc: Global, warning: &Warning, out: &mut Vec<u8>) -> io::Result<()> {
+    let mut printed: Vec<u8> = Vec::new(alloc);
+    put_warning(alloc, "", warning, &mut printed)?;
+    let Ok(printed) = str::from_utf8(printed.as_slice()) else {
+        return Ok(());
+    };
+    let Some((line, text)) = parts_of(printed) else {
+        return Ok(());
+    };
+    let text = Escaped::in_json(text);
+    writeln!(
+        out,
+        "{{\"kind\":\"warning\",\"line\":{line},\"warning\":\"{text}\"}}"
+    )
+}
+
+/// An object of JSON for each of these warnings, a line each. The error is out of memory.
+pub(crate) fn warning_objects(alloc: Global, warnings: &[Warning]) -> io::Result<Vec<u8>> {
+    let mut lines: Vec<u8> = Vec::new(alloc);
+    for warning in warnings {
+        put_object(alloc, warning, &mut lines)?;
+    }
+    Ok(lines)
 }
 
 /// A line for each of these warnings about the script of this path. The error is out of memory.

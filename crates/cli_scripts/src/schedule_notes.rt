@@ -1,5 +1,7 @@
-//! Explains why a schedule is refused: what is wrong at its place, and with which overlays.
+//! Explains why a schedule is refused: what is wrong at its place, and with which overlays; and
+//! with which condition it compiles.
 
+use crate::exclusion::hint_on_overlays;
 use plan_explain::Note;
 use schedule_compiler::{ScheduleFault, ScheduleLimit};
 use schedule_front::{Schedule, parse_schedule};
@@ -102,6 +104,9 @@ fn limit_words(limit: ScheduleLimit) -> &'static str {
         ScheduleLimit::Labels => {
             "the code would have more than 1024 labels: let some overlays exclude each other"
         }
+        ScheduleLimit::Regions => {
+            "too many cases to be told apart by contacts and times: let some overlays exclude each other"
+        }
     }
 }
 
@@ -118,7 +123,7 @@ fn put_fault<W: Write>(schedule: &Schedule, fault: &ScheduleFault, out: &mut W) 
         }
         ScheduleFault::Limit(limit) => out.write_all(limit_words(*limit).as_bytes()),
         ScheduleFault::Uncertified => {
-            out.write_all(b"the verifier does not accept the code: this is a fault of dabplan")
+            out.write_all(b"the code is not known to play the schedule: this is a fault of dabplan")
         }
         ScheduleFault::Memory => Ok(()),
     }
@@ -141,5 +146,10 @@ pub(crate) fn notes_on_schedule(
     };
     let mut note = note(alloc, usize::from(line), None);
     put_fault(&schedule, fault, &mut note.text)?;
+    if let ScheduleFault::Refused { line, overlays, .. } = fault {
+        let hint = hint_on_overlays(alloc, text, &schedule, *line, *overlays);
+        let hint = hint.map_err(|_| io::Error::from(ErrorKind::OutOfMemory))?;
+        note.hint.write_all(hint.as_str().as_bytes())?;
+    }
     one(alloc, note)
 }

@@ -42,6 +42,8 @@ pub fn read_script_input<'a, F: Files>(
         IfSome (F.known_input files.old) (λ bytes. read.items ≡ take 1048581 bytes)) }
     ensures file { path.now ≢ codes "-" → IfOk result (λ read.
         IfSome (F.known files.old path.now) (λ bytes. read.items ≡ take 1048581 bytes)) }
+    ensures known { (other : List ℕ)
+        → Keeps (F.known files.old other) (F.known files.new other) }
     ensures world { Stays (F.world files.old) (F.world files.new) }
 {
     read_input(alloc, files, path, READ)

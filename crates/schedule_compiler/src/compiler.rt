@@ -1,5 +1,9 @@
 //! Compiles a schedule.
 
+ghost use Rattle.std.specs.Prelude.{◌≡◌, IfOk};
+ghost use Rattle.schedule_runs.specs.Due.{opening_of};
+ghost use Rattle.schedule_verifier.specs.Playing.{PlaysAsScheduled};
+
 use crate::decisions::Decisions;
 use crate::emission::Emission;
 use crate::fault::{ScheduleFault, ScheduleLimit};
@@ -15,6 +19,7 @@ use plan_code::limits::MOST_INSTRUCTIONS;
 use plan_code::{Code, Delay, Plan};
 use plan_verifier::{Cause, Verified, verify};
 use schedule_front::Schedule;
+use schedule_verifier::{Room, implements};
 use script_compiler::needs::{first_over, needs};
 use script_config::{ItemFault, made_by};
 use std::alloc::{AllocError, Global};
@@ -38,7 +43,9 @@ fn delay_of(plan: &Plan) -> Result<Delay, ScheduleFault> {
 }
 
 /// The configuration of the items.
-fn items_of(schedule: &Schedule) -> Result<Config, ScheduleFault> {
+fn items_of(schedule: &Schedule) -> Result<Config, ScheduleFault>
+    ensures { IfOk result (λ c. c ≡ opening_of schedule.now) }
+{
     match made_by(schedule.items()) {
         Ok(config) => Ok(config),
         Err(ItemFault { line, fault }) => Err(ScheduleFault::Refused {
@@ -237,16 +244,58 @@ fn compiled(
     )
 }
 
-/// Compiles a schedule.
-pub fn compile_schedule(alloc: Global, schedule: &Schedule) -> Result<Verified, ScheduleFault> {
-    compiled(alloc, schedule, None)
+/// The code, once it is known to play as the schedule prescribes; it begins with this
+/// configuration.
+///
+/// # Errors
+///
+/// `Limit` where to find that out takes too long, `Uncertified` where it is not known.
+fn implementing(
+    schedule: &Schedule,
+    opening: &Config,
+    code: Verified,
+) -> Result<Verified, ScheduleFault>
+    ensures { IfOk result (λ code. PlaysAsScheduled schedule.now opening.now code) }
+{
+    let mut room = Room::new();
+    if implements(schedule, opening, &code, &mut room) {
+        return Ok(code);
+    }
+    if room.is_used_up() {
+        return Err(ScheduleFault::Limit(ScheduleLimit::Regions));
+    }
+    Err(ScheduleFault::Uncertified)
 }
 
-/// Compiles a schedule whose plan begins with this configuration.
+/// Compiles a schedule. The code plays as the schedule prescribes: from every start in range and
+/// over every list of contact changes and frames, it comes to what the schedule's machine comes to,
+/// which begins with the configuration of the items.
+///
+/// # Errors
+///
+/// `Limit`, `Refused` or `Memory`; `Uncertified`, which is a fault of this crate: no schedule is
+/// known for which it comes.
+pub fn compile_schedule(alloc: Global, schedule: &Schedule) -> Result<Verified, ScheduleFault>
+    ensures { IfOk result (λ code. PlaysAsScheduled schedule.now (opening_of schedule.now) code) }
+{
+    let code = compiled(alloc, schedule, None)?;
+    let items = items_of(schedule)?;
+    implementing(schedule, &items, code)
+}
+
+/// Compiles a schedule whose plan begins with this configuration. The code plays as the schedule
+/// prescribes from there on.
+///
+/// # Errors
+///
+/// As `compile_schedule`.
 pub fn compile_from(
     alloc: Global,
     schedule: &Schedule,
     start: &Config,
-) -> Result<Verified, ScheduleFault> {
-    compiled(alloc, schedule, Some(start))
+) -> Result<Verified, ScheduleFault>
+    ensures { IfOk result (λ code. PlaysAsScheduled schedule.now start.now code) }
+{
+    let code = compiled(alloc, schedule, Some(start))?;
+    implementing(schedule, start, code)
 }

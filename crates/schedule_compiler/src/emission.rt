@@ -5,73 +5,14 @@ use crate::fault::{ScheduleFault, ScheduleLimit};
 use crate::lines::{line_of, line_of_contact};
 use crate::reach::{Distances, at};
 use crate::states::State;
-use crate::terms::{Known, UNKNOWN, bit, short};
+use crate::terms::{UNKNOWN, bit, short};
+use crate::way::{Way, with_target};
 use mux_config::Edit;
 use plan_code::limits::MOST_INSTRUCTIONS;
 use plan_code::{ContactId, DayFrame, Delay, Instr, Line};
 use schedule_front::Schedule;
 use script_config::edits_between;
 use std::alloc::Global;
-
-/// A way through the code of a state: the decision that is next, and what is known there.
-#[derive(Clone, Copy, Debug, PartialEq, Eq)]
-struct Way {
-    node: u16,
-    /// The state that is on air.
-    current: u16,
-    /// The state whose configuration the next one is.
-    next: u16,
-    known: Known,
-    /// The frame of the day in which what is known of the time ends; None where nothing is known.
-    until: Option<DayFrame>,
-}
-
-impl Way {
-    /// The way on to another decision, once a contact is known to be closed, or open.
-    fn knowing(&self, contact: ContactId, closed: bool, node: u16) -> Way {
-        Way {
-            node,
-            current: self.current,
-            next: self.next,
-            known: self.known.with(contact, closed),
-            until: self.until,
-        }
-    }
-
-    /// The way on to another decision, in a window that ends in this frame of the day.
-    fn within(&self, end: DayFrame, node: u16) -> Way {
-        Way {
-            node,
-            current: self.current,
-            next: self.next,
-            known: self.known,
-            until: Some(end),
-        }
-    }
-
-    /// The way on to another decision, outside a window that begins in this frame of the day: until
-    /// then, if nothing is known of the time.
-    fn outside(&self, begin: DayFrame, node: u16) -> Way {
-        Way {
-            node,
-            current: self.current,
-            next: self.next,
-            known: self.known,
-            until: Some(self.until.unwrap_or(begin)),
-        }
-    }
-
-    /// The same way once the next configuration is that of another state.
-    fn editing(&self, next: u16) -> Way {
-        Way {
-            node: self.node,
-            current: self.current,
-            next,
-            known: self.known,
-            until: self.until,
-        }
-    }
-}
 
 /// The current and the next configuration before an instruction, by their states.
 #[derive(Clone, Copy, Debug, PartialEq, Eq)]
@@ -449,15 +390,5 @@ impl<'a> Emission<'a> {
             Ok(()) => Ok(pc),
             Err(fault) => Err(fault),
         }
-    }
-}
-
-/// The instruction with another target.
-fn with_target(instr: Instr, target: u16) -> Instr {
-    match instr {
-        Instr::Test { contact, .. } => Instr::Test { contact, target },
-        Instr::TestTime { from, to, .. } => Instr::TestTime { from, to, target },
-        Instr::Jump(_) => Instr::Jump(target),
-        other => other,
     }
 }

@@ -15,6 +15,9 @@ pub enum ScheduleLimit {
     Instructions,
     /// A code has at most 1,024 labels.
     Labels,
+    /// At most 200,000 regions of contacts and frames of the day are looked at to know that a code
+    /// plays as the schedule prescribes.
+    Regions,
 }
 
 /// Why a schedule does not compile. `Display` writes the line that `dabplan compile` prints.
@@ -32,7 +35,8 @@ pub enum ScheduleFault {
     /// A limit is exceeded.
     #[error("refused: Limit")]
     Limit(ScheduleLimit),
-    /// The verifier does not accept the code; no such schedule is known.
+    /// The verifier does not accept the code, or it is not known to play as the schedule
+    /// prescribes; no such schedule is known.
     #[error("refused: Uncertified")]
     Uncertified,
     /// Out of memory.

@@ -19,6 +19,7 @@ mod rounds;
 mod search;
 mod states;
 mod terms;
+mod way;
 
 pub use compiler::{compile_from, compile_schedule};
 pub use fault::{ScheduleFault, ScheduleLimit};

@@ -13,6 +13,7 @@ ghost use Rattle.schedule_verifier.specs.Regions.{IfYes, Throughout};
 ghost use Rattle.schedule_verifier.specs.declared.region.Answer.TheVariants.{Yes, No};
 
 use crate::region::{Answer, Region};
+use crate::room::Room;
 use crate::wanted::{MOST_QUESTIONS, is_due, stays_due};
 use mux_config::Config;
 use plan_code::limits::{FRAMES_A_DAY, MOST_INSTRUCTIONS};
@@ -66,7 +67,7 @@ fn changes(
     pc: u16,
     delay: Delay,
     next: &Config,
-    wanted: &mut Config,
+    room: &mut Room,
 ) -> Answer
     requires low { pc < 4096 }
     requires opening { opening.now ≡ opening_of schedule.now }
@@ -82,7 +83,7 @@ fn changes(
     if !goes_on(code, pc + 2, next) {
         return Answer::No;
     }
-    is_due(schedule, opening, region, next, wanted)
+    is_due(schedule, opening, region, next, &mut room.wanted)
 }
 
 /// Whether none of these contacts is closed, and none of those is open, everywhere in a region.
@@ -116,7 +117,7 @@ fn lasts_until(
     opened: Contacts,
     until: DayFrame,
     config: &Config,
-    wanted: &mut Config,
+    room: &mut Room,
 ) -> bool
     requires { opening.now ≡ opening_of schedule.now }
     ensures { IsTrue result → Throughout region.now (λ contacts day.
@@ -128,17 +129,17 @@ fn lasts_until(
             return false;
         }
         let wait = waiting(closed, opened, region.from, end);
-        return stays_due(schedule, opening, &wait, config, wanted, MOST_QUESTIONS);
+        return stays_due(schedule, opening, &wait, config, room, MOST_QUESTIONS);
     }
     if region.from == end {
         return false;
     }
     let evening = waiting(closed, opened, region.from, FRAMES_A_DAY);
     let morning = waiting(closed, opened, 0, end);
-    if !stays_due(schedule, opening, &evening, config, wanted, MOST_QUESTIONS) {
+    if !stays_due(schedule, opening, &evening, config, room, MOST_QUESTIONS) {
         return false;
     }
-    stays_due(schedule, opening, &morning, config, wanted, MOST_QUESTIONS)
+    stays_due(schedule, opening, &morning, config, room, MOST_QUESTIONS)
 }
 
 /// Whether this configuration is due as long as a wait lasts, from wherever in the region it
@@ -151,7 +152,7 @@ fn lasts(
     opened: Contacts,
     until: Option<DayFrame>,
     config: &Config,
-    wanted: &mut Config,
+    room: &mut Room,
 ) -> bool
     requires { opening.now ≡ opening_of schedule.now }
     ensures { IsTrue result → Throughout region.now (λ contacts day.
@@ -159,11 +160,11 @@ fn lasts(
 {
     match until {
         Some(frame) => lasts_until(
-            schedule, opening, region, closed, opened, frame, config, wanted,
+            schedule, opening, region, closed, opened, frame, config, room,
         ),
         None => {
             let wait = waiting(closed, opened, 0, FRAMES_A_DAY);
-            stays_due(schedule, opening, &wait, config, wanted, MOST_QUESTIONS)
+            stays_due(schedule, opening, &wait, config, room, MOST_QUESTIONS)
         }
     }
 }
@@ -181,7 +182,7 @@ fn rests(
     frames: Option<Frames>,
     current: &Config,
     next: &Config,
-    wanted: &mut Config,
+    room: &mut Room,
 ) -> bool
     requires low { pc < 4096 }
     requires opening { opening.now ≡ opening_of schedule.now }
@@ -202,7 +203,7 @@ fn rests(
         return false;
     }
     lasts(
-        schedule, opening, region, closed, opened, until, current, wanted,
+        schedule, opening, region, closed, opened, until, current, room,
     )
 }
 
@@ -212,7 +213,7 @@ fn stays(
     opening: &Config,
     current: &Config,
     next: &Config,
-    wanted: &mut Config,
+    room: &mut Room,
 ) -> bool
     requires { opening.now ≡ opening_of schedule.now }
     ensures { IsTrue result → (code : Program) (contacts : AnyContacts) (day : ℕ) →
@@ -226,7 +227,7 @@ fn stays(
         opening,
         &Region::everything(),
         current,
-        wanted,
+        room,
         MOST_QUESTIONS,
     )
 }
@@ -248,7 +249,7 @@ pub(crate) fn leaf(
     pc: u16,
     current: &Config,
     next: &Config,
-    wanted: &mut Config,
+    room: &mut Room,
 ) -> Answer
     requires { opening.now ≡ opening_of schedule.now }
     ensures { IfYes result (Throughout region.now (λ contacts day.
@@ -262,7 +263,7 @@ pub(crate) fn leaf(
     };
     match instr {
         Instr::CommitIn(delay) => {
-            changes(code, schedule, opening, region, pc, delay, next, wanted)
+            changes(code, schedule, opening, region, pc, delay, next, room)
         }
         Instr::WaitAny {
             closed,
@@ -270,10 +271,9 @@ pub(crate) fn leaf(
             until,
             frames,
         } => answer(rests(
-            code, schedule, opening, region, pc, closed, opened, until, frames, current, next,
-            wanted,
+            code, schedule, opening, region, pc, closed, opened, until, frames, current, next, room,
         )),
-        Instr::End => answer(stays(schedule, opening, current, next, wanted)),
+        Instr::End => answer(stays(schedule, opening, current, next, room)),
         _ => Answer::No,
     }
 }

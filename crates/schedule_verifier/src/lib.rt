@@ -10,8 +10,10 @@ mod conditions;
 pub mod laws;
 mod leaves;
 mod region;
+pub mod room;
 pub mod verifier;
 mod walk;
 mod wanted;
 
+pub use room::Room;
 pub use verifier::implements;

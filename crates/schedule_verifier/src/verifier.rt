@@ -12,6 +12,7 @@ ghost use Rattle.schedule_verifier.specs.Regions.{IfYes, Throughout};
 use crate::laws::schedules;
 use crate::leaves::{leaf, names};
 use crate::region::{Answer, Region};
+use crate::room::Room;
 use crate::walk::{Step, walk};
 use crate::wanted::MOST_QUESTIONS;
 use mux_config::{Config, Store};
@@ -30,7 +31,7 @@ fn judge(
     top: u16,
     current: &Config,
     next: &mut Config,
-    wanted: &mut Config,
+    room: &mut Room,
 ) -> Answer
     requires { opening.now ≡ opening_of schedule.now }
     ensures { IfYes result (Throughout region.now (λ contacts day.
@@ -38,14 +39,15 @@ fn judge(
 {
     next.copy_from(current);
     match walk(code, region, top, next) {
-        Step::Leaf(pc) => { leaf(code, schedule, opening, region, pc, current, next, wanted) },
+        Step::Leaf(pc) => { leaf(code, schedule, opening, region, pc, current, next, room) },
         Step::Ask(question) => Answer::Ask(question),
         Step::To(_) => Answer::No,
         Step::Fails => Answer::No,
     }
 }
 
-/// As `judge`; at most `left` questions are asked one after the other.
+/// As `judge`; at most `left` questions are asked one after the other, and no where the room has no
+/// region left.
 fn is_kept(
     code: &Code,
     schedule: &Schedule,
@@ -54,14 +56,17 @@ fn is_kept(
     top: u16,
     current: &Config,
     next: &mut Config,
-    wanted: &mut Config,
+    room: &mut Room,
     left: u16,
 ) -> bool
     requires { opening.now ≡ opening_of schedule.now }
     ensures { IsTrue result → Throughout region.now (λ contacts day.
         LeadsOn (moment schedule.now code.now current.now contacts day) top current.now) }
 {
-    let question = match judge(code, schedule, opening, region, top, current, next, wanted) {
+    if !room.takes_region() {
+        return false;
+    }
+    let question = match judge(code, schedule, opening, region, top, current, next, room) {
         Answer::Yes => return true,
         Answer::No => return false,
         Answer::Ask(question) => question,
@@ -78,7 +83,7 @@ fn is_kept(
         top,
         current,
         next,
-        wanted,
+        room,
         left - 1,
     ) {
         return false;
@@ -92,7 +97,7 @@ fn is_kept(
         top,
         current,
         next,
-        wanted,
+        room,
         left - 1,
     )
 }
@@ -152,7 +157,13 @@ fn is_top(code: &Code, pc: u16) -> bool
 }
 
 /// Whether the code does what the schedule prescribes from a label on, if that is at a top.
-fn is_label_kept(code: &Code, schedule: &Schedule, opening: &Config, label: Label) -> bool
+fn is_label_kept(
+    code: &Code,
+    schedule: &Schedule,
+    opening: &Config,
+    label: Label,
+    room: &mut Room,
+) -> bool
     requires { opening.now ≡ opening_of schedule.now }
     ensures { IsTrue result → IsTop code.now label.pc → (c : Configuration)
         → slice_get code.now.configurations label.cur ≡ Some c
@@ -162,7 +173,6 @@ fn is_label_kept(code: &Code, schedule: &Schedule, opening: &Config, label: Labe
         return true;
     }
     let mut next = Config::empty();
-    let mut wanted = Config::empty();
     let Some(config) = code.config(label.cur) else {
         return false;
     };
@@ -175,19 +185,19 @@ fn is_label_kept(code: &Code, schedule: &Schedule, opening: &Config, label: Labe
         label.pc,
         config,
         &mut next,
-        &mut wanted,
+        room,
         MOST_QUESTIONS,
     )
 }
 
 /// Whether the code does what the schedule prescribes from each top on.
-fn are_kept(code: &Code, schedule: &Schedule, opening: &Config) -> bool
+fn are_kept(code: &Code, schedule: &Schedule, opening: &Config, room: &mut Room) -> bool
     requires { opening.now ≡ opening_of schedule.now }
     ensures { IsTrue result → (pc : ℕ) (c : Configuration) → IsTop code.now pc
         → Names code.now pc c → IsKeptFrom schedule.now code.now pc c }
 {
     for label in code.labels() {
-        if !is_label_kept(code, schedule, opening, *label) {
+        if !is_label_kept(code, schedule, opening, *label, room) {
             return false;
         }
     }
@@ -197,7 +207,7 @@ fn are_kept(code: &Code, schedule: &Schedule, opening: &Config) -> bool
 /// Whether the code, which begins with this configuration, is certified: it does what the schedule
 /// prescribes from each of its tops. That is tried with what the tests of the code and of the
 /// overlays make known; a code that is not certified may still play as scheduled.
-fn is_certified(schedule: &Schedule, opening: &Config, code: &Code) -> bool
+fn is_certified(schedule: &Schedule, opening: &Config, code: &Code, room: &mut Room) -> bool
     ensures { IsTrue result → IsCertified schedule.now opening.now code.now }
 {
     if code.plan() != schedule.header() {
@@ -208,16 +218,16 @@ fn is_certified(schedule: &Schedule, opening: &Config, code: &Code) -> bool
     }
     match made_by(schedule.items()) {
         Err(_fault) => false,
-        Ok(items) => are_kept(code, schedule, &items),
+        Ok(items) => are_kept(code, schedule, &items, room),
     }
 }
 
 /// Whether the code, which begins with this configuration, is known to play as the schedule
-/// prescribes, from every start in range and over every list of contact changes and frames. The
-/// answer is yes for each code of `schedule_compiler`; no does not say that it plays otherwise.
-pub fn implements(schedule: &Schedule, opening: &Config, code: &Verified) -> bool
+/// prescribes, from every start in range and over every list of contact changes and frames. No does
+/// not say that it plays otherwise: where the room is used up, no answer was found.
+pub fn implements(schedule: &Schedule, opening: &Config, code: &Verified, room: &mut Room) -> bool
     ensures { IsTrue result → PlaysAsScheduled schedule.now opening.now code.now }
 {
     schedules();
-    is_certified(schedule, opening, code.code())
+    is_certified(schedule, opening, code.code(), room)
 }

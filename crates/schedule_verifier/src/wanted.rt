@@ -10,6 +10,7 @@ ghost use Rattle.schedule_verifier.specs.Regions.{IfYes, Throughout};
 
 use crate::conditions::condition;
 use crate::region::{Answer, Region};
+use crate::room::Room;
 use crate::walk::apply;
 use mux_config::{Config, Store};
 use plan_verifier::flow::is_same;
@@ -97,14 +98,14 @@ pub(crate) fn is_due(
 pub(crate) const MOST_QUESTIONS: u16 = 4200;
 
 /// Whether this configuration is due everywhere in a region, which may be empty; the items make the
-/// opening, and at most
-/// `left` questions are asked one after the other.
+/// opening. At most `left` questions are asked one after the other, and no where the room has no
+/// region left.
 pub(crate) fn stays_due(
     schedule: &Schedule,
     opening: &Config,
     region: &Region,
     config: &Config,
-    wanted: &mut Config,
+    room: &mut Room,
     left: u16,
 ) -> bool
     requires { opening.now ≡ opening_of schedule.now }
@@ -114,7 +115,10 @@ pub(crate) fn stays_due(
     if region.to <= region.from {
         return true;
     }
-    let question = match is_due(schedule, opening, region, config, wanted) {
+    if !room.takes_region() {
+        return false;
+    }
+    let question = match is_due(schedule, opening, region, config, &mut room.wanted) {
         Answer::Yes => return true,
         Answer::No => return false,
         Answer::Ask(question) => question,
@@ -123,9 +127,9 @@ pub(crate) fn stays_due(
         return false;
     }
     let first = region.first(&question);
-    if !stays_due(schedule, opening, &first, config, wanted, left - 1) {
+    if !stays_due(schedule, opening, &first, config, room, left - 1) {
         return false;
     }
     let second = region.second(&question);
-    stays_due(schedule, opening, &second, config, wanted, left - 1)
+    stays_due(schedule, opening, &second, config, room, left - 1)
 }

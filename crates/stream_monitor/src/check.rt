@@ -116,7 +116,8 @@ fn check_fib<M: Monitor>(
     let Some(findings) = frame.findings() else {
         return Err(CheckFailure::Memory);
     };
-    tell_findings(findings, monitor)?;
+    let skipped = state.checker.decided().skipped;
+    tell_findings(findings, skipped, monitor)?;
     state.tally = counted(state.tally, findings);
     match heard {
         Ok(false) => Ok(None),
@@ -136,15 +137,19 @@ fn cause_of(fault: CheckFault) -> Cause
     }
 }
 
-/// Tells findings, in order.
-fn tell_findings<M: Monitor>(findings: &[Finding], monitor: &mut M) -> Result<(), CheckFailure>
+/// Tells findings, in order, in frames of a stream of which this many FIBs are skipped.
+fn tell_findings<M: Monitor>(
+    findings: &[Finding],
+    skipped: u64,
+    monitor: &mut M,
+) -> Result<(), CheckFailure>
     ensures log { OnOk result (LogsLines (M.log monitor.old) (M.log monitor.new)
         (finding_lines findings.now)) }
     ensures left { M.left monitor.new ≡ M.left monitor.old }
 {
     let mut rest = findings;
     while let Some((finding, after)) = rest.split_first() {
-        monitor.found(finding)?;
+        monitor.found(finding, skipped)?;
         rest = after;
     }
     Ok(())

@@ -1,6 +1,9 @@
 //! The time of day of a frame.
 
+ghost use Rattle.std.specs.Prelude.{◌≡◌, ◌+◌, ◌*◌, ◌%◌};
+
 use std::fmt::{self, Display, Formatter, Write};
+use stream_check::Finding;
 
 /// Frames per day: they last 24 ms.
 const FRAMES: u64 = 3_600_000;
@@ -16,11 +19,23 @@ pub(crate) struct Clock {
 }
 
 impl Clock {
-    /// The time of day of a frame, where frame 0 is at this second of the day.
-    pub(crate) fn at(start: u32, frame: u64) -> Self {
+    /// The time of day of the frame that comes this many frames after another one, which is at this
+    /// time of day, in milliseconds.
+    pub(crate) fn after(start: u32, frames: u64) -> Self
+        ensures { result.ms ≡ (start + frames * 24) % 86400000 }
+    {
         Clock {
-            ms: (u64::from(start) * 1000 + (frame % FRAMES) * 24) % DAY,
+            ms: (u64::from(start) + (frames % FRAMES) * 24) % DAY,
         }
+    }
+}
+
+/// The time of day of a finding's frame, where this many frames are before frame 0; `None` if the
+/// time of the first one is not known.
+pub(crate) fn time_of(start: Option<u32>, before: u64, finding: &Finding) -> Option<Clock> {
+    match start {
+        Some(start) => Some(Clock::after(start, before.saturating_add(finding.frame))),
+        None => None,
     }
 }
 

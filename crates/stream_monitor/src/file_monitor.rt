@@ -31,6 +31,8 @@ pub struct FileMonitor<'a, 'f, 'o, R: Read + Drop, F, W> {
     files: &'f mut F,
     /// How lines are printed, from the start of a check on.
     form: Form,
+    /// The transmission mode, from the start of a check on.
+    mode: Mode,
     out: &'o mut Output<W>,
 }
 
@@ -49,6 +51,7 @@ impl<'a, 'f, 'o, R: Read + Drop, F: Files, W: Write> FileMonitor<'a, 'f, 'o, R, 
                 is_json: false,
                 start: None,
             },
+            mode: Mode::I,
             out,
         }
     }
@@ -62,7 +65,7 @@ impl<'a, 'f, 'o, R: Read + Drop, F: Files, W: Write> FileMonitor<'a, 'f, 'o, R, 
             Ending::Counted(totals) => Line::Ended(*totals),
             Ending::Refused(cause) => Line::Refused(*cause),
         };
-        self.print(&line)
+        self.print(0, &line)
     }
 
     /// Looks at the piece that was read last, for hints.
@@ -73,11 +76,13 @@ impl<'a, 'f, 'o, R: Read + Drop, F: Files, W: Write> FileMonitor<'a, 'f, 'o, R, 
         self.adviser.look(self.fibs.piece(), self.files);
     }
 
-    /// Prints a line.
-    fn print(&mut self, line: &Line) -> Result<(), CheckFailure>
+    /// Prints a line, where this many FIBs are skipped: whole frames but for the first one, which
+    /// a stream may begin within.
+    fn print(&mut self, skipped: u64, line: &Line) -> Result<(), CheckFailure>
         ensures { self.new.fibs ≡ self.old.fibs }
     {
-        print_line(self.form, line, self.out).map_err(|_| CheckFailure::Write)
+        let before = skipped.div_ceil(self.mode.fibs() as u64);
+        print_line(self.form, before, line, self.out).map_err(|_| CheckFailure::Write)
     }
 }
 
@@ -86,6 +91,7 @@ impl<'a, 'f, 'o, R: Read + Drop, F: Files, W: Write> Monitor for FileMonitor<'a,
 
     fn start(&mut self, options: CheckOptions) {
         self.form = options.form;
+        self.mode = options.mode;
         self.adviser.start(options.mode);
     }
 
@@ -97,11 +103,11 @@ impl<'a, 'f, 'o, R: Read + Drop, F: Files, W: Write> Monitor for FileMonitor<'a,
         self.fibs.next().map_err(CheckFailure::Read)
     }
 
-    fn found(&mut self, finding: &Finding) -> Result<(), CheckFailure> {
-        self.print(&Line::Found(*finding))
+    fn found(&mut self, finding: &Finding, skipped: u64) -> Result<(), CheckFailure> {
+        self.print(skipped, &Line::Found(*finding))
     }
 
     fn alive(&mut self, totals: &Totals) -> Result<(), CheckFailure> {
-        self.print(&Line::Alive(*totals))
+        self.print(0, &Line::Alive(*totals))
     }
 }

@@ -1,6 +1,6 @@
 //! Lines of JSON: one object each, without blanks outside of strings.
 
-use crate::clock::Clock;
+use crate::clock::{Clock, time_of};
 use crate::description::{Detail, event, fault};
 use crate::line::{Line, Totals};
 use crate::sid::Sid;
@@ -10,26 +10,30 @@ use std::io::{self, Write};
 use stream_check::{EntryName, Finding, What};
 
 /// Prints a line of JSON.
-pub(crate) fn print_json<W: Write>(start: Option<u32>, line: &Line, out: &mut W) -> io::Result<()> {
+pub(crate) fn print_json<W: Write>(
+    start: Option<u32>,
+    before: u64,
+    line: &Line,
+    out: &mut W,
+) -> io::Result<()> {
     match line {
-        Line::Found(finding) => print_finding(start, finding, out),
+        Line::Found(finding) => print_finding(time_of(start, before, finding), finding, out),
         Line::Alive(totals) => print_totals("alive", totals, out),
         Line::Ended(totals) => print_totals("summary", totals, out),
         Line::Refused(cause) => { writeln!(out, "{{\"kind\":\"refused\",\"cause\":\"{cause}\"}}") }
     }
 }
 
-/// Prints a finding: its kind, its time, if that of frame 0 is given, its frame and count, and what
-/// was found.
-fn print_finding<W: Write>(start: Option<u32>, finding: &Finding, out: &mut W) -> io::Result<()> {
+/// Prints a finding: its kind, its time, if that is known, its frame and count, and what was found.
+fn print_finding<W: Write>(time: Option<Clock>, finding: &Finding, out: &mut W) -> io::Result<()> {
     let Finding { frame, count, what } = *finding;
     let (kind, found) = match what {
         What::Event(found) => (event(found).name, event(found)),
         What::Fault(found) => ("fault", fault(found)),
     };
     write!(out, "{{\"kind\":\"{kind}\",")?;
-    if let Some(start) = start {
-        write!(out, "\"time\":\"{}\",", Clock::at(start, frame))?;
+    if let Some(time) = time {
+        write!(out, "\"time\":\"{time}\",")?;
     }
     write!(out, "\"frame\":{frame},\"count\":{count}")?;
     if let What::Fault(_) = what {

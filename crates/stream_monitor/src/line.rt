@@ -11,8 +11,8 @@ use stream_check::{Finding, Summary};
 pub struct Form {
     /// As JSON, one object a line, instead of text.
     pub is_json: bool,
-    /// The time of day of frame 0, in seconds, 0 to 86,399; findings are printed without a time if
-    /// `None`.
+    /// The time of day of the first FIB's frame, in milliseconds, 0 to 86,399,999; findings are
+    /// printed without a time if `None`.
     pub start: Option<u32>,
 }
 
@@ -65,11 +65,12 @@ pub enum Line {
     Refused(Cause),
 }
 
-/// Prints a line.
-pub fn print_line<W: Write>(form: Form, line: &Line, out: &mut W) -> io::Result<()> {
+/// Prints a line. The time of a finding is that of its frame, where this many frames are before
+/// frame 0.
+pub fn print_line<W: Write>(form: Form, before: u64, line: &Line, out: &mut W) -> io::Result<()> {
     if form.is_json {
-        print_json(form.start, line, out)
+        print_json(form.start, before, line, out)
     } else {
-        print_text(form.start, line, out)
+        print_text(form.start, before, line, out)
     }
 }

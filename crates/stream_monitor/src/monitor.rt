@@ -33,8 +33,9 @@ pub trait Monitor {
         ensures left { IfOk result (Gives (left self.old) (left self.new)) }
         ensures log { IfOk result (LogsNext (log self.old) (log self.new)) };
 
-    /// Tells a finding. `Write` if it can't be handed on.
-    fn found(&mut self, finding: &Finding) -> Result<(), CheckFailure>
+    /// Tells a finding in a stream of which this many FIBs are skipped, before frame 0. `Write` if
+    /// it can't be handed on.
+    fn found(&mut self, finding: &Finding, skipped: u64) -> Result<(), CheckFailure>
         ensures left { left self.new ≡ left self.old }
         ensures log { OnOk result (LogsLines (log self.old) (log self.new)
             (Found finding.now ∷ [])) };

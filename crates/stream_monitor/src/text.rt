@@ -1,6 +1,6 @@
 //! Lines of text.
 
-use crate::clock::Clock;
+use crate::clock::{Clock, time_of};
 use crate::description::{Description, Detail, event, fault};
 use crate::line::{Line, Totals};
 use crate::sid::Sid;
@@ -10,20 +10,24 @@ use std::io::{self, Write};
 use stream_check::{EntryName, Finding, What};
 
 /// Prints a line of text.
-pub(crate) fn print_text<W: Write>(start: Option<u32>, line: &Line, out: &mut W) -> io::Result<()> {
+pub(crate) fn print_text<W: Write>(
+    start: Option<u32>,
+    before: u64,
+    line: &Line,
+    out: &mut W,
+) -> io::Result<()> {
     match line {
-        Line::Found(finding) => print_finding(start, finding, out),
+        Line::Found(finding) => print_finding(time_of(start, before, finding), finding, out),
         Line::Alive(totals) => writeln!(out, "alive {}", TotalsText(totals)),
         Line::Ended(totals) => writeln!(out, "{}", TotalsText(totals)),
         Line::Refused(cause) => writeln!(out, "refused: {cause}"),
     }
 }
 
-/// Prints a finding: its time, if that of frame 0 is given, its frame and count, and what was
-/// found.
-fn print_finding<W: Write>(start: Option<u32>, finding: &Finding, out: &mut W) -> io::Result<()> {
-    if let Some(start) = start {
-        write!(out, "{} ", Clock::at(start, finding.frame))?;
+/// Prints a finding: its time, if that is known, its frame and count, and what was found.
+fn print_finding<W: Write>(time: Option<Clock>, finding: &Finding, out: &mut W) -> io::Result<()> {
+    if let Some(time) = time {
+        write!(out, "{time} ")?;
     }
     let Finding { frame, count, what } = *finding;
     match what {

@@ -58,13 +58,13 @@ class Outlooks(ports.Controlled):
         return answer["frame"]
 
     def test_changes_from_now_on_are_shown(self):
-        """Those that are past are not; `on_air`, and what is no change, is passed over."""
+        """Those that are past are not; `on-air`, and what is no change, is passed over."""
         self.says(
             swap(2, 3),
             swap(8),
             swap(40),
             swap(3_000_000, 7),
-            '{"kind":"on_air","time":"21:00:00.000","day":1,"frame":3600009,"parts":[]}\n',
+            '{"kind":"on-air","time":"21:00:00.000","day":1,"frame":3600009,"parts":[]}\n',
         )
         feed = self.begun("moves", "--time 21:59:50")
         feed.through(self.stream("edi", 9))

@@ -246,6 +246,29 @@ def refusals(rows):
     plays(rows, HEAD + hours, [], [], "--day 0")
 
 
+def hints(rows):
+    """The condition with which an overlay excludes another one, if the schedule compiles with it."""
+    first = "overlay a while {} {{ sub 2 at 96 eep 3-A 64 ; service C222 ; audio 63 sub 2 in C222 }}\n"
+    second = "overlay b while {} {{ sub 3 at 100 eep 3-A 64 ; service C223 ; audio 63 sub 3 in C223 }}\n"
+    for one, other, condition in (
+            ("contact 3 closed", "contact 4 closed", "contact 4 closed and contact 3 open"),
+            ("time 06:00:00 to 09:00:01", "time 09:00:00 to 12:00:00", "time 09:00:00 to 12:00:00 and time 09:00:01 to 06:00:00"),
+            ("contact 3 open and contact 5 closed", "contact 4 closed",
+             "contact 4 closed and contact 3 closed or contact 4 closed and contact 5 open"),
+            ("contact 3 closed", "contact 4 closed or contact 5 open",
+             "contact 4 closed and contact 3 open or contact 5 open and contact 3 open")):
+        text = HEAD + first.format(one) + second.format(other)
+        rows.answers("compile x.plan x.code --explain", 1, "refused line 8: Config Overlap 2 3\nx.plan:8: with a and b: Config Overlap 2 3\n"
+                     f"hint: overlay b while {condition}\n", {"x.plan": text})
+        lines = text.splitlines()
+        corrected = lines[:7] + [f"overlay b while {condition}" + lines[7][lines[7].index(" {"):]]
+        made = rows.run("compile x.plan x.code --quiet", {"x.plan": "\n".join(corrected)})
+        rows.tally.same(condition, 0, made.status)
+    either = first.format("contact 3 closed or contact 5 closed") + second.format("contact 4 closed")
+    rows.answers("compile x.plan x.code --explain", 1, "refused line 8: Config Overlap 2 3\nx.plan:8: with a and b: Config Overlap 2 3\n",
+                 {"x.plan": HEAD + either})
+
+
 def texts(rows):
     """Texts with a fault, each at its position."""
     tests = " and ".join(["contact 1 closed"] * 32)
@@ -266,4 +289,4 @@ def texts(rows):
 
 
 if __name__ == "__main__":
-    rows.main((nothing_to_do, contacts, conditions, windows, region, taken_over, items_alone, refusals, texts))
+    rows.main((nothing_to_do, contacts, conditions, windows, region, taken_over, items_alone, refusals, hints, texts))

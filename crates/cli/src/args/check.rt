@@ -1,8 +1,9 @@
 //! The command line of `check`.
 
+use crate::args::moment::moment_of;
 use crate::args::parser::Kind::{Flag, Number, Operand, Text};
 use crate::args::parser::{Argument, Page, Values};
-use crate::args::shared::{MODE, mode_of, time_of};
+use crate::args::shared::{MODE, mode_of};
 use crate::args::{Request, UsageError};
 use cli_streams::check::CheckRequest;
 use stream_monitor::{CheckOptions, Form};
@@ -13,8 +14,8 @@ const PERIOD: &str = "Every entry must come at least once in this many frames of
 
 const EVERY: &str = "Prints the totals so far after every N frames, 1 to 4294967295";
 
-const TIME: &str = "\
-The time of the day at frame 0, 00:00:00 to 23:59:59: prints the time of each finding";
+const TIME: &str =
+    "The time of day of the first frame, 00:00:00 to 23:59:59.999: each finding has its time";
 
 const UNTIL_FAULT: &str = "Ends with the first frame that has a fault, with status 3";
 
@@ -90,8 +91,8 @@ The file is read as it comes, and all lines that its bytes decide are written be
 so that a pipe can be monitored. With --every 250 there is also a line of the totals so far every
 six seconds, so that a monitor that has stopped is noticed:
   alive frames 250 skipped 0 left over 0 damaged 0 swaps 1 faults 1
-With --time each finding begins with the time of its frame, 21:59:54.240. With --json each line is
-one JSON object:
+With --time each finding begins with the time of its frame, 21:59:54.240; the file's first frame is
+at that time, also if the first FIG 0/0 comes later. With --json each line is one JSON object:
   {\"kind\":\"fault\",\"frame\":28,\"count\":28,\"fault\":\"announced-for\",\"low\":24}
 
 The line of a refusal, in place of the last line:
@@ -121,8 +122,8 @@ Exit status:
 
 /// Reads the arguments of `check`.
 pub(crate) fn request<'a>(values: &Values<'a>) -> Result<Request<'a>, UsageError<'a>> {
-    let start = match time_of(values)? {
-        Some(time) => Some(time.seconds()),
+    let start = match moment_of(values)? {
+        Some(moment) => Some(moment.thousandths()),
         None => None,
     };
     Ok(Request::Check(CheckRequest {

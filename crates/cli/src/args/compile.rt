@@ -98,7 +98,7 @@ OUT is written last, and as a whole: where the script is refused, or OUT can't b
 as it was. '-' is standard output, and the lines then go to standard error.
 
 Example: a lower rate at night
-  dabplan compile examples/night_rate.plan night.code
+  dabplan compile examples/any_hour.plan night.code
   dabplan verify night.code
 
 Example: the plan that leads from one configuration to another

@@ -23,6 +23,8 @@ What the commands read and write:
   verify   reads a code file, the binary form of a plan, and prints whether it can be played without
            going wrong, or what is wrong with it and where
   map      reads a script, and prints or draws which capacity units each sub-channel has
+  timeline plays a code file or a script over a file of events without writing frames, and prints or
+           draws each change with its time
   play     plays a code file over a file of events (frames, and contacts that close and open), and
            writes the FIBs of each frame to a file
   debug    steps through a code file by a file of commands, and prints the player's state after each
@@ -33,7 +35,7 @@ What the commands read and write:
 'dabplan help Pending'.
 
 Example: a plan for the night, compiled, and played for the half hour from a quarter to ten
-  dabplan compile examples/night_rate.plan night.code
+  dabplan compile examples/any_hour.plan night.code
   echo 'frames 75000' > night.events
   dabplan play night.code night.events night.fib --time 21:45:00
   dabplan check night.fib

@@ -12,6 +12,8 @@ const SVG: &str = "Also writes a drawing to this file, an SVG document";
 
 const LAYOUT: &str = "Prints the one layout that serves every configuration";
 
+const JSON: &str = "Prints each row, or the layout, as a JSON object";
+
 /// The command `map`.
 pub(crate) const PAGE: Page = Page {
     name: "map",
@@ -22,11 +24,12 @@ Shows which capacity units each sub-channel has in a plan.
 Prints the configuration that the script begins with, and that of each commit, in the order of the
 script. With --svg the same is drawn to scale, as a document that any browser shows. With --layout
 the one layout of sub-channels is printed that serves all of them.",
-    usage: "dabplan map <SCRIPT> [--svg <OUT>] [--layout] [--quiet]",
+    usage: "dabplan map <SCRIPT> [--svg <OUT>] [--layout] [--json] [--quiet]",
     arguments: &[
         Argument("script", Operand("SCRIPT"), &[], SCRIPT),
         Argument("svg", Text("OUT", None), &[], SVG),
         Argument("layout", Flag, &[], LAYOUT),
+        Argument("json", Flag, &[], JSON),
         Argument("quiet", Flag, &[], QUIET),
     ],
     after: "\
@@ -58,14 +61,23 @@ The lines of --layout, instead of these:
                        a sub-channel with two places, sizes or profiles, or two sub-channels that
                        share capacity units
 
+With --json each row is one JSON object, shown here in three lines, with the sub-channels and all
+parts of its configuration; the sub-channels are in the order of their capacity units:
+  {\"kind\":\"commit\",\"line\":12,\"block\":null,\"lead\":\"until 21:59:54\",\"free\":792,
+   \"dropped\":[\"sub 1 at 0 size 96 eep 3-A\"],\"added\":[\"sub 1 at 0 size 72 eep 3-A\"],
+   \"layout\":[{\"sub\":1,\"start\":0,\"size\":72,\"protection\":\"3-A\",\"kbits\":96}],\"parts\":[..]}
+'lead' is null where the text has no parentheses. With --layout it is one object with the list
+'layout', or one with the cause 'no one layout' and the sub-channels 'first' and 'second'.
+
 On standard error follows what the author of an accepted plan may not want, each with its line in
-the script; the status stays as it is:
+the script; the status stays as it is. Behind the objects of the rows it follows as objects:
   night.plan:9: warning: no component names sub 3
                        also: audio under an SId of 32 bits; a commit that gives a service another
                        primary component; a plan that begins with 'until'; a block of which no
                        statement is reached; 'until' directly behind 'wait contact', and for a
                        time that is past when the plan comes to it
-There it says too what is wrong with a refused script, as 'compile' does; --quiet leaves both out.
+On standard error it says too what is wrong with a refused script, as 'compile' does; --quiet leaves
+both out.
 
 In the drawing each sub-channel keeps its colour in all rows, and has its number, kbit/s and
 protection in it; what is changed from the row above is framed in red, also where a service moves
@@ -73,7 +85,7 @@ there; free units are hatched, and a key shows which sub-channels carry each ser
 before the lines are printed; where the script is refused it stays as it was.
 
 Example: a lower rate at night
-  dabplan map examples/night_rate.plan --svg night.svg
+  dabplan map examples/any_hour.plan --svg night.svg
 
 Exit status:
   0  the map or the layout was printed, and OUT holds the drawing
@@ -95,6 +107,7 @@ pub(crate) fn request<'a>(values: &Values<'a>) -> Result<Request<'a>, UsageError
         script: values.text("script"),
         drawing,
         layout: values.flag("layout"),
+        is_json: values.flag("json"),
         explanation: explanation(values),
     }))
 }

@@ -12,6 +12,11 @@ pub(crate) struct Moment {
 }
 
 impl Moment {
+    /// This time, in thousandths of a second since midnight.
+    pub fn thousandths(self) -> u32 {
+        self.thousandths
+    }
+
     /// The first frame of the day that begins at this time or after it; after the last one of a day
     /// that is the first of the next.
     pub fn frame(self) -> u32 {

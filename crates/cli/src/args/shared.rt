@@ -6,8 +6,6 @@ use crate::args::parser::{Argument, Kind, Values};
 use cli_scripts::explained::Explanation;
 use console::hexadecimal::u16_of;
 use fib_codec::{FrameLayout, Mode};
-use script_tokens::number;
-use script_tokens::time::TimeOfDay;
 
 /// The transmission mode.
 pub(crate) const MODE: Argument = Argument(
@@ -79,19 +77,4 @@ pub(crate) fn digits_of<'a>(
         value,
         reason: "expected four hexadecimal digits (0-9, A-F)",
     })
-}
-
-/// The time of day of `--time`, if it is given.
-pub(crate) fn time_of<'a>(values: &Values<'a>) -> Result<Option<TimeOfDay>, UsageError<'a>> {
-    let Some(value) = values.some_text("time") else {
-        return Ok(None);
-    };
-    match number::time(value.as_bytes()) {
-        Some(time) => Ok(Some(time)),
-        None => Err(UsageError::Value {
-            option: "--time <HH:MM:SS>",
-            value,
-            reason: "expected 00:00:00 to 23:59:59",
-        }),
-    }
 }

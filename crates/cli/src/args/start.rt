@@ -1,5 +1,5 @@
-//! The start options of `play`, `debug` and `live`: CIF count, time of day and contacts of the
-//! first frame.
+//! The start options of `play`, `debug`, `live` and `timeline`: CIF count, time of day and contacts
+//! of the first frame.
 
 use crate::args::UsageError;
 use crate::args::moment::moment_of;
