@@ -6,7 +6,8 @@ once with only that allocation failing, and once with all later ones too. A call
 own name, with nothing lost, and the same call with memory then gives its result; `run` has written nothing, and
 `Debugger::new` returns the player. A command prints `no memory` alone, ends with 1 and leaves nothing in its output
 file; or it tolerates a single failed allocation, and ends as it does with memory. If it refuses its input, the line of the
-refusal may stand without the explanation on standard error, and with `--explain` may precede `no memory`; if a script is
+refusal may stand without the explanation on standard error, and with `--explain` may precede `no memory`, as the first lines of
+`timeline` may, which prints as it plays; if a script is
 accepted, `no memory` may be on standard error in place of the warnings. `live` reports `no memory` on standard error, and has
 written whole frames of lines before.
 The last line is 'N passed, M failed', where each failing run is one, and each complete run one more.
@@ -144,6 +145,16 @@ def contents(folder, names):
             for name in names}
 
 
+def has_refused(words, printed, whole):
+    """Whether a command printed that there is no memory, and nothing before that; `timeline`, which prints as it plays, may have
+    printed the first of its lines before, and `compile --explain` the line of the refusal."""
+    line = b'{"kind":"refused","cause":"no memory"}\n' if "--json" in words else b"no memory\n"
+    front = printed.removesuffix(line)
+    if "--explain" in words:
+        return printed.endswith(line) and front in (b"", whole.partition(b"\n")[0] + b"\n")
+    return printed.endswith(line) and (not front or words[0] == "timeline" and whole.startswith(front))
+
+
 def try_commands(tally, library, program, folder):
     """Lets each allocation of each command fail."""
     record = (common.EXAMPLES / "one_programme.rec").read_bytes()
@@ -170,8 +181,7 @@ def try_commands(tally, library, program, folder):
                 is_whole = found == (*whole, files) and ended.messages in messages
                 without += is_refused and is_whole
                 if is_refused and not (is_whole and (not goes_on or whole[0] == 1)):
-                    first = whole[1].partition(b"\n")[0] + b"\n" if "--explain" in words else b""
-                    is_silent = found[0] == 1 and found[1] in (b"no memory\n", first + b"no memory\n")
+                    is_silent = found[0] == 1 and has_refused(words, found[1], whole[1])
                     is_silent = is_silent and not any(found[2].values()) and not ended.messages
                     tally.hold(is_silent, f"{shown}, request {number} refused: {found}")
                 else:
