@@ -52,11 +52,20 @@ def plan_with_log(path: str, program: str, log: Optional[str], past: Optional[Pa
     data = None if log is None or past is None else kept(log, past.digest)
     if data is None or past is None:
         return plan_of(path, program)
-    found = of_code(path, data, past.script)
+    found = of_code(path, data, past.script, text_of(path, past.script))
     other = difference(found, path)
     if other:
         say(f"{other}: the plan of {log} goes on; POST /reload or SIGHUP takes up the other one, --anew begins it")
     return found
+
+
+def text_of(path: str, digest: Optional[str]) -> bytes:
+    """The script at a path, where it is the one of a digest; else nothing."""
+    try:
+        data = bytes_of(path)
+    except Trouble:
+        return b""
+    return data if digest_of(data) == digest else b""
 
 
 def difference(plan: Plan, path: str) -> str:

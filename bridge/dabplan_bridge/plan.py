@@ -12,6 +12,7 @@ from .code_file import MAGIC, Fields, Header, NoCode, configurations_of, header_
 from .faults import Trouble, reason_of
 from .fibs import COUNTS, Listener, size_of
 from .layout import SubChannel
+from .overlays import Overlay, overlays_of
 from .program import code_of, in_memory, path_of
 
 
@@ -33,6 +34,8 @@ class Plan:
     """The code file, in memory, where there is room: whatever becomes of the one at the path, this one is played."""
     script: Optional[str] = None
     """The same digits of the script that it was compiled from; None where the path is that of a code file."""
+    overlays: Tuple[Overlay, ...] = ()
+    """Those of that script, where it is a schedule and its text is known."""
 
     def close(self) -> None:
         """Lets go of the code file in memory."""
@@ -87,8 +90,9 @@ def is_script(data: bytes) -> bool:
     return b"\0" not in data and not data.startswith(MAGIC) and not MAGIC.startswith(data)
 
 
-def of_code(path: str, data: bytes, script: Optional[str] = None) -> Plan:
-    """The plan of the bytes of a code file, by its header; `dabplan` verifies the rest. `Trouble` if it is none."""
+def of_code(path: str, data: bytes, script: Optional[str] = None, text: bytes = b"") -> Plan:
+    """The plan of the bytes of a code file, by its header; `dabplan` verifies the rest. `text` is that of the script
+    that it was compiled from, where it is known. `Trouble` if it is none."""
     try:
         header = header_of(Fields(data))
     except NoCode:
@@ -100,7 +104,8 @@ def of_code(path: str, data: bytes, script: Optional[str] = None) -> Plan:
     except Trouble:
         if script is not None:
             raise
-    return Plan(path, header, digest_of(data), tuple(configurations_in(data)), data, code, script)
+    configurations = tuple(configurations_in(data))
+    return Plan(path, header, digest_of(data), configurations, data, code, script, overlays_of(text))
 
 
 def plan_of(path: str, program: str, now: Optional[bytes] = None) -> Plan:
@@ -109,7 +114,7 @@ def plan_of(path: str, program: str, now: Optional[bytes] = None) -> Plan:
     data = bytes_of(path)
     if not is_script(data):
         return of_code(path, data)
-    return of_code(path, code_of(program, path, data, now), digest_of(data))
+    return of_code(path, code_of(program, path, data, now), digest_of(data), data)
 
 
 def opening(live: Live, plan: Plan, count: int, steps: Iterable[bytes], at: int) -> Dict[int, SubChannel]:

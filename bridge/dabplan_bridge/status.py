@@ -11,18 +11,25 @@ from .fibs import COUNTS, DAY_FRAMES
 from .given import Given
 from .labels import Labels
 from .outlook import Outlook
+from .overlays import holding
 from .past import day_frame_of_start, text_of
 from .state import State
 
 Fields = Dict[str, object]
 
 
+def day_of_frame(start: str, frame: Optional[int]) -> Optional[int]:
+    """The frame of the day of a plan's frame; None where the plan has no time."""
+    first = day_frame_of_start(start)
+    return None if first is None or frame is None else (first + frame) % DAY_FRAMES
+
+
 def time_of_frame(start: str, frame: Optional[int]) -> Optional[str]:
     """The time of day of a plan's frame, `HH:MM:SS`; None where the plan has none."""
-    first = day_frame_of_start(start)
-    if first is None or frame is None:
+    day = day_of_frame(start, frame)
+    if day is None:
         return None
-    seconds = (first + frame) % DAY_FRAMES * 24 // 1000
+    seconds = day * 24 // 1000
     return f"{seconds // 3600:02}:{seconds // 60 % 60:02}:{seconds % 60:02}"
 
 
@@ -56,7 +63,7 @@ class Status:
             "configuration": current, "next": following,
             "swap": self._swap(last), "changes": self._outlook.changes(),
             "plan": {"path": plan.path, "name": os.path.basename(plan.path), "digest": plan.digest,
-                     "line": self._outlook.line(), "overlays": None},
+                     "line": self._outlook.line(), "overlays": self._overlays()},
             "contacts": ["closed" if each else "open" for each in self._given.closed],
             "inputs": [self._input()], "outputs": self._outputs(), "fits": state.fits,
             "alarms": [{"alarm": alarm.value, "text": text} for alarm, text in list(state.alarms.items())],
@@ -77,6 +84,11 @@ class Status:
             announced = sum(each.swap_in is not None for each in row[-period:])
             key = (last.swaps, last.swap_in is None, last.is_held, row[0].number if len(row) < most else -1)
             self._decoder.look(key, [each.fic for each in row], announced == period)
+
+    def _overlays(self) -> Optional[List[str]]:
+        """The overlays that hold now, with the contacts as they are."""
+        day = day_of_frame(self._board.start[0], self._state.frame)
+        return holding(self._board.plan.overlays, self._given.closed, day)
 
     @staticmethod
     def _swap(last: Optional[Shown]) -> Optional[Fields]:

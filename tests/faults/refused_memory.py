@@ -146,13 +146,15 @@ def contents(folder, names):
 
 
 def has_refused(words, printed, whole):
-    """Whether a command printed that there is no memory, and nothing before that; `timeline`, which prints as it plays, may have
-    printed the first of its lines before, and `compile --explain` the line of the refusal."""
-    line = b'{"kind":"refused","cause":"no memory"}\n' if "--json" in words else b"no memory\n"
+    """Whether a command printed that there is no memory, with `--json` perhaps as an object, and nothing before that; `timeline`,
+    which prints as it plays, may have printed the first of its lines before, and `compile --explain` the line of the refusal."""
+    line = next((line for line in (b"no memory\n", b'{"kind":"refused","cause":"no memory"}\n') if printed.endswith(line)), None)
+    if line is None or line.startswith(b"{") and "--json" not in words:
+        return False
     front = printed.removesuffix(line)
     if "--explain" in words:
-        return printed.endswith(line) and front in (b"", whole.partition(b"\n")[0] + b"\n")
-    return printed.endswith(line) and (not front or words[0] == "timeline" and whole.startswith(front))
+        return front in (b"", whole.partition(b"\n")[0] + b"\n")
+    return not front or words[0] == "timeline" and whole.startswith(front)
 
 
 def try_commands(tally, library, program, folder):
