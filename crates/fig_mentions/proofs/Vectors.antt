@@ -5,7 +5,7 @@ use Rattle.fib_reader.specs.Listening.{Pictured}
 use Rattle.fig_mentions.specs.declared.mention.Mention.TheVariants.{Nothing, Sub, Packet, OnSub, ByPacket}
 use Rattle.fig_mentions.specs.Mentions.{channel_in, component_size, first_entry_length, has_bit, is_naming, mentions_in}
 use Rattle.fig_mentions.specs.Mentions.{mentions_of, scid_in, sid_in}
-use Rattle.fig_mentions.specs.Agreeing.{are_there, fig_agrees, is_by, is_judged, is_named, is_nothing, is_on}
+use Rattle.fig_mentions.specs.Agreeing.{are_there, fig_agrees, is_by, is_judged, is_named, is_nothing, is_of_next, is_on}
 use Rattle.fig_mentions.specs.Agreeing.{is_present}
 
 -- sub-channel 1; service C221 with audio on it and packet component 7; packet component 7
@@ -117,6 +117,21 @@ judged = refl
 of_another_ensemble : is_judged (4 ∷ 68 ∷ []) ≡ false
 of_another_ensemble = refl
 
+services_to_come : is_of_next 136 ≡ true
+services_to_come = refl
+
+services_of_now : is_of_next 8 ≡ false
+services_of_now = refl
+
+languages_to_come : is_of_next 133 ≡ false
+languages_to_come = refl
+
+of_the_next_configuration : is_judged (4 ∷ 132 ∷ []) ≡ false
+of_the_next_configuration = refl
+
+languages_are_judged : is_judged (4 ∷ 133 ∷ []) ≡ true
+languages_are_judged = refl
+
 agrees : fig_agrees current (6 ∷ 8 ∷ 194 ∷ 33 ∷ 0 ∷ 1 ∷ []) ≡ true
 unfolding mentions_in
 agrees = refl
@@ -124,3 +139,6 @@ agrees = refl
 does_not : fig_agrees current (6 ∷ 8 ∷ 194 ∷ 33 ∷ 0 ∷ 2 ∷ []) ≡ false
 unfolding mentions_in
 does_not = refl
+
+may_come : fig_agrees current (6 ∷ 136 ∷ 194 ∷ 33 ∷ 0 ∷ 2 ∷ []) ≡ true
+may_come = refl

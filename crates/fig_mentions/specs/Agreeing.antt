@@ -1,8 +1,9 @@
 -- Which FIGs agree with the entries of a configuration that a listener has.
-use Rattle.std.specs.Prelude.{ℕ, ◌+◌, ◌*◌, ◌/◌, ◌%◌, ◌==◌, ◌&&◌, nat_lt, Bool, true, false, if◌then◌else◌, List, length}
-use Rattle.std.specs.Prelude.{drop, get_or, Option, Some, None}
+use Rattle.std.specs.Prelude.{ℕ, ◌+◌, ◌*◌, ◌/◌, ◌%◌, ◌==◌, ◌&&◌, ◌||◌, not, nat_lt, Bool, true, false, List, length}
+use Rattle.std.specs.Prelude.{if◌then◌else◌, drop, get_or, Option, Some, None}
 use Rattle.std.specs.List.{list_all, list_any}
 use Rattle.std.specs.Simd.{first_chunks}
+use Rattle.fib_codec.specs.Grammar.{is_next}
 use Rattle.fib_reader.specs.Raw.{Raw}
 use Rattle.fib_reader.specs.Listening.{Pictured, all_entries, identifier_of}
 use Rattle.fig_mentions.specs.declared.mention.Mention.{Mention}
@@ -46,10 +47,15 @@ is_present k m = if is_nothing m then true else list_any (is_named m) (all_entri
 
 -- ---- FIGs
 
--- of this ensemble, OE 0, and of an extension that names something
+-- FIG 0/4 and 0/8 with C/N 1 speak of the next configuration (EN 300 401 clauses 5.2.2.1 and 6.5), by their second byte
+abbrev pub is_of_next : ℕ → Bool
+is_of_next second = is_next second && (second % 32 == 4 || second % 32 == 8)
+
+-- of this ensemble, OE 0, of an extension that names something, and not of the next configuration
 abbrev pub is_judged : List ℕ → Bool
 is_judged fig =
-    nat_lt (get_or fig 0 0) 32 && (get_or fig 1 0 / 64 % 2 == 0 && is_naming (get_or fig 1 0 % 32))
+    nat_lt (get_or fig 0 0) 32
+    && (get_or fig 1 0 / 64 % 2 == 0 && (is_naming (get_or fig 1 0 % 32) && not (is_of_next (get_or fig 1 0))))
 
 -- whole entries, and what each names is there
 abbrev pub are_there : Pictured → Option (List Mention) → Bool
@@ -60,7 +66,6 @@ abbrev pub entries_agree : Pictured → (second : ℕ) → (entries : List ℕ) 
 entries_agree k second entries =
     nat_lt 0 (length entries) && are_there k (mentions_of (second % 32) (second / 32 % 2 == 1) entries)
 
--- a FIG of this ensemble with one of these extensions has at least one entry, and what each names is there; any other
--- FIG agrees with all configurations
+-- a FIG that is judged has at least one entry, and what each names is there; any other FIG agrees with all configurations
 abbrev pub fig_agrees : Pictured → List ℕ → Bool
 fig_agrees k fig = if is_judged fig then entries_agree k (get_or fig 1 0) (drop 2 fig) else true

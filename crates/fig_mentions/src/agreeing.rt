@@ -1,7 +1,8 @@
 //! Whether a FIG agrees with a configuration.
 
 ghost use Rattle.std.specs.Prelude.{◌≡◌, true};
-ghost use Rattle.fig_mentions.specs.Agreeing.{are_there, entries_agree, fig_agrees, is_judged};
+ghost use Rattle.fig_mentions.specs.Agreeing.{are_there, entries_agree, fig_agrees};
+ghost use Rattle.fig_mentions.specs.Agreeing.{is_judged, is_of_next};
 ghost use Rattle.fig_mentions.specs.Mentions.{mentions_of};
 
 use crate::grammar::{entry_mention, entry_size, is_naming};
@@ -9,9 +10,10 @@ use crate::presence::is_there;
 use fib_codec::bytes::byte_at;
 use fib_reader::Picture;
 
-/// Whether a FIG, given by its bytes, agrees with a configuration as far as it was heard: FIG 0/4,
-/// 0/5, 0/8, 0/14 and 0/19 of this ensemble if it is whole entries, at least one, and what each of
-/// them names is there; any other FIG agrees (EN 300 401 clauses 6.2.2, 6.3.3, 6.3.5, 8.1.2 and
+/// Whether a FIG, given by its bytes, agrees with the current configuration as far as it was heard:
+/// FIG 0/4, 0/5, 0/8, 0/14 and 0/19 of this ensemble if it is whole entries, at least one, and what
+/// each of them names is there; any other FIG agrees, and so do FIG 0/4 and 0/8 with C/N 1, which
+/// speak of the next configuration (EN 300 401 clauses 5.2.2.1, 6.2.2, 6.3.3, 6.3.5, 6.5, 8.1.2 and
 /// 8.1.6.2).
 pub fn agrees(fig: &[u8], picture: &Picture) -> bool
     ensures { result ≡ fig_agrees picture.now fig.now }
@@ -22,12 +24,22 @@ pub fn agrees(fig: &[u8], picture: &Picture) -> bool
     entries_agree(byte_at(fig, 1), &fig[fig.len().min(2)..], picture)
 }
 
-/// Whether a FIG is of this ensemble, and of an extension that names something.
+/// Whether a FIG is of this ensemble, of an extension that names something, and speaks of the
+/// current configuration.
 pub fn is_judged(fig: &[u8]) -> bool
     ensures { result ≡ is_judged fig.now }
 {
     let second = byte_at(fig, 1);
-    byte_at(fig, 0) < 32 && ((second >> 6) & 1 == 0 && is_naming(second % 32))
+    byte_at(fig, 0) < 32
+        && ((second >> 6) & 1 == 0 && (is_naming(second % 32) && !is_of_next(second)))
+}
+
+/// Whether a FIG with this second byte speaks of the next configuration: FIG 0/4 or 0/8 with C/N 1
+/// (EN 300 401 clauses 5.2.2.1 and 6.5).
+fn is_of_next(second: u8) -> bool
+    ensures { result ≡ is_of_next second }
+{
+    second / 128 == 1 && (second % 32 == 4 || second % 32 == 8)
 }
 
 /// Whether entries in a FIG with this second byte agree: at least one, all of them whole.
