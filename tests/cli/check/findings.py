@@ -258,13 +258,19 @@ CONTRADICTING = (
     ("05 13 01 00 20 02", "FIG 0/19 names sub 2, which is not there", "not-there", ',"extension":19,"sub":2'),
     ("06 13 01 00 20 42 05", "FIG 0/19 names sub 2, which is not there", "not-there", ',"extension":19,"sub":2'),
     ("04 08 C2 21 00", "FIG 0/8 is not whole entries", "not-whole", ',"extension":8'),
+    # With C/N 1, which says nothing in these three.
+    ("03 85 02 0F", "FIG 0/5 names sub 2, which is not there", "not-there", ',"extension":5,"sub":2'),
+    ("02 8E 09", "FIG 0/14 names sub 2, which is not there", "not-there", ',"extension":14,"sub":2'),
+    ("05 93 01 00 20 02", "FIG 0/19 names sub 2, which is not there", "not-there", ',"extension":19,"sub":2'),
     ("01 0E", "FIG 0/14 is not whole entries", "not-whole", ',"extension":14'),
 )
 
-# Others that do not: what they name is there, is a channel of the FIC, or is of another ensemble; or they name nothing.
+# Others that do not: what they name is there, is a channel of the FIC, or is of another ensemble; or they name nothing, or speak
+# of the next configuration, as FIG 0/4 and 0/8 do with C/N 1, whether what they name is there or not, and whole or not.
 AGREEING = ("04 04 01 00 00", "04 04 42 00 00", "03 05 01 0F", "03 05 42 0F", "04 05 80 05 0F", "05 08 C2 21 00 01",
             "05 08 C2 21 00 42", "06 08 C2 21 80 01 00", "05 48 C2 21 00 02", "05 88 C2 21 00 01", "02 0E 05", "02 4E 09",
-            "05 13 01 00 20 01", "06 13 01 00 20 41 05", "02 0A 09")
+            "05 13 01 00 20 01", "06 13 01 00 20 41 05", "02 0A 09", "04 84 02 00 00", "05 88 C2 21 00 02",
+            "06 88 C2 21 00 80 06", "07 A8 E1 C2 00 01 00 01", "04 88 C2 21 00")
 
 
 def sent_with(others, frames=8):
