@@ -5,8 +5,8 @@ use Rattle.fib_reader.specs.Listening.{Pictured}
 use Rattle.fig_mentions.specs.declared.mention.Mention.TheVariants.{Nothing, Sub, Packet, OnSub, ByPacket}
 use Rattle.fig_mentions.specs.Mentions.{channel_in, component_size, first_entry_length, has_bit, is_naming, mentions_in}
 use Rattle.fig_mentions.specs.Mentions.{mentions_of, scid_in, sid_in}
-use Rattle.fig_mentions.specs.Agreeing.{are_there, fig_agrees, is_by, is_judged, is_named, is_nothing, is_of_next, is_on}
-use Rattle.fig_mentions.specs.Agreeing.{is_present}
+use Rattle.fig_mentions.specs.Agreeing.{are_there, fig_agrees, is_by, is_judged, is_named, is_nothing, is_of_next}
+use Rattle.fig_mentions.specs.Agreeing.{is_on, is_present}
 
 -- sub-channel 1; service C221 with audio on it and packet component 7; packet component 7
 abbrev sub : Raw

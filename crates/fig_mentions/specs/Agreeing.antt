@@ -66,6 +66,7 @@ abbrev pub entries_agree : Pictured → (second : ℕ) → (entries : List ℕ) 
 entries_agree k second entries =
     nat_lt 0 (length entries) && are_there k (mentions_of (second % 32) (second / 32 % 2 == 1) entries)
 
--- a FIG that is judged has at least one entry, and what each names is there; any other FIG agrees with all configurations
+-- a FIG that is judged has at least one entry, and what each names is there; any other one agrees with all
+-- configurations
 abbrev pub fig_agrees : Pictured → List ℕ → Bool
 fig_agrees k fig = if is_judged fig then entries_agree k (get_or fig 1 0) (drop 2 fig) else true
