@@ -23,7 +23,7 @@ use Rattle.schedule_verifier.proofs.Regions.{both_decides, either_decides, decid
 
 -- ---- the next element of a list
 
-next_of : {X : Type 0} (xs : List X) (i : ℕ) (x d : X) → i < length xs → x ≡ get_or xs i d
+pub next_of : {X : Type 0} (xs : List X) (i : ℕ) (x d : X) → i < length xs → x ≡ get_or xs i d
     → drop i xs ≡ x ∷ drop (i + 1) xs
 next_of xs i x d lt is = rw (add-one, is, drop-cons xs i d lt) refl
 

@@ -3,6 +3,7 @@ mod Windows
 mod Regions
 mod Walking
 mod Applying
+mod Holding
 mod Waiting
 mod Tops
 mod Leaving

@@ -1,4 +1,5 @@
 pub mod Certificate
+pub mod Combinations
 pub mod Playing
 pub mod Regions
 pub mod Walks
