@@ -1,16 +1,19 @@
 //! Compiles a schedule.
 
-ghost use Rattle.std.specs.Prelude.{◌≡◌, IfOk};
+ghost use Rattle.std.specs.Prelude.{◌≡◌, ◌≤◌, IfErr, IfOk};
+ghost use Rattle.mux_config.specs.Configuration.{Configuration};
 ghost use Rattle.schedule_runs.specs.Due.{opening_of};
 ghost use Rattle.schedule_verifier.specs.Playing.{PlaysAsScheduled};
+ghost use Rattle.schedule_compiler.specs.Refusals.{IsBadItem, IsRefused, IsRefusedAmong};
 
+use crate::combinations::Combinations;
 use crate::decisions::Decisions;
 use crate::emission::Emission;
-use crate::fault::{ScheduleFault, ScheduleLimit};
+use crate::fault::{BuildFault, ScheduleFault, ScheduleLimit};
 use crate::labels::{labels, rank_of};
 use crate::reach::{Distances, at, reach};
 use crate::rounds::test_rounds;
-use crate::search::{Cell, cells, combinations};
+use crate::search::{Cell, Search, searched};
 use crate::states::{State, States, find};
 use crate::terms::{bit, short};
 use mux_config::{Config, Store};
@@ -19,7 +22,7 @@ use plan_code::limits::MOST_INSTRUCTIONS;
 use plan_code::{Code, Delay, Plan};
 use plan_verifier::{Cause, Verified, verify};
 use schedule_front::Schedule;
-use schedule_verifier::{Room, implements};
+use schedule_verifier::{Room, are_combinations, implements};
 use script_compiler::needs::{first_over, needs};
 use script_config::{ItemFault, made_by};
 use std::alloc::{AllocError, Global};
@@ -35,16 +38,19 @@ fn copied(config: &Config) -> Config {
 }
 
 /// The delay of each commit: a notice.
-fn delay_of(plan: &Plan) -> Result<Delay, ScheduleFault> {
+fn delay_of(plan: &Plan) -> Result<Delay, BuildFault>
+    ensures { IfOk result (λ delay. delay ≡ plan.now.notice) }
+{
     match Delay::new(u16::from(plan.notice)) {
         Some(delay) => Ok(delay),
-        None => Err(ScheduleFault::Uncertified),
+        None => Err(BuildFault::Uncertified),
     }
 }
 
 /// The configuration of the items.
 fn items_of(schedule: &Schedule) -> Result<Config, ScheduleFault>
-    ensures { IfOk result (λ c. c ≡ opening_of schedule.now) }
+    ensures made { IfOk result (λ c. c ≡ opening_of schedule.now) }
+    ensures refused { IfErr result (IsBadItem schedule.now) }
 {
     match made_by(schedule.items()) {
         Ok(config) => Ok(config),
@@ -56,37 +62,21 @@ fn items_of(schedule: &Schedule) -> Result<Config, ScheduleFault>
     }
 }
 
-/// The configuration that the plan begins with, where it is none of the states.
-fn other_than<'a>(states: &[State], start: Option<&'a Config>) -> Option<&'a Config> {
-    let config = start?;
-    match find(states, config) {
-        Some(_index) => None,
-        None => Some(config),
-    }
-}
-
-/// The index of the state that the plan begins with, which is added where it is none yet; that of
-/// the items where no other configuration is given.
-fn start_of(
-    states: &mut Vec<State>,
-    start: Option<&Config>,
-    line: u16,
-) -> Result<u16, ScheduleFault> {
-    let Some(config) = start else {
-        return Ok(0);
-    };
-    if let Some(index) = find(states.as_slice(), config) {
+/// The index of the state with the configuration that the plan begins with, which is added if it is
+/// none of the states.
+fn start_of(states: &mut Vec<State>, start: &Config, line: u16) -> Result<u16, BuildFault> {
+    if let Some(index) = find(states.as_slice(), start) {
         return Ok(short(index));
     }
     let index = short(states.len());
     let state = State {
-        config: copied(config),
+        config: copied(start),
         overlays: 0,
         line,
     };
     match states.push(state) {
         Ok(()) => Ok(index),
-        Err(_full) => Err(ScheduleFault::Memory),
+        Err(_full) => Err(BuildFault::Memory),
     }
 }
 
@@ -116,12 +106,12 @@ fn order_of(alloc: Global, count: usize, start: u16, due: u64) -> Result<Vec<u16
 }
 
 /// Emits the code of these states, and returns where each begins.
-fn emit(alloc: Global, emission: &mut Emission, order: &[u16]) -> Result<Vec<u16>, ScheduleFault> {
+fn emit(alloc: Global, emission: &mut Emission, order: &[u16]) -> Result<Vec<u16>, BuildFault> {
     let mut starts = Vec::new(alloc);
     for state in order {
         let pc = emission.state(*state)?;
         if starts.push(pc).is_err() {
-            return Err(ScheduleFault::Memory);
+            return Err(BuildFault::Memory);
         }
     }
     Ok(starts)
@@ -140,12 +130,12 @@ fn link(emission: &mut Emission, order: &[u16], starts: &[u16]) {
 }
 
 /// The configurations of these states.
-fn table(alloc: Global, states: &[State], order: &[u16]) -> Result<Vec<Config>, ScheduleFault> {
+fn table(alloc: Global, states: &[State], order: &[u16]) -> Result<Vec<Config>, BuildFault> {
     let mut table = Vec::new(alloc);
     for index in order {
         if let Some(state) = states.get(usize::from(*index)) {
             if table.push(copied(&state.config)).is_err() {
-                return Err(ScheduleFault::Memory);
+                return Err(BuildFault::Memory);
             }
         }
     }
@@ -153,17 +143,18 @@ fn table(alloc: Global, states: &[State], order: &[u16]) -> Result<Vec<Config>, 
 }
 
 /// The code, once the verifier has accepted it.
-fn certified(code: Option<Code>) -> Result<Verified, ScheduleFault> {
+fn certified(code: Option<Code>) -> Result<Verified, BuildFault> {
     let Some(code) = code else {
-        return Err(ScheduleFault::Uncertified);
+        return Err(BuildFault::Uncertified);
     };
     match verify::<Tables>(code) {
         Ok(verified) => Ok(verified),
-        Err(_refused) => Err(ScheduleFault::Uncertified),
+        Err(_refused) => Err(BuildFault::Uncertified),
     }
 }
 
-/// The code of these states and decisions.
+/// The code of these states and decisions, which begins with the first of these; None if it costs
+/// more than the budget.
 fn code_of(
     alloc: Global,
     schedule: &Schedule,
@@ -171,7 +162,7 @@ fn code_of(
     states: &[State],
     decisions: &Decisions,
     start: u16,
-) -> Result<Verified, ScheduleFault> {
+) -> Result<Option<Verified>, BuildFault> {
     let plan = schedule.header();
     let reach = reach(alloc, decisions.nodes.as_slice())?;
     let distances = Distances::new(alloc, states)?;
@@ -187,12 +178,10 @@ fn code_of(
         &distances,
     );
     let starts = emit(alloc, &mut emission, order.as_slice())?;
-    if add_states(&mut order, states.len(), start, due, false).is_err() {
-        return Err(ScheduleFault::Memory);
-    }
+    add_states(&mut order, states.len(), start, due, false)?;
     link(&mut emission, order.as_slice(), starts.as_slice());
     if emission.code.len() > usize::from(MOST_INSTRUCTIONS) {
-        return Err(ScheduleFault::Limit(ScheduleLimit::Instructions));
+        return Err(BuildFault::Limit(ScheduleLimit::Instructions));
     }
     let needs = needs(alloc, emission.code.as_slice(), plan.budget)?;
     let labels = labels(
@@ -203,36 +192,27 @@ fn code_of(
         needs.as_slice(),
     )?;
     if first_over(needs.as_slice(), plan.budget).is_some() {
-        return Err(ScheduleFault::Refused {
-            line: schedule.line(),
-            cause: Cause::Cost,
-            overlays: 0,
-        });
+        return Ok(None);
     }
     let configs = table(alloc, states, order.as_slice())?;
-    certified(Code::new(plan, configs, labels, emission.code))
+    let verified = certified(Code::new(plan, configs, labels, emission.code))?;
+    Ok(Some(verified))
 }
 
-/// Compiles a schedule whose plan begins with the configuration of the items, or with another one.
-fn compiled(
+/// The code of a schedule with these states, whose plan begins with this configuration; None if it
+/// costs more than the budget.
+fn built(
     alloc: Global,
     schedule: &Schedule,
-    start: Option<&Config>,
-) -> Result<Verified, ScheduleFault> {
-    let plan = schedule.header();
-    let delay = delay_of(&plan)?;
-    let cells = cells(alloc, schedule.overlays())?;
-    let found = combinations(alloc, cells.as_slice())?;
-    let items = items_of(schedule)?;
-    let mut states = States::new(alloc, schedule, &items, found)?;
-    let other = other_than(states.list.as_slice(), start);
-    if let Err(fault) = test_rounds(schedule, delay, other, states.list.as_slice()) {
-        return Err(fault);
-    }
+    delay: Delay,
+    cells: &[Cell],
+    mut states: States<'_>,
+    start: &Config,
+) -> Result<Option<Verified>, BuildFault> {
     if states.list.len() > MANY_STATES {
-        return Err(ScheduleFault::Limit(ScheduleLimit::Instructions));
+        return Err(BuildFault::Limit(ScheduleLimit::Instructions));
     }
-    let decisions = Decisions::new(alloc, cells.as_slice(), &states, plan.notice)?;
+    let decisions = Decisions::new(alloc, cells, &states, schedule.header().notice)?;
     let first = start_of(&mut states.list, start, schedule.line())?;
     code_of(
         alloc,
@@ -242,6 +222,89 @@ fn compiled(
         &decisions,
         first,
     )
+}
+
+/// A fault of these combinations, once they are known to be those of the schedule.
+///
+/// `Limit` where to find that out takes too long, `Uncertified` where it is not known.
+fn confirmed(schedule: &Schedule, found: &Combinations, fault: ScheduleFault) -> ScheduleFault
+    ensures { (start : Configuration)
+        → IsRefusedAmong schedule.now (opening_of schedule.now) start found.now.sets.items fault
+        → IsRefused schedule.now start result }
+{
+    let mut room = Room::new();
+    if are_combinations(schedule, found.as_slice(), found.moments(), &mut room) {
+        return fault;
+    }
+    if room.is_used_up() {
+        ScheduleFault::Limit(ScheduleLimit::Regions)
+    } else {
+        ScheduleFault::Uncertified
+    }
+}
+
+/// The states of these combinations, between which every change has room for its pages; the items
+/// make the opening, and the plan begins with `start`.
+///
+/// # Errors
+///
+/// The first fault of a combination, the first change that has no room, `Limit`, or `Memory`.
+fn states_of<'a>(
+    alloc: Global,
+    schedule: &Schedule,
+    delay: Delay,
+    found: &'a Combinations,
+    items: &Config,
+    start: &Config,
+) -> Result<States<'a>, ScheduleFault>
+    requires made { items.now ≡ opening_of schedule.now }
+    requires noticed { schedule.now.header.notice ≤ delay }
+    ensures { IfErr result
+        (IsRefusedAmong schedule.now items.now start.now found.now.sets.items) }
+{
+    let states = match States::new(alloc, schedule, items, found) {
+        Ok(states) => states,
+        Err(fault) => return Err(fault),
+    };
+    if let Err(fault) = test_rounds(schedule, delay, items, start, states.list.as_slice()) {
+        return Err(fault);
+    }
+    Ok(states)
+}
+
+/// Compiles a schedule of which this was found out, and whose plan begins with `start`; the items
+/// make the opening.
+fn compiled(
+    alloc: Global,
+    schedule: &Schedule,
+    search: &Search,
+    items: &Config,
+    start: &Config,
+) -> Result<Verified, ScheduleFault>
+    requires { items.now ≡ opening_of schedule.now }
+    ensures { IfErr result (IsRefused schedule.now start.now) }
+{
+    let delay = delay_of(&schedule.header())?;
+    let found = &search.combinations;
+    let states = match states_of(alloc, schedule, delay, found, items, start) {
+        Ok(states) => states,
+        Err(fault) => return Err(confirmed(schedule, found, fault)),
+    };
+    match built(
+        alloc,
+        schedule,
+        delay,
+        search.cells.as_slice(),
+        states,
+        start,
+    )? {
+        Some(code) => Ok(code),
+        None => Err(ScheduleFault::Refused {
+            line: schedule.line(),
+            cause: Cause::Cost,
+            overlays: 0,
+        }),
+    }
 }
 
 /// The code, once it is known to play as the schedule prescribes; it begins with this
@@ -254,7 +317,7 @@ fn implementing(
     schedule: &Schedule,
     opening: &Config,
     code: Verified,
-) -> Result<Verified, ScheduleFault>
+) -> Result<Verified, BuildFault>
     ensures { IfOk result (λ code. PlaysAsScheduled schedule.now opening.now code) }
 {
     let mut room = Room::new();
@@ -262,9 +325,9 @@ fn implementing(
         return Ok(code);
     }
     if room.is_used_up() {
-        return Err(ScheduleFault::Limit(ScheduleLimit::Regions));
+        return Err(BuildFault::Limit(ScheduleLimit::Regions));
     }
-    Err(ScheduleFault::Uncertified)
+    Err(BuildFault::Uncertified)
 }
 
 /// Compiles a schedule. The code plays as the schedule prescribes: from every start in range and
@@ -273,14 +336,20 @@ fn implementing(
 ///
 /// # Errors
 ///
-/// `Limit`, `Refused` or `Memory`; `Uncertified`, which is a fault of this crate: no schedule is
-/// known for which it comes.
+/// `Refused`, with the line and the cause of what is to blame: an item; the first combination of
+/// overlays that can hold with an edit that has a fault, or with a configuration that is unsound;
+/// the pages of the items, or of a change, that have no room; or the cost of the code. `Limit`, or
+/// `Memory`; `Uncertified`, which is a fault of this crate: no schedule is known for which it
+/// comes.
 pub fn compile_schedule(alloc: Global, schedule: &Schedule) -> Result<Verified, ScheduleFault>
-    ensures { IfOk result (λ code. PlaysAsScheduled schedule.now (opening_of schedule.now) code) }
+    ensures plays { IfOk result (λ code.
+        PlaysAsScheduled schedule.now (opening_of schedule.now) code) }
+    ensures refused { IfErr result (IsRefused schedule.now (opening_of schedule.now)) }
 {
-    let code = compiled(alloc, schedule, None)?;
+    let found = searched(alloc, schedule.overlays(), schedule.header().notice)?;
     let items = items_of(schedule)?;
-    implementing(schedule, &items, code)
+    let code = compiled(alloc, schedule, &found, &items, &items)?;
+    Ok(implementing(schedule, &items, code)?)
 }
 
 /// Compiles a schedule whose plan begins with this configuration. The code plays as the schedule
@@ -288,14 +357,18 @@ pub fn compile_schedule(alloc: Global, schedule: &Schedule) -> Result<Verified, 
 ///
 /// # Errors
 ///
-/// As `compile_schedule`.
+/// As `compile_schedule`; `Refused` also where this configuration is unsound, or where it or a
+/// change from it has no room for its pages.
 pub fn compile_from(
     alloc: Global,
     schedule: &Schedule,
     start: &Config,
 ) -> Result<Verified, ScheduleFault>
-    ensures { IfOk result (λ code. PlaysAsScheduled schedule.now start.now code) }
+    ensures plays { IfOk result (λ code. PlaysAsScheduled schedule.now start.now code) }
+    ensures refused { IfErr result (IsRefused schedule.now start.now) }
 {
-    let code = compiled(alloc, schedule, Some(start))?;
-    implementing(schedule, start, code)
+    let found = searched(alloc, schedule.overlays(), schedule.header().notice)?;
+    let items = items_of(schedule)?;
+    let code = compiled(alloc, schedule, &found, &items, start)?;
+    Ok(implementing(schedule, start, code)?)
 }

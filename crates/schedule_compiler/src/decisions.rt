@@ -1,7 +1,7 @@
 //! Decisions: which state is due, by the time of day and the contacts.
 
 use crate::day::earlier;
-use crate::fault::{ScheduleFault, ScheduleLimit};
+use crate::fault::{BuildFault, ScheduleLimit};
 use crate::search::Cell;
 use crate::states::States;
 use crate::terms::{Decision, Known, Term, UNKNOWN, decide, short};
@@ -57,9 +57,9 @@ impl Decisions {
     pub(crate) fn new(
         alloc: Global,
         cells: &[Cell],
-        states: &States,
+        states: &States<'_>,
         notice: u8,
-    ) -> Result<Decisions, ScheduleFault> {
+    ) -> Result<Decisions, BuildFault> {
         let mut decisions = Decisions {
             nodes: Vec::new(alloc),
             root: 0,
@@ -75,7 +75,7 @@ impl Decisions {
     }
 
     /// The index of a decision, which is added if absent.
-    fn add(&mut self, node: Node) -> Result<u16, ScheduleFault> {
+    fn add(&mut self, node: Node) -> Result<u16, BuildFault> {
         for (index, other) in self.nodes.iter().enumerate() {
             if *other == node {
                 return Ok(short(index));
@@ -83,11 +83,11 @@ impl Decisions {
         }
         let index = self.nodes.len();
         if index >= MOST_NODES {
-            return Err(ScheduleFault::Limit(ScheduleLimit::Instructions));
+            return Err(BuildFault::Limit(ScheduleLimit::Instructions));
         }
         match self.nodes.push(node) {
             Ok(()) => Ok(short(index)),
-            Err(_full) => Err(ScheduleFault::Memory),
+            Err(_full) => Err(BuildFault::Memory),
         }
     }
 
@@ -96,21 +96,21 @@ impl Decisions {
     fn contacts(
         &mut self,
         terms: &[Term],
-        states: &States,
+        states: &States<'_>,
         known: Known,
         left: u8,
-    ) -> Result<u16, ScheduleFault> {
+    ) -> Result<u16, BuildFault> {
         let contact = match decide(terms, known) {
             Decision::Combination(set) => {
                 let Some(state) = states.of(set) else {
-                    return Err(ScheduleFault::Uncertified);
+                    return Err(BuildFault::Uncertified);
                 };
                 return self.add(Node::State(state));
             }
             Decision::Ask(contact) => contact,
         };
         if left == 0 {
-            return Err(ScheduleFault::Uncertified);
+            return Err(BuildFault::Uncertified);
         }
         let closed = self.contacts(terms, states, known.with(contact, true), left - 1)?;
         let open = self.contacts(terms, states, known.with(contact, false), left - 1)?;
@@ -130,9 +130,9 @@ impl Decisions {
         &mut self,
         alloc: Global,
         cells: &[Cell],
-        states: &States,
+        states: &States<'_>,
         notice: u8,
-    ) -> Result<Vec<Run>, ScheduleFault> {
+    ) -> Result<Vec<Run>, BuildFault> {
         let mut runs: Vec<Run> = Vec::new(alloc);
         for cell in cells {
             let node = self.contacts(cell.terms.as_slice(), states, UNKNOWN, 16)?;
@@ -143,7 +143,7 @@ impl Decisions {
                 }
             }
             if runs.push(Run { from, node }).is_err() {
-                return Err(ScheduleFault::Memory);
+                return Err(BuildFault::Memory);
             }
         }
         if runs.len() > 1 {
@@ -155,25 +155,19 @@ impl Decisions {
     }
 
     /// The decision over the runs from one index to another, which halves them.
-    fn over(
-        &mut self,
-        runs: &[Run],
-        low: usize,
-        high: usize,
-        left: u8,
-    ) -> Result<u16, ScheduleFault> {
+    fn over(&mut self, runs: &[Run], low: usize, high: usize, left: u8) -> Result<u16, BuildFault> {
         let Some(first) = runs.get(low) else {
-            return Err(ScheduleFault::Uncertified);
+            return Err(BuildFault::Uncertified);
         };
         if high <= low + 1 {
             return Ok(first.node);
         }
         let middle = low + (high - low) / 2;
         let Some(second) = runs.get(middle) else {
-            return Err(ScheduleFault::Uncertified);
+            return Err(BuildFault::Uncertified);
         };
         if left == 0 {
-            return Err(ScheduleFault::Uncertified);
+            return Err(BuildFault::Uncertified);
         }
         let inside = self.over(runs, low, middle, left - 1)?;
         let outside = self.over(runs, middle, high, left - 1)?;

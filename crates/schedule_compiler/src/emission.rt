@@ -1,7 +1,7 @@
 //! Emission: the instructions of each state.
 
 use crate::decisions::{Decisions, Node};
-use crate::fault::{ScheduleFault, ScheduleLimit};
+use crate::fault::{BuildFault, ScheduleLimit};
 use crate::lines::{line_of, line_of_contact};
 use crate::reach::{Distances, at};
 use crate::states::State;
@@ -97,10 +97,10 @@ impl<'a> Emission<'a> {
     }
 
     /// Appends an instruction and returns its pc.
-    fn push(&mut self, way: &Way, instr: Instr) -> Result<u16, ScheduleFault> {
+    fn push(&mut self, way: &Way, instr: Instr) -> Result<u16, BuildFault> {
         let pc = self.code.len();
         if pc >= usize::from(MOST_INSTRUCTIONS) {
-            return Err(ScheduleFault::Limit(ScheduleLimit::Instructions));
+            return Err(BuildFault::Limit(ScheduleLimit::Instructions));
         }
         let number = self.line;
         let point = Point {
@@ -108,16 +108,16 @@ impl<'a> Emission<'a> {
             next: way.next,
         };
         if self.points.push(point).is_err() {
-            return Err(ScheduleFault::Memory);
+            return Err(BuildFault::Memory);
         }
         match self.code.push(Line { number, instr }) {
             Ok(()) => Ok(short(pc)),
-            Err(_full) => Err(ScheduleFault::Memory),
+            Err(_full) => Err(BuildFault::Memory),
         }
     }
 
     /// Appends an instruction.
-    fn put(&mut self, way: &Way, instr: Instr) -> Result<(), ScheduleFault> {
+    fn put(&mut self, way: &Way, instr: Instr) -> Result<(), BuildFault> {
         match self.push(way, instr) {
             Ok(_pc) => Ok(()),
             Err(fault) => Err(fault),
@@ -125,11 +125,11 @@ impl<'a> Emission<'a> {
     }
 
     /// Appends a jump to the code of a state.
-    fn push_return(&mut self, way: &Way, state: u16) -> Result<(), ScheduleFault> {
+    fn push_return(&mut self, way: &Way, state: u16) -> Result<(), BuildFault> {
         let pc = self.push(way, Instr::Jump(0))?;
         match self.returns.push(Return { pc, state }) {
             Ok(()) => Ok(()),
-            Err(_full) => Err(ScheduleFault::Memory),
+            Err(_full) => Err(BuildFault::Memory),
         }
     }
 
@@ -152,7 +152,7 @@ impl<'a> Emission<'a> {
     }
 
     /// Lets other ways jump to the code of this decision, which begins here.
-    fn share(&mut self, way: &Way) -> Result<(), ScheduleFault> {
+    fn share(&mut self, way: &Way) -> Result<(), BuildFault> {
         let shared = Shared {
             node: way.node,
             next: way.next,
@@ -160,7 +160,7 @@ impl<'a> Emission<'a> {
         };
         match self.shared.push(shared) {
             Ok(()) => Ok(()),
-            Err(_full) => Err(ScheduleFault::Memory),
+            Err(_full) => Err(BuildFault::Memory),
         }
     }
 
@@ -178,19 +178,19 @@ impl<'a> Emission<'a> {
     }
 
     /// The edits that lead from one state to another.
-    fn edits(&self, from: u16, to: u16) -> Result<Vec<Edit>, ScheduleFault> {
+    fn edits(&self, from: u16, to: u16) -> Result<Vec<Edit>, BuildFault> {
         let Some(old) = self.states.get(usize::from(from)) else {
-            return Err(ScheduleFault::Uncertified);
+            return Err(BuildFault::Uncertified);
         };
         let Some(new) = self.states.get(usize::from(to)) else {
-            return Err(ScheduleFault::Uncertified);
+            return Err(BuildFault::Uncertified);
         };
         let edits = edits_between(self.alloc, &old.config, &new.config)?;
         Ok(edits)
     }
 
     /// Edits the next configuration into that of another state.
-    fn edit(&mut self, way: &Way, to: u16) -> Result<(), ScheduleFault> {
+    fn edit(&mut self, way: &Way, to: u16) -> Result<(), BuildFault> {
         let edits = self.edits(way.next, to)?;
         self.line = self.line_between(way.next, to);
         for edit in &edits {
@@ -221,7 +221,7 @@ impl<'a> Emission<'a> {
 
     /// Waits for another level of a contact that was tested, or for the end of what is known of the
     /// time, and begins the state anew.
-    fn wait(&mut self, way: &Way) -> Result<(), ScheduleFault> {
+    fn wait(&mut self, way: &Way) -> Result<(), BuildFault> {
         let wait = Instr::WaitAny {
             closed: way.known.open,
             opened: way.known.closed,
@@ -235,7 +235,7 @@ impl<'a> Emission<'a> {
     }
 
     /// Rests in what is on air.
-    fn rest(&mut self, way: &Way) -> Result<(), ScheduleFault> {
+    fn rest(&mut self, way: &Way) -> Result<(), BuildFault> {
         self.line = self.line_of_state(way.current);
         if way.known == UNKNOWN && way.until.is_none() {
             self.put(way, Instr::End)
@@ -246,7 +246,7 @@ impl<'a> Emission<'a> {
 
     /// Commits the next configuration, which is that of a state, and goes on with that state's code
     /// once it is on air.
-    fn change(&mut self, way: &Way, state: u16) -> Result<(), ScheduleFault> {
+    fn change(&mut self, way: &Way, state: u16) -> Result<(), BuildFault> {
         self.line = self.line_between(way.current, state);
         let delay = self.delay;
         if let Err(fault) = self.put(way, Instr::CommitIn(delay)) {
@@ -260,9 +260,9 @@ impl<'a> Emission<'a> {
 
     /// Emits the code of a way's decision and of all that follow; at most `left` follow each other.
     #[cycle(walks)]
-    fn walk(&mut self, way: &Way, left: u8) -> Result<(), ScheduleFault> {
+    fn walk(&mut self, way: &Way, left: u8) -> Result<(), BuildFault> {
         if left == 0 {
-            return Err(ScheduleFault::Uncertified);
+            return Err(BuildFault::Uncertified);
         }
         if self.can_rest(way) {
             return self.decide(way, left - 1);
@@ -286,7 +286,7 @@ impl<'a> Emission<'a> {
     /// Emits the code of a way's decision and of all that follow, where the next configuration was
     /// edited; or jumps to it where it is there.
     #[cycle(walks)]
-    fn walk_on(&mut self, way: &Way, left: u8) -> Result<(), ScheduleFault> {
+    fn walk_on(&mut self, way: &Way, left: u8) -> Result<(), BuildFault> {
         if let Some(pc) = self.shared_at(way) {
             return self.put(way, Instr::Jump(pc));
         }
@@ -297,18 +297,13 @@ impl<'a> Emission<'a> {
     }
 
     /// Appends the test of a contact.
-    fn test_contact(&mut self, way: &Way, contact: ContactId) -> Result<u16, ScheduleFault> {
+    fn test_contact(&mut self, way: &Way, contact: ContactId) -> Result<u16, BuildFault> {
         self.line = line_of_contact(self.schedule, contact);
         self.push(way, Instr::Test { contact, target: 0 })
     }
 
     /// Appends the test of a window.
-    fn test_window(
-        &mut self,
-        way: &Way,
-        from: DayFrame,
-        to: DayFrame,
-    ) -> Result<u16, ScheduleFault> {
+    fn test_window(&mut self, way: &Way, from: DayFrame, to: DayFrame) -> Result<u16, BuildFault> {
         self.line = self.schedule.line();
         let instr = Instr::TestTime {
             from,
@@ -319,7 +314,7 @@ impl<'a> Emission<'a> {
     }
 
     /// Rests in a state that is on air, or changes to another one.
-    fn arrive(&mut self, way: &Way, state: u16) -> Result<(), ScheduleFault> {
+    fn arrive(&mut self, way: &Way, state: u16) -> Result<(), BuildFault> {
         if state == way.current {
             self.rest(way)
         } else {
@@ -329,9 +324,9 @@ impl<'a> Emission<'a> {
 
     /// Emits the code of a way's decision itself, and of all that follow.
     #[cycle(walks)]
-    fn decide(&mut self, way: &Way, left: u8) -> Result<(), ScheduleFault> {
+    fn decide(&mut self, way: &Way, left: u8) -> Result<(), BuildFault> {
         let Some(node) = self.decisions.get(way.node) else {
-            return Err(ScheduleFault::Uncertified);
+            return Err(BuildFault::Uncertified);
         };
         match node {
             Node::State(state) => self.arrive(way, state),
@@ -363,7 +358,7 @@ impl<'a> Emission<'a> {
 
     /// Emits the code of a test's other way, or lets the test jump to it where it is there.
     #[cycle(walks)]
-    fn otherwise(&mut self, test: u16, way: &Way, left: u8) -> Result<(), ScheduleFault> {
+    fn otherwise(&mut self, test: u16, way: &Way, left: u8) -> Result<(), BuildFault> {
         if !self.can_rest(way) {
             if let Some(pc) = self.shared_at(way) {
                 self.set_target(test, pc);
@@ -376,7 +371,7 @@ impl<'a> Emission<'a> {
     }
 
     /// Emits the code of a state, and returns where it begins.
-    pub(crate) fn state(&mut self, current: u16) -> Result<u16, ScheduleFault> {
+    pub(crate) fn state(&mut self, current: u16) -> Result<u16, BuildFault> {
         let pc = self.len();
         self.shared.clear();
         let way = Way {

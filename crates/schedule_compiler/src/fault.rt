@@ -44,6 +44,45 @@ pub enum ScheduleFault {
     Memory,
 }
 
+/// Why no code is built of a schedule that has no fault itself.
+#[derive(Clone, Copy, Debug, PartialEq, Eq)]
+pub(crate) enum BuildFault {
+    /// A limit is exceeded.
+    Limit(ScheduleLimit),
+    /// What was found is not what it should be; no such schedule is known.
+    Uncertified,
+    /// Out of memory.
+    Memory,
+}
+
+impl From<AllocError> for BuildFault {
+    ghost use Rattle.std.specs.Prelude.{◌≡◌};
+    ghost use Rattle.schedule_compiler.specs.declared.fault.BuildFault.TheVariants.{Memory};
+
+    ghost from_gives = { λ _ e. e ≡ Memory };
+
+    /// An allocation failure is `Memory`.
+    fn from(_error: AllocError) -> Self {
+        BuildFault::Memory
+    }
+}
+
+impl From<BuildFault> for ScheduleFault {
+    ghost use Rattle.std.specs.Prelude.{◌≡◌};
+    ghost use Rattle.schedule_compiler.specs.Refusals.{fault_of_build};
+
+    ghost from_gives = { λ f e. e ≡ fault_of_build f };
+
+    /// The same fault.
+    fn from(fault: BuildFault) -> Self {
+        match fault {
+            BuildFault::Limit(limit) => ScheduleFault::Limit(limit),
+            BuildFault::Uncertified => ScheduleFault::Uncertified,
+            BuildFault::Memory => ScheduleFault::Memory,
+        }
+    }
+}
+
 impl From<AllocError> for ScheduleFault {
     ghost use Rattle.std.specs.Prelude.{◌≡◌};
     ghost use Rattle.schedule_compiler.specs.declared.fault.ScheduleFault.TheVariants.{Memory};

@@ -1,7 +1,7 @@
 //! The labels of a schedule's code.
 
 use crate::emission::Point;
-use crate::fault::{ScheduleFault, ScheduleLimit};
+use crate::fault::{BuildFault, ScheduleLimit};
 use crate::terms::short;
 use plan_code::limits::MOST_LABELS;
 use plan_code::{Counters, Label, Line, Swap};
@@ -56,7 +56,7 @@ pub(crate) fn labels(
     points: &[Point],
     order: &[u16],
     needs: &[u16],
-) -> Result<Vec<Label>, ScheduleFault> {
+) -> Result<Vec<Label>, BuildFault> {
     let targets = targets(alloc, code)?;
     let mut labels = Vec::new(alloc);
     for (pc, point) in points.iter().enumerate() {
@@ -64,7 +64,7 @@ pub(crate) fn labels(
             continue;
         }
         if labels.len() >= usize::from(MOST_LABELS) {
-            return Err(ScheduleFault::Limit(ScheduleLimit::Labels));
+            return Err(BuildFault::Limit(ScheduleLimit::Labels));
         }
         let label = Label {
             pc: short(pc),
@@ -75,7 +75,7 @@ pub(crate) fn labels(
             cost: cost_at(needs, pc),
         };
         if labels.push(label).is_err() {
-            return Err(ScheduleFault::Memory);
+            return Err(BuildFault::Memory);
         }
     }
     Ok(labels)

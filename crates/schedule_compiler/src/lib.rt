@@ -13,6 +13,7 @@ mod decisions;
 mod emission;
 mod fault;
 mod labels;
+pub mod laws;
 mod lines;
 mod reach;
 mod rounds;

@@ -1,16 +1,31 @@
 //! The lines that instructions and refusals have.
 
-use crate::terms::{bit, short};
+ghost use Rattle.std.specs.Prelude.{◌≡◌, map};
+ghost use Rattle.schedule_front.specs.Tree.{overlay_of};
+ghost use Rattle.schedule_compiler.specs.Refusals.{last_line};
+
 use plan_code::ContactId;
 use schedule_front::{Overlay, Schedule, Test};
 
-/// The line of the last of these overlays; of `schedule` where there is none.
-pub(crate) fn line_of(schedule: &Schedule, set: u64) -> u16 {
-    let mut line = schedule.line();
-    for (number, overlay) in schedule.overlays().iter().enumerate() {
-        if set & bit(short(number)) != 0 {
+/// The line of the last overlay of a set, the first one the lowest bit; of `schedule` where it is
+/// empty.
+pub(crate) fn line_of(schedule: &Schedule, set: u64) -> u16
+    ensures { result ≡ last_line schedule.now.line set schedule.now.overlays }
+{
+    last_line(schedule.line(), set, schedule.overlays())
+}
+
+/// The line of the last of these overlays that is in a set; else this one.
+fn last_line(none: u16, set: u64, overlays: &[Overlay]) -> u16
+    ensures { result ≡ last_line none set (map overlay_of overlays.now) }
+{
+    let mut line = none;
+    let mut rest = set;
+    for overlay in overlays {
+        if rest % 2 == 1 {
             line = overlay.line;
         }
+        rest /= 2;
     }
     line
 }

@@ -1,7 +1,7 @@
 //! Which states are due behind each decision, and how far states are apart.
 
 use crate::decisions::Node;
-use crate::fault::ScheduleFault;
+use crate::fault::BuildFault;
 use crate::states::State;
 use crate::terms::{bit, short};
 use script_config::edits_between;
@@ -48,7 +48,7 @@ pub(crate) struct Distances {
 
 impl Distances {
     /// The distances of these states.
-    pub(crate) fn new(alloc: Global, states: &[State]) -> Result<Distances, ScheduleFault> {
+    pub(crate) fn new(alloc: Global, states: &[State]) -> Result<Distances, BuildFault> {
         let mut counts = Vec::new(alloc);
         for from in states {
             add_from(alloc, from, states, &mut counts)?;
@@ -106,11 +106,11 @@ fn add_from(
     from: &State,
     states: &[State],
     counts: &mut Vec<u32>,
-) -> Result<(), ScheduleFault> {
+) -> Result<(), BuildFault> {
     for to in states {
         let edits = edits_between(alloc, &from.config, &to.config)?;
         if counts.push(edits.len() as u32).is_err() {
-            return Err(ScheduleFault::Memory);
+            return Err(BuildFault::Memory);
         }
     }
     Ok(())

@@ -1,40 +1,43 @@
 //! Whether each change that a schedule can make has room for its pages.
 
+ghost use Rattle.std.specs.Prelude.{◌≡◌, ◌≤◌, IsTrue, IfErr};
+ghost use Rattle.mux_config.specs.Configuration.{Configuration};
+ghost use Rattle.schedule_compiler.specs.Refusals.{HasNoRoom, IsBadRound, IsNoBeginning};
+ghost use Rattle.schedule_compiler.specs.Refusals.{IsNoWayTo};
+
 use crate::fault::ScheduleFault;
 use crate::lines::line_of;
-use crate::states::State;
+use crate::states::{State, find};
 use mux_config::{Config, Store};
 use mux_tables::Tables;
 use plan_code::{Delay, Instr, Plan, Swap};
 use plan_verifier::{Cause, Flow, test_opening};
 use schedule_front::Schedule;
 
-/// The refusal of a change for its pages, at this line.
-fn no_room(line: u16, overlays: u64) -> ScheduleFault {
-    ScheduleFault::Refused {
-        line,
-        cause: Cause::Round,
-        overlays,
-    }
-}
-
-/// Tests that the pages of a configuration go out within the period.
-fn test_alone(plan: &Plan, config: &Config, line: u16) -> Result<(), ScheduleFault> {
-    match test_opening(plan, config) {
+/// Tests that a plan can begin with a configuration.
+fn test_alone(schedule: &Schedule, config: &Config) -> Result<(), ScheduleFault>
+    ensures { IfErr result (IsNoBeginning schedule.now config.now) }
+{
+    match test_opening(&schedule.header(), config) {
         Ok(()) => Ok(()),
         Err(cause) => Err(ScheduleFault::Refused {
-            line,
+            line: schedule.line(),
             cause,
             overlays: 0,
         }),
     }
 }
 
-/// Whether a change to this configuration can be committed, a notice ahead.
-fn fits(plan: &Plan, delay: Delay, flow: &mut Flow<Tables>, to: &Config) -> bool {
+/// Whether a change to this configuration has no room for its pages, if it is committed a notice
+/// ahead.
+fn is_crowded(plan: &Plan, delay: Delay, flow: &mut Flow<Tables>, to: &Config) -> bool
+    requires { plan.now.notice ≤ delay }
+    ensures kept { flow.new.current ≡ flow.old.current }
+    ensures crowded { IsTrue result → HasNoRoom plan.now flow.old.current to.now }
+{
     flow.next = Tables::from_config(to);
     flow.pending = Swap::Idle;
-    flow.apply(plan, Instr::CommitIn(delay)).is_ok()
+    flow.apply(plan, Instr::CommitIn(delay)) == Err(Cause::Round)
 }
 
 /// Tests the changes from a configuration, made by these overlays, to each state but one.
@@ -45,7 +48,10 @@ fn test_from(
     overlays: u64,
     states: &[State],
     except: usize,
-) -> Result<(), ScheduleFault> {
+) -> Result<(), ScheduleFault>
+    requires { schedule.now.header.notice ≤ delay }
+    ensures { IfErr result (IsNoWayTo schedule.now from.now overlays states.now) }
+{
     let plan = schedule.header();
     let mut flow = Flow {
         current: Tables::from_config(from),
@@ -54,24 +60,32 @@ fn test_from(
     };
     for (index, to) in states.iter().enumerate() {
         if index != except {
-            if !fits(&plan, delay, &mut flow, &to.config) {
+            if is_crowded(&plan, delay, &mut flow, &to.config) {
                 let both = overlays | to.overlays;
-                return Err(no_room(line_of(schedule, both), both));
+                return Err(ScheduleFault::Refused {
+                    line: line_of(schedule, both),
+                    cause: Cause::Round,
+                    overlays: both,
+                });
             }
         }
     }
     Ok(())
 }
 
-/// Tests that the first configuration goes out within the period, and that each change from it has
-/// room for its pages, where it is none of the states.
+/// Tests that a plan can begin with a configuration that is none of the states, and that each
+/// change from it has room for its pages.
 fn test_start(
     schedule: &Schedule,
     delay: Delay,
     start: &Config,
     states: &[State],
-) -> Result<(), ScheduleFault> {
-    if let Err(fault) = test_alone(&schedule.header(), start, schedule.line()) {
+) -> Result<(), ScheduleFault>
+    requires { schedule.now.header.notice ≤ delay }
+    ensures { (items : Configuration) → IfErr result
+        (IsBadRound schedule.now items start.now states.now) }
+{
+    if let Err(fault) = test_alone(schedule, start) {
         return Err(fault);
     }
     test_from(schedule, delay, start, 0, states, states.len())
@@ -79,7 +93,7 @@ fn test_start(
 
 /// Tests that the pages of the items go out within the period, and that each change from one state
 /// to another has room for its pages: three times within the notice. Where the plan begins with
-/// another configuration, that is tested first.
+/// another configuration than a state's, that is tested first.
 ///
 /// # Errors
 ///
@@ -88,18 +102,20 @@ fn test_start(
 pub(crate) fn test_rounds(
     schedule: &Schedule,
     delay: Delay,
-    start: Option<&Config>,
+    items: &Config,
+    start: &Config,
     states: &[State],
-) -> Result<(), ScheduleFault> {
-    if let Some(config) = start {
-        if let Err(fault) = test_start(schedule, delay, config, states) {
+) -> Result<(), ScheduleFault>
+    requires { schedule.now.header.notice ≤ delay }
+    ensures { IfErr result (IsBadRound schedule.now items.now start.now states.now) }
+{
+    if find(states, start).is_none() {
+        if let Err(fault) = test_start(schedule, delay, start, states) {
             return Err(fault);
         }
     }
-    if let Some(items) = states.first() {
-        if let Err(fault) = test_alone(&schedule.header(), &items.config, schedule.line()) {
-            return Err(fault);
-        }
+    if let Err(fault) = test_alone(schedule, items) {
+        return Err(fault);
     }
     for (index, from) in states.iter().enumerate() {
         if let Err(fault) = test_from(schedule, delay, &from.config, from.overlays, states, index) {

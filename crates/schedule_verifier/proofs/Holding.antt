@@ -130,7 +130,7 @@ pub hold_more : (s : Tree) (sets : List ℕ) (n last : ℕ) → slice_get sets n
 hold_more s sets n last there can old i set lt here = elim (cases_lt i n) [
   | inl before ↦ old i set before here
   | inr le ↦ subst (λ (x : ℕ). (x ≡ 0) ⊎ CanHold s x)
-    (same_there sets n i last set (omega (arith, lt, le)) there here) can
+      (same_there sets n i last set (omega (arith, lt, le)) there here) can
 ]
 
 pub hold_all : (s : Tree) (sets : List ℕ) (n : ℕ) → length sets ≤ n → HoldTo s sets n → (i set : ℕ)

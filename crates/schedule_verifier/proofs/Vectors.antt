@@ -1,11 +1,14 @@
 -- Certificates: for each definition, an example that holds and one that fails.
-use Rattle.schedule_verifier.proofs.Words.{[], ◌∷◌, ◌≡◌, Ask, Contacts, Covers, Day, End}
+use Rattle.schedule_verifier.proofs.Words.{[], ◌∷◌, ◌<◌, ◌≡◌, ◌⊎◌, Ask, Contacts, Covers, Day, End, Overlay, inl}
+use Rattle.schedule_verifier.proofs.Words.{slice_get, sym}
 use Rattle.schedule_verifier.proofs.Words.{IsAway, IsBefore, Join, Jump, Leads, No, Program, Region, Some, Tree, Yes}
 use Rattle.schedule_verifier.proofs.Words.{arith, both, earlier, either, false, first_part}
 use Rattle.schedule_verifier.proofs.Words.{is_rest, moment, refl, second_part, suc, true, zero, ℕ}
 use Rattle.mux_types.specs.Configuration.{nothing}
 use Rattle.plan_code.specs.Flags.{any_closed, any_open}
 use Rattle.plan_verifier.proofs.Samples.{plan}
+use Rattle.schedule_front.specs.declared.tree.Test.TheVariants.{Contact as OfLevel}
+use Rattle.schedule_verifier.specs.Combinations.{AreCombinations, CanHold, held_of}
 
 abbrev set : ℕ → Contacts
 set bits = record { 0 = bits }
@@ -86,3 +89,39 @@ turning_leads_nowhere : (contacts : Contacts) (day n : ℕ)
     → Leads (moment no_overlays turns nothing contacts day) n 0 nothing → ⊥
 turning_leads_nowhere contacts day zero h = h
 turning_leads_nowhere contacts day (suc n) h = turning_leads_nowhere contacts day n h
+
+-- ---- combinations
+
+abbrev while_closed : ℕ → Overlay
+while_closed contact = record { line = 7; condition = (OfLevel contact true ∷ []) ∷ []; edits = [] }
+
+both_hold : held_of (set 40) 0 (while_closed 3 ∷ while_closed 5 ∷ []) ≡ 3
+both_hold = refl
+
+second_holds : held_of (set 32) 0 (while_closed 3 ∷ while_closed 5 ∷ []) ≡ 2
+second_holds = refl
+
+items_can_hold : CanHold no_overlays 0
+items_can_hold = record { contacts = set 0; day = 0; in_range = omega arith; holds = refl }
+
+no_overlay_can_hold : CanHold no_overlays 1 → ⊥
+no_overlay_can_hold h = let e = h.holds in absurd cc
+
+only_items : AreCombinations no_overlays (0 ∷ [])
+only_items = record {
+  items = refl;
+  ascending = only_one;
+  each = only_none;
+  all = λ contacts day low. (0, refl);
+}
+  where
+    only_one : (i j a b : ℕ) → i < j → slice_get (0 ∷ []) i ≡ Some a → slice_get (0 ∷ []) j ≡ Some b → a < b
+    only_one i zero a b lt here there = absurd (omega (arith, lt))
+    only_one i (suc j) a b lt here there = absurd cc
+
+    only_none : (i other : ℕ) → slice_get (0 ∷ []) i ≡ Some other → (other ≡ 0) ⊎ CanHold no_overlays other
+    only_none zero other e = let is : 0 ≡ other = cc in inl (sym is)
+    only_none (suc i) other e = absurd cc
+
+not_without_items : AreCombinations no_overlays (1 ∷ []) → ⊥
+not_without_items h = let e = h.items in absurd cc

@@ -15,13 +15,19 @@ loop-left-preserved c =
     let so_far = c.loop-left.invariant.2 in
     elim c.match-condition.branch [
       | in-Yes w ↦
-        let new : c.match-condition.set ≡ 1 + 2 * set = w.set-is ∙ w.with_first-set.ensures in
-        (omega (arith, within), omega (arith, new, twice), λ contacts day h.
-        more true some within c.index-overlays-left.is so_far (rw c.as_slice.ensures.value at w.in-Yes.ensures)
-        contacts day h ∙ sym new)
+          let new : c.match-condition.set ≡ 1 + 2 * set = w.set-is ∙ w.with_first-set.ensures in (
+            omega (arith, within),
+            omega (arith, new, twice),
+            λ contacts day h.
+                more true some within c.index-overlays-left.is so_far (rw c.as_slice.ensures.value at w.in-Yes.ensures)
+                contacts day h ∙ sym new,
+          )
       | in-No w ↦
-        let new : c.match-condition.set ≡ 0 + 2 * set = w.set-is ∙ w.with_first-set-in-No.ensures in
-        (omega (arith, within), omega (arith, new, twice), λ contacts day h.
-        more false some within c.index-overlays-left.is so_far (rw c.as_slice.ensures.value at w.in-No.ensures)
-        contacts day h ∙ sym new)
+          let new : c.match-condition.set ≡ 0 + 2 * set = w.set-is ∙ w.with_first-set-in-No.ensures in (
+            omega (arith, within),
+            omega (arith, new, twice),
+            λ contacts day h.
+                more false some within c.index-overlays-left.is so_far (rw c.as_slice.ensures.value at w.in-No.ensures)
+                contacts day h ∙ sym new,
+          )
     ]

@@ -1,0 +1,3 @@
+mod Blaming
+mod Made
+mod Vectors
