@@ -1,3 +1,4 @@
+pub mod Ending
 pub mod LineBytes
 pub mod Lines
 pub mod Printed

@@ -20,12 +20,14 @@ pub struct Output<W> {
 }
 
 impl<W: Write + Drop> Output<W> {
-    ghost use Rattle.console.specs.Printed.{printed, writer_of};
+    ghost use Rattle.std.specs.Prelude.{false};
+    ghost use Rattle.console.specs.Printed.{printed, writer_of, has_failed};
 
-    /// An empty buffer over `out`.
+    /// An empty buffer over `out`, of which no write has failed.
     pub fn new(out: W) -> Self
         ensures printed { Keeps (W.contents out) (printed W.contents result) }
         ensures writer { writer_of result ≡ out }
+        ensures works { has_failed result ≡ false }
     {
         Output {
             out,
@@ -43,7 +45,8 @@ impl<W: Write + Drop> Output<W> {
 }
 
 impl<W: Write> Write for Output<W> {
-    ghost use Rattle.console.specs.Printed.{printed, writer_of};
+    ghost use Rattle.std.specs.Prelude.{◌≡◌, true, false, IsErr, OnErr};
+    ghost use Rattle.console.specs.Printed.{printed, writer_of, has_failed};
 
     ghost contents = { printed W.contents };
 
@@ -67,6 +70,9 @@ impl<W: Write> Write for Output<W> {
         ensures bytes { Keeps (printed W.contents self.old) (printed W.contents self.new) }
         ensures passed { OnOk result (Keeps (printed W.contents self.old)
             (W.contents (writer_of self.new))) }
+        ensures works { OnOk result (has_failed self.new ≡ false) }
+        ensures failed { OnErr result (has_failed self.new ≡ true) }
+        ensures stays { has_failed self.old ≡ true → IsErr result }
     {
         if self.has_failed {
             return Err(Error::from(ErrorKind::Other));
@@ -95,4 +101,17 @@ pub fn write_out<W: Write>(bytes: &[u8], out: &mut W) -> (usize, io::Result<()>)
         }
     }
     (taken, Ok(()))
+}
+
+/// Writes all bytes, and flushes the writer. It fails if a write fails or takes nothing, or the
+/// flush fails: some of the bytes are taken then, the first ones.
+#[tactic(auto, using(crate::proofs::Taking::all_taken))]
+pub fn write_through<W: Write>(bytes: &[u8], out: &mut W) -> io::Result<()>
+    ensures { OnOk result (Appends (W.contents out.old) (W.contents out.new) bytes.now) }
+{
+    let (_taken, written) = write_out(bytes, out);
+    match written {
+        Ok(()) => out.flush(),
+        Err(error) => Err(error),
+    }
 }

@@ -71,8 +71,9 @@ pub fn play_into<K: Sink>(
         → IsAtStart session.now.code session.now.start p → ListsSteps steps.old all
         → (n ≡ length (frames_of p (events_of all)))
         × Appends (K.taken out) (K.taken result.1) (played_bytes p (events_of all))) }
-    // The sink has failed exactly if the fault is `Write`.
+    // The sink has failed exactly if the fault is `Write`, and there is no other.
     ensures failed { K.has_failed result.1 ≡ is_write result.0 }
+    ensures only { OnErr result.0 (is_write result.0 ≡ true) }
 {
     let size = FIB * session.code().code().plan().layout.fibs();
     let mut player = session.player();

@@ -50,6 +50,8 @@ impl Session {
     pub fn new(alloc: Global, code: &[u8], start: StartOptions) -> Result<Session, RunFault>
         ensures found { IfOk result (λ s. (text : List ℕ)
             → IsSessionOf (asked_from code.now text start) s) }
+        ensures ready { IfOk result (λ s. (text : List ℕ)
+            → CanStart s.code (asked_from code.now text start)) }
         ensures fault { IfErr result (λ e. (text : List ℕ)
             → IsBeginFault (asked_from code.now text start) e) }
         ensures memory { (text : List ℕ) (program : Program)

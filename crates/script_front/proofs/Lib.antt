@@ -4,6 +4,7 @@ pub mod Denoting
 mod FoundBlocks
 pub mod Lined
 mod Listing
+pub mod Moments
 mod Naming
 pub mod Printed
 pub mod PrintedWaits

@@ -2,6 +2,7 @@ pub mod Alike
 pub mod Block
 pub mod BlockReader
 pub mod Denoting
+pub mod Moments
 pub mod Parsing
 pub mod Printing
 pub mod Readers
@@ -11,6 +12,7 @@ pub mod Tree
 pub mod Waits
 pub use Rattle.script_tokens.specs.Bytes
 pub use Rattle.script_tokens.specs.First
+pub use Rattle.script_tokens.specs.FirstFrames
 pub use Rattle.script_tokens.specs.Lexing
 pub use Rattle.script_tokens.specs.Reading
 pub use Rattle.script_tokens.specs.Spelling

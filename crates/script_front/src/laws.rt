@@ -1,6 +1,7 @@
 //! Laws of scripts and their texts.
 
 ghost use Rattle.script_front.specs.Alike.{ScriptsHaveTheirOwnTokens, TextsAreOfOneScript};
+ghost use Rattle.script_front.specs.Moments.{MomentsAreFrames};
 ghost use Rattle.script_front.specs.Parsing.{ScriptsAreRead};
 
 pub use script_tokens::laws::texts;
@@ -21,4 +22,11 @@ pub fn texts_of_scripts()
 /// its lines; and where they spell a script, its content is read.
 pub fn readings()
     ensures { ScriptsAreRead }
+{}
+
+/// The frame of the day of `TIME` is the first one that does not begin before it, and that of `TIME
+/// early N` the one from which it takes N frames to that of `TIME`, over midnight too.
+#[tactic(auto, using(crate::proofs::Moments::moments_are_frames))]
+pub fn moments()
+    ensures { MomentsAreFrames }
 {}

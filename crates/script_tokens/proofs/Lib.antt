@@ -13,5 +13,6 @@ mod Vectors
 pub mod Wording
 pub mod Taking
 pub mod Combining
+pub mod FirstFrames
 pub mod FirstKeywords
 mod Words

@@ -1,5 +1,6 @@
 pub mod Bytes
 pub mod First
+pub mod FirstFrames
 pub mod Lexing
 pub mod Reading
 pub mod Scanning

@@ -1,5 +1,6 @@
 //! Laws of tokens and of values.
 
+ghost use Rattle.script_tokens.specs.FirstFrames.{TimesAreFirstFrames};
 ghost use Rattle.script_tokens.specs.Texts.{TextsAreCut};
 ghost use Rattle.script_tokens.specs.Reading.{FirstKeywordsAreFound};
 ghost use Rattle.script_tokens.specs.Taking.{ValuesAreRead};
@@ -24,4 +25,11 @@ pub fn values()
 #[tactic(auto, using(crate::proofs::FirstKeywords::first_keywords_are_found))]
 pub fn first_keywords()
     ensures { FirstKeywordsAreFound }
+{}
+
+/// The frame of the day of a time is the first one that does not begin before it, where each frame
+/// begins 24 ms after the one before, and the first one at midnight.
+#[tactic(auto, using(crate::proofs::FirstFrames::times_are_first_frames))]
+pub fn first_frames()
+    ensures { TimesAreFirstFrames }
 {}

@@ -5,6 +5,7 @@ pub mod Frames
 pub mod Going
 pub mod Lines
 pub mod Log
+pub mod Logging
 pub mod Outcome
 pub mod Outcomes
 pub mod Splitting
