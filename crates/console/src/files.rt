@@ -2,11 +2,14 @@
 
 ghost use Rattle.std.specs.Prelude.{◌≡◌};
 
+use crate::places::{Place, opened, place_of};
+use crate::reasons::reason_of;
 use crate::replacing::replaced;
+use crate::sink::Sink;
 use crate::waiting::{Waiting, pause};
 use std::fmt::Display;
 use std::fs::OpenOptions;
-use std::io::{self, Eprint, ErrorKind, Input, Read, Write};
+use std::io::{self, Eprint, ErrorKind, Input, Print, Printer, Read, Write};
 use std::os::unix::fs::MetadataExt;
 use std::rt;
 
@@ -100,6 +103,10 @@ pub trait Files {
     /// can, or for another reason.
     fn obstacle(&self, path: &str) -> Option<&'static str>;
 
+    /// Why the last file that could not be created or written could not be, in the words of the
+    /// system; `None` if each could, or for another reason.
+    fn refusal(&self) -> Option<&'static str>;
+
     /// Creates an empty file of this path if there is none; a file that is there keeps its bytes.
     /// `Failed` on a system error, as where the file can't be opened for writing, `Memory` if out
     /// of memory: all files are as they were then.
@@ -122,6 +129,8 @@ pub struct System<'a, R> {
     /// Whether standard input was closed at the start: a file that is opened later takes its
     /// descriptor.
     has_no_input: bool,
+    /// Why the last file that could not be written could not be.
+    refusal: Option<&'static str>,
 }
 
 impl<'a, R: rt::Files> System<'a, R> {
@@ -130,7 +139,14 @@ impl<'a, R: rt::Files> System<'a, R> {
         System {
             rt,
             has_no_input: is_absent(rt, "/proc/self/fd/0") && !is_absent(rt, "/proc/self/fd"),
+            refusal: None,
         }
+    }
+
+    /// The fault for an error of a file that is written. Its reason is kept.
+    fn refused(&mut self, error: &io::Error) -> FileFault {
+        self.refusal = reason_of(error);
+        fault_of(error)
     }
 }
 
@@ -164,10 +180,13 @@ impl<F: Read, I: Read> Read for Source<F, I> {
     }
 }
 
-impl<'a, R: rt::Files + rt::Clock + Input + Eprint + AllocGlobal> Files for System<'a, R> {
+impl<'a, R> Files for System<'a, R>
+where
+    R: rt::Files + rt::Clock + Input + Print + Eprint + AllocGlobal,
+{
     type In = Source<R::File, Waiting<'a, R, R::Reader>>;
 
-    type Out = R::File;
+    type Out = Sink<R::File, Waiting<'a, R, Printer<'a, R>>>;
 
     fn open(&mut self, path: &str) -> Result<Self::In, FileFault> {
         match std::fs::open(self.rt, path) {
@@ -191,10 +210,11 @@ impl<'a, R: rt::Files + rt::Clock + Input + Eprint + AllocGlobal> Files for Syst
         Ok(Source::Input(Waiting::new(self.rt, self.rt.reader())))
     }
 
+    /// A name of a descriptor, as `/dev/stdout`, is written where the descriptor is.
     fn create(&mut self, path: &str) -> Result<Self::Out, FileFault> {
-        match std::fs::create(self.rt, path) {
+        match created(self.rt, path) {
             Ok(file) => Ok(file),
-            Err(error) => Err(fault_of(&error)),
+            Err(error) => Err(self.refused(&error)),
         }
     }
 
@@ -202,15 +222,15 @@ impl<'a, R: rt::Files + rt::Clock + Input + Eprint + AllocGlobal> Files for Syst
     fn close(&mut self, _path: &str, mut file: Self::Out) -> Result<(), FileFault> {
         match file.flush() {
             Ok(()) => Ok(()),
-            Err(error) => Err(fault_of(&error)),
+            Err(error) => Err(self.refused(&error)),
         }
     }
 
-    /// The bytes are written to a file beside it, which is renamed when they are whole.
+    /// A file that is there stays the file that it is, with its owner, permissions and links.
     fn replace(&mut self, path: &str, bytes: &[u8]) -> Result<(), FileFault> {
         match replaced(self.rt, path, bytes) {
             Ok(()) => Ok(()),
-            Err(error) => Err(fault_of(&error)),
+            Err(error) => Err(self.refused(&error)),
         }
     }
 
@@ -238,13 +258,12 @@ impl<'a, R: rt::Files + rt::Clock + Input + Eprint + AllocGlobal> Files for Syst
         }
         match std::fs::open(self.rt, path) {
             Ok(_file) => None,
-            Err(error) => match error.kind() {
-                ErrorKind::NotFound => Some("No such file or directory"),
-                ErrorKind::PermissionDenied => Some("Permission denied"),
-                ErrorKind::NotADirectory => Some("Not a directory"),
-                _ => None,
-            },
+            Err(error) => reason_of(&error),
         }
+    }
+
+    fn refusal(&self) -> Option<&'static str> {
+        self.refusal
     }
 
     fn touch(&mut self, path: &str) -> Result<(), FileFault> {
@@ -254,7 +273,7 @@ impl<'a, R: rt::Files + rt::Clock + Input + Eprint + AllocGlobal> Files for Syst
             .open(self.rt, path)
         {
             Ok(_file) => Ok(()),
-            Err(error) => Err(fault_of(&error)),
+            Err(error) => Err(self.refused(&error)),
         }
     }
 
@@ -267,6 +286,22 @@ impl<'a, R: rt::Files + rt::Clock + Input + Eprint + AllocGlobal> Files for Syst
                 Ok(()) | Err(_) => return,
             }
         }
+    }
+}
+
+/// Creates the file of a path for writing, or truncates it; a name of a descriptor is opened where
+/// the descriptor is.
+fn created<'a, R>(
+    rt: &'a R,
+    path: &str,
+) -> io::Result<Sink<R::File, Waiting<'a, R, Printer<'a, R>>>>
+where
+    R: rt::Files + rt::Clock + Print + AllocGlobal,
+{
+    match place_of(rt, path)? {
+        Place::Output => Ok(Sink::Output(Waiting::new(rt, io::writer(rt)))),
+        Place::Descriptor(number) => Ok(Sink::File(opened(rt, number)?)),
+        _ => Ok(Sink::File(std::fs::create(rt, path)?)),
     }
 }
 

@@ -13,5 +13,8 @@ pub mod lines;
 pub mod memory;
 pub mod output;
 pub mod pieces;
+mod places;
+mod reasons;
 mod replacing;
+pub mod sink;
 pub mod waiting;

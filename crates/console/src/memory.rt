@@ -155,6 +155,11 @@ impl Files for MemoryFiles {
         }
     }
 
+    /// Only memory can be lacking.
+    fn refusal(&self) -> Option<&'static str> {
+        None
+    }
+
     fn touch(&mut self, path: &str) -> Result<(), FileFault> {
         if self.held(path).is_some() {
             return Ok(());

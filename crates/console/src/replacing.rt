@@ -1,87 +1,193 @@
 //! Files of the system that get all their bytes at once, or stay as they were.
+//!
+//! A file that is there stays the file that it is: with its owner, group, permissions, access
+//! lists, attributes and other names. The library has no call that reads access lists and
+//! attributes, so they could not be given to a new file in its place. So the old file gets the
+//! bytes; and while it is written, a new file that has them whole stands in its place:
+//!
+//! 1. The new file is written, under the name `OUT.dabplan-new`.
+//! 2. The old file gets a second name, `OUT.dabplan-old`, and the new one is renamed to OUT.
+//! 3. The old file is written, and renamed to OUT again.
+//!
+//! So whoever reads OUT, or ends the program at any moment, has the old bytes or the new ones. Where
+//! one of the first two steps fails, the old file is written in its place.
 
-use std::fs::{self, OpenOptions};
-use std::io::{self, Error, ErrorKind, Write};
-use std::rt::Files;
+use crate::places::{Place, beside, is_one, opened, parts_of, place_of};
+use crate::waiting::Waiting;
+use std::fs::{self, Metadata, OpenFile, OpenOptions};
+use std::io::{self, Error, ErrorKind, Print, Seek, SeekFrom, Write};
+use std::os::unix::fs::{MetadataExt, OpenOptionsExt, chown};
+use std::rt::{Clock, Files};
 
-/// How many names are tried for the file beside another.
-const NAMES: usize = 100;
+/// The longest name of a file, in bytes.
+const LONGEST: usize = 255;
 
-/// Gives the file of this path these bytes: they are written to a file beside it, which is renamed
-/// when they are whole. A file that is there keeps its permissions; where nothing can be created
-/// beside it, it is written as it is, and so is what is no regular file.
-pub(crate) fn replaced<R: Files + AllocGlobal>(rt: &R, path: &str, bytes: &[u8]) -> io::Result<()> {
-    let Some(place) = place_of(rt, path)? else {
-        return fs::write(rt, path, bytes);
-    };
-    let (name, file) = match created_beside(rt, place.as_str()) {
-        Ok(created) => created,
-        Err(error) => match error.kind() {
-            ErrorKind::PermissionDenied | ErrorKind::ReadOnlyFilesystem => {
-                return fs::write(rt, path, bytes);
-            }
-            _ => return Err(error),
-        },
-    };
-    let moved = match written(file, bytes) {
-        Ok(()) => moved(rt, name.as_str(), place.as_str()),
+/// What is added to the name of a file for a new one beside it.
+const NEW: &str = ".dabplan-new";
+
+/// What is added to the name of a file for its second name.
+const OLD: &str = ".dabplan-old";
+
+/// Gives the file of this path these bytes. If that fails a regular file is as it was, and none is
+/// there if there was none. What is no regular file, as a pipe or a device, takes the bytes as they
+/// are written; a name of a descriptor, as `/dev/stdout`, where the descriptor is.
+pub(crate) fn replaced<R>(rt: &R, path: &str, bytes: &[u8]) -> io::Result<()>
+where
+    R: Files + Clock + Print + AllocGlobal,
+{
+    match place_of(rt, path)? {
+        Place::Output => Waiting::new(rt, io::writer(rt)).write_all(bytes),
+        Place::Descriptor(number) => opened(rt, number)?.write_all(bytes),
+        Place::File(at, before) => rewritten(rt, at.as_str(), &before, bytes),
+        Place::Nothing(at) => made(rt, at.as_str(), bytes),
+        Place::Other => fs::write(rt, path, bytes),
+    }
+}
+
+/// Makes a file of these bytes: it is renamed when it is whole, if it can be made beside its place.
+fn made<R: Files + AllocGlobal>(rt: &R, path: &str, bytes: &[u8]) -> io::Result<()> {
+    if made_beside(rt, path, bytes).is_ok() {
+        return Ok(());
+    }
+    let mut file = OpenOptions::new()
+        .write(true)
+        .create_new(true)
+        .open(rt, path)?;
+    let written = file.write_all(bytes);
+    if written.is_err() {
+        let _ = fs::remove_file(rt, path);
+    }
+    written
+}
+
+/// Makes a file of these bytes beside its place, and renames it. Nothing is left of it if that
+/// fails.
+fn made_beside<R: Files + AllocGlobal>(rt: &R, path: &str, bytes: &[u8]) -> io::Result<()> {
+    let new = name_beside(rt, path, NEW)?;
+    let new = new.as_str();
+    let made = match written_as(rt, new, 0o666, bytes) {
+        Ok(_) => fs::rename(rt, new, path),
         Err(error) => Err(error),
     };
-    if moved.is_err() {
-        let _ = fs::remove_file(rt, name.as_str());
+    if made.is_err() {
+        let _ = fs::remove_file(rt, new);
     }
-    moved
+    made
 }
 
-/// The path at which a new regular file is put: that behind links, where there is such a file.
-/// `None` if there is something else, as a pipe, a device, or a link to nothing. The error of a
-/// file that can't be written.
-fn place_of<R: Files + AllocGlobal>(rt: &R, path: &str) -> io::Result<Option<String>> {
-    match fs::metadata(rt, path) {
-        Ok(found) if found.is_file() => {
-            let _file = OpenOptions::new().write(true).open(rt, path)?;
-            let place = fs::canonicalize(rt, path)?;
-            Ok(Some(String::from_str(rt.alloc(), place.as_str())?))
+/// Writes a regular file that is there, and stays the file that it is.
+fn rewritten<R: Files + AllocGlobal>(
+    rt: &R,
+    path: &str,
+    before: &Metadata,
+    bytes: &[u8],
+) -> io::Result<()> {
+    let mut file = OpenOptions::new().write(true).open(rt, path)?;
+    let Ok(old) = put_before(rt, path, before, bytes) else {
+        lengthened(&mut file, before.len(), bytes)?;
+        return overwritten(&mut file, bytes);
+    };
+    let has_room = lengthened(&mut file, before.len(), bytes);
+    if has_room.is_err() || overwritten(&mut file, bytes).is_ok() {
+        fs::rename(rt, old.as_str(), path)?;
+        return has_room;
+    }
+    // The old file has lost its bytes: the new one stays.
+    fs::remove_file(rt, old.as_str())
+}
+
+/// Puts a new file of these bytes in the place of one that is there, with its owner, group and
+/// permissions, and returns the name that the old one has meanwhile. If that fails, nothing is left
+/// of it.
+fn put_before<R: Files + AllocGlobal>(
+    rt: &R,
+    path: &str,
+    before: &Metadata,
+    bytes: &[u8],
+) -> io::Result<String> {
+    let new = name_beside(rt, path, NEW)?;
+    let old = name_beside(rt, path, OLD)?;
+    match exchanged(rt, path, before, (new.as_str(), old.as_str()), bytes) {
+        Ok(()) => Ok(old),
+        Err(error) => {
+            let _ = fs::remove_file(rt, new.as_str());
+            let _ = fs::remove_file(rt, old.as_str());
+            Err(error)
         }
-        Ok(_) => Ok(None),
-        Err(_) => match fs::symlink_metadata(rt, path) {
-            Ok(_) => Ok(None),
-            Err(_) => Ok(Some(String::from_str(rt.alloc(), path)?)),
-        },
     }
 }
 
-/// A new file beside that of a path, and its name.
-fn created_beside<R: Files + AllocGlobal>(rt: &R, path: &str) -> io::Result<(String, R::File)> {
-    for number in 0..NAMES {
-        let name = format!(in rt.alloc(); "{path}.{number}.new")?;
-        match OpenOptions::new()
-            .write(true)
-            .create_new(true)
-            .open(rt, name.as_str())
-        {
-            Ok(file) => return Ok((name, file)),
-            Err(error) => {
-                if error.kind() != ErrorKind::AlreadyExists {
-                    return Err(error);
-                }
-            }
-        }
+/// Makes the new file under its name, gives the old one its second name, and renames the new one.
+fn exchanged<R: Files + AllocGlobal>(
+    rt: &R,
+    path: &str,
+    before: &Metadata,
+    (new, old): (&str, &str),
+    bytes: &[u8],
+) -> io::Result<()> {
+    let made = written_as(rt, new, 0o600, bytes)?;
+    if made.uid() != before.uid() || made.gid() != before.gid() {
+        chown(rt, new, Some(before.uid()), Some(before.gid()))?;
     }
-    Err(Error::from(ErrorKind::AlreadyExists))
+    fs::set_permissions(rt, new, before.permissions())?;
+    let _ = fs::remove_file(rt, old);
+    fs::hard_link(rt, path, old)?;
+    if !is_one(&fs::symlink_metadata(rt, old)?, before) {
+        return Err(Error::from(ErrorKind::ResourceBusy));
+    }
+    fs::rename(rt, new, path)
 }
 
-/// Writes all bytes of a file, which is closed then.
-fn written<W: Write + Drop>(file: W, bytes: &[u8]) -> io::Result<()> {
-    let mut file = file;
+/// Makes a file of these bytes under a name, in the place of one that an earlier run left there, and
+/// returns what it is.
+fn written_as<R: Files>(rt: &R, name: &str, mode: u32, bytes: &[u8]) -> io::Result<Metadata> {
+    let _ = fs::remove_file(rt, name);
+    let mut file = OpenOptions::new()
+        .write(true)
+        .create_new(true)
+        .mode(mode)
+        .open(rt, name)?;
     file.write_all(bytes)?;
-    file.flush()
+    let made = file.metadata()?;
+    if !is_one(&fs::symlink_metadata(rt, name)?, &made) {
+        return Err(Error::from(ErrorKind::ResourceBusy));
+    }
+    Ok(made)
 }
 
-/// Renames a file, with the permissions of the one in whose place it is put.
-fn moved<R: Files>(rt: &R, name: &str, place: &str) -> io::Result<()> {
-    if let Ok(before) = fs::metadata(rt, place) {
-        fs::set_permissions(rt, name, before.permissions())?;
+/// Writes what of these bytes is behind so many, if there is some, to the end of a file that has so
+/// many; the file is as it was if that fails.
+fn lengthened<W: Write + Seek + OpenFile>(
+    file: &mut W,
+    length: u64,
+    bytes: &[u8],
+) -> io::Result<()> {
+    let Ok(from) = usize::try_from(length) else {
+        return Ok(());
+    };
+    let Some(behind) = bytes.get(from..) else {
+        return Ok(());
+    };
+    file.seek(SeekFrom::Start(length))?;
+    let written = file.write_all(behind);
+    if written.is_err() {
+        let _ = file.set_len(length);
     }
-    fs::rename(rt, name, place)
+    written
+}
+
+/// Gives a file that is long enough these bytes.
+fn overwritten<W: Write + Seek + OpenFile>(file: &mut W, bytes: &[u8]) -> io::Result<()> {
+    file.seek(SeekFrom::Start(0))?;
+    file.write_all(bytes)?;
+    file.set_len(bytes.len() as u64)
+}
+
+/// The name of a file with this ending, in its folder; that of a long name has its beginning.
+fn name_beside<R: AllocGlobal>(rt: &R, path: &str, ending: &str) -> io::Result<String> {
+    let (_, name) = parts_of(path);
+    let most = LONGEST.saturating_sub(ending.len());
+    let kept = &name[..name.floor_char_boundary(most)];
+    let name = format!(in rt.alloc(); "{kept}{ending}")?;
+    beside(rt, path, name.as_str())
 }

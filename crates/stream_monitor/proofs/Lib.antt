@@ -9,5 +9,6 @@ mod Fronts
 mod OneOutcome
 mod Taking
 mod VectorsOfChecks
+mod VectorsOfFormats
 mod VectorsOfLogs
 mod Words

@@ -1,6 +1,7 @@
 pub mod Buffered
 pub mod Checking
 pub mod Findings
+pub mod Formats
 pub mod Frames
 pub mod Going
 pub mod Lines

@@ -73,7 +73,9 @@ impl<'a, 'f, 'o, R: Read + Drop, F: Files, W: Write> FileMonitor<'a, 'f, 'o, R, 
         ensures { self.new.fibs ≡ self.old.fibs }
     {
         self.hints.look(self.fibs.piece(), self.files);
-        self.adviser.look(self.fibs.piece(), self.files);
+        if !self.hints.is_other() {
+            self.adviser.look(self.fibs.piece(), self.files);
+        }
     }
 
     /// Prints a line, where this many FIBs are skipped: whole frames but for the first one, which

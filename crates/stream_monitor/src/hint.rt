@@ -1,5 +1,6 @@
 //! Hints where a file is no stream of FIBs.
 
+use crate::format::{Format, format_of};
 use arrayvec::ArrayVec;
 use console::escaped::Escaped;
 use console::files::Files;
@@ -14,10 +15,28 @@ const MANY: u64 = 2048;
 enum Hint {
     /// It looks like nothing that is known.
     NoFibs,
-    /// It has frames of ETI (ETS 300 799).
-    Eti,
+    /// It has frames or packets of another format, that carry FIBs.
+    Other(Format),
     /// It is hexadecimal text.
     Digits,
+}
+
+/// That the file of a path has frames or packets of another format: the line that says so.
+#[derive(Clone, Copy, Debug)]
+pub struct OtherFormat<'a> {
+    /// The path of the file.
+    pub path: &'a str,
+    /// What it has.
+    pub format: Format,
+}
+
+impl Display for OtherFormat<'_> {
+    /// The printed line, with the control bytes of the path as `\xHH`.
+    fn fmt<W: fmt::Write>(&self, f: &mut Formatter<W>) -> fmt::Result {
+        let OtherFormat { path, format } = *self;
+        let hint = Hint::Other(format);
+        write!(f, "{}", HintLine { path, hint })
+    }
 }
 
 /// A hint, and the path of the file.
@@ -35,10 +54,10 @@ impl Display for HintLine<'_> {
         let path = Escaped::in_line(self.path);
         match self.hint {
             Hint::NoFibs => write!(f, "{path}: no whole FIB: 32 bytes each are expected"),
-            Hint::Eti => write!(
+            Hint::Other(format) => write!(
                 f,
-                "{path}: no whole FIB: 32 bytes each are expected (ETI: dabplan-bridge fic takes \
-                 out its FIBs)"
+                "{path}: no whole FIB: 32 bytes each are expected ({format}: dabplan-bridge fic \
+                 takes out its FIBs)"
             ),
             Hint::Digits => write!(
                 f,
@@ -54,6 +73,8 @@ struct Watch {
     head: ArrayVec<u8, 64>,
     damaged: u64,
     is_done: bool,
+    /// Whether it is clear that the stream is of another format.
+    is_other: bool,
 }
 
 impl Watch {
@@ -63,6 +84,7 @@ impl Watch {
             head: ArrayVec::new(),
             damaged: 0,
             is_done: false,
+            is_other: false,
         }
     }
 
@@ -78,6 +100,7 @@ impl Watch {
         let has_fib = self.look_at_fibs(fibs);
         let hint = self.hint_so_far();
         self.is_done = has_fib || hint.is_some();
+        self.is_other = matches!(hint, Some(Hint::Other(_)));
         hint
     }
 
@@ -150,6 +173,11 @@ impl<'a> Hints<'a> {
         self.give(hint, files);
     }
 
+    /// Whether a hint was given that the stream is of another format.
+    pub(crate) fn is_other(&self) -> bool {
+        self.watch.is_other
+    }
+
     /// Looks at what was read, at the end of the stream or of its check.
     pub fn end<F: Files>(&mut self, files: &mut F) {
         let hint = self.watch.end();
@@ -175,33 +203,13 @@ fn likeness(head: &[u8]) -> Option<Hint> {
             return None;
         }
     }
-    if is_eti(head) {
-        return Some(Hint::Eti);
+    if let Some(format) = format_of(head) {
+        return Some(Hint::Other(format));
     }
     if head.len() == 64 && are_digits(head) {
         return Some(Hint::Digits);
     }
     None
-}
-
-/// FSYNC of ETI (ETS 300 799).
-const SYNC: [u8; 3] = [0x07, 0x3A, 0xB6];
-
-/// The same in every other frame, inverted.
-const INVERTED: [u8; 3] = [0xF8, 0xC5, 0x49];
-
-/// Whether the bytes begin a frame of ETI: FSYNC is behind one byte of a raw frame, behind three of
-/// a streamed one, and behind seven of a framed one.
-fn is_eti(head: &[u8]) -> bool {
-    is_sync(head.get(1..)) || is_sync(head.get(3..)) || is_sync(head.get(7..))
-}
-
-/// Whether these bytes begin with an FSYNC.
-fn is_sync(rest: Option<&[u8]>) -> bool {
-    match rest {
-        Some(rest) => rest.starts_with(&SYNC) || rest.starts_with(&INVERTED),
-        None => false,
-    }
 }
 
 /// Whether all bytes are hexadecimal digits or blanks.
