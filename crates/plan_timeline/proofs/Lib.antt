@@ -1,2 +1,3 @@
 mod Words
 pub mod Playing
+mod Vectors

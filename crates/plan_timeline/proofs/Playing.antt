@@ -1,9 +1,11 @@
 -- The swaps of frames, one stretch after another, and of the steps behind them.
-use Rattle.plan_timeline.proofs.Words.{AreQuiet, ContactStep, Err, Event, FindsNext, Frame, Frames, IfNone, IfOk}
-use Rattle.plan_timeline.proofs.Words.{List, ListsSteps, None, Ok, Option, Playing, Plays, Position, Program, Result}
-use Rattle.plan_timeline.proofs.Words.{Scan, Some, State, Step, Swap, Swapped, TakesStep, TooManyFrames, Went, []}
-use Rattle.plan_timeline.proofs.Words.{true≢false, ℕ, ◌++◌, ◌+◌, ◌∙◌, ◌∷◌, ◌≡◌, after_frame, ap, append-nil}
-use Rattle.plan_timeline.proofs.Words.{append_assoc, arith, begun, events_of, events_of_step, false, found, frames_in}
+use Rattle.plan_timeline.proofs.Words.{AreQuiet, ContactStep, Err, Event, FindsNext, Frame, Frames, HasTooMany}
+use Rattle.plan_timeline.proofs.Words.{IfNone, IfOk, IfSome, swapped, ◌≤◌, List, ListsSteps, None, Ok, OnErr, Option}
+use Rattle.plan_timeline.proofs.Words.{Playing, Plays}
+use Rattle.plan_timeline.proofs.Words.{Position, Program, Result, Scan, Some, State, Step, Swap, Swapped, TakesStep}
+use Rattle.plan_timeline.proofs.Words.{TooManyFrames, Went, [], true≢false, ℕ, ◌++◌, ◌+◌, ◌<◌, ◌∙◌, ◌∷◌, ◌≡◌}
+use Rattle.plan_timeline.proofs.Words.{after_frame, ap, append-nil, append_assoc, arith, begun, events_of}
+use Rattle.plan_timeline.proofs.Words.{events_of_step, false, found, frame_count, frames_in, frames_in_all}
 use Rattle.plan_timeline.proofs.Words.{is_some, left_of, played, played_join, refl, replicate, replicate_more, run}
 use Rattle.plan_timeline.proofs.Words.{suc, swap_in, swaps_over, sym, true, zero}
 
@@ -92,10 +94,20 @@ went_then a b c x y z ws h g =
       swaps_are = sym swaps;
     }
 
+-- ---- the number of frames
+
+count_then : (n : ℕ) (es : List Event) → frame_count (replicate n Frame ++ es) ≡ n + frame_count es
+count_then zero es = let same : frame_count es ≡ 0 + frame_count es = omega arith in same
+count_then (suc n) es = let more = count_then n es in omega (arith, more)
+
+count_step : (step : Step) (es : List Event) → frame_count (events_of_step step ++ es) ≡ frames_in step + frame_count es
+count_step (ContactStep contact closed) es = let same : frame_count es ≡ 0 + frame_count es = omega arith in same
+count_step (Frames n) es = count_then n es
+
 -- ---- and the steps behind it
 
 pub plays_none : (p : Playing) (at : Position) (s : Scan) → Plays p at s p at s []
-plays_none p at s = λ all lists. (all, lists, refl, refl)
+plays_none p at s = λ all lists. (all, lists, refl, refl, refl)
 
 pub plays_then : (a b c : Playing) (x y z : Position) (s t : Scan) (ws : List Swapped) → Plays a x s b y t []
     → Went b y c z ws → Plays a x s c z t ws
@@ -118,7 +130,9 @@ plays_then a b c x y z s t ws h g = λ all lists.
     let player : played b (left_of y rest) ≡ played c others =
     ap (λ (l : List Event). played b l) cut ∙ played_join b (replicate k Frame) others
     ∙ ap (λ (p : Playing). played p others) (sym g.state) in
-    (rest, on.1, on.2 ∙ swaps, on.3 ∙ player)
+    let count : frame_count (left_of y rest) ≡ k + frame_count others = ap frame_count cut ∙ count_then k others in
+    let frames : frames_in_all z rest ≡ frames_in_all x all = omega (arith, count, g.frame, on.4) in
+    (rest, on.1, on.2 ∙ swaps, on.3 ∙ player, frames)
 
 -- the events of a step are its contact's change, if it has one, and its frames
 begun_first : (b : Playing) (n : ℕ) (step : Step) (es : List Event)
@@ -155,7 +169,12 @@ step_taken a b c x y z s t u step h none takes state frame left = λ all lists.
     ap (λ (l : List Event). played b l) cut ∙ begun_played b step (events_of rest)
     ∙ ap (λ (l : List Event). played (begun b step) l) kept
     ∙ ap (λ (p : Playing). played p (left_of z rest)) (sym state) in
-    (rest, next.2, on.2 ∙ swaps, on.3 ∙ player)
+    let old : frame_count (left_of y on.0) ≡ frames_in step + frame_count (events_of rest) =
+    ap frame_count cut ∙ count_step step (events_of rest) in
+    let now : frames_in step + frame_count (events_of rest) ≡ frame_count (left_of z rest) =
+    sym (count_then (frames_in step) (events_of rest)) ∙ ap frame_count kept in
+    let frames : frames_in_all z rest ≡ frames_in_all x all = omega (arith, old, now, frame, on.4) in
+    (rest, next.2, on.2 ∙ swaps, on.3 ∙ player, frames)
 
 -- ---- the end
 
@@ -163,13 +182,16 @@ step_taken a b c x y z s t u step h none takes state frame left = λ all lists.
 pub plays_all : (a b : Playing) (x y : Position) (s t u : Scan) → Plays a x s b y t [] → y.left ≡ 0 → TakesStep t u None
     → (all : List Step) → ListsSteps s all
     → (swaps_over a.code a.state x.frame (left_of x all) ≡ []) × (b ≡ played a (left_of x all))
+    × (y.frame ≡ frames_in_all x all)
 plays_all a b x y s t u h none takes all lists =
     let on = h all lists in
     let end : left_of y on.0 ≡ [] =
     ap (λ (m : ℕ). replicate m Frame ++ events_of on.0) none
-    ∙ ap (λ (l : List Step). events_of l) (takes on.0 on.1) in (
+    ∙ ap (λ (l : List Step). events_of l) (takes on.0 on.1) in
+    let count : frame_count (left_of y on.0) ≡ 0 = ap frame_count end in (
       on.2 ∙ ap (λ (l : List Event). swaps_over b.code b.state y.frame l) end,
       sym (on.3 ∙ ap (λ (l : List Event). played b l) end),
+      omega (arith, count, on.4),
     )
 
 -- ---- the next swap
@@ -199,12 +221,61 @@ pub found_behind : (a b c : Playing) (x y z : Position) (s t : Scan) (swap : Opt
     → FindsNext b y s c z t swap → FindsNext a x s c z t swap
 found_behind a b c x y z s t (Some w) went finds = λ all lists.
     let on = plays_then a a b x x y s s [] (plays_none a x s) went all lists in
-    let next = finds on.0 on.1 in (next.0, next.1, on.2 ∙ next.2, on.3 ∙ next.3)
+    let next = finds on.0 on.1 in (next.0, next.1, on.2 ∙ next.2, on.3 ∙ next.3, next.4 ∙ on.4)
 found_behind a b c x y z s t None went finds = λ all lists.
     let on = plays_then a a b x x y s s [] (plays_none a x s) went all lists in
-    let end = finds on.0 on.1 in (on.2 ∙ end.0, end.1 ∙ sym on.3)
+    let end = finds on.0 on.1 in (on.2 ∙ end.0, end.1 ∙ sym on.3, end.2 ∙ on.4)
 
 pub finds_behind : (a b c : Playing) (x y z : Position) (s t : Scan) (r : Result (Option Swap) TooManyFrames)
     → Went a x b y [] → IfOk r (λ swap. FindsNext b y s c z t swap) → IfOk r (λ swap. FindsNext a x s c z t swap)
 finds_behind a b c x y z s t (Ok swap) went finds = found_behind a b c x y z s t swap went finds
 finds_behind a b c x y z s t (Err e) went finds = finds
+
+-- ---- more frames than can be numbered
+
+-- those of the next step are too many
+pub begun_over : (a b : Playing) (x y : Position) (s t u : Scan) (before : Option Swap) (step : Step)
+    → is_some before ≡ false → Plays a x s b y t (found before) → TakesStep t u (Some step)
+    → 18446744073709551615 < y.frame + frames_in step → HasTooMany x s
+begun_over a b x y s t u (Some w) step e h takes over = absurd (true≢false e)
+begun_over a b x y s t u None step e h takes over = λ all lists.
+    let on = h all lists in
+    let rest : List Step = (takes.on on.0 on.1).0 in
+    let cut : events_of on.0 ≡ events_of_step step ++ events_of rest = ap events_of (takes.on on.0 on.1).1 in
+    let first : frame_count (left_of y on.0) ≡ y.left + frame_count (events_of on.0) =
+    count_then y.left (events_of on.0) in
+    let count : frame_count (events_of on.0) ≡ frames_in step + frame_count (events_of rest) =
+    ap frame_count cut ∙ count_step step (events_of rest) in
+    omega (arith, over, first, count, on.4)
+
+-- the frames of the step at hand are among them
+pub over_behind : (a b : Playing) (x y : Position) (s : Scan) (r : Result (Option Swap) TooManyFrames)
+    → Went a x b y [] → OnErr r (HasTooMany y s) → OnErr r (HasTooMany x s)
+over_behind a b x y s (Ok swap) went over = over
+over_behind a b x y s (Err e) went over = λ all lists.
+    let now = count_then y.left (events_of all) in
+    let old = count_then x.left (events_of all) in
+    let more = over all lists in omega (arith, went.left, went.frame, now, old, more)
+
+-- ---- each swap is in a later frame
+
+some_frames : (w : Swapped) (p : Program) (s : State) (n k : ℕ) → w ∷ [] ≡ swaps_over p s n (replicate k Frame) → 1 ≤ k
+some_frames w p s n zero e = absurd (cc)
+some_frames w p s n (suc k) e = omega arith
+
+pub went_onward : (old new : Playing) (before after : Position) (swap : Option Swap)
+    → Went old before new after (found swap) → IfSome swap (λ w. before.frame < after.frame)
+went_onward old new before after None went = tt
+went_onward old new before after (Some w) went =
+    let some = some_frames (swapped w) old.code old.state before.frame went.frames went.swaps_are in
+    omega (arith, some, went.frame)
+
+-- from an earlier frame, too
+pub onward_from : (x y z : ℕ) (swap : Option Swap) → x ≤ y → IfSome swap (λ w. y < z) → IfSome swap (λ w. x < z)
+onward_from x y z None le h = tt
+onward_from x y z (Some w) le h = omega (arith, le, h)
+
+pub found_onward : (x y z : ℕ) (r : Result (Option Swap) TooManyFrames) → x ≤ y
+    → IfOk r (λ swap. IfSome swap (λ w. y < z)) → IfOk r (λ swap. IfSome swap (λ w. x < z))
+found_onward x y z (Ok swap) le h = onward_from x y z swap le h
+found_onward x y z (Err e) le h = tt

@@ -1,5 +1,5 @@
 -- The swaps of a run.
-use Rattle.std.specs.Prelude.{◌≡◌, ℕ, ◌+◌, if◌then◌else◌, List, [], ◌∷◌, ◌++◌, Option, None, Some, replicate}
+use Rattle.std.specs.Prelude.{◌≡◌, ℕ, ◌+◌, ◌<◌, if◌then◌else◌, List, [], ◌∷◌, ◌++◌, Option, None, Some, replicate}
 use Rattle.mux_config.specs.Configuration.{Configuration}
 use Rattle.script_tokens.specs.Scanning.{Scan}
 use Rattle.plan_code.specs.Program.{Program}
@@ -57,6 +57,16 @@ pub record Went (old : Playing) (before : Position) (new : Playing) (after : Pos
 abbrev pub left_of : Position → List Step → List Event
 left_of at steps = replicate at.left Frame ++ events_of steps
 
+-- the number of frames among these events
+abbrev pub frame_count : List Event → ℕ
+frame_count [] = 0
+frame_count (Contact c closed ∷ es) = frame_count es
+frame_count (Frame ∷ es) = frame_count es + 1
+
+-- the number of frames of a run whose steps these are: those before the next one, and those that are left
+abbrev pub frames_in_all : Position → List Step → ℕ
+frames_in_all at steps = at.frame + frame_count (left_of at steps)
+
 -- some of what was left was played, with these swaps in it: of each list of the steps that were left, some are left
 abbrev pub Plays : Playing → Position → Scan → Playing → Position → Scan → List Swapped → Type 0
 Plays old before steps new after others swaps =
@@ -64,12 +74,19 @@ Plays old before steps new after others swaps =
     × (swaps_over old.code old.state before.frame (left_of before all)
     ≡ swaps ++ swaps_over new.code new.state after.frame (left_of after rest))
     × (played old (left_of before all) ≡ played new (left_of after rest))
+    × (frames_in_all after rest ≡ frames_in_all before all)
 
--- the first swap of what was left was found, and the rest is left; or there is no swap in it, and all of it was played
+-- the first swap of what was left was found, and the rest is left; or there is no swap in it, and all of it was played,
+-- so that the next frame would be the one behind the last
 abbrev pub FindsNext : Playing → Position → Scan → Playing → Position → Scan → Option Swap → Type 0
 FindsNext old before steps new after others (Some w) = Plays old before steps new after others (swapped w ∷ [])
 FindsNext old before steps new after others None = (all : List Step) → ListsSteps steps all
     → (swaps_over old.code old.state before.frame (left_of before all) ≡ []) × (new ≡ played old (left_of before all))
+    × (after.frame ≡ frames_in_all before all)
+
+-- the run has more frames than can be numbered
+abbrev pub HasTooMany : Position → Scan → Type 0
+HasTooMany at steps = (all : List Step) → ListsSteps steps all → 18446744073709551615 < frames_in_all at all
 
 -- ---- beginning a step. No public contract depends on what follows
 

@@ -1,9 +1,11 @@
 //! Finding the swaps of a run, without making the frames between them.
 
-ghost use Rattle.std.specs.Prelude.{◌≡◌, ◌+◌, ◌≤◌, [], ◌∷◌, IfOk, IfNone, OnOk};
+ghost use Rattle.std.specs.Prelude.{◌≡◌, ◌+◌, ◌≤◌, ◌<◌, [], ◌∷◌, IfOk, IfNone, IfSome};
+ghost use Rattle.std.specs.Prelude.{OnOk, OnErr};
 ghost use Rattle.plan_runs.specs.declared.event.Event.TheVariants.{Frame};
 ghost use Rattle.plan_player.specs.Playing.{played};
 ghost use Rattle.plan_timeline.specs.Swaps.{swap_in, found, Went, FindsNext, begun, frames_in};
+ghost use Rattle.plan_timeline.specs.Swaps.{HasTooMany};
 
 use crate::swap::Swap;
 use mux_config::Store;
@@ -81,11 +83,12 @@ fn play_some<'a, S: Store>(player: &mut Player<'a, S>, at: &mut Position) -> Opt
 
 /// Plays frames of the step at hand, up to and including the next that makes a swap, or all that
 /// are left.
-#[tactic(auto, using(crate::proofs::Playing::went_none, crate::proofs::Playing::went_then))]
+#[tactic(auto, using(crate::proofs::Playing::went_none, crate::proofs::Playing::went_onward, crate::proofs::Playing::went_then))]
 fn next_in_step<'a, S: Store>(player: &mut Player<'a, S>, at: &mut Position) -> Option<Swap>
     requires room { at.old.frame + at.old.left ≤ 18446744073709551615 }
     ensures went { Went player.old at.old player.new at.new (found result) }
     ensures end { IfNone result (at.new.left ≡ 0) }
+    ensures onward { IfSome result (λ w. at.old.frame < at.new.frame) }
 {
     let mut swap = None;
     while at.left > 0 && swap.is_none() {
@@ -107,6 +110,7 @@ fn begin_step<'a, S: Store>(
     ensures state { OnOk result (player.new ≡ begun player.old step) }
     ensures frame { at.new.frame ≡ at.old.frame }
     ensures left { OnOk result (at.new.left ≡ frames_in step) }
+    ensures fault { OnErr result (18446744073709551615 < at.old.frame + frames_in step) }
     ensures room { at.new.frame + at.new.left ≤ 18446744073709551615 }
 {
     match step {
@@ -135,6 +139,8 @@ fn next_in_steps<'a, S: Store>(
     requires room { at.old.frame + at.old.left ≤ 18446744073709551615 }
     ensures finds { IfOk result (λ swap.
         FindsNext player.old at.old steps.old player.new at.new steps.new swap) }
+    ensures fault { OnErr result (HasTooMany at.old steps.old) }
+    ensures onward { IfOk result (λ swap. IfSome swap (λ w. at.old.frame < at.new.frame)) }
     ensures room { at.new.frame + at.new.left ≤ 18446744073709551615 }
 {
     let mut swap = None;
@@ -152,9 +158,10 @@ fn next_in_steps<'a, S: Store>(
 
 /// Plays the frames that are left of the step at hand, and the steps of a list, up to and including
 /// the frame of the next swap, which it returns; `None` if there is no other. Frames in which
-/// nothing happens take no time.
+/// nothing happens take no time. Each swap is in a later frame than the one before it.
 ///
-/// `TooManyFrames`: the run has more frames than can be numbered.
+/// `TooManyFrames`: the run has more frames than can be numbered: those before, those left of the
+/// step at hand, and those of the steps are together more than 2^64 - 1.
 pub fn next_swap<'a, S: Store>(
     player: &mut Player<'a, S>,
     steps: &mut StepList<'_>,
@@ -163,6 +170,8 @@ pub fn next_swap<'a, S: Store>(
     requires room { at.old.frame + at.old.left ≤ 18446744073709551615 }
     ensures finds { IfOk result (λ swap.
         FindsNext player.old at.old steps.old player.new at.new steps.new swap) }
+    ensures fault { OnErr result (HasTooMany at.old steps.old) }
+    ensures onward { IfOk result (λ swap. IfSome swap (λ w. at.old.frame < at.new.frame)) }
     ensures room { at.new.frame + at.new.left ≤ 18446744073709551615 }
 {
     match next_in_step(player, at) {
