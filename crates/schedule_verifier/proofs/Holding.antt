@@ -66,8 +66,8 @@ held_begin r notice overlays left past contacts day h =
 
 -- ---- a moment
 
-pub at_moment : (contacts : Contacts) (day from to : ℕ) → contacts.0 < 65536 → day < FRAMES_A_DAY → from ≡ day → to ≡ day
-    → (let other : Contacts = record { 0 = 65535 - contacts.0 } in
+pub at_moment : (contacts : Contacts) (day from to : ℕ) → contacts.0 < 65536 → day < FRAMES_A_DAY → from ≡ day
+    → to ≡ day → (let other : Contacts = record { 0 = 65535 - contacts.0 } in
     let r : Region = record { closed = contacts; opened = other; from = from; to = to + 1 } in Covers r contacts day)
 at_moment contacts day from to low within begins ends =
     record {
