@@ -44,7 +44,8 @@ behind_first by (l ∷ ls) leads = (omega (arith, leads), behind_first by ls lea
 
 -- ---- the whole
 
-pub is_program : (old : Program) (plan : Plan) (from : Configuration) (by cost : ℕ) (configs : List Configuration)
+pub is_program : (old : Program) (plan : Plan) (from : Configuration) (by cost : ℕ)
+    (configs : List Configuration)
     (labels : List Label) (lines : List Line)
     → IsProgram old → plan ≡ old.plan → configs ≡ old.configurations ++ from ∷ [] → length old.configurations < 256
     → AllByRecursion IsConfiguration configs
@@ -52,7 +53,8 @@ pub is_program : (old : Program) (plan : Plan) (from : Configuration) (by cost :
     → 1 + length old.labels ≤ 1024 → AllByRecursion (IsNear by) old.labels
     → 1 ≤ by → 1 ≤ cost → cost ≤ 255 → by ≤ length lines → length lines ≤ 4096 → AllByRecursion IsLine lines
     → IsProgram (record { plan = plan; configurations = configs; labels = labels; lines = lines })
-is_program old plan from by cost configs labels lines p same table few formed are most near leads from_one to some all instrs =
+is_program old plan from by cost configs labels lines p same table few formed are most near leads from_one to some all
+    instrs =
     let count : length configs ≡ length old.configurations + 1 =
     ap length table ∙ length-append old.configurations (from ∷ []) in
     let moved = length-map old.labels (moved_label by) in

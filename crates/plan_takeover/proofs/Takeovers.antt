@@ -24,8 +24,10 @@ some_lead plan line from to =
     let parts = length-append (paced (plan.budget - 1) 1 (edits_between from to)) (committed plan) in
     omega (arith, all, parts)
 
-pub of_begun : (line : ℕ) (old : Program) (plan : Plan) (from to : Configuration) (new : Program) (front lines : List Line) (by : ℕ)
-    → plan ≡ old.plan → front ≡ leading plan line from to → by ≡ length front → lines ≡ front ++ map (moved_line by) old.lines
+pub of_begun : (line : ℕ) (old : Program) (plan : Plan) (from to : Configuration) (new : Program)
+    (front lines : List Line) (by : ℕ)
+    → plan ≡ old.plan → front ≡ leading plan line from to
+    → by ≡ length front → lines ≡ front ++ map (moved_line by) old.lines
     → IsBegunBy by lines old from new → IsTakeoverCode line old from to new
 of_begun line old plan from to new front lines by p f b l h =
     record {

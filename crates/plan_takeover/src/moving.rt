@@ -1,6 +1,7 @@
 //! The code of a plan, so many instructions further on.
 
-ghost use Rattle.std.specs.Prelude.{◌≡◌, ◌+◌, ◌≤◌, ◌<◌, ◌++◌, length, map, IfErr, IfNone, IfSome, OnOk};
+ghost use Rattle.std.specs.Prelude.{◌≡◌, ◌+◌, ◌≤◌, ◌<◌, ◌++◌, length, map, IfErr, IfNone};
+ghost use Rattle.std.specs.Prelude.{IfSome, OnOk};
 ghost use Rattle.std.specs.List.{AllByRecursion};
 ghost use Rattle.plan_takeover.specs.Refusals.{AreTooMany, AreTooManyLabels, IsLimit, IsNear};
 ghost use Rattle.plan_takeover.specs.Refusals.{JumpsTooFar};

@@ -1,7 +1,7 @@
 //! Puts the instructions that lead to a plan before its code.
 
-ghost use Rattle.std.specs.Prelude.{◌≡◌, ◌+◌, ◌≤◌, ◌<◌, ◌++◌, ◌∷◌, [], IfOk, IfErr, length, map, min};
-ghost use Rattle.std.specs.Prelude.{slice_index};
+ghost use Rattle.std.specs.Prelude.{◌≡◌, ◌+◌, ◌≤◌, ◌<◌, ◌++◌, ◌∷◌, [], IfOk, IfErr, length};
+ghost use Rattle.std.specs.Prelude.{map, min, slice_index};
 ghost use Rattle.std.specs.List.{AllByRecursion};
 ghost use Rattle.plan_takeover.specs.Takeover.{IsTakeover, beginning, leading, moved_label};
 ghost use Rattle.plan_takeover.specs.Refusals.{IsBegunBy, IsExceeded, IsLimit, IsNear, IsPriced};
