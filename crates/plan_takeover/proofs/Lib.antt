@@ -1,2 +1,6 @@
+mod Costs
+mod Programs
+mod Refusing
 mod Sequences
 mod Takeovers
+mod Vectors

@@ -1,40 +1,44 @@
 -- The parts of a code that takes over are those of its definition.
-use Rattle.std.proofs.Common.{[], ◌++◌, ◌∷◌, ◌≡◌, List, Option, Some, IfSome, length, map, refl, slice_get, subst}
-use Rattle.std.proofs.Common.{ℕ}
+use Rattle.std.proofs.Common.{[], ◌++◌, ◌-◌, ◌∷◌, ◌≡◌, ◌≤◌, List, Some, arith, length, length-append, map, refl}
+use Rattle.std.proofs.Common.{slice_get, subst, sym, ℕ}
+use Rattle.std.proofs.lemmas.List.{length-map}
 use Rattle.mux_types.specs.Configuration.{Configuration}
 use Rattle.plan_code.specs.Program.{Program}
 use Rattle.plan_code.specs.declared.instr.Line.{Line}
-use Rattle.plan_code.specs.declared.label.Label.{Label}
 use Rattle.plan_code.specs.declared.plan.Plan.{Plan}
-use Rattle.plan_takeover.specs.Takeover.{IsTakeover, beginning, leading, moved_label, moved_line}
+use Rattle.plan_takeover.specs.Refusals.{IsBegunBy, IsPriced, IsTakeoverCode}
+use Rattle.plan_takeover.specs.Takeover.{leading, moved_line}
+use Rattle.script_compiler.specs.Alternatives.{instr_of_act}
+use Rattle.script_config.specs.Differences.{edits_between}
+use Rattle.script_config.specs.Plan.{committed, paced, plan_acts}
 
 last_there : {A : Type 0} (xs : List A) (x : A) → slice_get (xs ++ x ∷ []) (length xs) ≡ Some x
 last_there [] x = refl
 last_there (y ∷ ys) x = last_there ys x
 
--- what is made of these parts, if it is a code
-pub of_parts : (line : ℕ) (old : Program) (from to : Configuration) (new : Program) (given : Option Program)
-    (plan : Plan)
-    (configs : List Configuration) (first labels : List Label) (front lines : List Line) (index by cost : ℕ)
-    → plan ≡ old.plan → configs ≡ old.configurations ++ from ∷ [] → index ≡ length old.configurations
-    → front ≡ leading plan line from to → by ≡ length front → lines ≡ front ++ map (moved_line by) old.lines
-    → first ≡ beginning index cost ∷ [] → labels ≡ first ++ map (moved_label by) old.labels
-    → IfSome given (λ c. c ≡ record { plan = plan; configurations = configs; labels = labels; lines = lines })
-    → given ≡ Some new
-    → IsTakeover line old from to new
-of_parts line old from to new given plan configs first labels front lines index by cost p c i f b l q m made is =
-    let whole : new ≡ record { plan = plan; configurations = configs; labels = labels; lines = lines } =
-    subst (λ (g : Option Program). IfSome g (λ c. c ≡ record {
-      plan = plan;
-      configurations = configs;
-      labels = labels;
-      lines = lines;
-    })) is made in
+-- a commit and `join` at least
+pub some_lead : (plan : Plan) (line : ℕ) (from to : Configuration) → 1 ≤ length (leading plan line from to)
+some_lead plan line from to =
+    let all = length-map (plan_acts plan from to)
+    (λ act. let l : Line = record { number = line; instr = instr_of_act act } in l) in
+    let parts = length-append (paced (plan.budget - 1) 1 (edits_between from to)) (committed plan) in
+    omega (arith, all, parts)
+
+pub of_begun : (line : ℕ) (old : Program) (plan : Plan) (from to : Configuration) (new : Program)
+    (front lines : List Line) (by : ℕ)
+    → plan ≡ old.plan → front ≡ leading plan line from to
+    → by ≡ length front → lines ≡ front ++ map (moved_line by) old.lines
+    → IsBegunBy by lines old from new → IsTakeoverCode line old from to new
+of_begun line old plan from to new front lines by p f b l h =
     record {
-      plan = rw whole p;
-      lines = rw (whole, l, b, f, p) refl;
-      index = index;
-      cost = cost;
-      begins = rw (whole, c, i) (last_there old.configurations from);
-      labels = rw (whole, m, q, b, f, p) refl;
+      takes = record {
+        plan = h.plan;
+        lines = rw (h.instructions, l, b, f, p) refl;
+        index = length old.configurations;
+        cost = h.cost;
+        begins = rw h.table (last_there old.configurations from);
+        labels = rw (h.labels, b, f, p) refl;
+      };
+      table = h.table;
+      priced = subst (λ (ls : List Line). IsPriced old.plan.budget ls h.cost) (sym h.instructions) h.priced;
     }

@@ -2,7 +2,7 @@
 -- which the plan begins, and behind them the plan's own code, each pc that many further on.
 use Rattle.std.specs.Prelude.{◌≡◌, ℕ, ◌+◌, List, ◌∷◌, ◌++◌, length, map, slice_get, Some}
 use Rattle.mux_types.specs.Configuration.{Configuration}
-use Rattle.plan_code.specs.Program.{Program, label_at}
+use Rattle.plan_code.specs.Program.{Program}
 use Rattle.plan_code.specs.declared.instr.Instr.{Instr}
 use Rattle.plan_code.specs.declared.instr.Instr.TheVariants.{Test, TestTime, Jump, Loop}
 use Rattle.plan_code.specs.declared.instr.Line.{Line}

@@ -1,7 +1,13 @@
 //! The code of a plan, so many instructions further on.
 
-ghost use Rattle.std.specs.Prelude.{◌≡◌, ◌++◌, map, IfSome, OnOk};
+ghost use Rattle.std.specs.Prelude.{◌≡◌, ◌+◌, ◌≤◌, ◌<◌, ◌++◌, length, map, IfErr, IfNone};
+ghost use Rattle.std.specs.Prelude.{IfSome, OnOk};
+ghost use Rattle.std.specs.List.{AllByRecursion};
+ghost use Rattle.plan_takeover.specs.Refusals.{AreTooMany, AreTooManyLabels, IsLimit, IsNear};
+ghost use Rattle.plan_takeover.specs.Refusals.{JumpsTooFar};
 ghost use Rattle.plan_takeover.specs.Takeover.{moved, moved_label, moved_line};
+ghost use Rattle.script_compiler.specs.declared.fault.CodeLimit.TheVariants.{Instructions, Labels};
+ghost use Rattle.script_compiler.specs.declared.fault.CompileFault.TheVariants.{Limit};
 
 use plan_code::limits::{MOST_INSTRUCTIONS, MOST_LABELS};
 use plan_code::{Instr, Label, Line};
@@ -9,7 +15,8 @@ use script_compiler::{CodeLimit, CompileFault};
 
 /// The instruction with its target so many instructions further on; None where that is past 65,535.
 fn moved(instr: Instr, by: u16) -> Option<Instr>
-    ensures { IfSome result (λ i. i ≡ moved by instr) }
+    ensures moved { IfSome result (λ i. i ≡ moved by instr) }
+    ensures far { IfNone result (JumpsTooFar by instr) }
 {
     Some(match instr {
         Instr::Test { contact, target } => Instr::Test {
@@ -40,7 +47,8 @@ fn moved(instr: Instr, by: u16) -> Option<Instr>
     })
 }
 
-/// Appends the instructions of a code, each with its target so many instructions further on.
+/// Appends the instructions of a code, each with its target so many instructions further on, behind
+/// as many instructions.
 ///
 /// # Errors
 ///
@@ -51,29 +59,37 @@ pub(crate) fn append_moved(
     by: u16,
     code: &[Line],
 ) -> Result<(), CompileFault>
-    ensures { OnOk result (lines.new.items ≡ lines.old.items ++ map (moved_line by) code.now) }
+    requires { by ≡ length lines.old.items }
+    ensures appended { OnOk result (lines.new.items
+        ≡ lines.old.items ++ map (moved_line by) code.now) }
+    ensures within { OnOk result (1 ≤ length code.now → by + length code.now ≤ 4096) }
+    ensures fault { IfErr result (IsLimit (λ limit. (limit ≡ Instructions)
+        × AreTooMany by code.now)) }
 {
     for line in code {
         let number = line.number;
-        match moved(line.instr, by) {
-            Some(instr) if lines.len() < usize::from(MOST_INSTRUCTIONS) => {
-                if lines.push(Line { number, instr }).is_err() {
-                    return Err(CompileFault::Memory);
-                }
-            }
-            _ => {
-                let limit = CodeLimit::Instructions;
-                return Err(CompileFault::Limit {
-                    line: number,
-                    limit,
-                });
-            }
+        let Some(instr) = moved(line.instr, by) else {
+            return Err(too_many(number));
+        };
+        if lines.len() >= usize::from(MOST_INSTRUCTIONS) {
+            return Err(too_many(number));
+        }
+        if lines.push(Line { number, instr }).is_err() {
+            return Err(CompileFault::Memory);
         }
     }
     Ok(())
 }
 
-/// Appends labels, each so many instructions further on.
+/// That a code has too many instructions.
+pub(crate) fn too_many(line: u16) -> CompileFault
+    ensures { result ≡ Limit line Instructions }
+{
+    let limit = CodeLimit::Instructions;
+    CompileFault::Limit { line, limit }
+}
+
+/// Appends labels, each so many instructions further on, behind the first one.
 ///
 /// # Errors
 ///
@@ -85,20 +101,32 @@ pub(crate) fn append_labels(
     line: u16,
     others: &[Label],
 ) -> Result<(), CompileFault>
-    ensures { OnOk result (labels.new.items ≡ labels.old.items ++ map (moved_label by) others.now) }
+    requires { length labels.old.items ≡ 1 }
+    ensures appended { OnOk result (labels.new.items
+        ≡ labels.old.items ++ map (moved_label by) others.now) }
+    ensures within { OnOk result (1 + length others.now ≤ 1024) }
+    ensures near { OnOk result (AllByRecursion (IsNear by) others.now) }
+    ensures fault { IfErr result (IsLimit (λ limit. (limit ≡ Labels)
+        × AreTooManyLabels by others.now)) }
 {
     for label in others {
-        match label.pc.checked_add(by) {
-            Some(pc) if labels.len() < usize::from(MOST_LABELS) => {
-                if labels.push(Label { pc, ..*label }).is_err() {
-                    return Err(CompileFault::Memory);
-                }
-            }
-            _ => {
-                let limit = CodeLimit::Labels;
-                return Err(CompileFault::Limit { line, limit });
-            }
+        let Some(pc) = label.pc.checked_add(by) else {
+            return Err(too_many_labels(line));
+        };
+        if labels.len() >= usize::from(MOST_LABELS) {
+            return Err(too_many_labels(line));
+        }
+        if labels.push(Label { pc, ..*label }).is_err() {
+            return Err(CompileFault::Memory);
         }
     }
     Ok(())
+}
+
+/// That a code has too many labels.
+fn too_many_labels(line: u16) -> CompileFault
+    ensures { result ≡ Limit line Labels }
+{
+    let limit = CodeLimit::Labels;
+    CompileFault::Limit { line, limit }
 }

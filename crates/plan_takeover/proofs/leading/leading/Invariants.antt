@@ -1,5 +1,4 @@
 use Rattle.std.proofs.Common.{◌≡◌, map, take}
-use Rattle.plan_code.specs.declared.instr.Line.{Line}
 use Rattle.script_compiler.specs.Alternatives.{instr_of_act}
 use Rattle.plan_takeover.proofs.leading.leading.Given as goal
 
