@@ -2,10 +2,11 @@
 """Each system call fails in turn, under every command: those that open, create and read its files, and each write
 to standard output.
 
-If a call for a file fails, the command prints only the line of that file, or `no memory` if the system reports that,
-ends with 1, and leaves no file; `check`, which prints as it reads, may have printed a part of its lines before. It may look
-at the file once more then, and where it refuses one, to say on standard error why: if these calls fail nothing else changes. `live` reports that line on standard error, `cannot read -` for its lines, and may have written
-frames before; so does `merge`, which goes on without its second file if that was opened. An interrupted call is retried.
+If a call for a file fails, the command prints only the line of that file, or `no memory` if the system reports that, ends with 1, and
+leaves no file; `check`, which prints as it reads, may have printed a part of its lines before. Where `compile` can't create a file beside
+OUT, it creates OUT. A command may look at the file once more then, and where it refuses one, to say on standard error why: if these calls
+fail nothing else changes. `live` reports that line on standard error, `cannot read -` for its lines, and may have written frames before;
+so does `merge`, which goes on without its second file if that was opened. An interrupted call is retried.
 If a write fails, takes nothing or is interrupted, nothing is written after it, and the status is 1; `live` and `merge`
 report how much was written.
 The last line is 'N passed, M failed'.
@@ -108,6 +109,16 @@ def try_own(tally, failing, line, number, refusal, whole, calls):
         tally.hold(not failing.is_made(), f"{what}: a file is made")
 
 
+def try_beside(tally, failing, line, number, whole, calls):
+    """The file beside OUT can't be created: OUT is."""
+    for error in (EIO, ENOMEM):
+        ended, made = failing.run(line, at=number, **{"as": error})
+        what = f"{line}: call {number}, for a file beside OUT, fails as {error}"
+        tally.same(what, (0, whole, b""), (*ended.lines(), rows.without_notes(ended.messages)))
+        tally.same(f"{what}: calls", calls[:number] + "c" + calls[number:], made.replace("w", ""))
+        tally.hold(failing.is_made(), f"{what}: no file is made")
+
+
 def try_files(tally, failing):
     """Each call that opens, creates or reads a file fails, also with out of memory, or is interrupted."""
     for line, refusals, status in [(*row, 0) for row in ROWS] + [(*row, 1) for row in REFUSED_ROWS]:
@@ -120,7 +131,9 @@ def try_files(tally, failing):
         tally.hold(max(files, default=0) >= len(refusals), f"{line}: files")
         tally.hold(status == 1 or max(files, default=0) == len(refusals), f"{line}: no other file")
         for number, file in enumerate(files, 1):
-            if file <= len(refusals):
+            if line.startswith("compile") and calls[number - 1] == "c":
+                try_beside(tally, failing, line, number, printed, calls)
+            elif file <= len(refusals):
                 try_own(tally, failing, line, number, refusals[file - 1], printed, calls)
             else:
                 ended, _ = failing.run(line, at=number, **{"as": EIO})

@@ -6,6 +6,7 @@ created; files that fill the disk; too little address space. The last line is 'N
 """
 import pathlib
 import resource
+import shutil
 import signal
 import subprocess
 import tempfile
@@ -28,7 +29,8 @@ def try_outputs(tally, program, folder):
     played = common.run([program, "play", CODE, "a.events", "/dev/full"], folder)
     tally.same("play into /dev/full", (1, b"write failed after 0 frames and 0 bytes\n"), played.lines())
     compiled = common.run([program, "compile", SCRIPT, "/dev/full"], folder)
-    tally.same("compile into /dev/full", (1, b"cannot write /dev/full\n"), compiled.lines())
+    tally.same("compile into /dev/full", (1, b"cannot write /dev/full\n", b"/dev/full: error: No space left on device\n"),
+               (*compiled.lines(), compiled.messages))
     for words in (["frame", RECORD, *FRAME], ["listen", "a.fib"], ["verify", CODE], ["compile", SCRIPT, "b.code"],
                   ["play", CODE, "a.events", "b.fib"], ["debug", CODE, "a.commands"], ["--help"], ["nothing"]):
         for redirection in (">/dev/full", ">&-"):
@@ -64,6 +66,31 @@ def try_small_disk(tally, program, folder):
         tally.same(f"play into {most} bytes of disk: its size", most, pathlib.Path(folder, "b.fib").stat().st_size)
     ended = run(288_000)
     tally.same("play into 288,000 bytes of disk", (0, b"played 3000 frames\n"), (ended.returncode, ended.stdout))
+
+
+def try_full_disk(tally, program, folder):
+    """A file system that is full: what is there keeps its bytes, a new file is gone, and the reason is said; a file whose bytes
+    need no more room is written."""
+    if shutil.which("unshare") is None:
+        return
+    place = pathlib.Path(folder, "disk")
+    place.mkdir()
+    common.write(folder, "s.plan", SCRIPT.read_bytes())
+    common.run([program, "map", "s.plan", "--svg", "small"], folder)
+    small = pathlib.Path(folder, "small").read_bytes()
+    tally.hold(4096 < len(small) < 40_000, f"{len(small)} bytes are more than a page, and leave room")
+    line = f"""mount -t tmpfs -o size=64k none disk && echo before >disk/o && cp small disk/same && echo >>disk/same &&
+        cat /dev/zero >disk/full; for out in o new same; do '{program}' map s.plan --svg disk/$out >printed; echo $?; tail -1 printed;
+        done; ls disk; cat disk/o disk/same"""
+    done = subprocess.run(["unshare", "-m", "bash", "-c", line], cwd=folder, capture_output=True, check=False)
+    if b"unshare:" in done.stderr or b"mount:" in done.stderr:
+        print(f"nothing can be mounted here: {done.stderr}")
+        return
+    for out in ("o", "new"):
+        tally.hold(f"disk/{out}: error: No space left on device".encode() in done.stderr.splitlines(), f"a full disk: {done.stderr}")
+    said = done.stdout.partition(b"full\no\nsame\n")
+    tally.hold(said[0].startswith(b"1\ncannot write disk/o\n1\ncannot write disk/new\n0\n"), f"a full disk: {said[0]}")
+    tally.same("a full disk: what is left", b"before\n" + small, said[2])
 
 
 def try_files(tally, program, folder):
@@ -124,9 +151,11 @@ def try_merge(tally, program, folder):
         line = f"write failed after {most // 96} frames and {most % 96} bytes\n".encode()
         tally.same(f"merge into {most} bytes of disk", (1, b"", line), ended)
         tally.same(f"merge into {most} bytes of disk: what is written", plan[:most], pathlib.Path(folder, "b.fib").read_bytes())
-    for words, path in (("absent m.fib", "absent"), ("m.fib absent", "absent"), (". m.fib", "."), ("m.fib .", "."),
-                        ("/proc/self/mem m.fib", "/proc/self/mem")):
-        tally.same(f"merge {words}", (1, b"", f"cannot read {path}\n".encode()), merged(program, folder, words))
+    for words, path, why in (("absent m.fib", "absent", "absent: error: No such file or directory\n"),
+                             ("m.fib absent", "absent", "absent: error: No such file or directory\n"),
+                             (". m.fib", ".", ".: error: Is a directory\n"), ("m.fib .", ".", ".: error: Is a directory\n"),
+                             ("/proc/self/mem m.fib", "/proc/self/mem", "")):
+        tally.same(f"merge {words}", (1, b"", f"cannot read {path}\n{why}".encode()), merged(program, folder, words))
     wanted = (1, plan, b"cannot read /proc/self/mem\n" + told)
     tally.same("merge m.fib /proc/self/mem", wanted, merged(program, folder, "m.fib /proc/self/mem"))
 
@@ -167,7 +196,7 @@ def main():
     tally = common.Tally()
     program = common.dabplan()
     with tempfile.TemporaryDirectory() as folder:
-        for part in (try_outputs, try_pipes, try_small_disk, try_files, try_input, try_merge, try_address_space):
+        for part in (try_outputs, try_pipes, try_small_disk, try_full_disk, try_files, try_input, try_merge, try_address_space):
             part(tally, program, folder)
     tally.end()
 

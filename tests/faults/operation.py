@@ -241,7 +241,8 @@ def hostile_names(tally, program, folder):
     ended = common.run([program, "diff", name, name], folder)
     tally.same("diff of a hostile name", (1, b"", line), (*ended.lines(), rows.without_notes(ended.messages)))
     ended = common.run([program, "live", name], folder)
-    tally.same("live of a hostile name", (1, b"", f"cannot read {shown}\n".encode()), (*ended.lines(), ended.messages))
+    why = f"{shown}: error: No such file or directory\n"
+    tally.same("live of a hostile name", (1, b"", f"cannot read {shown}\n{why}".encode()), (*ended.lines(), ended.messages))
     for words in (["listen", "a", "--\x1b[31m\nx"], ["\x1b]0;x\x07"], ["play", "a", "b", "c", "--contacts", "\x1b\n12"],
                   ["play", "a", "b", "c", "--time", "\x1b\n12"], ["play", "a", "b", "c", "--count", "\x1b\n12"]):
         ended = common.run([program, *words], folder)

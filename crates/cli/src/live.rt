@@ -4,8 +4,9 @@ ghost use Rattle.std.specs.Prelude.{◌≤◌};
 
 use crate::args::{FramesRequest, frames_request_of};
 use crate::mistakes::answer_mistake;
+use crate::remarks::remark_failure;
 use cli_plans::live::{JsonEnding, LiveEnding, LiveRequest, play_live};
-use cli_streams::merge::{MergeRequest, show_merged};
+use cli_streams::merge::{MergeFault, MergeRequest, show_merged};
 use console::ending::status_number;
 use console::files::Files;
 use std::alloc::Global;
@@ -51,18 +52,22 @@ fn answer_live<F: Files, W: Write>(
     match ended {
         Ok(()) => 0,
         Err(ending) => {
-            report_ending(files, request.json, &ending);
+            report_ending(alloc, files, request.json, &ending);
             1
         }
     }
 }
 
-/// Writes the line of the end of a live run on standard error.
-fn report_ending<F: Files>(files: &mut F, json: bool, ending: &LiveEnding<'_>) {
+/// Writes the line of the end of a live run on standard error; and behind it, but for objects of
+/// JSON, why its code can't be read.
+fn report_ending<F: Files>(alloc: Global, files: &mut F, json: bool, ending: &LiveEnding<'_>) {
     if json {
         files.report(JsonEnding(ending));
-    } else {
-        files.report(ending);
+        return;
+    }
+    files.report(ending);
+    if let LiveEnding::Failed(failure) = ending {
+        remark_failure(alloc, failure, files);
     }
 }
 
@@ -78,7 +83,10 @@ fn answer_merge<F: Files, W: Write>(
     match show_merged(alloc, request, files, out) {
         Ok(status) => status_number(status),
         Err(fault) => {
-            files.report(fault);
+            files.report(&fault);
+            if let MergeFault::Failed(failure) = &fault {
+                remark_failure(alloc, failure, files);
+            }
             1
         }
     }

@@ -1,5 +1,5 @@
 //! Remarks on standard error about the files of a command that failed or refused them: why a file
-//! can't be read, and what it is where it is of another kind than the command wants.
+//! can't be read or written, and what it is where it is of another kind than the command wants.
 
 use crate::args::Request;
 use console::escaped::Escaped;
@@ -9,6 +9,7 @@ use fib_codec::is_checked;
 use std::alloc::Global;
 use std::io::Read;
 use std::str;
+use stream_monitor::{Format, format_of};
 
 /// How many bytes of a file are looked at for its kind.
 const FRONT: usize = 4096;
@@ -22,7 +23,7 @@ enum Kind {
     Code,
     Script,
     Fibs,
-    Eti,
+    Stream(Format),
     Other,
 }
 
@@ -31,6 +32,8 @@ enum Kind {
 pub(crate) enum Remark<'a> {
     /// The file of this path can't be read.
     Unread(&'a str),
+    /// The file of this path can't be created or written.
+    Unwritten(&'a str),
     /// The command refused its input.
     Refused,
     /// Nothing.
@@ -42,6 +45,7 @@ impl<'a> Remark<'a> {
     pub(crate) fn on(ended: &Result<Status, Failure<'a>>) -> Remark<'a> {
         match ended {
             Err(Failure::Read(path)) => Remark::Unread(path),
+            Err(Failure::Create(path)) => Remark::Unwritten(path),
             Ok(Status::Refused) => Remark::Refused,
             _ => Remark::Nothing,
         }
@@ -64,11 +68,30 @@ pub(crate) fn make_remark<F: Files>(
                 Some((input, wanted)) => input == path && remark_kind(alloc, path, wanted, files),
                 None => false,
             };
-            if !is_said && !is_monitor(request) {
+            if !is_said {
                 remark_unread(alloc, path, is_text(request, path), files);
             }
         }
+        (Remark::Unwritten(path), _) => remark_unwritten(alloc, path, files),
         _ => {}
+    }
+}
+
+/// Reports why the file of a failure can't be read, if that is known, and if it is none of standard
+/// input.
+pub(crate) fn remark_failure<F: Files>(alloc: Global, failure: &Failure<'_>, files: &mut F) {
+    if let Failure::Read(path) = failure {
+        remark_unread(alloc, path, false, files);
+    }
+}
+
+/// Reports why the file of a path could not be created or written, if that is known.
+fn remark_unwritten<F: Files>(alloc: Global, path: &str, files: &mut F) {
+    if path == "-" {
+        return;
+    }
+    if let Some(reason) = files.refusal() {
+        report_error(alloc, path, reason, files);
     }
 }
 
@@ -143,11 +166,6 @@ fn wanted_of<'r>(request: &Request<'r>) -> Option<(&'r str, Kind)> {
     }
 }
 
-/// Whether it is a command whose standard error has nothing but hints on streams.
-fn is_monitor(request: &Request<'_>) -> bool {
-    matches!(request, Request::Check(_) | Request::Listen(_))
-}
-
 /// Whether a command reads the file of this path as text.
 fn is_text(request: &Request<'_>, path: &str) -> bool {
     match request {
@@ -187,7 +205,8 @@ fn text_of(kind: Kind, wanted: Kind) -> Option<&'static str> {
         (Kind::Script, Kind::Other) => Some("this is a script: with --script"),
         (Kind::Code, _) => Some("this is a code file"),
         (Kind::Fibs, _) => Some("these are FIBs"),
-        (Kind::Eti, _) => Some("this is ETI"),
+        (Kind::Stream(Format::Eti), _) => Some("this is ETI"),
+        (Kind::Stream(Format::Edi), _) => Some("this is EDI"),
         _ => None,
     }
 }
@@ -210,19 +229,13 @@ fn kind_of(bytes: &[u8]) -> Kind {
         .is_some_and(|(fib, _others)| is_checked(fib))
     {
         Kind::Fibs
-    } else if is_eti(bytes) {
-        Kind::Eti
+    } else if let Some(format) = format_of(bytes) {
+        Kind::Stream(format)
     } else if begins_script(bytes) {
         Kind::Script
     } else {
         Kind::Other
     }
-}
-
-/// Whether bytes begin with a frame of ETI (NI): its error field, and one of its two
-/// synchronisation words (EN 300 799 clause 6.2).
-fn is_eti(bytes: &[u8]) -> bool {
-    matches!(bytes, [_, 0x07, 0x3A, 0xB6, ..] | [_, 0xF8, 0xC5, 0x49, ..])
 }
 
 /// Whether the first word of a text, behind comments, is that of a script.

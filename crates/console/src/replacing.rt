@@ -9,8 +9,8 @@
 //! 2. The old file gets a second name, `OUT.dabplan-old`, and the new one is renamed to OUT.
 //! 3. The old file is written, and renamed to OUT again.
 //!
-//! So whoever reads OUT, or ends the program at any moment, has the old bytes or the new ones. Where
-//! one of the first two steps fails, the old file is written in its place.
+//! So whoever reads OUT, or ends the program at any moment, has the old bytes or the new ones.
+//! Where one of the first two steps fails, the old file is written in its place.
 
 use crate::places::{Place, beside, is_one, opened, parts_of, place_of};
 use crate::waiting::Waiting;
@@ -46,7 +46,8 @@ where
 
 /// Makes a file of these bytes: it is renamed when it is whole, if it can be made beside its place.
 fn made<R: Files + AllocGlobal>(rt: &R, path: &str, bytes: &[u8]) -> io::Result<()> {
-    if made_beside(rt, path, bytes).is_ok() {
+    let new = name_beside(rt, path, NEW)?;
+    if made_beside(rt, path, new.as_str(), bytes).is_ok() {
         return Ok(());
     }
     let mut file = OpenOptions::new()
@@ -60,11 +61,9 @@ fn made<R: Files + AllocGlobal>(rt: &R, path: &str, bytes: &[u8]) -> io::Result<
     written
 }
 
-/// Makes a file of these bytes beside its place, and renames it. Nothing is left of it if that
-/// fails.
-fn made_beside<R: Files + AllocGlobal>(rt: &R, path: &str, bytes: &[u8]) -> io::Result<()> {
-    let new = name_beside(rt, path, NEW)?;
-    let new = new.as_str();
+/// Makes a file of these bytes under a name beside its place, and renames it. Nothing is left of it
+/// if that fails.
+fn made_beside<R: Files>(rt: &R, path: &str, new: &str, bytes: &[u8]) -> io::Result<()> {
     let made = match written_as(rt, new, 0o666, bytes) {
         Ok(_) => fs::rename(rt, new, path),
         Err(error) => Err(error),
@@ -82,43 +81,29 @@ fn rewritten<R: Files + AllocGlobal>(
     before: &Metadata,
     bytes: &[u8],
 ) -> io::Result<()> {
+    let new = name_beside(rt, path, NEW)?;
+    let old = name_beside(rt, path, OLD)?;
+    let (new, old) = (new.as_str(), old.as_str());
     let mut file = OpenOptions::new().write(true).open(rt, path)?;
-    let Ok(old) = put_before(rt, path, before, bytes) else {
+    if exchanged(rt, path, before, (new, old), bytes).is_err() {
+        let _ = fs::remove_file(rt, new);
+        let _ = fs::remove_file(rt, old);
         lengthened(&mut file, before.len(), bytes)?;
         return overwritten(&mut file, bytes);
-    };
+    }
     let has_room = lengthened(&mut file, before.len(), bytes);
     if has_room.is_err() || overwritten(&mut file, bytes).is_ok() {
-        fs::rename(rt, old.as_str(), path)?;
+        fs::rename(rt, old, path)?;
         return has_room;
     }
     // The old file has lost its bytes: the new one stays.
-    fs::remove_file(rt, old.as_str())
+    fs::remove_file(rt, old)
 }
 
 /// Puts a new file of these bytes in the place of one that is there, with its owner, group and
-/// permissions, and returns the name that the old one has meanwhile. If that fails, nothing is left
-/// of it.
-fn put_before<R: Files + AllocGlobal>(
-    rt: &R,
-    path: &str,
-    before: &Metadata,
-    bytes: &[u8],
-) -> io::Result<String> {
-    let new = name_beside(rt, path, NEW)?;
-    let old = name_beside(rt, path, OLD)?;
-    match exchanged(rt, path, before, (new.as_str(), old.as_str()), bytes) {
-        Ok(()) => Ok(old),
-        Err(error) => {
-            let _ = fs::remove_file(rt, new.as_str());
-            let _ = fs::remove_file(rt, old.as_str());
-            Err(error)
-        }
-    }
-}
-
-/// Makes the new file under its name, gives the old one its second name, and renames the new one.
-fn exchanged<R: Files + AllocGlobal>(
+/// permissions: makes it under the first of two names, gives the old one the second, and renames
+/// the new one.
+fn exchanged<R: Files>(
     rt: &R,
     path: &str,
     before: &Metadata,

@@ -133,7 +133,8 @@ def it_does_not_begin(rows):
     ):
         live(rows, code, b"frames 1\nframe\n", options, 1, b"", reported + "\n")
     ended = rows.run("live absent.code", {}, b"frames 1\n")
-    rows.tally.same("no code", (1, b"", b"cannot read absent.code\n"), (*ended.lines(), ended.messages))
+    why = b"absent.code: error: No such file or directory\n"
+    rows.tally.same("no code", (1, b"", b"cannot read absent.code\n" + why), (*ended.lines(), ended.messages))
 
 
 def the_output_fails(rows):

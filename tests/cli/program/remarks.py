@@ -1,6 +1,11 @@
 #!/usr/bin/env python3
-"""What standard error says besides of a file that can't be read, or that is of another kind than the command wants. The last line is
-'N passed, M failed'."""
+"""What standard error says besides of a file that can't be read or written, or that is of another kind than the command wants. The
+last line is 'N passed, M failed'."""
+import os
+import pathlib
+import shutil
+import subprocess
+
 import rows
 from rows import NOTHING, NOTHING_FILE, hexadecimal
 from streams import fib
@@ -9,6 +14,8 @@ CODE = hexadecimal(NOTHING_FILE)
 FIBS = fib("05 00 E1 C5 00 00 FF")
 # A frame of ETI (NI) begins with its error field and FSYNC, 073AB6 or F8C549 in turn.
 ETI = [b"\xff\x07\x3a\xb6" + bytes(60), b"\xff\xf8\xc5\x49" + bytes(60)]
+# An AF packet of EDI begins with 'AF', its length, number and version, and 'T' for tags.
+EDI = b"AF\x00\x00\x00\x34\x00\x01\x90T*ptr" + bytes(60)
 
 
 def remarks(rows, line, printed, remark, files):
@@ -26,13 +33,58 @@ def unread(rows):
     for line in ("compile none o", "verify none", "map none", "frame none --script --count 0", "listen none --script",
                  "diff none none"):
         remarks(rows, line, b"cannot read none\n", missing, {})
-    for line in ("listen none", "check none"):
+    for line in ("listen none", "check none", "listen none --json", "check none --json", "timeline none e", "debug none e"):
+        remarks(rows, line, b"cannot read none", missing, {})
         ended = rows.run(line)
-        rows.tally.same(f"{line}, of which standard error has only hints on streams", (1, b"cannot read none\n", b""),
-                        (*ended.lines(), ended.messages))
+        rows.tally.same(f"{line}, and nothing else", missing.encode() + b"\n", ended.messages)
+    for line in ("merge none p", "merge p none", "live none"):
+        ended = rows.run(line, {"p": FIBS * 3})
+        rows.tally.same(line, (1, b"", f"cannot read none\n{missing}\n".encode()), (*ended.lines(), ended.messages))
+    ended = rows.run("live none --json")
+    rows.tally.same("live none --json has objects alone", b'{"kind":"refused","cause":"cannot read none"}\n', ended.messages)
+    for line in ("listen /", "check /", "merge / p", "merge p /", "live /", "verify /", "timeline / e", "listen / --script"):
+        remarks(rows, line, b"cannot read /", "/: error: Is a directory", {"p": FIBS * 3})
+    for line in ("listen c/x", "check c/x", "merge c/x c", "live c/x"):
+        remarks(rows, line, b"cannot read c/x", "c/x: error: Not a directory", {"c": CODE})
+    long = "n" * 256
+    remarks(rows, f"listen {long}", b"cannot read ", f"{long}: error: File name too long", {})
     remarks(rows, "play c e o", b"cannot read e\n", "e: error: No such file or directory", {"c": CODE})
     remarks(rows, "compile / o", b"cannot read /\n", "/: error: Is a directory", {})
     remarks(rows, "compile c/x o", b"cannot read c/x\n", "c/x: error: Not a directory", {"c": CODE})
+
+
+def unwritten(rows):
+    """An output that is a folder, in no folder, behind a file, full, or that may not be written; said by each command that writes."""
+    files = {"s": NOTHING, "c": CODE, "e": "frames 1", "f": "a file"}
+    for line in ("compile s {}", "compile s {} --from s", "map s --svg {}", "timeline c e --svg {}", "timeline s e --svg {}", "play c e {}"):
+        for out, why in (("/", "Is a directory"), ("/tmp", "Is a directory"), ("none/o", "No such file or directory"),
+                         ("f/o", "Not a directory"), ("n" * 256, "File name too long"), ("/proc/version/o", "Not a directory")):
+            remarks(rows, line.format(out), f"cannot write {out}\n".encode(), f"{out}: error: {why}", files)
+    for line in ("compile s /dev/full", "map s --svg /dev/full", "timeline c e --svg /dev/full"):
+        remarks(rows, line, b"cannot write /dev/full\n", "/dev/full: error: No space left on device", files)
+    remarks(rows, "play c bad none/o", b"cannot write none/o\n", "none/o: error: No such file or directory", files | {"bad": "frames 0"})
+    ended = rows.run("compile s -", files)
+    rows.tally.same("standard output has no remark", (0, b"instructions 1 labels 1 configurations 1\n"), (ended.status, ended.messages))
+
+
+def unpermitted(rows):
+    """Files without permission, for somebody who is not root."""
+    if os.geteuid() != 0:
+        return
+    folder = pathlib.Path(rows.folder)
+    rows.run("help", {"s": NOTHING, "p": FIBS * 3, "o": "another's"})
+    folder.chmod(0o755)
+    shutil.copy(rows.program, folder / "dabplan")
+    for name, mode in (("s", 0o644), ("p", 0o600), ("o", 0o644), ("dabplan", 0o755)):
+        (folder / name).chmod(mode)
+    for words, said in ((["listen", "p"], "cannot read p"), (["check", "p"], "cannot read p"), (["merge", "p", "p"], "cannot read p"),
+                        (["compile", "s", "o"], "cannot write o"), (["compile", "s", "new"], "cannot write new"),
+                        (["map", "s", "--svg", "o"], "cannot write o")):
+        done = subprocess.run([folder / "dabplan", *words], cwd=folder, capture_output=True, check=False, user=65534, group=65534)
+        remark = f"{said.split()[-1]}: error: Permission denied".encode()
+        rows.tally.hold(done.returncode == 1 and said.encode() in done.stdout + done.stderr and remark in done.stderr.splitlines(),
+                        f"{words}: {done}")
+    rows.tally.same("what is another's", b"another's", rows.made("o"))
 
 
 def no_text(rows):
@@ -49,6 +101,7 @@ def other_kinds(rows):
         remarks(rows, line, b"", "s: error: these are FIBs", {"s": FIBS})
         for eti in ETI:
             remarks(rows, line, b"", "s: error: this is ETI", {"s": eti})
+        remarks(rows, line, b"", "s: error: this is EDI", {"s": EDI})
     script = f"# a comment\n\n  {NOTHING}"
     for line in ("verify s", "play s e o", "debug s e"):
         remarks(rows, line, b"code: ", "s: error: this is a script: compile it first", {"s": script, "e": "frames 1" if "play" in line else "run 1"})
@@ -74,4 +127,4 @@ def nothing_false(rows):
 
 
 if __name__ == "__main__":
-    rows.main([unread, no_text, other_kinds, nothing_said, nothing_false])
+    rows.main([unread, unwritten, unpermitted, no_text, other_kinds, nothing_said, nothing_false])

@@ -73,8 +73,9 @@ def replaced(rows):
     lay(rows, {"v": NOTHING, "w": b"before", "l": ("soft", "w")})
     path = pathlib.Path(rows.folder, "w")
     path.chmod(0o640)
+    file = path.stat().st_ino
     rows.tally.same("compile", 0, ends(rows, ["compile", "v", "l"])[0])
-    rows.tally.same("permissions", 0o640, path.stat().st_mode & 0o777)
+    rows.tally.same("permissions, and the file itself", (0o640, file), (path.stat().st_mode & 0o777, path.stat().st_ino))
     rows.tally.same("files", {"l", "v", "w"}, {entry.name for entry in pathlib.Path(rows.folder).iterdir()})
     rows.tally.same("the link", "w", os.readlink(pathlib.Path(rows.folder, "l")))
     rows.tally.same("behind it", CODE, path.read_bytes())
@@ -92,7 +93,8 @@ def unwritten(rows):
     for words in (["compile", "v", "w"], ["map", "v", "--svg", "w"]):
         for files in ({"v": NOTHING, "w": b"before"}, {"v": NOTHING}):
             lay(rows, files)
-            rows.tally.same(f"{words}: no room", (1, b"cannot write w\n", b""), ends(rows, words, preexec_fn=limit))
+            found = ends(rows, words, preexec_fn=limit)
+            rows.tally.same(f"{words}: no room", (1, b"cannot write w\n", b"w: error: File too large\n"), found)
             rows.tally.same(f"{words}: files", set(files), {entry.name for entry in pathlib.Path(rows.folder).iterdir()})
             rows.tally.same(f"{words}: w", files.get("w"), rows.made("w"))
     lay(rows, {"c": CODE, "e": "frames 0", "w": b"before"})

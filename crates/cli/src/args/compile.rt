@@ -95,7 +95,8 @@ does its steps. The lines of NOW's refusals begin with its path; 'refused: anoth
 has another EId or transmission mode.
 
 OUT is written last, and as a whole: where the script is refused, or OUT can't be written, it stays
-as it was. '-' is standard output, and the lines then go to standard error.
+as it was. A file that is there keeps its owner, permissions and links. '-' is standard output, and
+the lines then go to standard error.
 
 Example: a lower rate at night
   dabplan compile examples/any_hour.plan night.code

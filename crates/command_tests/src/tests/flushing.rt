@@ -133,6 +133,10 @@ impl<'w> Files for WatchedFiles<'w> {
         None
     }
 
+    fn refusal(&self) -> Option<&'static str> {
+        None
+    }
+
     fn input(&mut self) -> Result<Self::In, FileFault> {
         Ok(self.with(self.input))
     }
