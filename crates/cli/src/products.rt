@@ -8,6 +8,7 @@ use cli_plans::play::stream_play;
 use cli_scripts::compile::stream_compile;
 use cli_scripts::compile_from::stream_compile_from;
 use cli_scripts::explained::report_lines;
+use cli_streams::frame::stream_frame;
 use console::ending::report;
 use console::exit::{Failure, Status};
 use console::files::Files;
@@ -60,6 +61,7 @@ pub(crate) fn answer_product<F: Files, W: Write>(
         Request::CompileFrom(request) => {
             stream_compile_from(alloc, request, files, out, &mut lines)
         }
+        Request::Frame(request) => stream_frame(alloc, request, files, out, &mut lines),
         _ => print_product(alloc, request, files, out, &mut lines),
     };
     let remark = Remark::on(&ended);

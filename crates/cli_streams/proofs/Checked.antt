@@ -7,6 +7,7 @@ use Rattle.stream_monitor.specs.declared.ending.Ending.{Ending}
 use Rattle.stream_monitor.specs.declared.line.Line.{Line}
 use Rattle.stream_monitor.specs.declared.options.CheckOptions.{CheckOptions}
 use Rattle.stream_monitor.specs.Outcome.{Checks, ChecksInput}
+use Rattle.cli_streams.specs.Success.{HasFrame, StreamsFrame}
 use Rattle.cli_streams.specs.declared.frame.FrameFault.{FrameFault}
 use Rattle.cli_streams.specs.declared.frame.FrameRequest.{FrameRequest}
 
@@ -51,19 +52,31 @@ refused_frame : (raw : Bool) (made : Result (List ℕ) FrameFault) (fault : Fram
 refused_frame raw made fault old new status is refused =
     subst (λ (m : Result (List ℕ) FrameFault). PrintsFrame raw m old new status) is refused
 
-pub shows_frame : (r : FrameRequest) (given old new : Option (List ℕ)) (bytes_read frame : List ℕ)
+-- the frame of the bytes that were read is that of the request
+pub has_frame : (r : FrameRequest) (given : Option (List ℕ)) (bytes_read : List ℕ) (made : Result (List ℕ) FrameFault)
     → IfSome given (λ bytes. bytes_read ≡ take most_bytes bytes)
-    → Ok frame ≡ frame_of r.layout r.ensemble r.page bytes_read → (r.raw ≡ true → Appends old new frame)
-    → ShowsFrame r given old new Done
-shows_frame r None old new bytes_read frame read is put = tt
-shows_frame r (Some bytes) old new bytes_read frame read is put =
-    printed_frame r.raw _ frame old new Done (is ∙ ap (λ (l : List ℕ). frame_of r.layout r.ensemble r.page l) read) refl
-    put
+    → made ≡ frame_of r.layout r.ensemble r.page bytes_read → HasFrame r given made
+has_frame r None bytes_read made read is = tt
+has_frame r (Some bytes) bytes_read made read is =
+    is ∙ ap (λ (l : List ℕ). frame_of r.layout r.ensemble r.page l) read
 
-pub shows_fault : (r : FrameRequest) (given old new : Option (List ℕ)) (bytes_read : List ℕ) (fault : FrameFault)
-    → IfSome given (λ bytes. bytes_read ≡ take most_bytes bytes)
-    → Err fault ≡ frame_of r.layout r.ensemble r.page bytes_read → ShowsFrame r given old new Refused
-shows_fault r None old new bytes_read fault read is = tt
-shows_fault r (Some bytes) old new bytes_read fault read is =
-    refused_frame r.raw _ fault old new Refused (is ∙ ap (λ (l : List ℕ). frame_of r.layout r.ensemble r.page l) read)
-    refl
+pub shows_frame : (r : FrameRequest) (given old new : Option (List ℕ)) (frame : List ℕ) → HasFrame r given (Ok frame)
+    → (r.raw ≡ true → Appends old new frame) → ShowsFrame r given old new Done
+shows_frame r None old new frame has put = tt
+shows_frame r (Some bytes) old new frame has put = printed_frame r.raw _ frame old new Done has refl put
+
+pub shows_fault : (r : FrameRequest) (given old new : Option (List ℕ)) (fault : FrameFault)
+    → HasFrame r given (Err fault) → ShowsFrame r given old new Refused
+shows_fault r None old new fault has = tt
+shows_fault r (Some bytes) old new fault has = refused_frame r.raw _ fault old new Refused has refl
+
+pub streams_frame : (r : FrameRequest) (given old new : Option (List ℕ)) (frame : List ℕ) → HasFrame r given (Ok frame)
+    → Appends old new frame → StreamsFrame r given old new Done
+streams_frame r None old new frame has put = tt
+streams_frame r (Some bytes) old new frame has put =
+    printed_frame true _ frame old new Done has refl (λ raw. put)
+
+pub streams_fault : (r : FrameRequest) (given old new : Option (List ℕ)) (fault : FrameFault)
+    → HasFrame r given (Err fault) → StreamsFrame r given old new Refused
+streams_fault r None old new fault has = tt
+streams_fault r (Some bytes) old new fault has = refused_frame true _ fault old new Refused has refl

@@ -54,9 +54,18 @@ abbrev pub PrintsFrame : (raw : Bool) → Result (List ℕ) FrameFault → (old 
 PrintsFrame raw (Ok frame) old new status = (status ≡ Done) × (raw ≡ true → Appends old new frame)
 PrintsFrame raw (Err fault) old new status = status ≡ Refused
 
+-- the frame of the request, or why there is none
+abbrev pub HasFrame : FrameRequest → (given : Option (List ℕ)) → Result (List ℕ) FrameFault → Type 0
+HasFrame r given frame = IfSome given (λ bytes. frame ≡ frame_of r.layout r.ensemble r.page (take most_bytes bytes))
+
 abbrev pub ShowsFrame : FrameRequest → (given old new : Option (List ℕ)) → Status → Type 0
 ShowsFrame r given old new status = IfSome given (λ bytes.
     PrintsFrame r.raw (frame_of r.layout r.ensemble r.page (take most_bytes bytes)) old new status)
+
+-- the same with --raw, whatever the request says: standard output takes the bytes of the frame, and nothing else
+abbrev pub StreamsFrame : FrameRequest → (given old new : Option (List ℕ)) → Status → Type 0
+StreamsFrame r given old new status = IfSome given (λ bytes.
+    PrintsFrame true (frame_of r.layout r.ensemble r.page (take most_bytes bytes)) old new status)
 
 -- ---- `merge PLAN OTHER`
 

@@ -5,12 +5,12 @@ ghost use Rattle.std.specs.Io.KnownBytes.{Appends};
 ghost use Rattle.console.specs.Printed.{printed};
 ghost use Rattle.console.specs.World.{Stays};
 ghost use Rattle.cli_streams.specs.Frame.{frame_of, page_or_fault, sent};
-ghost use Rattle.cli_streams.specs.Success.{ShowsFrame, known_at};
+ghost use Rattle.cli_streams.specs.Success.{HasFrame, ShowsFrame, StreamsFrame, known_at};
 
 use console::exit::{Failure, Status, read_input};
 use console::files::Files;
 use console::hexadecimal::digits_of_fib;
-use console::output::Output;
+use console::output::{Output, write_through};
 use fib_carousel::{page, pages};
 use fib_codec::{FibFrame, FrameLayout, Mode};
 use mux_config::{Config, ConfigFault, Ensemble, RecordFault, read_config, soundness};
@@ -80,6 +80,7 @@ impl error::Error for FrameFault {}
 ///
 /// `Read` if the record can't be read, or `Memory` if out of memory, before anything is printed;
 /// `Output` if the output failed, after which nothing is printed.
+#[tactic(auto, using(crate::proofs::Checked::shows_frame, crate::proofs::Checked::shows_fault))]
 pub fn show_frame<'a, F: Files, W: Write>(
     alloc: Global,
     request: &FrameRequest<'a>,
@@ -91,14 +92,7 @@ pub fn show_frame<'a, F: Files, W: Write>(
         (printed W.contents out.old) (printed W.contents out.new)) }
     ensures world { Stays (F.world files.old) (F.world files.new) }
 {
-    let record = read_input(alloc, files, request.config, MOST_BYTES + 1)?;
-    let frame = frame_of(
-        record.as_slice(),
-        request.layout,
-        request.ensemble,
-        request.page,
-    );
-    match frame {
+    match asked_frame(alloc, request, files)? {
         Ok(frame) => {
             print_frame(&frame, request.raw, out)?;
             Ok(Status::Done)
@@ -108,6 +102,57 @@ pub fn show_frame<'a, F: Files, W: Write>(
             Ok(Status::Refused)
         }
     }
+}
+
+/// Runs `frame --raw`: writes the FIBs of the frame to `out` as bytes, whole, and nothing else; or
+/// why there is none to `lines`. Whether the request is for bytes does not matter.
+///
+/// The failures are those of [`show_frame`]: `Output` if `out` fails, which may have taken some
+/// bytes then, or if `lines` fails.
+#[tactic(auto, using(crate::proofs::Checked::streams_frame,
+    crate::proofs::Checked::streams_fault))]
+pub fn stream_frame<'a, F: Files, W: Write, L: Write>(
+    alloc: Global,
+    request: &FrameRequest<'a>,
+    files: &mut F,
+    out: &mut W,
+    lines: &mut L,
+) -> Result<Status, Failure<'a>>
+    ensures success { IfOk result (StreamsFrame request.now
+        (known_at (F.known files.old) (F.known_input files.old) request.now.config.now)
+        (W.contents out.old) (W.contents out.new)) }
+    ensures world { Stays (F.world files.old) (F.world files.new) }
+{
+    match asked_frame(alloc, request, files)? {
+        Ok(frame) => {
+            write_through(frame.bytes(), out)?;
+            Ok(Status::Done)
+        }
+        Err(fault) => {
+            writeln!(lines, "{fault}")?;
+            Ok(Status::Refused)
+        }
+    }
+}
+
+/// The frame of a request, or why there is none. `Read` if the record can't be read, `Memory` if
+/// out of memory.
+fn asked_frame<'a, F: Files>(
+    alloc: Global,
+    request: &FrameRequest<'a>,
+    files: &mut F,
+) -> Result<Result<FibFrame, FrameFault>, Failure<'a>>
+    ensures frame { IfOk result (HasFrame request.now
+        (known_at (F.known files.old) (F.known_input files.old) request.now.config.now)) }
+    ensures world { Stays (F.world files.old) (F.world files.new) }
+{
+    let record = read_input(alloc, files, request.config, MOST_BYTES + 1)?;
+    Ok(frame_of(
+        record.as_slice(),
+        request.layout,
+        request.ensemble,
+        request.page,
+    ))
 }
 
 /// The FIBs of page `index` of the configuration in a record, with FIG 0/0 of `ensemble` if its
