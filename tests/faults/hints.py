@@ -17,13 +17,19 @@ import mistakes
 
 HINT = re.compile(r"hint: (.*?)(; then it is accepted)?")
 MOVE = re.compile(r"move line (\d+) behind line (\d+)")
-PART = re.compile(r"(put|write|leave out) '(.*?)'(?: (before|in place of) (?:'(.*?)' in )?line (\d+)| in line (\d+))?")
+PLACE = r"(?:in line (\d+)|at (\d+):(\d+))"
+PART = re.compile(rf"(put|write|leave out) '(.*?)'(?: (before|in place of) '(.*?)' {PLACE}| before line (\d+)| {PLACE})?")
+# What is done with the character at the position of the refusal.
+CHARACTER = {"write a blank in its place": " ", "write '-' in its place": "-", "leave it out": ""}
 
 
-def span(line, words):
-    """Where words are in a line, blanks between them: there they must be once."""
+def span(line, words, column):
+    """Where words are in a line, blanks between them: there they must be once, where no column is named."""
     parts = r"[ \t;]+".join(map(re.escape, words.split()))
     found = list(re.finditer(rf"(?<![\w:-]){parts}(?![\w:-])" if re.match(r"[\w:-]", words) else parts, line))
+    if column is not None:
+        at = [each.span() for each in found if each.start() == column - 1]
+        return at[0] if at and len(found) > 1 else None
     return found[0].span() if len(found) == 1 else None
 
 
@@ -36,23 +42,31 @@ def applied(text, hint, position):
         lines.insert(behind, lines[taken - 1])
         del lines[taken - 1]
         return "\n".join(lines)
+    if hint in CHARACTER:
+        at, column = position
+        line = lines[at - 1].encode()
+        character = line[column - 1:].decode()[0].encode()
+        lines[at - 1] = (line[:column - 1] + CHARACTER[hint].encode() + line[column - 1 + len(character):]).decode()
+        return "\n".join(lines)
     steps = []
     for part in hint.split(", and "):
         found = PART.fullmatch(part)
         if found is None:
             return None
         steps.append(found.groups())
-    for verb, new, how, old, line, other in reversed(steps):
-        if line is None and other is None:
+    for verb, new, _how, old, line, at_line, at_column, before, out_line, out_at, out_column in reversed(steps):
+        line = line or at_line or before or out_line or out_at
+        if line is None:
             at, column = position
             rest = lines[at - 1][column - 1:]
             lines[at - 1] = lines[at - 1][:column - 1] + new + rest[len(re.match(r"[\w:-]+|.", rest)[0]):]
             continue
-        at = int(line or other)
+        at = int(line)
         if verb == "put" and old is None:
             lines.insert(at - 1, new)
             continue
-        where = span(lines[at - 1], new if verb == "leave out" else old)
+        column = at_column or out_column
+        where = span(lines[at - 1], new if verb == "leave out" else old, column and int(column))
         if where is None:
             return "ambiguous"
         start, end = where

@@ -40,9 +40,9 @@ pub fn answer<S: AsStr, F: Files, W: Write>(
     if writes_frames(args) {
         return answer_frames(alloc, args, files, out);
     }
-    if let Some(name) = cause_asked(args) {
+    if let Some(asked) = cause_asked(args) {
         let mut output = Output::new(out);
-        let ended = print_causes(name, &mut output);
+        let ended = print_causes(&asked, &mut output);
         return finish(ended, &mut output);
     }
     match request_of(alloc, args) {

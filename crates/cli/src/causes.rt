@@ -1,7 +1,7 @@
 //! `dabplan help CAUSE`: what a cause means for which a script or a plan is refused, as
 //! docs/guide/SCRIPTS.md has it.
 
-use Cause::{Fault, Plan};
+use Cause::{Code, Fault, Plan};
 use console::exit::Status;
 use std::convert::AsStr;
 use std::io::{self, Write};
@@ -11,13 +11,16 @@ use std::io::{self, Write};
 enum Cause {
     /// A fault of a text: how it is printed in a refusal, and when it comes.
     Fault(&'static str, &'static str),
+    /// A cause for which codes alone are refused, never scripts: its name, when it comes, and what
+    /// to do about it.
+    Code(&'static str, &'static str, &'static str),
     /// A cause for which plans are refused: how it is printed in a refusal, when it comes, what to
     /// do about it, and the name of a script in examples/refused that is refused for it.
     Plan(&'static str, &'static str, &'static str, &'static str),
 }
 
 /// The faults of texts, and the causes for which plans are refused.
-const CAUSES: [Cause; 29] = [
+const CAUSES: [Cause; 32] = [
     Fault(
         "Byte",
         "a byte outside comments that is not allowed in a script",
@@ -197,42 +200,97 @@ entries; no 'reserve'",
         "'repeat' instead of copies",
         "limit",
     ),
+    Code(
+        "Target",
+        "the instruction jumps to where no label is",
+        "a label there, as docs/design/PLANS.md has it",
+    ),
+    Code(
+        "CounterUnset",
+        "the loop's counter may not be set",
+        "set it on each path to the loop",
+    ),
+    Code(
+        "FallsOff",
+        "the plan does not end with an instruction that ends it",
+        "'End' or a jump as the last instruction",
+    ),
 ];
 
-impl Cause {
-    /// Whether it has this name, in whatever letters: the first word of how it is printed, behind
-    /// `Edit` or `Config`.
-    fn is_named(&self, name: &str) -> bool {
-        let (Fault(printed, _) | Plan(printed, ..)) = self;
-        let named = match printed.split_once(' ') {
-            Some(("Edit" | "Config", named)) => named,
-            _ => printed,
-        };
-        match named.split_once(' ') {
-            Some((own, _numbers)) => own.eq_ignore_ascii_case(name),
-            None => named.eq_ignore_ascii_case(name),
-        }
+/// What help is asked for: the name of a cause, and the word before it, if it is given.
+#[derive(Clone, Copy)]
+pub(crate) struct Asked<'a> {
+    kind: Option<&'a str>,
+    name: &'a str,
+}
+
+/// What one argument asks for, as `IdUsed` or `Edit IdUsed`.
+fn asked_in(whole: &str) -> Asked<'_> {
+    match whole.split_once(' ') {
+        None => Asked {
+            kind: None,
+            name: whole,
+        },
+        Some((kind, name)) => Asked {
+            kind: Some(kind),
+            name: without_numbers(name),
+        },
     }
 }
 
-/// The name of the cause that these arguments ask for help on, `help CAUSE`; `None` if they ask for
-/// something else.
-pub(crate) fn cause_asked<S: AsStr>(args: &[S]) -> Option<&str> {
-    let [command, name] = args else {
-        return None;
+/// A name without the numbers of `Overlap`.
+fn without_numbers(name: &str) -> &str {
+    match name.split_once(' ') {
+        Some((own, _numbers)) if own.eq_ignore_ascii_case("Overlap") => own,
+        _ => name,
+    }
+}
+
+impl Cause {
+    /// Whether it is asked for, in whatever letters: by the first word of how it is printed, behind
+    /// `Edit` or `Config`, or by both words.
+    fn is_asked(&self, asked: &Asked<'_>) -> bool {
+        let (Fault(printed, _) | Code(printed, ..) | Plan(printed, ..)) = self;
+        let (kind, named) = match printed.split_once(' ') {
+            Some((kind, named)) => (Some(kind), without_numbers(named)),
+            None => (None, *printed),
+        };
+        let is_kind = match (asked.kind, kind) {
+            (None, _) => true,
+            (Some(asked), Some(own)) => asked.eq_ignore_ascii_case(own),
+            (Some(_), None) => false,
+        };
+        is_kind && named.eq_ignore_ascii_case(asked.name)
+    }
+}
+
+/// The cause that these arguments ask for help on, `help CAUSE`, as one argument or as the words of
+/// which it consists; `None` if they ask for something else.
+pub(crate) fn cause_asked<S: AsStr>(args: &[S]) -> Option<Asked<'_>> {
+    let (command, words) = args.split_first()?;
+    let asked = match words {
+        [whole] => asked_in(whole.as_str()),
+        [kind, name] => Asked {
+            kind: Some(kind.as_str()),
+            name: name.as_str(),
+        },
+        [kind, name, _one, _other] if name.as_str().eq_ignore_ascii_case("Overlap") => Asked {
+            kind: Some(kind.as_str()),
+            name: name.as_str(),
+        },
+        _ => return None,
     };
-    let name = name.as_str();
-    if command.as_str() == "help" && CAUSES.iter().any(|cause| cause.is_named(name)) {
-        return Some(name);
+    if command.as_str() == "help" && CAUSES.iter().any(|cause| cause.is_asked(&asked)) {
+        return Some(asked);
     }
     None
 }
 
-/// Prints the page of each cause of this name.
-pub(crate) fn print_causes<W: Write>(name: &str, out: &mut W) -> io::Result<Status> {
+/// Prints the page of each cause that is asked for.
+pub(crate) fn print_causes<W: Write>(asked: &Asked<'_>, out: &mut W) -> io::Result<Status> {
     let mut is_first = true;
     for cause in &CAUSES {
-        if cause.is_named(name) {
+        if cause.is_asked(asked) {
             if !is_first {
                 writeln!(out)?;
             }
@@ -249,6 +307,12 @@ fn print_page<W: Write>(cause: &Cause, out: &mut W) -> io::Result<()> {
         Fault(printed, meaning) => {
             writeln!(out, "LINE:COLUMN: {printed}")?;
             print_lines(meaning, out)
+        }
+        Code(printed, meaning, advice) => {
+            writeln!(out, "refused at PC line L: {printed}")?;
+            print_lines(meaning, out)?;
+            writeln!(out, "What to do:")?;
+            print_lines(advice, out)
         }
         Plan(printed, meaning, advice, script) => {
             writeln!(out, "refused line L: {printed}")?;

@@ -4,11 +4,13 @@ ghost use Rattle.std.specs.Prelude.{◌≤◌};
 
 use crate::args::{FramesRequest, frames_request_of};
 use crate::mistakes::answer_mistake;
-use crate::remarks::remark_failure;
+use crate::remarks::{remark_code, remark_failure};
 use cli_plans::live::{JsonEnding, LiveEnding, LiveRequest, play_live};
 use cli_streams::merge::{MergeFault, MergeRequest, show_merged};
 use console::ending::status_number;
 use console::files::Files;
+use plan_live::LiveFault;
+use plan_session::RunFault;
 use std::alloc::Global;
 use std::convert::AsStr;
 use std::io::Write;
@@ -53,9 +55,20 @@ fn answer_live<F: Files, W: Write>(
         Ok(()) => 0,
         Err(ending) => {
             report_ending(alloc, files, request.json, &ending);
+            if !request.json && is_of_code(&ending) {
+                remark_code(alloc, request.code, files);
+            }
             1
         }
     }
+}
+
+/// Whether a live run did not begin, since its file is no code.
+fn is_of_code(ending: &LiveEnding<'_>) -> bool {
+    matches!(
+        ending,
+        LiveEnding::Live(LiveFault::Playback(RunFault::Code(_)))
+    )
 }
 
 /// Writes the line of the end of a live run on standard error; and behind it, but for objects of

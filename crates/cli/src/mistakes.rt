@@ -3,6 +3,7 @@
 ghost use Rattle.std.specs.Prelude.{◌≤◌, IfOk};
 
 use crate::args::UsageError;
+use console::escaped::Escaped;
 use console::exit::{Failure, Status};
 use console::files::Files;
 use console::output::Output;
@@ -108,8 +109,9 @@ fn print_mistake<W: Write>(text: &str, out: &mut W) -> io::Result<()> {
 /// Prints a line of an error text, where it rejects a number with the reason in plain words.
 fn write_reason<W: Write>(line: &str, out: &mut W) -> io::Result<()> {
     let Some((value, reason)) = line.rsplit_once("': ") else {
-        return write!(out, "{line}");
+        return write!(out, "{}", Escaped::in_line(line));
     };
+    let value = Escaped::in_line(value);
     match range_of(reason) {
         Some((lowest, highest)) => {
             write!(

@@ -24,6 +24,8 @@ enum Kind {
     Script,
     Fibs,
     Stream(Format),
+    /// Steps or commands: the second file of its command.
+    Items,
     Other,
 }
 
@@ -60,13 +62,21 @@ pub(crate) fn make_remark<F: Files>(
     files: &mut F,
 ) {
     match (remark, wanted_of(request)) {
-        (Remark::Refused, Some((path, wanted))) => {
-            let _is_said = remark_kind(alloc, path, wanted, files);
+        (Remark::Refused, wanted) => {
+            let is_said = match wanted {
+                Some((path, wanted)) => remark_kind(alloc, path, wanted, files),
+                None => false,
+            };
+            if !is_said {
+                let _is_said = remark_items(alloc, request, files);
+            }
         }
         (Remark::Unread(path), wanted) => {
             let is_said = match wanted {
-                Some((input, wanted)) => input == path && remark_kind(alloc, path, wanted, files),
-                None => false,
+                Some((input, wanted)) if input == path => {
+                    remark_kind(alloc, path, wanted, files)
+                }
+                _ => items_of(request) == Some(path) && remark_items(alloc, request, files),
             };
             if !is_said {
                 remark_unread(alloc, path, is_text(request, path), files);
@@ -92,6 +102,30 @@ fn remark_unwritten<F: Files>(alloc: Global, path: &str, files: &mut F) {
     }
     if let Some(reason) = files.refusal() {
         report_error(alloc, path, reason, files);
+    }
+}
+
+/// Reports what the file of a path is, if it is none of a code.
+pub(crate) fn remark_code<F: Files>(alloc: Global, path: &str, files: &mut F) {
+    let _is_said = remark_kind(alloc, path, Kind::Code, files);
+}
+
+/// The file of a request that lists steps or commands.
+fn items_of<'r>(request: &Request<'r>) -> Option<&'r str> {
+    match request {
+        Request::Play(request) => Some(request.events),
+        Request::Debug(request) => Some(request.commands),
+        Request::Timeline(request) => Some(request.events),
+        _ => None,
+    }
+}
+
+/// Reports what the file with the steps or commands of a request is, if it lists none; returns
+/// whether it does.
+fn remark_items<F: Files>(alloc: Global, request: &Request<'_>, files: &mut F) -> bool {
+    match items_of(request) {
+        Some(path) => remark_kind(alloc, path, Kind::Items, files),
+        None => false,
     }
 }
 
@@ -203,6 +237,10 @@ fn text_of(kind: Kind, wanted: Kind) -> Option<&'static str> {
         (Kind::Code, Kind::Script) => Some("this is a code file: its script is wanted"),
         (Kind::Script, Kind::Code) => Some("this is a script: compile it first"),
         (Kind::Script, Kind::Other) => Some("this is a script: with --script"),
+        (Kind::Code, Kind::Items) => {
+            Some("this is a code file: it stands first, events and commands behind it")
+        }
+        (Kind::Script, Kind::Items) => Some("this is a script: events and commands are wanted"),
         (Kind::Code, _) => Some("this is a code file"),
         (Kind::Fibs, _) => Some("these are FIBs"),
         (Kind::Stream(Format::Eti), _) => Some("this is ETI"),

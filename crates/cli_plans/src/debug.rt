@@ -1,6 +1,8 @@
 //! `dabplan debug`: steps through a plan code by the commands of a file.
 
 use crate::event_file::read_event_text;
+use crate::item_notes::report_items;
+use crate::item_place::Listing;
 use crate::play::print_ending;
 use crate::reports::drive;
 use console::code_file::read_code;
@@ -31,16 +33,25 @@ pub fn show_debug<'a, F: Files, W: Write>(
     out: &mut W,
 ) -> Result<Status, Failure<'a>> {
     let code = read_code(alloc, files, request.code)?;
-    let commands = read_event_text(alloc, files, request.commands)?;
+    let text = read_event_text(alloc, files, request.commands)?;
     let session = match Session::new(alloc, code.as_slice(), request.start) {
         Ok(session) => session,
         Err(fault) => return print_ending(Err(fault), out),
     };
-    let mut commands = match CommandList::new(commands.as_str()) {
+    let text = text.as_str();
+    let mut commands = match CommandList::new(text) {
         Ok(commands) => commands,
         Err(EventFault::Memory) => return Err(Failure::Memory),
         Err(fault) => {
             writeln!(out, "commands {fault}")?;
+            report_items(
+                alloc,
+                request.commands,
+                text,
+                Listing::Commands,
+                fault,
+                files,
+            );
             return Ok(Status::Refused);
         }
     };

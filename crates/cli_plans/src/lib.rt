@@ -6,8 +6,13 @@
 
 pub mod debug;
 pub mod event_file;
+mod item_hints;
+pub mod item_notes;
+mod item_place;
 pub mod live;
 pub mod play;
 mod reports;
 mod standard_error;
 mod writer_sink;
+
+pub use item_place::Listing;

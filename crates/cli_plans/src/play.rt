@@ -6,6 +6,8 @@ ghost use Rattle.console.specs.declared.exit.Status.TheVariants.{Done as PlayedT
 ghost use Rattle.cli_plans.specs.Success.{Plays, PlaysToOutput, IsPlayedInto, IsPlayedTo};
 
 use crate::event_file::read_event_text;
+use crate::item_notes::{lines_on_items, report_items};
+use crate::item_place::Listing;
 use crate::writer_sink::WriterSink;
 use console::code_file::read_code;
 use console::exit::{Failure, Status, touch_file};
@@ -13,7 +15,7 @@ use console::files::Files;
 use plan_code::CodeFault;
 use plan_session::{EventFault, RunFault, Session, StartOptions, StepList, play_into};
 use std::alloc::Global;
-use std::io::Write;
+use std::io::{self, Write};
 
 /// The arguments of `play`.
 #[derive(Clone, Copy)]
@@ -52,6 +54,17 @@ pub fn run_play<'a, F: Files, W: Write>(
         Err(failure) => return Err(failure),
     };
     match write_playback(alloc, code.as_slice(), events.as_str(), request, files) {
+        Ok(Err(RunFault::Events(fault))) => {
+            report_items(
+                alloc,
+                request.events,
+                events.as_str(),
+                Listing::Steps,
+                fault,
+                files,
+            );
+            print_ending(Err(RunFault::Events(fault)), out)
+        }
         Ok(ended) => print_ending(ended, out),
         Err(failure) => Err(failure),
     }
@@ -124,7 +137,25 @@ pub fn stream_play<'a, F: Files, W: Write, L: Write>(
         Err(failure) => return (Err(failure), out),
     };
     let (ended, out) = stream_playback(alloc, code.as_slice(), events.as_str(), request.start, out);
-    (print_ending(ended, lines), out)
+    let printed = print_ending(ended, lines);
+    if let Err(RunFault::Events(fault)) = ended {
+        if let Err(error) = put_items(alloc, request.events, events.as_str(), fault, lines) {
+            return (Err(Failure::from(error)), out);
+        }
+    }
+    (printed, out)
+}
+
+/// Writes why the text of an event file of this path has no steps, behind the line that says so.
+fn put_items<L: Write>(
+    alloc: Global,
+    path: &str,
+    text: &str,
+    fault: EventFault,
+    lines: &mut L,
+) -> io::Result<()> {
+    let notes = lines_on_items(alloc, path, text, Listing::Steps, fault)?;
+    lines.write_all(notes.as_slice())
 }
 
 /// Plays a code over events to a writer. Returns the number of frames, and the writer.

@@ -6,6 +6,7 @@ mod BeginningLaws
 mod BlockLaws
 mod LateLaws
 mod DayLaws
+mod TrapLaws
 mod StraightLaws
 mod RepeatLaws
 mod Known
@@ -13,5 +14,6 @@ mod Changed
 mod WarningLaws
 mod VectorsOfWarnings
 mod VectorsOfDays
+mod VectorsOfTraps
 pub mod Vectors
 pub mod VectorsOfFacts

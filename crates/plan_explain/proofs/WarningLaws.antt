@@ -16,11 +16,12 @@ use Rattle.plan_explain.specs.declared.primary.Primary.{Primary}
 use Rattle.plan_explain.specs.declared.beginning.FirstWait.{FirstWait}
 use Rattle.plan_explain.specs.declared.warning.Warning.{Warning}
 use Rattle.plan_explain.specs.declared.warning.Warning.TheVariants.{Flawed, OtherPrimary, WaitsForTime, Unreached, Late}
-use Rattle.plan_explain.specs.declared.warning.Warning.TheVariants.{NextDay}
+use Rattle.plan_explain.specs.declared.warning.Warning.TheVariants.{NextDay, Trapped}
 use Rattle.plan_explain.specs.Flaws.{HasFlaw, flaws, is_among, unless_among}
 use Rattle.plan_explain.specs.Primaries.{IsOtherPrimary, primaries}
 use Rattle.plan_explain.specs.Beginnings.{first_wait}
 use Rattle.plan_explain.specs.Blocks.{unreached}
+use Rattle.plan_explain.specs.DayTraps.{traps}
 use Rattle.plan_explain.specs.Straight.{straight_warnings}
 use Rattle.plan_explain.specs.Repeats.{AreApart, AreEachOnce}
 use Rattle.plan_explain.specs.ConfigurationChanges.{between, at_instr, at_commits, at_opening}
@@ -33,6 +34,7 @@ use Rattle.plan_explain.proofs.BeginningLaws.{waits_first, is_found}
 use Rattle.plan_explain.proofs.BlockLaws.{is_unreached, unreached_listed}
 use Rattle.plan_explain.proofs.LateLaws.{has_late, late_listed}
 use Rattle.plan_explain.proofs.DayLaws.{has_day, day_listed}
+use Rattle.plan_explain.proofs.TrapLaws.{is_trap, trap_listed}
 use Rattle.plan_explain.proofs.StraightLaws.{only_straight}
 
 -- ---- one configuration in the place of another
@@ -190,17 +192,28 @@ straight_warranted script code (WaitsForTime f) has =
     absurd (only_straight script (WaitsForTime f) (λ no. no) (λ no. no) has)
 straight_warranted script code (Unreached line) has =
     absurd (only_straight script (Unreached line) (λ no. no) (λ no. no) has)
+straight_warranted script code (Trapped t) has =
+    absurd (only_straight script (Trapped t) (λ no. no) (λ no. no) has)
 
--- all but the last
-abbrev earlier : Tree → Program → List Known → List Warning
-earlier script code typing =
+trap_warranted : (script : Tree) (code : Program) (w : Warning) → Contains (traps code.lines) w
+    → IsWarranted script code w
+trap_warranted script code w has =
+    let of = is_trap code.lines w has in
+    subst (λ (x : Warning). IsWarranted script code x) of.is of.has
+
+-- all but the last two, and all but the last
+abbrev first_ones : Tree → Program → List Known → List Warning
+first_ones script code typing =
     (at_opening script.begin_line typing ++ at_commits code.lines typing)
     ++ at_wait (first_wait code.lines)
     ++ map Unreached (unreached code.lines script.blocks)
 
-earlier_warranted : (script : Tree) (code : Program) (typing : List Known) (w : Warning) → IsTyping code typing
-    → Contains (earlier script code typing) w → IsWarranted script code w
-earlier_warranted script code typing w h has =
+abbrev earlier : Tree → Program → List Known → List Warning
+earlier script code typing = first_ones script code typing ++ traps code.lines
+
+first_warranted : (script : Tree) (code : Program) (typing : List Known) (w : Warning) → IsTyping code typing
+    → Contains (first_ones script code typing) w → IsWarranted script code w
+first_warranted script code typing w h has =
     elim (Contains-append_cases ((at_opening script.begin_line typing ++ at_commits code.lines typing)
     ++ at_wait (first_wait code.lines)) (map Unreached (unreached code.lines script.blocks)) w has) [
       | inl most ↦ elim (Contains-append_cases (at_opening script.begin_line typing ++ at_commits code.lines typing)
@@ -220,6 +233,14 @@ earlier_warranted script code typing w h has =
       | inr block ↦ unreached_warranted script code w block
     ]
 
+earlier_warranted : (script : Tree) (code : Program) (typing : List Known) (w : Warning) → IsTyping code typing
+    → Contains (earlier script code typing) w → IsWarranted script code w
+earlier_warranted script code typing w h has =
+    elim (Contains-append_cases (first_ones script code typing) (traps code.lines) w has) [
+      | inl first ↦ first_warranted script code typing w h first
+      | inr trap ↦ trap_warranted script code w trap
+    ]
+
 warranted_in : (script : Tree) (code : Program) (typing : List Known) (w : Warning) → IsTyping code typing
     → Contains (warnings script code typing) w → IsWarranted script code w
 warranted_in script code typing w h has =
@@ -235,10 +256,19 @@ module _ (script : Tree) (code : Program) (w : Warning) where
       → Contains (warnings script code typing) w
   in_earlier typing h = Contains-append_left (earlier script code typing) (straight_warnings script) w h
 
+  in_first : (typing : List Known) → Contains (first_ones script code typing) w
+      → Contains (warnings script code typing) w
+  in_first typing h = in_earlier typing
+      (Contains-append_left (first_ones script code typing) (traps code.lines) w h)
+
+  in_traps : (typing : List Known) → Contains (traps code.lines) w → Contains (warnings script code typing) w
+  in_traps typing h = in_earlier typing
+      (Contains-append_right (first_ones script code typing) (traps code.lines) w h)
+
   in_configurations : (typing : List Known) → Contains
       (at_opening script.begin_line typing ++ at_commits code.lines typing) w → Contains (warnings script code typing) w
   in_configurations typing h =
-      in_earlier typing (Contains-append_left ((at_opening script.begin_line typing ++ at_commits code.lines typing)
+      in_first typing (Contains-append_left ((at_opening script.begin_line typing ++ at_commits code.lines typing)
       ++ at_wait (first_wait code.lines)) (map Unreached (unreached code.lines script.blocks)) w
       (Contains-append_left (at_opening script.begin_line typing ++ at_commits code.lines typing)
       (at_wait (first_wait code.lines)) w h))
@@ -256,7 +286,7 @@ module _ (script : Tree) (code : Program) (w : Warning) where
   in_waits : (typing : List Known) → Contains (at_wait (first_wait code.lines)) w
       → Contains (warnings script code typing) w
   in_waits typing h =
-      in_earlier typing (Contains-append_left ((at_opening script.begin_line typing ++ at_commits code.lines typing)
+      in_first typing (Contains-append_left ((at_opening script.begin_line typing ++ at_commits code.lines typing)
       ++ at_wait (first_wait code.lines)) (map Unreached (unreached code.lines script.blocks)) w
       (Contains-append_right (at_opening script.begin_line typing ++ at_commits code.lines typing)
       (at_wait (first_wait code.lines)) w h))
@@ -264,7 +294,7 @@ module _ (script : Tree) (code : Program) (w : Warning) where
   in_blocks : (typing : List Known) → Contains (map Unreached (unreached code.lines script.blocks)) w
       → Contains (warnings script code typing) w
   in_blocks typing h =
-      in_earlier typing (Contains-append_right ((at_opening script.begin_line typing ++ at_commits code.lines typing)
+      in_first typing (Contains-append_right ((at_opening script.begin_line typing ++ at_commits code.lines typing)
       ++ at_wait (first_wait code.lines)) (map Unreached (unreached code.lines script.blocks)) w h)
 
   in_straight : (typing : List Known) → Contains (straight_warnings script) w → Contains (warnings script code typing) w
@@ -346,6 +376,9 @@ listed script code ws typed lists (Late u) h =
 listed script code ws typed lists (NextDay d) h =
     subst (λ (xs : List Warning). Contains xs (NextDay d)) (sym (lists typed.0 typed.1))
     (in_straight script code (NextDay d) typed.0 (day_listed script d h))
+listed script code ws typed lists (Trapped t) h =
+    subst (λ (xs : List Warning). Contains xs (Trapped t)) (sym (lists typed.0 typed.1))
+    (in_traps script code (Trapped t) typed.0 (trap_listed code.lines t h))
 
 pub warranted : (script : Tree) (code : Program) (ws : List Warning) → IsTyped code
     → ((typing : List Known) → IsTyping code typing → ws ≡ warnings script code typing) → (w : Warning) → Contains ws w

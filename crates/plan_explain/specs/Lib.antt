@@ -5,6 +5,7 @@ pub mod Blocks
 pub mod ActsInside
 pub mod LateUntils
 pub mod DayWaits
+pub mod DayTraps
 pub mod Straight
 pub mod ConfigurationChanges
 pub mod Walking

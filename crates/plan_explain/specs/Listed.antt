@@ -8,6 +8,7 @@ use Rattle.plan_explain.specs.declared.warning.Warning.{Warning}
 use Rattle.plan_explain.specs.declared.warning.Warning.TheVariants.{WaitsForTime, Unreached}
 use Rattle.plan_explain.specs.Beginnings.{first_wait}
 use Rattle.plan_explain.specs.Blocks.{unreached}
+use Rattle.plan_explain.specs.DayTraps.{traps}
 use Rattle.plan_explain.specs.Straight.{straight_warnings}
 use Rattle.plan_explain.specs.ConfigurationChanges.{at_opening, at_commits}
 
@@ -20,4 +21,5 @@ warnings script code typing =
     (at_opening script.begin_line typing ++ at_commits code.lines typing)
     ++ at_wait (first_wait code.lines)
     ++ map Unreached (unreached code.lines script.blocks)
+    ++ traps code.lines
     ++ straight_warnings script

@@ -10,13 +10,14 @@ use Rattle.plan_explain.specs.declared.flaw.Flaw.{Flaw}
 use Rattle.plan_explain.specs.declared.primary.Primary.{Primary}
 use Rattle.plan_explain.specs.declared.warning.Warning.{Warning}
 use Rattle.plan_explain.specs.declared.warning.Warning.TheVariants.{Flawed, OtherPrimary, WaitsForTime, Unreached, Late}
-use Rattle.plan_explain.specs.declared.warning.Warning.TheVariants.{NextDay}
+use Rattle.plan_explain.specs.declared.warning.Warning.TheVariants.{NextDay, Trapped}
 use Rattle.plan_explain.specs.Flaws.{HasFlaw}
 use Rattle.plan_explain.specs.Primaries.{IsOtherPrimary}
 use Rattle.plan_explain.specs.Beginnings.{WaitsFirst}
 use Rattle.plan_explain.specs.Blocks.{IsUnreached}
 use Rattle.plan_explain.specs.LateUntils.{HasLateUntil}
 use Rattle.plan_explain.specs.DayWaits.{HasDayWaitIn}
+use Rattle.plan_explain.specs.DayTraps.{HasTrap}
 
 -- ---- what comes on air, and what was there before
 
@@ -68,3 +69,4 @@ IsWarranted script code (WaitsForTime wait) = WaitsFirst code.lines wait
 IsWarranted script code (Unreached line) = IsUnreached code.lines script.blocks line
 IsWarranted script code (Late until) = HasLateUntil script until
 IsWarranted script code (NextDay wait) = HasDayWaitIn script wait
+IsWarranted script code (Trapped trap) = HasTrap code.lines trap

@@ -23,7 +23,7 @@ pub struct DayWait {
 }
 
 /// A number of frames and more of them, a day at most.
-fn more(frames: u32, others: u32) -> u32
+pub(crate) fn more(frames: u32, others: u32) -> u32
     ensures { result ≡ more frames others }
 {
     let sum = u64::from(frames) + u64::from(others);
@@ -34,7 +34,7 @@ fn more(frames: u32, others: u32) -> u32
 }
 
 /// The number of frames after a swap has come that does not come before this.
-fn swapped(frames: u32, swap: Option<u32>) -> u32
+pub(crate) fn swapped(frames: u32, swap: Option<u32>) -> u32
     ensures { result ≡ swapped frames swap }
 {
     match swap {

@@ -29,6 +29,7 @@ fn is_same(one: &Warning, other: &Warning) -> bool
         (Warning::Unreached(m), Warning::Unreached(n)) => *m == *n,
         (Warning::Late(a), Warning::Late(b)) => *a == *b,
         (Warning::NextDay(a), Warning::NextDay(b)) => *a == *b,
+        (Warning::Trapped(a), Warning::Trapped(b)) => *a == *b,
         _ => false,
     }
 }

@@ -31,6 +31,11 @@ fn without_zeros(bytes: &[u8]) -> &[u8] {
     bytes.get(start..).unwrap_or(bytes)
 }
 
+/// The frames of whole seconds that are at least so many: 3 s are 125 frames.
+fn whole_seconds(frames: u32) -> u32 {
+    frames.div_ceil(125).saturating_mul(125)
+}
+
 /// A token that is invalid after the front, in the place of which others are tried in turn.
 #[derive(Clone, Copy)]
 pub(crate) struct Wrong<'a> {
@@ -41,7 +46,7 @@ pub(crate) struct Wrong<'a> {
 
 impl<'a> Wrong<'a> {
     /// Tries a token that is valid after the front.
-    fn attempt(&self, trier: &mut Trier, token: &str) -> Result<(), AllocError> {
+    pub(crate) fn attempt(&self, trier: &mut Trier, token: &str) -> Result<(), AllocError> {
         if !trier.is_done() && self.front.passes(token)? {
             return trier.write_token(self.spot, token);
         }
@@ -92,6 +97,9 @@ impl<'a> Wrong<'a> {
     fn attempt_keyword(&self, trier: &mut Trier) -> Result<(), AllocError> {
         let token = text_of(trier.alloc, self.token)?;
         let lower = token.as_str().to_ascii_lowercase(trier.alloc)?;
+        if lower.as_bytes() != self.token {
+            self.attempt(trier, lower.as_str())?;
+        }
         let lists: [&[&str]; 5] = [&HEADER, &ITEMS, &OTHERS, &WAITS, &STATEMENTS];
         for words in lists {
             for word in words {
@@ -103,30 +111,20 @@ impl<'a> Wrong<'a> {
         Ok(())
     }
 
-    /// The number of frames that the token means, if it is in seconds.
-    pub(crate) fn frames(&self) -> Option<(u32, u32)> {
-        match leading_number(self.token) {
-            (seconds, b"s" | b"sec") if self.has_digit() => {
-                Some((seconds, seconds.saturating_mul(125).saturating_add(2) / 3))
-            }
-            _ => None,
-        }
-    }
-
     /// Whether the token begins with a digit.
     fn has_digit(&self) -> bool {
         matches!(self.token, [b'0'..=b'9', ..])
     }
 
-    /// Tries a number without its unit: seconds as frames, a rate as it is.
+    /// Tries a rate without its unit.
     fn attempt_unit(&self, trier: &mut Trier) -> Result<(), AllocError> {
-        let number = match (self.frames(), leading_number(self.token)) {
-            (Some((_, frames)), _) => frames,
-            (None, (rate, b"k" | b"kb" | b"kbit" | b"kbits" | b"kbps")) if self.has_digit() => rate,
-            _ => return Ok(()),
-        };
-        let token = format!(in trier.alloc; "{number}")?;
-        self.attempt(trier, token.as_str())
+        match leading_number(self.token) {
+            (rate, b"k" | b"kb" | b"kbit" | b"kbits" | b"kbps") if self.has_digit() => {
+                let token = format!(in trier.alloc; "{rate}")?;
+                self.attempt(trier, token.as_str())
+            }
+            _ => Ok(()),
+        }
     }
 
     /// Tries statements that may have been meant by the words up to this one: a commit at a time of
@@ -140,13 +138,15 @@ impl<'a> Wrong<'a> {
                     return Ok(());
                 }
                 let token = text_of(trier.alloc, token)?;
-                let notice = trier.source.number_after("notice");
-                let words = format!(in trier.alloc; "until {token}; commit in {notice}")?;
+                let early = whole_seconds(trier.source.number_after("notice"));
+                let words = format!(in trier.alloc;
+                    "until {token} early {early}; commit in {early}"
+                )?;
                 let spot = trier.source.spot(before, 3);
                 trier.write_at(spot, words.as_str())
             }
             ("commit", token) if leading_number(token).0 > 0 => trier.put("in"),
-            (_, b"to") => trier.leave_out(),
+            (_, b"to") if trier.is_at_loss() => trier.leave_out(),
             ("mode", b"1") => {
                 let spot = trier.source.spot(last, 2);
                 trier.write_at(spot, "")
@@ -158,7 +158,9 @@ impl<'a> Wrong<'a> {
     /// Tries what may have been meant: a token that is valid in the place of this one, or another
     /// statement.
     pub(crate) fn attempt_all(&self, trier: &mut Trier) -> Result<(), AllocError> {
+        self.attempt_word(trier)?;
         self.attempt_statement(trier)?;
+        self.attempt_frames(trier)?;
         self.attempt_unit(trier)?;
         self.attempt_profile(trier)?;
         self.attempt_keyword(trier)?;

@@ -2,6 +2,7 @@
 
 use script_front::{Position, ScriptFault, Token, lex};
 use std::alloc::{AllocError, Global};
+use std::fmt::{self, Display, Formatter};
 use std::io::{self, Write};
 
 /// A script's text with its tokens.
@@ -324,6 +325,22 @@ pub(crate) fn show_position<W: Write>(
         out.write_all(b" ")?;
     }
     out.write_all(b"^\n")
+}
+
+/// Words of a text, with bytes that a terminal obeys by their numbers.
+#[derive(Clone, Copy)]
+pub(crate) struct Plain<'a>(pub(crate) &'a str);
+
+impl Display for Plain<'_> {
+    fn fmt<W: fmt::Write>(&self, f: &mut Formatter<W>) -> fmt::Result {
+        for character in self.0.chars() {
+            match character {
+                '\0'..='\x1F' | '\x7F' => write!(f, "\\x{:02X}", u32::from(character))?,
+                _ => write!(f, "{character}")?,
+            }
+        }
+        Ok(())
+    }
 }
 
 /// Writes bytes of a text.

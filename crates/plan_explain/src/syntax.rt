@@ -1,12 +1,13 @@
 //! Explains why a text is not a script.
 
+use crate::byte::explain_byte;
 use crate::expected::Expected;
 use crate::keywords::HEADER;
 use crate::list::push_owned;
 use crate::note::Note;
 use crate::probe::Front;
 use crate::repair::{Wrong, attempt_until, is_close, is_level};
-use crate::source::{Source, put_bytes, text_from, token_at};
+use crate::source::{Source, leading_number, put_bytes, text_from, token_at};
 use crate::trial::{Refusal, TextPatch, patched, position_of};
 use crate::trier::Trier;
 use script_front::{Position, ScriptFault, parse};
@@ -83,17 +84,41 @@ fn put_expected(
     put_found(text, position, "found ", out)
 }
 
-/// Says more of an invalid token than what is expected.
-fn put_more(wrong: &Wrong, note: &mut Note) -> io::Result<()> {
+/// Says of a time in the place of frames how many they are.
+fn put_frames(trier: &Trier, wrong: &Wrong, frames: u32, note: &mut Note) -> io::Result<()> {
     let out = &mut note.text;
-    if let Some((seconds, frames)) = wrong.frames() {
-        return write!(
-            out,
-            ": a frame is 24 ms, so {seconds} s are {frames} frames"
-        );
+    out.write_all(b": a frame is 24 ms, so ")?;
+    match leading_number(wrong.token) {
+        (number, unit @ (b"s" | b"sec")) if unit.len() < wrong.token.len() => {
+            write!(out, "{number} s are")?
+        }
+        (_, unit) if unit.len() < wrong.token.len() => {
+            put_bytes(wrong.token, out)?;
+            out.write_all(b" is")?
+        }
+        _ => {
+            let number = trier.source.word(wrong.spot.index.saturating_sub(1));
+            write!(out, "{number} ")?;
+            put_bytes(wrong.token, out)?;
+            out.write_all(b" are")?
+        }
     }
+    write!(out, " {frames} frames")?;
+    if wrong.token.contains(&b':') {
+        out.write_all(b"; 'until' waits for a time of day")?;
+    }
+    Ok(())
+}
+
+/// Says more of an invalid token than what is expected.
+fn put_more(trier: &Trier, wrong: &Wrong, note: &mut Note) -> io::Result<()> {
+    if let Some(frames) = wrong.frames(trier) {
+        return put_frames(trier, wrong, frames, note);
+    }
+    let out = &mut note.text;
     let more = match (wrong.front.last, wrong.token) {
         ("mode", b"1") => ": mode I is the default",
+        (_, b"and") => ": the alternatives of a wait are joined by 'or'",
         (_, b"uep") => ": plans have equal error protection only",
         ("at", token) if token.contains(&b':') => {
             ": a commit is at a CIF count, and 'until' waits for a time of day"
@@ -138,7 +163,7 @@ fn advise_token(
     if let Some(keyword) = expected.only_keyword() {
         trier.put(keyword)?;
     }
-    put_more(wrong, note)?;
+    put_more(trier, wrong, note)?;
     trier.put_hint(note)
 }
 
@@ -170,26 +195,6 @@ fn explain_token(alloc: Global, text: &str, position: Position, note: &mut Note)
         }
         _ => Ok(()),
     }
-}
-
-/// Explains a byte that is not allowed in a script.
-fn explain_byte(text: &str, position: Position, note: &mut Note) -> io::Result<()> {
-    let bytes = text_from(text.as_bytes(), position);
-    if bytes.len() == text.len() && bytes.starts_with(&[0xEF, 0xBB, 0xBF]) {
-        note.shown = None;
-        note.text
-            .write_all(b"a byte-order mark of UTF-8 stands before the text")?;
-        return note.hint.write_all(b"save it without one");
-    }
-    let byte = bytes.first().copied().unwrap_or(0);
-    write!(
-        &mut note.text,
-        "the byte {byte:02X} is not allowed in a script outside comments"
-    )?;
-    note.hint.write_all(
-        b"letters, digits, '_', ':', '-', '{', '}', blanks and ';' are allowed there; '#' begins a \
-         comment",
-    )
 }
 
 /// Explains a name that is not defined before; the names of defined blocks that are like it are
@@ -337,7 +342,7 @@ pub fn notes_on_fault(alloc: Global, text: &str, fault: ScriptFault) -> io::Resu
     };
     let mut note = Note::at(alloc, position);
     match fault {
-        ScriptFault::Byte(at) => explain_byte(text, at, &mut note)?,
+        ScriptFault::Byte(at) => note = explain_byte(alloc, text, at)?,
         ScriptFault::Number(at) | ScriptFault::Expected(at) => {
             explain_token(alloc, text, at, &mut note)?
         }

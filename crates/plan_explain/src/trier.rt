@@ -1,7 +1,7 @@
 //! Finds the first of several corrections of a script's text that removes its refusal.
 
 use crate::note::Note;
-use crate::source::{Source, Spot, line_start};
+use crate::source::{Plain, Source, Spot, line_start};
 use crate::trial::{Change, Refusal, TextPatch, Touched, Verdict, try_change};
 use plan_code::Code;
 use script_front::Position;
@@ -198,9 +198,7 @@ impl<'a> Trier<'a> {
     /// line.
     fn step_before(&self, spot: &Spot, what: &str) -> Result<Option<Step>, AllocError> {
         let (alloc, line, words) = (self.alloc, spot.line, self.source.shown(spot));
-        if !spot.is_first && self.spot_of(line, words)?.is_none() {
-            return Ok(None);
-        }
+        let words = Plain(words);
         if spot.is_first {
             let start = line_start(self.source.text.as_bytes(), line).unwrap_or(spot.start);
             let part = format!(in alloc; "{what}\n")?;
@@ -210,7 +208,8 @@ impl<'a> Trier<'a> {
             return Ok(Some(step));
         }
         let part = format!(in alloc; "{what}; ")?;
-        let sentence = format!(in alloc; "put '{what}' before '{words}' in line {line}")?;
+        let place = self.place_of(spot)?;
+        let sentence = format!(in alloc; "put '{what}' before '{words}' {}", place.as_str())?;
         let mut step = self.step(line, [spot.start, spot.start], part.as_str(), sentence)?;
         step.columns = part.len();
         Ok(Some(step))
@@ -234,13 +233,24 @@ impl<'a> Trier<'a> {
         })
     }
 
-    /// Writing words in the place of others, which stand once in their line, or leaving these out.
+    /// Where the words of a spot are: in a line, or at a column where they stand there twice.
+    fn place_of(&self, spot: &Spot) -> Result<String, AllocError> {
+        let (line, words) = (spot.line, self.source.shown(spot));
+        match (self.spot_of(line, words)?, self.source.position(spot.index)) {
+            (None, Some(at)) => format!(in self.alloc; "at {line}:{}", at.column),
+            _ => format!(in self.alloc; "in line {line}"),
+        }
+    }
+
+    /// Writing words in the place of others, or leaving these out.
     fn step_instead(&self, spot: &Spot, new: &str) -> Result<Step, AllocError> {
-        let (old, line) = (self.source.shown(spot), spot.line);
+        let (old, line) = (Plain(self.source.shown(spot)), spot.line);
+        let place = self.place_of(spot)?;
+        let place = place.as_str();
         let sentence = if new.is_empty() {
-            format!(in self.alloc; "leave out '{old}' in line {line}")?
+            format!(in self.alloc; "leave out '{old}' {place}")?
         } else {
-            format!(in self.alloc; "write '{new}' in place of '{old}' in line {line}")?
+            format!(in self.alloc; "write '{new}' in place of '{old}' {place}")?
         };
         self.step(line, [spot.start, spot.end], new, sentence)
     }
@@ -294,6 +304,19 @@ impl<'a> Trier<'a> {
     pub(crate) fn write_token(&mut self, spot: Spot, token: &str) -> Result<(), AllocError> {
         let sentence = format!(in self.alloc; "write '{token}'")?;
         let step = self.step(spot.line, [spot.start, spot.end], token, sentence)?;
+        self.attempt(step, None)
+    }
+
+    /// Tries `new` in the place of the bytes between two offsets, in a line, as a sentence says.
+    pub(crate) fn write_bytes(
+        &mut self,
+        line: usize,
+        place: [usize; 2],
+        new: &str,
+        sentence: &str,
+    ) -> Result<(), AllocError> {
+        let sentence = String::from_str(self.alloc, sentence)?;
+        let step = self.step(line, place, new, sentence)?;
         self.attempt(step, None)
     }
 

@@ -1,7 +1,7 @@
 //! Writes warnings about accepted plans.
 
 use crate::words::{Digits, Part, act_words};
-use crate::{DayWait, Flaw, LateUntil, Warning};
+use crate::{DayTrap, DayWait, Flaw, LateUntil, Warning};
 use plan_code::limits::FRAMES_A_DAY;
 use script_front::Act;
 use std::alloc::Global;
@@ -17,6 +17,23 @@ impl Display for TimeOf {
         let second = self.0 % FRAMES_A_DAY * 3 / 125;
         let (hours, minutes, seconds) = (second / 3600, second / 60 % 60, second % 60);
         write!(f, "{hours:02}:{minutes:02}:{seconds:02}")
+    }
+}
+
+/// The time of a frame of the day, with its thousandths where it is not the first one of a second.
+#[derive(Clone, Copy)]
+struct ExactTimeOf(u32);
+
+impl Display for ExactTimeOf {
+    fn fmt<W: fmt::Write>(&self, f: &mut Formatter<W>) -> fmt::Result {
+        let frame = self.0 % FRAMES_A_DAY;
+        let thousandths = frame * 24 % 1000;
+        write!(f, "{}", TimeOf(frame))?;
+        if thousandths >= 24 {
+            write!(f, ".{thousandths:03}")
+        } else {
+            Ok(())
+        }
     }
 }
 
@@ -60,6 +77,26 @@ fn put_day<W: Write>(alloc: Global, wait: &DayWait, out: &mut W) -> io::Result<(
     write!(out, "waits {until} of the next day: {what} {time}")
 }
 
+/// Writes when a wait for a time of day is one for the next day, and why.
+fn put_trap<W: Write>(trap: &DayTrap, out: &mut W) -> io::Result<()> {
+    write!(
+        out,
+        "until {} is that of the next day where line {} is passed from {} to {}",
+        ExactTimeOf(trap.until.get()),
+        trap.passage.line,
+        ExactTimeOf(trap.first.get()),
+        ExactTimeOf(trap.passage.to.get()),
+    )?;
+    let frames = trap.way.frames;
+    match trap.way.swap {
+        _ if frames == 0 => Ok(()),
+        Some(swap) if swap == frames => {
+            write!(out, ": the swap between them comes {frames} frames later")
+        }
+        _ => write!(out, ": what is between them takes {frames} frames"),
+    }
+}
+
 /// Writes a warning about the script with this path, without the end of its line.
 ///
 /// # Errors
@@ -78,6 +115,7 @@ pub fn put_warning<W: Write>(
         Warning::WaitsForTime(wait) => wait.line,
         Warning::Late(until) => until.line,
         Warning::NextDay(wait) => wait.line,
+        Warning::Trapped(trap) => trap.line,
     };
     write!(out, "{path}:{line}: warning: ")?;
     match warning {
@@ -100,5 +138,6 @@ pub fn put_warning<W: Write>(
         ),
         Warning::Late(until) => put_late(alloc, until, out),
         Warning::NextDay(wait) => put_day(alloc, wait, out),
+        Warning::Trapped(trap) => put_trap(trap, out),
     }
 }

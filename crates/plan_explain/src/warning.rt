@@ -1,6 +1,7 @@
 //! A warning about an accepted plan.
 
 use crate::beginning::FirstWait;
+use crate::day_trap::DayTrap;
 use crate::day_wait::DayWait;
 use crate::flaw::Flaw;
 use crate::late_until::LateUntil;
@@ -24,4 +25,8 @@ pub enum Warning {
     /// An `until` waits for its time of the next day: that of this day is past when the plan comes
     /// to it.
     NextDay(DayWait),
+    /// A wait for a time of day is one for the next day where a test of the time is passed late in
+    /// its window: what is between them takes longer than it is to that time then, or the time is
+    /// past.
+    Trapped(DayTrap),
 }

@@ -10,6 +10,7 @@ ghost use Rattle.plan_explain.specs.Warnings.{IsWarranted};
 use crate::beginning::{FirstWait, first_wait};
 use crate::blocks::unreached;
 use crate::changes::{push_commits, push_opening};
+use crate::day_trap::push_traps;
 use crate::list::push;
 use crate::once::each_once;
 use crate::straight::push_straight;
@@ -49,6 +50,7 @@ fn all_warnings(alloc: Global, script: &Script, code: &Code) -> Result<Vec<Warni
     push_wait(&mut found, first_wait(code.lines()))?;
     let lines = unreached(alloc, code.lines(), script.blocks())?;
     push_unreached(&mut found, lines.as_slice())?;
+    push_traps(&mut found, code.lines())?;
     push_straight(&mut found, script)?;
     Ok(found)
 }

@@ -58,6 +58,29 @@ def each_warning(rows):
            "14: warning: waits until 22:00:03 of the next day: the swap before it comes at 22:00:06")
 
 
+def traps(rows):
+    """A wait for a time of day that is past where a test of the time before it is passed late: from when, to when; with a block that
+    is applied, in the first block of another `if`, and outside of a window. None where the window ends a whole way before the
+    time; and what is said ends with the window."""
+    window = HEAD + "define on {\nrate sub 1 96\ncommit in 250\njoin\n}\nbegin\nforever {\nwait contact 5 closed\n"
+    inside = "apply on\nwait contact 5 open or until 09:00:00 early 250\nrate sub 1 128\ncommit in 250\njoin\n"
+    text = "warning: until 08:59:54 is that of the next day where line 16 is passed from"
+    swap = "the swap between them comes 250 frames later"
+    for end, said in (("08:59:48", ()), ("08:59:47", ()), ("08:59:49", (f"18: {text} 08:59:48 to 08:59:49: {swap}",)),
+                      ("08:59:54", (f"18: {text} 08:59:48 to 08:59:54: {swap}",)),
+                      ("09:30:00", (f"18: {text} 08:59:48 to 09:30:00: {swap}",))):
+        warned(rows, window + f"if time 06:00:00 to {end} {{\n{inside}}} else {{\nwait contact 5 open\n}}\n}}\n", *said)
+    nested = HEAD + "begin\nforever {\nwait 1\nif time 06:00:00 to 09:00:00 {\nif contact 5 {\nwait 25\nuntil 09:00:00\n}\n}\n}\n"
+    warned(rows, nested, "14: warning: until 09:00:00 is that of the next day where line 11 is passed from 08:59:59.400 to 09:00:00:"
+           " what is between them takes 25 frames")
+    outside = HEAD + "begin\nforever {\nif time 22:00:00 to 06:00:00 {\nwait 1\n} else {\nrate sub 1 96\ncommit in 250\nsettle\nuntil 22:00:00\nrate sub 1 128\ncommit in 250\njoin\n}\n}\n"
+    warned(rows, outside, "16: warning: until 22:00:00 is that of the next day where line 10 is passed from 21:59:54 to 22:00:00:"
+           f" {swap}")
+    past = HEAD + "begin\nforever {\nwait 1\nif time 06:00:00 to 09:00:00 {\nuntil 07:00:00\n}\n}\n"
+    warned(rows, past, "12: warning: until 07:00:00 is that of the next day where line 11 is passed from 07:00:00 to 09:00:00")
+    warned(rows, past.replace("07:00:00", "09:00:00"))
+
+
 def several(rows):
     """Three warnings about one plan, in their order."""
     warned(rows, HEAD + "define lower {\nrate sub 1 96\ncommit in 60\njoin\n}\nbegin\nuntil 06:00:00\nsub 3 at 300 eep 3-A 32\ncommit in 60\n",
@@ -79,4 +102,4 @@ def refused(rows):
 
 
 if __name__ == "__main__":
-    rows.main([each_warning, several, paths, refused])
+    rows.main([each_warning, traps, several, paths, refused])

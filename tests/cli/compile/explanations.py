@@ -123,7 +123,7 @@ def meant(rows):
         (after("rate sub 1 96\ncommit at 22:00:00"), "8:11: Number",
          "x.plan:8:11: expected a CIF count, 0 to 65535; found '22:00:00': a commit is at a CIF count, and 'until' waits for a"
          " time of day", "    commit at 22:00:00", "              ^",
-         "hint: write 'until 22:00:00; commit in 240' in place of 'commit at 22:00:00' in line 8; then it is accepted"),
+         "hint: write 'until 22:00:00 early 250; commit in 250' in place of 'commit at 22:00:00' in line 8; then it is accepted"),
         (after("wait until 06:00:00"), "8:1: Expected",
          "x.plan:8:1: expected 'or' or 'early' to go on from line 7; the script ends here", "    wait until 06:00:00", "               ^",
          "hint: write 'until 06:00:00' in place of 'wait until 06:00:00' in line 7; then it is accepted"),
@@ -154,6 +154,63 @@ def meant(rows):
         (HEAD.replace("service C221\naudio 63 sub 1 in C221\n", "audio 63 sub 1 in C221\nservice C221\n") + "begin\n",
          "refused line 4: Edit IdAbsent", "x.plan:4: service C221 is not there; it comes in line 5",
          "hint: move line 4 behind line 5; then it is accepted"),
+    ):
+        explained(rows, script, first, *rest)
+
+
+def meant_elsewhere(rows):
+    """Words that mean something elsewhere: what is meant by them here."""
+    frames = "a number of frames, 1 to 65535, 'contact' or 'until'"
+    statement = "a statement or the end of the script"
+    joined = ": the alternatives of a wait are joined by 'or'"
+    for statements, first, sentence, shown, caret, hint in (
+        ("wait contact 3 closed and until 22:00:00", "7:23: Expected", f"expected {statement}; found 'and'{joined}", None, 22,
+         "write 'or'; then it is accepted"),
+        ("wait 10 s", "7:9: Expected", f"expected {statement}; found 's': a frame is 24 ms, so 10 s are 417 frames", None, 8,
+         "write '417' in place of '10 s' in line 7; then it is accepted"),
+        ("loop {\nwait 5\n}", "7:1: Expected", f"expected {statement}; found 'loop'", "loop {", 0, "write 'forever'; then it is accepted"),
+        ("loop 3 {\nwait 5\n}", "7:1: Expected", f"expected {statement}; found 'loop'", "loop 3 {", 0, "write 'repeat'; then it is accepted"),
+        ("wait 450000", "7:6: Number", f"expected {frames}; found '450000'", None, 5,
+         "write 'repeat 8 { wait 56250 }' in place of 'wait 450000' in line 7; then it is accepted"),
+        ("wait 00:10:00", "7:6: Number", f"expected {frames}; found '00:10:00': a frame is 24 ms, so 00:10:00 is 25000 frames;"
+         " 'until' waits for a time of day", None, 5, "write '25000'; then it is accepted"),
+        ("wait 22:00:00", "7:6: Number", f"expected {frames}; found '22:00:00': a frame is 24 ms, so 22:00:00 is 3300000 frames;"
+         " 'until' waits for a time of day", None, 5, "write 'until 22:00:00' in place of 'wait 22:00:00' in line 7; then it is accepted"),
+        ("wait contact 3 open or 22:00:00", "7:24: Number", f"expected {frames}; found '22:00:00': a frame is 24 ms, so 22:00:00 is 3300000"
+         " frames; 'until' waits for a time of day", None, 23, "put 'until' before '22:00:00' in line 7; then it is accepted"),
+        ("if contact 3 closed {\nwait 5\n}", "7:14: Expected", "expected '{'; found 'closed'", "if contact 3 closed {", 13,
+         "leave out 'closed' in line 7; then it is accepted"),
+        ("if contact 3 open {\nwait 5\n}", "7:14: Expected", "expected '{'; found 'open'", "if contact 3 open {", 13,
+         "write '{ } else {' in place of 'open {' in line 7; then it is accepted"),
+        ("repeat 2 to { if time 22:00:00 to 06:00:00 { wait 1 } }", "7:10: Expected", "expected '{'; found 'to'", None, 9,
+         "leave out 'to' at 7:10"),
+        ("rate sub 1 96\ncommit in 6 s", "8:13: Expected", f"expected {statement}; found 's': a frame is 24 ms, so 6 s are 250 frames",
+         "commit in 6 s", 12, "write '250' in place of '6 s' in line 8; then it is accepted"),
+    ):
+        explained(rows, after(statements), first, f"x.plan:{first.rpartition(':')[0]}: {sentence}", f"    {shown or statements}",
+                  f"    {' ' * caret}^", f"hint: {hint}")
+    for script, first, *rest in (
+        (HEAD + "forever {\nwait 5\n}\n", "6:1: Expected",
+         "x.plan:6:1: expected 'sub', 'service', 'audio', 'data', 'carry', 'packet', 'define' or 'begin'; found 'forever'",
+         "    forever {", "    ^", "hint: put 'begin' before line 6; then it is accepted"),
+        (HEAD.replace("1 at", "1 At") + "begin\n", "3:7: Expected", "x.plan:3:7: expected 'at'; found 'At'",
+         "    sub 1 At 0 eep 3-A 128", "          ^", "hint: write 'at'; then it is accepted"),
+        (HEAD + "sub 2 at 96 eep 3-A 64\nservice C222\naudio 63 sub 2 in C222\nbegin\nmove sub 2 to 200\ncommit in 250\n", "10:12: Expected",
+         "x.plan:10:12: expected 'at'; found 'to'", "    move sub 2 to 200", "               ^", "hint: write 'at'; then it is accepted"),
+        (HEAD.replace("in C221", "to C221") + "begin\n", "5:16: Expected", "x.plan:5:16: expected 'in'; found 'to'",
+         "    audio 63 sub 1 to C221", "                   ^", "hint: write 'in'; then it is accepted"),
+        (after("wait\u00a05"), "7:5: Byte", "x.plan:7:5: a no-break space (U+00A0) is not allowed in a script outside comments",
+         "    wait??5", "        ^", "hint: write a blank in its place; then it is accepted"),
+        (HEAD.replace("3-A", "3\u2013A") + "begin\n", "3:17: Byte", "x.plan:3:17: an en dash (U+2013) is not allowed in a script outside comments",
+         "    sub 1 at 0 eep 3???A 128", "                    ^", "hint: write '-' in its place; then it is accepted"),
+        (after("wait 5\u200b"), "7:7: Byte", "x.plan:7:7: a zero-width space (U+200B) is not allowed in a script outside comments",
+         "    wait 5???", "          ^", "hint: leave it out; then it is accepted"),
+        (after("wait \u00e4"), "7:6: Byte", "x.plan:7:6: the character U+00E4 is not allowed in a script outside comments",
+         "    wait ??", "         ^",
+         "hint: letters, digits, '_', ':', '-', '{', '}', blanks and ';' are allowed there; '#' begins a comment"),
+        (after("rate\rsub 1 100"), "refused line 7: Edit BadRate",
+         "x.plan:7: a rate of 100 kbit/s is no multiple of 8, as those of the profile are",
+         "hint: write 'rate sub 1 96' in place of 'rate\\x0Dsub 1 100' in line 7; then it is accepted"),
     ):
         explained(rows, script, first, *rest)
 
@@ -545,4 +602,4 @@ def accepted(rows):
 
 
 if __name__ == "__main__":
-    rows.main([faults, meant, edits, configurations, swaps, ways, branches, loops, costs, further, limits, first_mistakes, codes, accepted])
+    rows.main([faults, meant, meant_elsewhere, edits, configurations, swaps, ways, branches, loops, costs, further, limits, first_mistakes, codes, accepted])

@@ -62,12 +62,35 @@ def examples(rows):
     rows.tally.hold(found >= 20, f"{found} examples")
 
 
+def whole_names(rows):
+    """A cause of two words as it is printed: both words, as one argument or as two, in whatever letters; and with its numbers."""
+    for whole in ("Edit IdUsed", "Edit BadRate", "Config Orphan", "Config Overlap", "Config Overlap A B", "Config Overlap 1 2"):
+        wanted = rows.run(["help", whole.split()[1]])
+        rows.tally.hold(wanted.printed.startswith(f"refused line L: {' '.join(whole.split()[:2])}".encode()), f"{whole}: {wanted.printed}")
+        for words in ([whole], whole.split(), [whole.lower()]):
+            ended = rows.run(["help", *words])
+            rows.tally.same(words, (0, wanted.printed, b""), (ended.status, ended.printed, ended.messages))
+
+
+def of_codes(rows):
+    """Causes that codes alone have."""
+    for name, meaning in (("Target", "the instruction jumps to where no label is"),
+                          ("CounterUnset", "the loop's counter may not be set"),
+                          ("FallsOff", "the plan does not end with an instruction that ends it")):
+        for words in ([name], [name.lower()]):
+            ended = rows.run(["help", *words])
+            lines = ended.printed.decode().splitlines()
+            rows.tally.same(words, (0, [f"refused at PC line L: {name}", f"  {meaning}", "What to do:"], 4),
+                            (ended.status, lines[:3], len(lines)))
+
+
 def unknown(rows):
-    """Another name is no cause."""
-    for words in (["help", "Unknown"], ["help", "Pending", "more"], ["Pending"]):
+    """Another name is no cause, nor is one behind the wrong word."""
+    for words in (["help", "Unknown"], ["help", "Pending", "more"], ["Pending"], ["help", "Edit Orphan"], ["help", "Config", "IdUsed"],
+                  ["help", "Edit IdUsed 1 2"], ["help", "Edit", "IdUsed", "1", "2"]):
         ended = rows.run(words)
         rows.tally.same(words, (2, True), (ended.status, ended.printed.startswith(b"error: ")))
 
 
 if __name__ == "__main__":
-    rows.main([pages, examples, unknown])
+    rows.main([pages, examples, whole_names, of_codes, unknown])

@@ -7,7 +7,7 @@ import shutil
 import subprocess
 
 import rows
-from rows import NOTHING, NOTHING_FILE, hexadecimal
+from rows import NOTHING, NOTHING_FILE, RATES_FILE, REFUSED_FILE, hexadecimal
 from streams import fib
 
 CODE = hexadecimal(NOTHING_FILE)
@@ -110,6 +110,29 @@ def other_kinds(rows):
     remarks(rows, "frame s --ensemble E1C5 --count 0", b"record: ", "s: error: this is a code file", {"s": CODE})
 
 
+def live_of_a_script(rows):
+    """`live` with a script for a code says so behind its line, but not among objects of JSON."""
+    said = "s: error: this is a script: compile it first"
+    remarks(rows, "live s", b"code: Magic", said, {"s": NOTHING})
+    remarks(rows, "live s", b"code: Magic", "s: error: these are FIBs", {"s": FIBS})
+    ended = rows.run("live s --json", {"s": NOTHING})
+    rows.tally.same("live s --json", (1, b'{"kind":"refused","cause":"code: Magic"}\n'), (ended.status, ended.messages))
+    ended = rows.run("live c", {"c": hexadecimal(REFUSED_FILE)})
+    rows.tally.same("live of a code that is refused", (1, b"refused at 0 line 1: JoinIdle\n"), (ended.status, ended.messages))
+
+
+def exchanged(rows):
+    """A code where events or commands are wanted: of which file it is said what it is."""
+    said = "c: error: this is a code file: it stands first, events and commands behind it"
+    code = hexadecimal(RATES_FILE)
+    for line, items in (("play e c o", "frames 1"), ("debug e c", "run 1"), ("timeline c c", "frames 1")):
+        remarks(rows, line, b"", said, {"e": items, "c": code})
+    remarks(rows, "play e c o", b"cannot read c\n", "c: error: this is a code file: it stands first, events and commands behind it",
+            {"e": "frames 1", "c": code + b"\xff"})
+    remarks(rows, "play c s o", b"events 1:1: Expected\n", "s: error: this is a script: events and commands are wanted",
+            {"c": CODE, "s": NOTHING})
+
+
 def nothing_said(rows):
     """Of a file of the right kind, and of an unknown one, nothing more is said."""
     for line, files in (("verify c", {"c": CODE[:-1]}), ("compile s o --quiet", {"s": NOTHING + " join"}), ("verify c", {"c": "x"})):
@@ -127,4 +150,4 @@ def nothing_false(rows):
 
 
 if __name__ == "__main__":
-    rows.main([unread, unwritten, unpermitted, no_text, other_kinds, nothing_said, nothing_false])
+    rows.main([unread, unwritten, unpermitted, no_text, other_kinds, live_of_a_script, exchanged, nothing_said, nothing_false])
