@@ -19,11 +19,13 @@ use console::escaped::Escaped;
 use console::exit::{Failure, Status, open_input};
 use console::files::Files;
 use fib_codec::Mode;
+use fib_reader::check;
 use fig_merge::Merger;
 use std::alloc::Global;
 use std::error;
 use std::fmt::{self, Display, Formatter};
 use std::io::{ErrorKind, Read, Write};
+use stream_monitor::{OtherFormat, format_of};
 
 /// More frames than any stream has.
 const MOST_FRAMES: u64 = 1 << 63;
@@ -50,6 +52,8 @@ pub enum MergeFault<'a> {
     Failed(Failure<'a>),
     /// The file of this path ends within a frame.
     NotWhole(&'a str),
+    /// The file of this path is of another format, by its first frame.
+    OtherFormat(OtherFormat<'a>),
     /// Standard output took this many whole frames, and this many bytes of the next one.
     Write { frames: u64, bytes: usize },
 }
@@ -61,6 +65,7 @@ impl Display for MergeFault<'_> {
             MergeFault::NotWhole(path) => {
                 write!(f, "{}: not whole frames", Escaped::in_line(path))
             }
+            MergeFault::OtherFormat(fault) => write!(f, "{fault}"),
             MergeFault::Write { frames, bytes } => {
                 write!(f, "write failed after {frames} frames and {bytes} bytes")
             }
@@ -111,7 +116,8 @@ impl Display for MergeSummary {
 /// # Errors
 ///
 /// `Failed` if a file can't be opened, the plan's can't be read, or if out of memory; `NotWhole` if
-/// the plan's ends within a frame; `Write` if `out` fails. What was written before stays.
+/// the plan's ends within a frame; `OtherFormat` if the plan's is ETI or EDI; `Write` if `out`
+/// fails. What was written before stays.
 pub fn show_merged<'a, F: Files, W: Write>(
     alloc: Global,
     request: &MergeRequest<'a>,
@@ -219,6 +225,9 @@ fn merge_held<'a, P: Read + Drop, O: Read + Drop, F: Files, W: Write>(
         if !read_frame(plan, frame, path, out)? {
             return Ok(summary_of(frames, &merger));
         }
+        if frames == 0 {
+            refuse_other(frame, path)?;
+        }
         other.make_way(out)?;
         other.take_next(frame.len(), &mut merger, files, out);
         fill_frame(frame, &mut merger);
@@ -226,6 +235,21 @@ fn merge_held<'a, P: Read + Drop, O: Read + Drop, F: Files, W: Write>(
     }
     write_held(out)?;
     Err(MergeFault::Failed(Failure::Read(path)))
+}
+
+/// Refuses the file of a path that begins with this frame, if that is ETI or EDI, and the frame's
+/// first FIB is damaged.
+pub(crate) fn refuse_other<'a>(frame: &[u8], path: &'a str) -> Result<(), MergeFault<'a>> {
+    let (fibs, _) = frame.as_chunks::<32>();
+    if let Some(fib) = fibs.first() {
+        if check(fib).is_ok() {
+            return Ok(());
+        }
+    }
+    match format_of(frame) {
+        Some(format) => Err(MergeFault::OtherFormat(OtherFormat { path, format })),
+        None => Ok(()),
+    }
 }
 
 /// Writes the frames that are held, unless the next frame of a source is buffered, and there is

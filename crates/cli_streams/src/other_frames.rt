@@ -11,7 +11,7 @@ ghost use Rattle.console.specs.declared.exit.Status.TheVariants.{Done};
 
 use crate::frame_reader::FrameReader;
 use crate::held_frames::HeldFrames;
-use crate::merge::{LONGEST, MergeFault, make_way, read_frame};
+use crate::merge::{LONGEST, MergeFault, make_way, read_frame, refuse_other};
 use console::exit::Status;
 use console::files::Files;
 use fig_merge::Merger;
@@ -22,6 +22,8 @@ use std::io::{Read, Write};
 pub(crate) struct OtherFrames<'a, R: Read + Drop> {
     source: FrameReader<R>,
     path: &'a str,
+    /// Whether none of them was read.
+    is_first: bool,
     /// Whether there may be more of them.
     is_open: bool,
     /// `Refused` if they can't be read on.
@@ -37,6 +39,7 @@ impl<'a, R: Read + Drop> OtherFrames<'a, R> {
         OtherFrames {
             source,
             path,
+            is_first: true,
             is_open: true,
             status: Status::Done,
         }
@@ -65,7 +68,8 @@ impl<'a, R: Read + Drop> OtherFrames<'a, R> {
     }
 
     /// Takes the FIGs of the next frame of this size, while there is one. That there is less than a
-    /// frame, or that it can't be read, is reported at once, and no more is read.
+    /// frame, that it can't be read, or that the first one is of another format, is reported at
+    /// once, and no more is read.
     pub(crate) fn take_next<F: Files, W: Write>(
         &mut self,
         size: usize,
@@ -85,7 +89,9 @@ impl<'a, R: Read + Drop> OtherFrames<'a, R> {
         if !self.is_open {
             return;
         }
-        match take_frame(&mut self.source, size, merger, self.path, out) {
+        let is_first = self.is_first;
+        self.is_first = false;
+        match take_frame(&mut self.source, size, merger, self.path, is_first, out) {
             Ok(more) => self.is_open = more,
             Err(fault) => {
                 files.report(fault);
@@ -97,12 +103,14 @@ impl<'a, R: Read + Drop> OtherFrames<'a, R> {
 }
 
 /// Takes the FIGs of the next frame of this size of the file of this path, and returns whether
-/// there is one. Those of a frame that is not whole are not taken.
+/// there is one. Those of a frame that is not whole are not taken, nor those of the first one if
+/// the file is of another format.
 fn take_frame<'a, R: Read + Drop, W: Write>(
     source: &mut FrameReader<R>,
     size: usize,
     merger: &mut Merger,
     path: &'a str,
+    is_first: bool,
     out: &HeldFrames<'_, W>,
 ) -> Result<bool, MergeFault<'a>>
     requires size { (0 < size) × (size % 32 ≡ 0) × (size ≤ 128) }
@@ -115,6 +123,9 @@ fn take_frame<'a, R: Read + Drop, W: Write>(
     let frame = &mut buffer[..size];
     let result = read_frame(source, frame, path, out);
     if let Ok(true) = result {
+        if is_first {
+            refuse_other(frame, path)?;
+        }
         take_fibs(frame, merger);
     }
     result

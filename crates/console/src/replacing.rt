@@ -123,8 +123,8 @@ fn exchanged<R: Files>(
     fs::rename(rt, new, path)
 }
 
-/// Makes a file of these bytes under a name, in the place of one that an earlier run left there, and
-/// returns what it is.
+/// Makes a file of these bytes under a name, in the place of one that an earlier run left there,
+/// and returns what it is.
 fn written_as<R: Files>(rt: &R, name: &str, mode: u32, bytes: &[u8]) -> io::Result<Metadata> {
     let _ = fs::remove_file(rt, name);
     let mut file = OpenOptions::new()

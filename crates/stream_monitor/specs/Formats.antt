@@ -16,8 +16,8 @@ is_sync bytes place = are_at bytes place 7 58 182 || are_at bytes place 248 197 
 abbrev pub is_eti : List ℕ → Bool
 is_eti bytes = is_sync bytes 1 || (is_sync bytes 3 || is_sync bytes 7)
 
--- 'AF', and behind the length, the number and the version of a packet its type, 'T'; or 'PF', and behind the number of a
--- packet those of a fragment and of all fragments, which are less than 65,536
+-- 'AF', and behind the length, the number and the version of a packet its type, 'T'; or 'PF', and behind the number
+-- of a packet those of a fragment and of all fragments, which are less than 65,536
 abbrev pub is_edi : List ℕ → Bool
 is_edi bytes = are_at bytes 0 65 70 (get_or bytes 2 0) && get_or bytes 9 0 == 84
     || are_at bytes 0 80 70 (get_or bytes 2 0) && (get_or bytes 4 0 == 0 && get_or bytes 7 0 == 0)

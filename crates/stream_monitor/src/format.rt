@@ -1,7 +1,8 @@
 //! Streams that are none of FIBs, but carry them, by their first bytes.
 
 ghost use Rattle.std.specs.Prelude.{◌≡◌, ◌≤◌, get_or};
-ghost use Rattle.stream_monitor.specs.Formats.{are_at, is_sync, is_eti, is_edi, is_other, format_of};
+ghost use Rattle.stream_monitor.specs.Formats.{are_at, is_sync, is_eti, is_edi, is_other};
+ghost use Rattle.stream_monitor.specs.Formats.{format_of};
 
 use std::fmt::{self, Display, Formatter};
 

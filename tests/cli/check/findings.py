@@ -6,7 +6,7 @@ import subprocess
 import threading
 import rows
 from rows import hexadecimal
-from streams import crc, stream
+from streams import crc, other_formats, stream
 
 SAMPLES = pathlib.Path(__file__).resolve().parents[3] / "bench/samples"
 
@@ -411,6 +411,15 @@ def hints(rows):
         for command in ("check x.fib", "check x.fib --json", "listen x.fib", "listen x.fib --json"):
             ended = rows.run(command, {"x.fib": data})
             rows.tally.same(f"dabplan {command}, a hint", hint.encode() + b"\n", ended.messages)
+    for name, data in other_formats():
+        # Of real EDI, of which some FIBs are right where they lie, no bytes are said to be lost.
+        data = data[:12_800]
+        for command in ("check x.fib", "check x.fib --json", "listen x.fib", "listen x.fib --json"):
+            ended = rows.run(command, {"x.fib": data})
+            rows.tally.same(f"dabplan {command}, {name}", f"{plain} ({name}{eti[5:]}\n".encode(), ended.messages)
+    for data in (bytes(960), b"AF" + bytes(958), b"PF" + b"\1" * 958, b"\7\x3a\xb6" + bytes(957), b"05" * 480):
+        ended = rows.run("listen x.fib", {"x.fib": data})
+        rows.tally.same("listen of damaged FIBs", (0, b"fibs 30 damaged 30\n"), (ended.status, ended.printed[:19]))
     for data in (b"", stream("FF"), b"\0" * 32 + stream("FF"), b"\0" * 32 * 2047 + stream("FF")):
         rows.tally.same("no hint", b"", rows.run("check x.fib", {"x.fib": data}).messages)
 

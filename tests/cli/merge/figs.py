@@ -7,7 +7,7 @@ import subprocess
 
 import rows
 from rows import RATES_FILE, hexadecimal
-from streams import fib
+from streams import fib, other_formats
 
 # FIG 0/0 of ensemble E1C5 and count 0, and FIGs of type 1 with 4, 9 and 14 bytes, the header byte included.
 TUNED = "05 00 E1 C5 00 00"
@@ -132,6 +132,23 @@ def lengths(rows):
         merged(rows, frame("FF"), frame(SHORT + "FF"), frame(SHORT + "FF"), told(1, 1), 0, f"--mode {mode}")
 
 
+def other_formats_are_refused(rows):
+    """ETI and EDI, of a multiplexer or made: nothing is written of such a plan, and a plan goes on without such a multiplexer."""
+    whole = frame(TUNED + "FF")
+    for name, data in other_formats():
+        told_of = f"x.fib: no whole FIB: 32 bytes each are expected ({name}: dabplan-bridge fic takes out its FIBs)\n"
+        ended = rows.run("merge x.fib mux.fib", {"x.fib": data, "mux.fib": whole})
+        rows.tally.same(f"merge, a plan of {name}", (1, b"", told_of), (*ended.lines(), ended.messages.decode()))
+        ended = rows.run("merge plan.fib x.fib", {"plan.fib": whole * 3, "x.fib": data})
+        rows.tally.same(f"merge, a multiplexer of {name}", (1, whole * 3, told_of + told(3, 0)), (*ended.lines(), ended.messages.decode()))
+    # Damaged FIBs that are neither are frames as any others.
+    merged(rows, bytes(96), whole, bytes(96), told(1, 0, damaged=3))
+    merged(rows, whole, b"AF" + bytes(94), whole, told(1, 0, damaged=3))
+    # A FIB that is not damaged may begin with any bytes.
+    eti = fib("2A 07 3A B6 " + "00 " * 7 + "FF")
+    merged(rows, eti * 3, whole, eti * 3, told(1, 0))
+
+
 def refusals(rows):
     """Files that end within a frame, and that can't be read; what goes on and what ends."""
     whole, more = frame("FF"), frame(SHORT + "FF")
@@ -139,12 +156,14 @@ def refusals(rows):
         merged(rows, whole + whole[:part], more, more, "plan.fib: not whole frames\n", 1)
         merged(rows, whole * 2, more + more[:part], more + whole, "mux.fib: not whole frames\n" + told(2, 1), 1)
     ended = rows.run("merge plan.fib none", {"plan.fib": whole})
-    rows.tally.same("merge: no other", (1, b"", "cannot read none\n"), (*ended.lines(), ended.messages.decode()))
+    missing = "cannot read none\nnone: error: No such file or directory\n"
+    rows.tally.same("merge: no other", (1, b"", missing), (*ended.lines(), ended.messages.decode()))
     ended = rows.run("merge none mux.fib", {"mux.fib": whole})
-    rows.tally.same("merge: no plan", (1, b"", "cannot read none\n"), (*ended.lines(), ended.messages.decode()))
-    for line, path in (("merge . mux.fib", "."), ("merge plan.fib .", "."), ("merge . none", "."), ("merge plan.fib a\x0ab", "a\\x0Ab")):
+    rows.tally.same("merge: no plan", (1, b"", missing), (*ended.lines(), ended.messages.decode()))
+    for line, path, why in (("merge . mux.fib", ".", "Is a directory"), ("merge plan.fib .", ".", "Is a directory"),
+                            ("merge . none", ".", "Is a directory"), ("merge plan.fib a\x0ab", "a\\x0Ab", "No such file or directory")):
         ended = rows.run(line.split(" ", 2), {"plan.fib": whole, "mux.fib": whole})
-        rows.tally.same(f"{line!r}", (1, b"", f"cannot read {path}\n"), (*ended.lines(), ended.messages.decode()))
+        rows.tally.same(f"{line!r}", (1, b"", f"cannot read {path}\n{path}: error: {why}\n"), (*ended.lines(), ended.messages.decode()))
     ended = rows.run(["merge", "plan.fib", "a\x0ab"], {"plan.fib": whole, "a\x0ab": b"FF"})
     rows.tally.same("merge: a path with a line feed", (1, "a\\x0Ab: not whole frames\n" + told(1, 0)),
                     (ended.status, ended.messages.decode()))
@@ -188,4 +207,4 @@ def in_lock_step(rows):
 
 if __name__ == "__main__":
     rows.main([figs_are_carried, figs_are_left_out, those_that_contradict, figs_wait, at_most_256_wait, damaged_fibs, lengths,
-               refusals, standard_input, in_lock_step])
+               other_formats_are_refused, refusals, standard_input, in_lock_step])

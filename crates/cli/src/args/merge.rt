@@ -25,10 +25,10 @@ each frame free for them. A receiver, and 'dabplan check', find in them what the
 
 For each frame of PLAN one of OTHER is read, as long as there is one. Its FIGs wait until there is
 room for them, the one that has waited longest first, 256 at most. FIG 0/0 to 0/3 and FIG 0/7 of
-the ensemble itself are left out, and a FIG of which a copy waits already. A FIG that names a
-service, a component or a sub-channel that the plan has not when its turn comes is stale, and left
-out. All frames so far are written before more of either file is read. All messages go to standard
-error.",
+the ensemble itself are left out, and a FIG of which a copy waits already. A FIG 0/4, 0/5, 0/8, 0/14
+or 0/19 that names a component or a sub-channel that the plan has not when its turn comes is stale,
+and left out; labels are carried, whatever they name. All frames so far are written before more of
+either file is read. All messages go to standard error.",
     usage: "dabplan merge <PLAN> <OTHER> [--mode <M>]",
     arguments: &[
         Argument("plan", Operand("PLAN"), &[], PLAN),
@@ -40,11 +40,12 @@ The messages:
   frames 252 carried 500 waiting 3 dropped 0 stale 0 damaged 0
                                the last line. carried: FIGs of OTHER that were sent; waiting: FIGs
                                for which there was no room yet; dropped: FIGs that came while 256
-                               others waited; stale: FIGs that name what the plan has not;
+                               others waited; stale: those that name what the plan has not;
                                damaged: FIBs of both that have a wrong CRC or no whole FIGs. Those
                                of PLAN stay as they are
   mux.fic: not whole frames    the file ends within a frame. If it is PLAN, the frames before are
                                written; if it is OTHER, the run goes on without it
+  mux.fic: no whole FIB: ..    the file is ETI or EDI. If it is OTHER, the run goes on without it
   cannot read mux.fic          the file can't be read. If it is OTHER, and was read so far, the run
                                goes on without it
   write failed after 3 frames and 40 bytes
@@ -58,8 +59,8 @@ Example: the frames of a plan, here with its own ones in the place of a multiple
 
 Exit status:
   0  PLAN came to its end
-  1  PLAN can't be read or has no whole frames, OTHER can't be opened, can't be read on or has no
-     whole frames, or standard output failed
+  1  PLAN can't be read, has no whole frames or is ETI or EDI, OTHER can't be opened, can't be read
+     on, has no whole frames or is ETI or EDI, or standard output failed
   2  the command line is wrong",
 };
 
