@@ -1,4 +1,4 @@
 mod LiveInputs
-mod Playbacks
+pub mod Playbacks
 mod VectorsOfSuccess
 mod Words

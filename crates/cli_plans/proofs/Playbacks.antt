@@ -4,9 +4,13 @@ use Rattle.cli_plans.proofs.Words.{IsPlayedInto, IsSameBut, Keeps, List, None, O
 use Rattle.cli_plans.proofs.Words.{Stays, World, ap, subst, sym, ℕ}
 use Rattle.std.proofs.lemmas.Bool.{false≢true}
 use Rattle.console.specs.declared.exit.Status.{Status}
-use Rattle.console.specs.declared.exit.Status.TheVariants.{Done}
+use Rattle.console.specs.declared.exit.Status.TheVariants.{Done, Refused as StatusRefused}
 use Rattle.console.proofs.Worlds.{but_then_written, stays_then_written}
 use Rattle.plan_session.specs.declared.run_fault.RunFault.{RunFault}
+use Rattle.plan_session.specs.declared.run_fault.RunFault.TheVariants.{Code, Refused, Start, Events, Write}
+use Rattle.plan_session.specs.Playback.{Request, IsBeginFault, IsRunFault, is_write}
+use Rattle.cli_plans.specs.Success.{EndsWithVerdict, IsRefusedFor}
+use Rattle.cli_plans.proofs.Words.{IfErr, IsPlayback, OnErr, Playing, Step, true}
 
 -- ---- what was read
 
@@ -65,3 +69,49 @@ pub done_so : {E : Type 0} (result : Result Status E) (ended : Result ℕ RunFau
 done_so (Err failure) ended P Q holds f printed = tt
 done_so (Ok status) (Err fault) P Q holds f printed = λ e. absurd (false≢true (printed e))
 done_so (Ok status) (Ok frames) P Q holds f printed = λ e. f holds
+
+-- ---- the verdict
+
+-- a fault with which a session does not begin is one of the request
+pub begin_is_run : (r : Request) (e : RunFault) → IsBeginFault r e → IsRunFault r e
+begin_is_run r (Code fault) h = h
+begin_is_run r (Refused pc line cause) h = h
+begin_is_run r (Start fault) h = h
+begin_is_run r (Events fault) h = absurd h
+begin_is_run r (Write frames bytes) h = absurd h
+
+-- so is a failing output
+pub write_is_run : (r : Request) (p : Playing) (steps : List Step) (e : RunFault) → IsPlayback r p steps
+    → is_write (Err e) ≡ true → IsRunFault r e
+write_is_run r p steps (Write frames bytes) h e = (p, steps, h)
+write_is_run r p steps (Code fault) h e = absurd (false≢true e)
+write_is_run r p steps (Refused pc line cause) h e = absurd (false≢true e)
+write_is_run r p steps (Start fault) h e = absurd (false≢true e)
+write_is_run r p steps (Events fault) h e = absurd (false≢true e)
+
+pub write_ended : (r : Request) (p : Playing) (steps : List Step) (ended : Result ℕ RunFault) → IsPlayback r p steps
+    → OnErr ended (is_write ended ≡ true) → IfErr ended (λ e. IsRunFault r e)
+write_ended r p steps (Ok frames) h only = tt
+write_ended r p steps (Err e) h only = write_is_run r p steps e h only
+
+-- a playback that was not begun ended with this fault
+pub refused_for : {E : Type 0} (r : Request) (fault : RunFault) (result : Result (Result ℕ RunFault) E)
+    → IfOk result (λ ended. ended ≡ Err fault) → IsRunFault r fault
+    → IfOk result (λ ended. IfErr ended (λ e. IsRunFault r e))
+refused_for r fault (Err failure) is h = tt
+refused_for r fault (Ok ended) is h =
+    subst (λ (e : Result ℕ RunFault). IfErr e (λ f. IsRunFault r f)) (sym is) h
+
+pub not_played_for : {E : Type 0} (fault : RunFault) (result : Result (Result ℕ RunFault) E) (P : ℕ → Type 0)
+    → IfOk result (λ ended. ended ≡ Err fault) → IfOk result (λ ended. IfOk ended P)
+not_played_for fault (Err failure) P is = tt
+not_played_for fault (Ok ended) P is = subst (λ (e : Result ℕ RunFault). IfOk e P) (sym is) tt
+
+-- a verdict that is printed is that of the request
+pub refused_so : {E : Type 0} (result : Result Status E) (ended : Result ℕ RunFault) (r : Request) (Q : Type 0)
+    → IfErr ended (λ e. IsRunFault r e) → (IsRefusedFor r → Q)
+    → IfOk result (λ status. status ≡ StatusRefused → EndsWithVerdict ended)
+    → IfOk result (λ status. status ≡ StatusRefused → Q)
+refused_so (Err failure) ended r Q holds f printed = tt
+refused_so (Ok status) (Ok frames) r Q holds f printed = λ e. absurd (printed e)
+refused_so (Ok status) (Err fault) r Q holds f printed = λ e. f (fault, printed e, holds)

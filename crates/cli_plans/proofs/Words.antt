@@ -12,4 +12,4 @@ pub use Rattle.std.proofs.Common.{[], ◌++◌, ◌-◌, ◌∙◌, ◌∷◌, �
 pub use Rattle.std.proofs.Common.{length, refl, subst, sym, take, ℕ}
 pub use Rattle.std.proofs.lemmas.Result.{IfOk-weaker}
 pub use Rattle.std.specs.Io.KnownBytes.{Appends, Keeps, prepend_known}
-pub use Rattle.std.specs.Prelude.{◌==◌, IfOk, IfSome, IsOk, OnOk, if◌then◌else◌}
+pub use Rattle.std.specs.Prelude.{◌==◌, IfErr, IfOk, IfSome, IsOk, OnErr, OnOk, if◌then◌else◌, true}

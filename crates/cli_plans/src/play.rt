@@ -1,9 +1,12 @@
 //! `dabplan play`: plays a plan code over events, and writes its frames to a file or to standard
 //! output.
 
-ghost use Rattle.std.specs.Prelude.{◌≡◌, IfOk, IsOk, IsErr};
+ghost use Rattle.std.specs.Prelude.{◌≡◌, ◌⊎◌, Err, IfOk, IfErr, IsOk};
 ghost use Rattle.console.specs.declared.exit.Status.TheVariants.{Done as PlayedToEnd};
+ghost use Rattle.console.specs.declared.exit.Status.TheVariants.{Refused as GotVerdict};
+ghost use Rattle.plan_session.specs.Playback.{asked_from, IsRunFault};
 ghost use Rattle.cli_plans.specs.Success.{Plays, PlaysToOutput, IsPlayedInto, IsPlayedTo};
+ghost use Rattle.cli_plans.specs.Success.{EndsWithVerdict, RefusesPlay};
 
 use crate::event_file::read_event_text;
 use crate::item_notes::{lines_on_items, report_items};
@@ -44,6 +47,9 @@ pub fn run_play<'a, F: Files, W: Write>(
 ) -> Result<Status, Failure<'a>>
     ensures success { IfOk result (λ status. status ≡ PlayedToEnd
         → Plays request.now (F.known files.old) (F.world files.old) (F.world files.new)) }
+    ensures refused { IfOk result (λ status. status ≡ GotVerdict
+        → RefusesPlay request.now (F.known files.old)) }
+    ensures status { IfOk result (λ status. (status ≡ PlayedToEnd) ⊎ (status ≡ GotVerdict)) }
 {
     let code = match read_code(alloc, files, request.code) {
         Ok(code) => code,
@@ -72,6 +78,7 @@ pub fn run_play<'a, F: Files, W: Write>(
 
 /// Plays a code over events into the file of a request. Returns the number of frames, or why
 /// playback failed; or why the file failed.
+#[tactic(auto, using(crate::proofs::Playbacks::begin_is_run, crate::proofs::Playbacks::refused_for, crate::proofs::Playbacks::not_played_for))]
 fn write_playback<'a, F: Files>(
     alloc: Global,
     code: &[u8],
@@ -79,8 +86,10 @@ fn write_playback<'a, F: Files>(
     request: &PlayRequest<'a>,
     files: &mut F,
 ) -> Result<Result<u128, RunFault>, Failure<'a>>
-    ensures { IfOk result (λ ended. IfOk ended (λ _. IsPlayedInto request.now.out.now code.now
-        events.now request.now.start (F.world files.old) (F.world files.new))) }
+    ensures played { IfOk result (λ ended. IfOk ended (λ _. IsPlayedInto request.now.out.now
+        code.now events.now request.now.start (F.world files.old) (F.world files.new))) }
+    ensures fault { IfOk result (λ ended. IfErr ended (λ e.
+        IsRunFault (asked_from code.now events.now request.now.start) e)) }
 {
     let session = match Session::new(alloc, code, request.start) {
         Ok(session) => session,
@@ -107,7 +116,7 @@ fn refuse<'a, F: Files>(
     path: &'a str,
     files: &mut F,
 ) -> Result<Result<u128, RunFault>, Failure<'a>>
-    ensures { IfOk result (λ ended. IsErr ended) }
+    ensures { IfOk result (λ ended. ended ≡ Err fault) }
 {
     match touch_file(files, path) {
         Ok(()) => Ok(Err(fault)),
@@ -127,6 +136,9 @@ pub fn stream_play<'a, F: Files, W: Write, L: Write>(
 ) -> (Result<Status, Failure<'a>>, W)
     ensures success { IfOk result.0 (λ status. status ≡ PlayedToEnd
         → PlaysToOutput request.now (F.known files.old) (W.contents out) (W.contents result.1)) }
+    ensures refused { IfOk result.0 (λ status. status ≡ GotVerdict
+        → RefusesPlay request.now (F.known files.old)) }
+    ensures status { IfOk result.0 (λ status. (status ≡ PlayedToEnd) ⊎ (status ≡ GotVerdict)) }
 {
     let code = match read_code(alloc, files, request.code) {
         Ok(code) => code,
@@ -159,6 +171,7 @@ fn put_items<L: Write>(
 }
 
 /// Plays a code over events to a writer. Returns the number of frames, and the writer.
+#[tactic(auto, using(crate::proofs::Playbacks::begin_is_run))]
 fn stream_playback<W: Write>(
     alloc: Global,
     code: &[u8],
@@ -166,8 +179,10 @@ fn stream_playback<W: Write>(
     start: StartOptions,
     out: W,
 ) -> (Result<u128, RunFault>, W)
-    ensures { IfOk result.0 (λ _. IsPlayedTo code.now events.now start (W.contents out)
+    ensures played { IfOk result.0 (λ _. IsPlayedTo code.now events.now start (W.contents out)
         (W.contents result.1)) }
+    ensures fault { IfErr result.0 (λ e.
+        IsRunFault (asked_from code.now events.now start) e) }
 {
     let session = match Session::new(alloc, code, start) {
         Ok(session) => session,
@@ -181,12 +196,14 @@ fn stream_playback<W: Write>(
     (ended, sink.into_inner())
 }
 
-/// Prints the number of frames played, or why playback failed.
+/// Prints the number of frames played, or why playback failed; `Memory` if out of memory for it.
 pub(crate) fn print_ending<'a, W: Write>(
     ended: Result<u128, RunFault>,
     out: &mut W,
 ) -> Result<Status, Failure<'a>>
-    ensures { IfOk result (λ status. status ≡ PlayedToEnd → IsOk ended) }
+    ensures done { IfOk result (λ status. status ≡ PlayedToEnd → IsOk ended) }
+    ensures verdict { IfOk result (λ status. status ≡ GotVerdict → EndsWithVerdict ended) }
+    ensures status { IfOk result (λ status. (status ≡ PlayedToEnd) ⊎ (status ≡ GotVerdict)) }
 {
     match ended {
         Ok(frames) => {
