@@ -4,6 +4,8 @@ use Rattle.cli_streams.proofs.Words.{Hears, HearsTheStream, List, Listening, Ok,
 use Rattle.cli_streams.proofs.Words.{arith, damaged_more, drop, drop-append-le, drop-cons, ended, false, fibs_of_stream}
 use Rattle.cli_streams.proofs.Words.{first_chunks, get_or, heard_more, inl, inr, length, length-append, length-drop}
 use Rattle.cli_streams.proofs.Words.{refl, subst, suc, sym, take-append-le, true, zero, ℕ}
+use Rattle.std.specs.Prelude.{◌==◌, if◌then◌else◌}
+use Rattle.stream_monitor.specs.Formats.{is_other}
 use Rattle.fib_reader.specs.declared.fault.FibFault.{FibFault}
 use Rattle.fib_reader.specs.declared.fault.ListenFault.{ListenFault}
 use Rattle.fib_reader.specs.declared.fault.ListenFault.TheVariants.{Fib}
@@ -20,18 +22,29 @@ pub one_heard : (fibs : List (List ℕ)) (i : ℕ) (old : Heard) (new : Listenin
 one_heard fibs i old new given lt heard rest =
     subst (λ (fs : List (List ℕ)). HearsTheStream fs old given) (sym (fib_by_fib fibs i lt)) (inl (new, heard, rest))
 
+-- one more damaged FIB, with this listener, and as of another format or not
+abbrev damaged_with : Heard → Listening → Bool → Heard
+damaged_with h l other = record { fibs = h.fibs + 1; damaged = h.damaged + 1; is_other = other; listener = l }
+
+abbrev other_after : Heard → List ℕ → Bool
+other_after h fib = if h.fibs == 0 then is_other fib else h.is_other
+
 -- a damaged FIB
-pub one_damaged : (fibs : List (List ℕ)) (i : ℕ) (old : Heard) (new : Listening) (fault : ListenFault)
-    (inner : FibFault) (given : Result Heard StreamFault) → i < length fibs → fault ≡ Fib inner
+pub one_damaged : (fibs : List (List ℕ)) (i : ℕ) (old : Heard) (new : Listening) (other : Bool) (fault : ListenFault)
+    (inner : FibFault) (given : Result Heard StreamFault) → i < length fibs
+    → other ≡ (if old.fibs == 0 then is_other (get_or fibs i []) else old.is_other) → fault ≡ Fib inner
     → Hears (get_or fibs i []) old.listener new (Err fault)
-    → HearsTheStream (drop (i + 1) fibs) (record { fibs = old.fibs + 1; damaged = old.damaged + 1; listener = new })
-    given → HearsTheStream (drop i fibs) old given
-one_damaged fibs i old new fault inner given lt is heard rest =
+    → HearsTheStream (drop (i + 1) fibs)
+    (record { fibs = old.fibs + 1; damaged = old.damaged + 1; is_other = other; listener = new }) given
+    → HearsTheStream (drop i fibs) old given
+one_damaged fibs i old new other fault inner given lt seen is heard rest =
     let as_fib : Hears (get_or fibs i []) old.listener new (Err (Fib inner)) =
     subst (λ (f : ListenFault). Hears (get_or fibs i []) old.listener new (Err f)) is heard in
-    let stays : HearsTheStream (drop (i + 1) fibs) (damaged_more old) given =
+    let known : HearsTheStream (drop (i + 1) fibs) (damaged_with old new (other_after old (get_or fibs i []))) given =
+    subst (λ (b : Bool). HearsTheStream (drop (i + 1) fibs) (damaged_with old new b) given) seen rest in
+    let stays : HearsTheStream (drop (i + 1) fibs) (damaged_more old (get_or fibs i [])) given =
     subst (λ (l : Listening). HearsTheStream (drop (i + 1) fibs)
-    (record { fibs = old.fibs + 1; damaged = old.damaged + 1; listener = l }) given) as_fib.1 rest in
+    (damaged_with old l (other_after old (get_or fibs i []))) given) as_fib.1 known in
     let reported : Hears (get_or fibs i []) old.listener old.listener (Err (Fib inner)) = (as_fib.0, refl) in
     subst (λ (fs : List (List ℕ)). HearsTheStream fs old given) (sym (fib_by_fib fibs i lt))
     (inr (inl (inner, reported, stays)))
@@ -52,7 +65,7 @@ heard_on [] ys old mid given h more =
 heard_on (x ∷ xs) ys old mid given (inl (new, heard, rest)) more =
     inl (new, heard, heard_on xs ys (heard_more old new) mid given rest more)
 heard_on (x ∷ xs) ys old mid given (inr (inl (fault, wrong, rest))) more =
-    inr (inl (fault, wrong, heard_on xs ys (damaged_more old) mid given rest more))
+    inr (inl (fault, wrong, heard_on xs ys (damaged_more old x) mid given rest more))
 heard_on (x ∷ xs) ys old mid given (inr (inr (full, ends))) more = absurd (no_room_is_none mid (sym ends))
 
 -- FIBs after others that a picture had no room for
@@ -61,7 +74,7 @@ full_on : (xs ys : List (List ℕ)) (old : Heard) → HearsTheStream xs old (Err
 full_on [] ys old h = absurd (no_room_is_none old h)
 full_on (x ∷ xs) ys old (inl (new, heard, rest)) = inl (new, heard, full_on xs ys (heard_more old new) rest)
 full_on (x ∷ xs) ys old (inr (inl (fault, wrong, rest))) =
-    inr (inl (fault, wrong, full_on xs ys (damaged_more old) rest))
+    inr (inl (fault, wrong, full_on xs ys (damaged_more old x) rest))
 full_on (x ∷ xs) ys old (inr (inr (full, ends))) = inr (inr (full, refl))
 
 none_left : (s : List ℕ) → length s ≡ 0 → s ≡ []

@@ -36,7 +36,7 @@ all_one ones apart (fib ∷ fibs) now one other (inr (inl (fault, (wrong, stays)
     absurd (apart fib g fault also wrong)
 all_one ones apart (fib ∷ fibs) now one other (inr (inl (fault, (wrong, stays), rest)))
     (inr (inl (second, (bad, still), more))) =
-    all_one ones apart fibs (damaged_more now) one other rest more
+    all_one ones apart fibs (damaged_more now fib) one other rest more
 all_one ones apart (fib ∷ fibs) now one other (inr (inl (fault, (wrong, stays), rest)))
     (inr (inr (((g, also, none), still), ends))) =
     absurd (apart fib g fault also wrong)

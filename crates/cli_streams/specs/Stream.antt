@@ -1,24 +1,30 @@
 -- The state of a new listener after a stream of FIBs.
-use Rattle.std.specs.Prelude.{◌≡◌, ℕ, ◌+◌, ◌/◌, ◌%◌, ◌<◌, ◌⊎◌, Bool, if◌then◌else◌, List, [], ◌∷◌, length, Result, Ok}
-use Rattle.std.specs.Prelude.{Err}
+use Rattle.std.specs.Prelude.{◌≡◌, ℕ, ◌+◌, ◌/◌, ◌%◌, ◌<◌, ◌==◌, ◌⊎◌, Bool, false, if◌then◌else◌, List, [], ◌∷◌, length}
+use Rattle.std.specs.Prelude.{Result, Ok, Err}
 use Rattle.std.specs.Simd.{first_chunks}
 use Rattle.fib_reader.specs.Listening.{Listening, untuned, Hears}
 use Rattle.fib_reader.specs.declared.fault.FibFault.{FibFault}
 use Rattle.fib_reader.specs.declared.fault.ListenFault.TheVariants.{Fib, Full}
 use Rattle.cli_streams.specs.declared.listen.StreamFault.{StreamFault}
 use Rattle.cli_streams.specs.declared.listen.StreamFault.TheVariants.{NotWhole, Full as NoRoom}
+use Rattle.stream_monitor.specs.Formats.{is_other}
 use Rattle.cli_streams.specs.declared.listen.Heard.{Heard}
 
 -- the FIBs of a stream, 32 bytes each
 abbrev pub fibs_of_stream : List ℕ → List (List ℕ)
 fibs_of_stream stream = first_chunks 32 (length stream / 32) stream
 
--- one more FIB, and one more damaged FIB
+-- one more FIB, and one more damaged FIB; if that is the first one, it may be the beginning of another format
 abbrev pub heard_more : Heard → Listening → Heard
-heard_more h l = record { fibs = h.fibs + 1; damaged = h.damaged; listener = l }
+heard_more h l = record { fibs = h.fibs + 1; damaged = h.damaged; is_other = h.is_other; listener = l }
 
-abbrev pub damaged_more : Heard → Heard
-damaged_more h = record { fibs = h.fibs + 1; damaged = h.damaged + 1; listener = h.listener }
+abbrev pub damaged_more : Heard → List ℕ → Heard
+damaged_more h fib = record {
+  fibs = h.fibs + 1;
+  damaged = h.damaged + 1;
+  is_other = if h.fibs == 0 then is_other fib else h.is_other;
+  listener = h.listener;
+}
 
 -- these FIBs, one after the other, from this state on: each is received, or is damaged and only counted; where a
 -- picture has no room for an entry, decoding ends
@@ -27,12 +33,12 @@ HearsTheStream [] now given = given ≡ Ok now
 HearsTheStream (fib ∷ fibs) now given =
     ((new : Listening) × Hears fib now.listener new (Ok tt) × HearsTheStream fibs (heard_more now new) given)
     ⊎ (((fault : FibFault) × Hears fib now.listener now.listener (Err (Fib fault))
-    × HearsTheStream fibs (damaged_more now) given)
+    × HearsTheStream fibs (damaged_more now fib) given)
     ⊎ (Hears fib now.listener now.listener (Err Full) × (given ≡ Err NoRoom)))
 
 -- before the first FIB
 abbrev pub unheard : Heard
-unheard = record { fibs = 0; damaged = 0; listener = untuned }
+unheard = record { fibs = 0; damaged = 0; is_other = false; listener = untuned }
 
 -- the result after these FIBs, depending on whether a picture had room
 abbrev pub ended : (has_room : Bool) → Heard → Result Heard StreamFault

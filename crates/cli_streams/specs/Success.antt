@@ -1,6 +1,6 @@
 -- What the statuses of the commands mean, over files whose bytes are known.
-use Rattle.std.specs.Prelude.{◌≡◌, ◌≢◌, ℕ, Bool, true, nat_lt, if◌then◌else◌, codes, take, IfSome, List, Option, Result}
-use Rattle.std.specs.Prelude.{Ok, Err}
+use Rattle.std.specs.Prelude.{◌≡◌, ◌≢◌, ℕ, Bool, true, nat_lt, ◌==◌, ◌&&◌, if◌then◌else◌, codes, take, IfSome, List}
+use Rattle.std.specs.Prelude.{Option, Result, Ok, Err}
 use Rattle.std.specs.Str.{bytes_eq}
 use Rattle.std.specs.Io.KnownBytes.{Appends}
 use Rattle.stream_check.specs.Frames.{Reading}
@@ -38,9 +38,9 @@ ChecksFile o given status = IfSome given (λ stream. (r : Reading)
 
 -- ---- `listen FILE`
 
--- status 0 if the stream can be decoded, 1 if it is refused
+-- status 0 if the stream can be decoded, 1 if it is refused, or is of another format and has no FIB that is not damaged
 abbrev pub listen_status : Result Heard StreamFault → Status
-listen_status (Ok heard) = Done
+listen_status (Ok heard) = if heard.is_other && heard.damaged == heard.fibs then Refused else Done
 listen_status (Err fault) = Refused
 
 abbrev pub ListensTo : (given : Option (List ℕ)) → Status → Type 0

@@ -1,10 +1,11 @@
 //! `dabplan listen`: decodes a stream of FIBs as a receiver would, and prints the resulting
 //! configuration.
 
-ghost use Rattle.std.specs.Prelude.{◌≡◌, ℕ, List, IfOk};
+ghost use Rattle.std.specs.Prelude.{◌≡◌, ◌==◌, if◌then◌else◌, ℕ, List, IfOk};
 ghost use Rattle.std.specs.Io.KnownBytes.{Consumes, IsAtEnd};
 ghost use Rattle.cli_streams.specs.Stream.{HearsStream, ended};
-ghost use Rattle.cli_streams.specs.Success.{ListensTo, known_at};
+ghost use Rattle.cli_streams.specs.Success.{ListensTo, known_at, listen_status};
+ghost use Rattle.stream_monitor.specs.Formats.{is_other};
 
 use crate::json_listing::print_json_listing;
 use crate::listing::print_listing;
@@ -15,7 +16,7 @@ use console::pieces::Pieces;
 use fib_reader::{ListenFault, Listener};
 use std::alloc::Global;
 use std::io::{Read, Write};
-use stream_monitor::Hints;
+use stream_monitor::{Hints, is_other};
 use thiserror::Error;
 
 /// Why a stream is refused.
@@ -49,6 +50,8 @@ pub struct Heard {
     pub fibs: u64,
     /// The number of damaged FIBs.
     pub damaged: u64,
+    /// Whether the first FIB is damaged, and is the beginning of a frame of ETI or a packet of EDI.
+    pub is_other: bool,
     /// The listener after the last of them.
     pub listener: Listener,
 }
@@ -65,6 +68,7 @@ impl Heard {
         Heard {
             fibs: 0,
             damaged: 0,
+            is_other: false,
             listener: Listener::new(),
         }
     }
@@ -82,13 +86,25 @@ impl Heard {
         for fib in fibs {
             match self.listener.hear(fib) {
                 Ok(()) => {}
-                Err(ListenFault::Fib(_)) => self.damaged += 1,
+                Err(ListenFault::Fib(_)) => {
+                    self.damaged += 1;
+                    let seen = other_so_far(self.fibs, self.is_other, fib);
+                    self.is_other = seen;
+                }
                 Err(ListenFault::Full) => return false,
             }
             self.fibs += 1;
         }
         true
     }
+}
+
+/// Whether a stream is of another format, by a damaged FIB behind so many others: the first of all
+/// says it, and later ones change nothing.
+fn other_so_far(fibs: u64, before: bool, fib: &[u8; 32]) -> bool
+    ensures { result ≡ (if fibs == 0 then is_other fib.now else before) }
+{
+    if fibs == 0 { is_other(fib) } else { before }
 }
 
 /// The arguments of `listen`.
@@ -102,7 +118,8 @@ pub struct ListenRequest<'a> {
 
 /// Runs `listen`: prints what was decoded from the file, or from standard input if the path is `-`.
 /// The stream is decoded piece by piece, so that memory use does not depend on its length. Where it
-/// is no stream of FIBs, a hint is given on standard error.
+/// is no stream of FIBs, a hint is given on standard error. The status is 0 if it can be decoded;
+/// but 1 if it begins as ETI or EDI do, and all its FIBs are damaged.
 ///
 /// # Errors
 ///
@@ -129,9 +146,18 @@ pub fn show_heard<'a, F: Files, W: Write>(
     } else {
         print_listing(&heard, out)?;
     }
+    Ok(status_of(&heard))
+}
+
+/// The exit status for a decoded stream. One of another format, that has no FIB that is not
+/// damaged, is refused, though its FIBs are counted.
+fn status_of(heard: &Result<Heard, StreamFault>) -> Status
+    ensures { result ≡ listen_status heard.now }
+{
     match heard {
-        Ok(_) => Ok(Status::Done),
-        Err(_) => Ok(Status::Refused),
+        Ok(heard) if heard.is_other && heard.damaged == heard.fibs => Status::Refused,
+        Ok(_) => Status::Done,
+        Err(_) => Status::Refused,
     }
 }
 

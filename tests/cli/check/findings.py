@@ -414,9 +414,14 @@ def hints(rows):
     for name, data in other_formats():
         # Of real EDI, of which some FIBs are right where they lie, no bytes are said to be lost.
         data = data[:12_800]
+        rights = sum(crc(data[at:at + 30]).to_bytes(2, "big") == data[at + 30:at + 32] for at in range(0, len(data), 32))
         for command in ("check x.fib", "check x.fib --json", "listen x.fib", "listen x.fib --json"):
             ended = rows.run(command, {"x.fib": data})
             rows.tally.same(f"dabplan {command}, {name}", f"{plain} ({name}{eti[5:]}\n".encode(), ended.messages)
+            if command.startswith("listen"):
+                rows.tally.same(f"dabplan {command}, {name} with {rights} FIBs", 0 if rights else 1, ended.status)
+                counts = f"fibs {len(data) // 32} damaged {len(data) // 32 - rights}\n"
+                rows.tally.hold("json" in command or ended.printed.startswith(counts.encode()), f"{name}: {ended.printed[:80]}")
     for data in (bytes(960), b"AF" + bytes(958), b"PF" + b"\1" * 958, b"\7\x3a\xb6" + bytes(957), b"05" * 480):
         ended = rows.run("listen x.fib", {"x.fib": data})
         rows.tally.same("listen of damaged FIBs", (0, b"fibs 30 damaged 30\n"), (ended.status, ended.printed[:19]))

@@ -103,7 +103,7 @@ Example: what is on air, as the beginning of a plan
 
 Exit status:
   0  the listing or the script was printed
-  1  the FIBs are refused, or FILE can't be read
+  1  the FIBs are refused, FILE can't be read, or is ETI or EDI and has no FIB
   2  the command line is wrong",
 };
 

@@ -13,7 +13,8 @@ loop-fib-preserved c = elim c.match-hear.branch [
   })
   | in-Err-Fib w ↦ rw w.self-is (record {
     on = λ given rest. c.loop-fib.invariant.on given
-        (one_damaged _ _ _ _ _ _ given c.loop-fib-test.true w.in-Err-Fib.field-0-is w.in-Err-Fib.ensures.answer rest);
+        (one_damaged _ _ _ _ _ _ _ given c.loop-fib-test.true w.other_so_far-seen.ensures w.in-Err-Fib.field-0-is
+        w.in-Err-Fib.ensures.answer rest);
     counted = omega arith;
     few = omega arith;
   })
