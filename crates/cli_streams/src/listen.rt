@@ -1,7 +1,7 @@
 //! `dabplan listen`: decodes a stream of FIBs as a receiver would, and prints the resulting
 //! configuration.
 
-ghost use Rattle.std.specs.Prelude.{◌≡◌, ◌==◌, if◌then◌else◌, ℕ, List, IfOk};
+ghost use Rattle.std.specs.Prelude.{◌≡◌, ◌==◌, if◌then◌else◌, ℕ, List, IfOk, Ok};
 ghost use Rattle.std.specs.Io.KnownBytes.{Consumes, IsAtEnd};
 ghost use Rattle.cli_streams.specs.Stream.{HearsStream, ended};
 ghost use Rattle.cli_streams.specs.Success.{ListensTo, known_at, listen_status};
@@ -146,19 +146,21 @@ pub fn show_heard<'a, F: Files, W: Write>(
     } else {
         print_listing(&heard, out)?;
     }
-    Ok(status_of(&heard))
+    match heard {
+        Ok(heard) => Ok(status_of(&heard)),
+        Err(_) => Ok(Status::Refused),
+    }
 }
 
 /// The exit status for a decoded stream. One of another format, that has no FIB that is not
 /// damaged, is refused, though its FIBs are counted.
-fn status_of(heard: &Result<Heard, StreamFault>) -> Status
-    ensures { result ≡ listen_status heard.now }
+fn status_of(heard: &Heard) -> Status
+    ensures { result ≡ listen_status (Ok heard.now) }
 {
-    match heard {
-        Ok(heard) if heard.is_other && heard.damaged == heard.fibs => Status::Refused,
-        Ok(_) => Status::Done,
-        Err(_) => Status::Refused,
+    if heard.is_other && heard.damaged == heard.fibs {
+        return Status::Refused;
     }
+    Status::Done
 }
 
 /// Decodes a stream of FIBs with a new listener (EN 300 401 clauses 5.2.1 and 6.5), to the end of
