@@ -1,5 +1,5 @@
--- What status 0 of `play` and `live` means, and status 1 with a verdict of `play`, over files with known bytes. Of a code
--- file no more than the longest and a byte is read.
+-- What status 0 of `play` and `live` means, and status 1 with a verdict of `play`, over files with known bytes. Of a
+-- code file no more than the longest and a byte is read.
 use Rattle.std.specs.Prelude.{◌≡◌, ◌≢◌, ℕ, List, [], take, Option, Some, Result, Ok, Err, IfSome}
 use Rattle.std.specs.Io.KnownBytes.{Appends}
 use Rattle.console.specs.Lines.{lines_of}

@@ -1,4 +1,4 @@
--- The numbers of statuses in small cases, computed by the checker from the definition: examples that hold and that fail.
+-- The numbers of statuses, computed by the checker from the definition: examples that hold and that fail.
 use Rattle.std.proofs.Common.{◌≡◌, arith, refl}
 use Rattle.console.specs.Ending.{exit_number}
 use Rattle.console.specs.declared.exit.Status.TheVariants.{Done, Refused, Misused, Faulty}

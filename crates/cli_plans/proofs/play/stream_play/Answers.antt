@@ -14,7 +14,8 @@ returns g c =
     record {
       success = done_so c.print_ending.result ended.0
           (IsPlayedTo c.as_slice.result.now c.as_str.result.now r.start (contents c.args.out) (contents ended.1))
-          (PlaysToOutput r (known first) (contents c.args.out) (contents ended.1)) c.stream_playback-ended.ensures.played
+          (PlaysToOutput r (known first) (contents c.args.out) (contents ended.1))
+          c.stream_playback-ended.ensures.played
           (λ h code text of_code of_text.
           let codes : c.as_slice.result.now ≡ take 1048577 code =
           read_is (λ (l : List ℕ). take 1048577 l) (known first r.code.now) code _ c.as_slice.result.now
