@@ -4,6 +4,9 @@ use Rattle.cli_streams.proofs.Words.{Hears, HearsTheStream, List, Listening, Ok,
 use Rattle.cli_streams.proofs.Words.{arith, damaged_more, drop, drop-append-le, drop-cons, ended, false, fibs_of_stream}
 use Rattle.cli_streams.proofs.Words.{first_chunks, get_or, heard_more, inl, inr, length, length-append, length-drop}
 use Rattle.cli_streams.proofs.Words.{refl, subst, suc, sym, take-append-le, true, zero, ℕ}
+use Rattle.cli_streams.proofs.Words.{Consumes, HearsStream, IsAtEnd, Keeps, ListensTo, None, Option, Some, Status}
+use Rattle.cli_streams.proofs.Words.{append-nil}
+use Rattle.cli_streams.specs.Success.{listen_status}
 use Rattle.std.specs.Prelude.{◌==◌, if◌then◌else◌}
 use Rattle.stream_monitor.specs.Formats.{is_other}
 use Rattle.fib_reader.specs.declared.fault.FibFault.{FibFault}
@@ -135,3 +138,14 @@ pub piece_has_ended : (s t : List ℕ) (start old : Heard) (room : Bool) → roo
     → HearsTheStream (fibs_of_stream (s ++ t)) start (ended room old)
 piece_has_ended s t start old false is whole before = piece_passed s t start whole before
 piece_has_ended s t start old true is whole before = absurd (cc)
+
+-- the stream of a file that is known is the file
+pub listens_file : (known left now : Option (List ℕ)) (stream : List ℕ) (given : Result Heard StreamFault)
+    (status : Status) → Keeps known left → Consumes left now stream → IsAtEnd now → HearsStream stream given
+    → status ≡ listen_status given → ListensTo known status
+listens_file None left now stream given status kept took end hears is = tt
+listens_file (Some file) None now stream given status kept took end hears is = absurd kept
+listens_file (Some file) (Some xs) None stream given status kept took end hears is = absurd took
+listens_file (Some file) (Some xs) (Some ys) stream given status kept took end hears is =
+    let same : stream ≡ file = sym (append-nil stream) ∙ ap (λ (l : List ℕ). stream ++ l) (sym end) ∙ sym took ∙ kept in
+    (given, subst (λ (s : List ℕ). HearsStream s given) same hears, is)
