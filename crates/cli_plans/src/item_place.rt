@@ -81,7 +81,10 @@ impl<'a> Wrong<'a> {
         };
         let mut left = 0usize;
         let mut scanner = Scanner::new(text, NO_LIMITS);
-        while let Ok(Some(token)) = scanner.next() {
+        for _token in 0..text.len() {
+            let Ok(Some(token)) = scanner.next() else {
+                return wrong;
+            };
             if token.position == position {
                 wrong.start = token.start;
                 wrong.end = token.end;
