@@ -1,10 +1,11 @@
 //! `dabplan play`: plays a plan code over events, and writes its frames to a file or to standard
 //! output.
 
-ghost use Rattle.std.specs.Prelude.{◌≡◌, ◌⊎◌, Err, IfOk, IfErr, IsOk};
+ghost use Rattle.std.specs.Prelude.{◌≡◌, ◌≢◌, ◌⊎◌, Err, IfOk, IfErr, IsOk};
 ghost use Rattle.console.specs.declared.exit.Status.TheVariants.{Done as PlayedToEnd};
 ghost use Rattle.console.specs.declared.exit.Status.TheVariants.{Refused as GotVerdict};
 ghost use Rattle.plan_session.specs.Playback.{asked_from, IsRunFault};
+ghost use Rattle.plan_session.specs.declared.run_fault.RunFault.TheVariants.{Events};
 ghost use Rattle.cli_plans.specs.Success.{Plays, PlaysToOutput, IsPlayedInto, IsPlayedTo};
 ghost use Rattle.cli_plans.specs.Success.{EndsWithVerdict, RefusesPlay};
 
@@ -60,24 +61,13 @@ pub fn run_play<'a, F: Files, W: Write>(
         Err(failure) => return Err(failure),
     };
     match write_playback(alloc, code.as_slice(), events.as_str(), request, files) {
-        Ok(Err(RunFault::Events(fault))) => {
-            report_items(
-                alloc,
-                request.events,
-                events.as_str(),
-                Listing::Steps,
-                fault,
-                files,
-            );
-            print_ending(Err(RunFault::Events(fault)), out)
-        }
         Ok(ended) => print_ending(ended, out),
         Err(failure) => Err(failure),
     }
 }
 
 /// Plays a code over events into the file of a request. Returns the number of frames, or why
-/// playback failed; or why the file failed.
+/// playback failed; or why the file failed. Where the events are no steps, standard error says why.
 #[tactic(auto, using(crate::proofs::Playbacks::begin_is_run, crate::proofs::Playbacks::refused_for, crate::proofs::Playbacks::not_played_for))]
 fn write_playback<'a, F: Files>(
     alloc: Global,
@@ -97,7 +87,10 @@ fn write_playback<'a, F: Files>(
     };
     let mut steps = match StepList::new(events) {
         Ok(steps) => steps,
-        Err(fault) => return refuse(RunFault::Events(fault), request.out, files),
+        Err(fault) => {
+            report_items(alloc, request.events, events, Listing::Steps, fault, files);
+            return refuse(RunFault::Events(fault), request.out, files);
+        }
     };
     let file = match files.create(request.out) {
         Ok(file) => file,
@@ -149,13 +142,48 @@ pub fn stream_play<'a, F: Files, W: Write, L: Write>(
         Err(failure) => return (Err(failure), out),
     };
     let (ended, out) = stream_playback(alloc, code.as_slice(), events.as_str(), request.start, out);
-    let printed = print_ending(ended, lines);
-    if let Err(RunFault::Events(fault)) = ended {
-        if let Err(error) = put_items(alloc, request.events, events.as_str(), fault, lines) {
-            return (Err(Failure::from(error)), out);
-        }
+    (
+        print_explained(alloc, request.events, events.as_str(), ended, lines),
+        out,
+    )
+}
+
+/// Prints the number of frames played, or why playback failed; and where the text of the event file
+/// of this path is no steps, behind that why.
+fn print_explained<'a, L: Write>(
+    alloc: Global,
+    path: &str,
+    text: &str,
+    ended: Result<u128, RunFault>,
+    lines: &mut L,
+) -> Result<Status, Failure<'a>>
+    ensures done { IfOk result (λ status. status ≡ PlayedToEnd → IsOk ended) }
+    ensures verdict { IfOk result (λ status. status ≡ GotVerdict → EndsWithVerdict ended) }
+    ensures status { IfOk result (λ status. (status ≡ PlayedToEnd) ⊎ (status ≡ GotVerdict)) }
+{
+    match ended {
+        Err(RunFault::Events(fault)) => print_event_fault(alloc, path, text, fault, lines),
+        Ok(frames) => print_ending(Ok(frames), lines),
+        Err(fault) => print_ending(Err(fault), lines),
     }
-    (printed, out)
+}
+
+/// Prints the fault of the text of an event file of this path, and behind it what explains it.
+fn print_event_fault<'a, L: Write>(
+    alloc: Global,
+    path: &str,
+    text: &str,
+    fault: EventFault,
+    lines: &mut L,
+) -> Result<Status, Failure<'a>>
+    ensures done { IfOk result (λ status. status ≢ PlayedToEnd) }
+    ensures verdict { IfOk result (λ status. status ≡ GotVerdict
+        → EndsWithVerdict (Err (Events fault))) }
+    ensures status { IfOk result (λ status. (status ≡ PlayedToEnd) ⊎ (status ≡ GotVerdict)) }
+{
+    let status = print_ending(Err(RunFault::Events(fault)), lines)?;
+    put_items(alloc, path, text, fault, lines)?;
+    Ok(status)
 }
 
 /// Writes why the text of an event file of this path has no steps, behind the line that says so.

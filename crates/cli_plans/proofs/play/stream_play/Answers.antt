@@ -12,7 +12,7 @@ returns g c =
     let second = c.read_code.new.files in
     let ended = c.stream_playback-ended.result in
     record {
-      success = done_so c.print_ending.result ended.0
+      success = done_so c.print_explained.result ended.0
           (IsPlayedTo c.as_slice.result.now c.as_str.result.now r.start (contents c.args.out) (contents ended.1))
           (PlaysToOutput r (known first) (contents c.args.out) (contents ended.1))
           c.stream_playback-ended.ensures.played
@@ -28,8 +28,8 @@ returns g c =
           subst (λ (l : List ℕ). IsPlayedTo l text r.start (contents c.args.out) (contents ended.1)) codes
           (subst (λ (l : List ℕ). IsPlayedTo c.as_slice.result.now l r.start (contents c.args.out)
           (contents ended.1)) (sym texts) h))
-          c.print_ending.ensures.done;
-      refused = refused_so c.print_ending.result ended.0
+          c.print_explained.ensures.done;
+      refused = refused_so c.print_explained.result ended.0
           (asked_from c.as_slice.result.now c.as_str.result.now r.start) (RefusesPlay r (known first))
           c.stream_playback-ended.ensures.fault
           (λ h code text of_code of_text.
@@ -43,6 +43,6 @@ returns g c =
           c.as_str.ensures.value in
           subst (λ (l : List ℕ). IsRefusedFor (asked_from l text r.start)) codes
           (subst (λ (l : List ℕ). IsRefusedFor (asked_from c.as_slice.result.now l r.start)) (sym texts) h))
-          c.print_ending.ensures.verdict;
-      status = c.print_ending.ensures.status;
+          c.print_explained.ensures.verdict;
+      status = c.print_explained.ensures.status;
     }
