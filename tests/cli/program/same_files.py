@@ -98,7 +98,8 @@ def unwritten(rows):
             rows.tally.same(f"{words}: files", set(files), {entry.name for entry in pathlib.Path(rows.folder).iterdir()})
             rows.tally.same(f"{words}: w", files.get("w"), rows.made("w"))
     lay(rows, {"c": CODE, "e": "frames 0", "w": b"before"})
-    rows.tally.same("a refused play", (1, b"events 1:8: Number\n", b""), ends(rows, ["play", "c", "e", "w"]))
+    explained = b"e:1:8: error: expected a number of frames, 1 to 3600000; found '0'\n    frames 0\n           ^\n"
+    rows.tally.same("a refused play", (1, b"events 1:8: Number\n", explained), ends(rows, ["play", "c", "e", "w"]))
     rows.tally.same("its OUT", b"before", rows.made("w"))
 
 
