@@ -138,11 +138,21 @@ def answer(program, folder, line, out):
     return ended.status, ended.printed, ended.messages, pathlib.Path(folder, out).read_bytes()
 
 
+def is_explained(path, fault, messages):
+    """Whether standard error says why a text is refused, at the place of the fault: its first line; and nothing of another text."""
+    if fault is None:
+        return messages == b""
+    if fault == "cannot read":
+        return rows.without_notes(messages) == b""
+    place = fault.rsplit(":", 1)[0]
+    return messages.startswith(f"{path}:{place}: error: ".encode()) and messages.endswith(b"\n")
+
+
 def wrong_of(program, folder, name, kind, content, ended):
     """What is wrong with how a command ended, if anything is."""
     fault, read = judged(kind, content)
     status, printed, messages, frames = ended
-    if rows.without_notes(messages) or messages and fault != "cannot read":
+    if not is_explained(f"{name}.text", fault, messages):
         return f"messages {messages[-99:]}"
     if fault is not None:
         line = f"cannot read {name}.text" if fault == "cannot read" else f"{'events' if kind == 'play' else 'commands'} {fault}"
@@ -171,9 +181,11 @@ def tried(program, folder, number, kind, content):
     by_file = answer(program, folder, line, f"{number}.fib")
     piped = f"cat {number}.text | " + line.replace(f"{number}.text", "/dev/stdin")
     by_pipe = answer(program, folder, piped, f"{number}.fib")
-    by_pipe = (by_pipe[0], by_pipe[1].replace(b"/dev/stdin", f"{number}.text".encode()), *by_pipe[2:])
+    by_pipe = tuple(part.replace(b"/dev/stdin", f"{number}.text".encode()) if index in (1, 2) else part
+                    for index, part in enumerate(by_pipe))
     wrong = wrong_of(program, folder, str(number), kind, content, by_file)
-    if wrong is None and (by_pipe[2] or (by_file[:2], by_file[3:]) != (by_pipe[:2], by_pipe[3:])):
+    # What is no UTF-8 in a pipe can't be read again to say where.
+    if wrong is None and (by_pipe != by_file and (by_pipe[2] or (by_file[:2], by_file[3:]) != (by_pipe[:2], by_pipe[3:]))):
         wrong = f"through a pipe {by_pipe[:3]}"
     for name in ("text", "fib"):
         os.unlink(f"{folder}/{number}.{name}")
