@@ -109,8 +109,7 @@ pub fn show_frame<'a, F: Files, W: Write>(
 ///
 /// The failures are those of [`show_frame`]: `Output` if `out` fails, which may have taken some
 /// bytes then, or if `lines` fails.
-#[tactic(auto, using(crate::proofs::Checked::streams_frame,
-    crate::proofs::Checked::streams_fault))]
+#[tactic(auto, using(crate::proofs::Checked::streams_frame, crate::proofs::Checked::streams_fault))]
 pub fn stream_frame<'a, F: Files, W: Write, L: Write>(
     alloc: Global,
     request: &FrameRequest<'a>,
