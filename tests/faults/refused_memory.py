@@ -232,6 +232,9 @@ def try_live(tally, library, program, folder):
                     reported = ended.messages.removesuffix(b"no memory\n")
                     holds = (ended.status == 1 and ended.messages.endswith(b"no memory\n") and whole.messages.startswith(reported)
                              and whole.printed.startswith(ended.printed) and len(ended.printed) % 96 == 0)
+                    # A code that is refused may stand without what its file is.
+                    first_line = whole.messages.partition(b"\n")[0] + b"\n"
+                    holds = holds or (*ended.lines(), ended.messages) == (*whole.lines(), first_line) and words[1] == "wrong.code"
                     tally.hold(holds, f"{shown}, request {number} refused: {ended.lines()} {ended.messages}")
                 else:
                     tally.hold(is_whole, f"{shown}, request {number}: {ended.lines()} {ended.messages}")
