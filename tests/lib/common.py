@@ -1,4 +1,5 @@
 """Shared by the scripts of tests/: the built programs, how they are run, and the count of passed and failed."""
+import os
 import pathlib
 import resource
 import shutil
@@ -11,6 +12,11 @@ SAMPLES = TOP / "tests" / "faults" / "samples"
 SECONDS = 7200
 
 
+def is_asked(name):
+    """Whether a row of this name is to be run: all are, unless './test PATH -k TEXT' asks for those with a text."""
+    return os.environ.get("ONLY_ROWS", "") in name
+
+
 class Tally:
     """Counts what held and what did not, and prints what did not."""
 
@@ -19,7 +25,9 @@ class Tally:
         self.failed = 0
 
     def hold(self, holds, what):
-        """Counts one fact; `what` is printed if it does not hold."""
+        """Counts one fact, if it is asked for; `what` is printed if it does not hold."""
+        if not is_asked(what):
+            return
         if holds:
             self.passed += 1
         else:
@@ -28,7 +36,8 @@ class Tally:
 
     def same(self, what, wanted, found):
         """Counts that two values are the same."""
-        self.hold(wanted == found, f"{what}\n  wanted: {shown(wanted)}\n  found:  {shown(found)}")
+        if is_asked(what):
+            self.hold(wanted == found, f"{what}\n  wanted: {shown(wanted)}\n  found:  {shown(found)}")
 
     def end(self):
         """Prints the count as the last line, and ends with 0 if nothing failed."""

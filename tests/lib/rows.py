@@ -96,6 +96,8 @@ class Rows:
     def answers(self, line, status, printed, files=None, stdin=b"", messages=""):
         """Counts that a command line ends with this status, prints this text, and these messages on standard error. Where they
         have no explanation and no warning, any may stand there."""
+        if not common.is_asked(f"dabplan {line}"):
+            return
         ended = self.run(line, files, stdin)
         wanted = messages.encode()
         found = ended.messages if any(map(is_note, wanted.splitlines())) else without_notes(ended.messages)
