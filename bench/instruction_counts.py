@@ -5,8 +5,12 @@
 
 PROGRAM is ./release/dabplan unless given. A line a command: the millions of instructions of PROGRAM from its start to its
 end, and if OTHER is given, another program with the same commands but without `--quiet`, those of OTHER and the ratio; both have to
-print and write the same. The `play` commands make N frames, 400,000 unless given; `listen` reads the file of the large one."""
+print and write the same. The `play` commands make N frames, 400,000 unless given; `listen` reads the file of the large one.
+
+The C library copies 4 KB and more by one instruction that repeats itself, each byte of which callgrind takes for an
+instruction: it is told to copy by vectors here, so that programs that copy little at a time are counted alike."""
 import argparse
+import os
 import pathlib
 import re
 import shutil
@@ -32,6 +36,8 @@ commit in 24
 join
 }
 """
+# Settings of the C library under which it uses no instruction that repeats itself.
+BY_VECTORS = ":".join(f"glibc.cpu.x86_rep_{word}_threshold={2 ** 30}" for word in ("movsb", "stosb"))
 LARGE_HEAD = "ensemble E1C5 period 40 notice 96 budget 20"
 RECORD = bytes.fromhex("0101000100000003008000C22101003F01")
 
@@ -108,7 +114,7 @@ def commands(folder, frames):
 def counted(program, words, folder):
     """Millions of instructions of a command, and what it printed."""
     run = subprocess.run(["valgrind", "--tool=callgrind", "--callgrind-out-file=/dev/null", program, *words.split()],
-                         cwd=folder, capture_output=True)
+                         cwd=folder, capture_output=True, env=os.environ | {"GLIBC_TUNABLES": BY_VECTORS})
     found = re.search(rb"Collected : (\d+)", run.stderr)
     if run.returncode != 0 or found is None:
         sys.exit(f"{program} {words}: status {run.returncode}\n{run.stderr.decode(errors='replace')[-400:]}")
