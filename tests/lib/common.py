@@ -14,7 +14,7 @@ SECONDS = 7200
 
 def is_asked(name):
     """Whether a row of this name is to be run: all are, unless './test PATH -k TEXT' asks for those with a text."""
-    return os.environ.get("ONLY_ROWS", "") in (name or "")
+    return os.environ.get("ONLY_ROWS", "") in str(name)
 
 
 class Tally:
